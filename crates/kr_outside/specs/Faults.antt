@@ -1,0 +1,25 @@
+-- The count of faults that each object of the outside has: when it rose, and what a steady object keeps
+-- (docs/DECISIONS.md, "A count of faults says why a device failed").
+use Rattle.std.specs.Prelude.{◌≡◌, ℕ, ◌-◌, ◌^◌, ◌<◌, ◌≤◌, ◌⊎◌, Bool, IsTrue, Result, IsErr}
+
+-- the last number that a count of 64 bits has
+abbrev pub last_count : ℕ
+last_count = 2 ^ 64 - 1
+
+-- the count rose, or stands where it can't rise any more
+abbrev pub Rose : ℕ → ℕ → Type 0
+Rose old new = (old < new) ⊎ (new ≡ last_count)
+
+-- the contrary: the count is as before, and could have risen
+abbrev pub StandsStill : ℕ → ℕ → Type 0
+StandsStill old new = (new ≡ old) × (new < last_count)
+
+-- the count never falls, and a failure is answered only where it rose
+pub record HasCause {T E : Type 0} (old new : ℕ) (result : Result T E) : Type 0 where
+  pub later : old ≤ new
+  pub failed : IsErr result → Rose old new
+
+-- a steady object stays so, and no other becomes so; a steady one's count stands still
+pub record KeepsSteady (was is : Bool) (old new : ℕ) : Type 0 where
+  pub same : is ≡ was
+  pub still : IsTrue was → StandsStill old new

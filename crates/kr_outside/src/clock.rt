@@ -1,0 +1,24 @@
+ghost use Rattle.std.specs.Prelude.{ℕ, ◌≤◌, Bool, Option};
+ghost use Rattle.kr_outside.specs.Clock.{GivesFirst};
+ghost use Rattle.kr_outside.specs.Faults.{KeepsSteady};
+
+/// The time of day. It can't fail: a clock that doesn't know the time gives a moment all the same,
+/// and may count that as a fault. Nothing is known of the order of its moments.
+pub trait Clock {
+    /// The moments that are still to be given, the first at 0, where the clock tells them. They
+    /// have no end.
+    ghost coming: { Self → Option (ℕ → ℕ) };
+
+    /// How often the clock didn't know the time. The count never falls, and stands still at 2^64 - 1.
+    ghost faults: { Self → ℕ };
+
+    /// Whether the clock always knows the time, and so its count stands still at every call.
+    ghost is_steady: { Self → Bool };
+
+    /// The moment, in seconds since 1970-01-01 00:00:00 UTC.
+    fn now(&mut self) -> u64
+        ensures first { GivesFirst (coming self.old) result (coming self.new) }
+        ensures later { faults self.old ≤ faults self.new }
+        ensures steady { KeepsSteady (is_steady self.old) (is_steady self.new)
+            (faults self.old) (faults self.new) };
+}

@@ -1,0 +1,35 @@
+ghost use Rattle.std.specs.Prelude.{ℕ, Bool, List, Option};
+ghost use Rattle.std.specs.Io.{ReadsAtMost};
+ghost use Rattle.std.specs.Io.KnownBytes.{ReadConsumes};
+ghost use Rattle.kr_outside.specs.Faults.{HasCause, KeepsSteady};
+
+use thiserror::Error;
+
+/// A device or a stream failed in this call. What the system said of the cause is not passed on.
+#[derive(Clone, Copy, Debug, PartialEq, Eq, Error)]
+#[error("the device or stream failed")]
+pub struct Failed;
+
+/// A stream of bytes that comes in.
+pub trait Source {
+    /// The bytes that are left to be read, in order, where the source tells them.
+    ghost left: { Self → Option (List ℕ) };
+
+    /// How often the source has failed. The count never falls, and stands still at 2^64 - 1.
+    ghost faults: { Self → ℕ };
+
+    /// Whether the source never fails, and so its count stands still at every call.
+    ghost is_steady: { Self → Bool };
+
+    /// Reads some of the bytes that are left to the front of the buffer, takes them away, and answers
+    /// how many. Of a buffer that has room, 0 is the end of the input: no bytes are left.
+    ///
+    /// Refused with `Failed` only where the count of faults rose; the bytes left are then as before,
+    /// and nothing is known of the buffer.
+    fn read(&mut self, buffer: &mut [u8]) -> Result<usize, Failed>
+        ensures within { ReadsAtMost result buffer.new }
+        ensures taken { ReadConsumes (left self.old) (left self.new) result buffer.new }
+        ensures cause { HasCause (faults self.old) (faults self.new) result }
+        ensures steady { KeepsSteady (is_steady self.old) (is_steady self.new)
+            (faults self.old) (faults self.new) };
+}
