@@ -19,7 +19,11 @@ pub record HasCause {T E : Type 0} (old new : ℕ) (result : Result T E) : Type 
   pub later : old ≤ new
   pub failed : IsErr result → Rose old new
 
--- a steady object stays so, and no other becomes so; a steady one's count stands still
+-- a steady object stays so, and no other becomes so; a steady one's count is as before
 pub record KeepsSteady (was is : Bool) (old new : ℕ) : Type 0 where
   pub same : is ≡ was
-  pub still : IsTrue was → StandsStill old new
+  pub still : IsTrue was → new ≡ old
+
+-- the count of a steady object could still rise, so that one which stands still has had no failure
+abbrev pub IsBelowLast : Bool → ℕ → Type 0
+IsBelowLast is_steady count = IsTrue is_steady → count < last_count

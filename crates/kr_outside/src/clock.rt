@@ -1,6 +1,6 @@
 ghost use Rattle.std.specs.Prelude.{ℕ, ◌≤◌, Bool, Option};
 ghost use Rattle.kr_outside.specs.Clock.{GivesFirst};
-ghost use Rattle.kr_outside.specs.Faults.{KeepsSteady};
+ghost use Rattle.kr_outside.specs.Faults.{KeepsSteady, IsBelowLast};
 
 /// The time of day. It can't fail: a clock that doesn't know the time gives a moment all the same,
 /// and may count that as a fault. Nothing is known of the order of its moments.
@@ -21,4 +21,7 @@ pub trait Clock {
         ensures later { faults self.old ≤ faults self.new }
         ensures steady { KeepsSteady (is_steady self.old) (is_steady self.new)
             (faults self.old) (faults self.new) };
+
+    /// The count of a steady clock could still rise: since it stands still, no call has failed.
+    ghost steady_below: { (clock : Self) → IsBelowLast (is_steady clock) (faults clock) };
 }

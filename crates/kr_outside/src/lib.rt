@@ -10,5 +10,5 @@ mod sink;
 mod source;
 
 pub use clock::Clock;
-pub use sink::Sink;
+pub use sink::{Sink, write_all};
 pub use source::{Failed, Source};

@@ -1,7 +1,8 @@
-ghost use Rattle.std.specs.Prelude.{ℕ, ◌<◌, Bool, List, Option, length, IfOk};
+ghost use Rattle.std.specs.Prelude.{ℕ, ◌<◌, Bool, List, Option, length, IfOk, OnOk, OnErr};
 ghost use Rattle.std.specs.Io.{WritesAtMost};
-ghost use Rattle.std.specs.Io.KnownBytes.{WriteAppends};
-ghost use Rattle.kr_outside.specs.Faults.{HasCause, KeepsSteady};
+ghost use Rattle.std.specs.Io.KnownBytes.{Appends, WriteAppends};
+ghost use Rattle.kr_outside.specs.Written.{AppendsFront};
+ghost use Rattle.kr_outside.specs.Faults.{HasCause, KeepsSteady, IsBelowLast};
 
 use crate::Failed;
 
@@ -28,4 +29,26 @@ pub trait Sink {
         ensures cause { HasCause (faults self.old) (faults self.new) result }
         ensures steady { KeepsSteady (is_steady self.old) (is_steady self.new)
             (faults self.old) (faults self.new) };
+
+    /// The count of a steady sink could still rise: since it stands still, no call has failed.
+    ghost steady_below: { (sink : Self) → IsBelowLast (is_steady sink) (faults sink) };
+}
+
+/// Writes the whole piece, by as many calls as the sink needs.
+///
+/// Refused with `Failed` at the first call that fails; a front of the piece is then written, which
+/// may be none or all but the last byte.
+pub fn write_all<O: Sink>(output: &mut O, piece: &[u8]) -> Result<(), Failed>
+    ensures whole { OnOk result (Appends (O.written output.old) (O.written output.new) piece.now) }
+    ensures front { OnErr result (AppendsFront (O.written output.old) (O.written output.new) piece.now) }
+    ensures cause { HasCause (O.faults output.old) (O.faults output.new) result }
+    ensures steady { KeepsSteady (O.is_steady output.old) (O.is_steady output.new)
+        (O.faults output.old) (O.faults output.new) }
+{
+    let mut rest = piece;
+    while !rest.is_empty() {
+        let count = output.write(rest)?;
+        rest = &rest[count..];
+    }
+    Ok(())
 }

@@ -1,7 +1,7 @@
 ghost use Rattle.std.specs.Prelude.{ℕ, Bool, List, Option};
 ghost use Rattle.std.specs.Io.{ReadsAtMost};
 ghost use Rattle.std.specs.Io.KnownBytes.{ReadConsumes};
-ghost use Rattle.kr_outside.specs.Faults.{HasCause, KeepsSteady};
+ghost use Rattle.kr_outside.specs.Faults.{HasCause, KeepsSteady, IsBelowLast};
 
 use thiserror::Error;
 
@@ -32,4 +32,7 @@ pub trait Source {
         ensures cause { HasCause (faults self.old) (faults self.new) result }
         ensures steady { KeepsSteady (is_steady self.old) (is_steady self.new)
             (faults self.old) (faults self.new) };
+
+    /// The count of a steady source could still rise: since it stands still, no call has failed.
+    ghost steady_below: { (source : Self) → IsBelowLast (is_steady source) (faults source) };
 }

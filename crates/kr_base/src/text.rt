@@ -1,0 +1,188 @@
+ghost use Rattle.std.specs.Prelude.{◌≡◌, ℕ, ◌↔◌, List, [], length, IsTrue, IsNone, IsSome, IfSome, IfOk, Ok, Some, None, string_bytes, nat_eq, refl};
+ghost use Rattle.std.specs.Fmt.{styled_text, debug_str};
+ghost use Rattle.std.specs.Hash as fed;
+ghost use Rattle.std.specs.Ordering.{nat_cmp};
+ghost use Rattle.std.specs.Cmp.{partial_equiv_from_equiv};
+ghost use Rattle.std.specs.Cmp.Lexicographic.{pointwise, slice_cmp, nat_list_eq_equiv, nat_list_cmp_total, texts_ties, texts_po};
+ghost use Rattle.std.specs.Cmp.Rules.{hashing};
+ghost use Rattle.std.proofs.Common.{rules};
+ghost use Rattle.kr_base.specs.Text.{HasZero, IsText};
+
+use crate::OutOfMemory;
+use std::alloc::Global;
+use std::cmp::Ordering;
+use std::fmt;
+use std::hash::{Hash, Hasher};
+use std::marker::Model;
+
+/// A text: UTF-8 without a zero byte (D-Bus Specification, "Type System"). A contract sees the list
+/// of its bytes.
+#[derive(Drop)]
+pub struct Text {
+    text: String,
+}
+
+impl Model for Text {
+    ghost Value = { List ℕ };
+
+    ghost view = { λ t. string_bytes t.text };
+
+    ghost invariant = { λ t. IsText (string_bytes t.text) };
+}
+
+impl Text {
+    /// The text of a string. It takes no memory.
+    ///
+    /// None where a zero byte stands in the string.
+    pub fn new(text: String) -> Option<Text>
+        ensures made { IfSome result (λ made. made ≡ string_bytes text) }
+        ensures zero { IsNone result ↔ HasZero (string_bytes text) }
+    {
+        // Read as a `str`, whose bytes are known to be UTF-8.
+        if text.as_str().as_bytes().contains(&0) {
+            return None;
+        }
+        Some(Text { text })
+    }
+
+    /// A copy of a string as a text.
+    ///
+    /// None where a zero byte stands in the string; no memory is taken then.
+    pub fn from_str(alloc: Global, text: &str) -> Result<Option<Text>, OutOfMemory>
+        ensures made { IfOk result (λ answer. IfSome answer (λ made. made ≡ text.now)) }
+        ensures zero { (result ≡ Ok None) ↔ HasZero text.now }
+    {
+        if text.as_bytes().contains(&0) {
+            return Ok(None);
+        }
+        Ok(Some(Text {
+            text: String::from_str(alloc, text)?,
+        }))
+    }
+
+    /// The text that the bytes are. It takes no memory.
+    ///
+    /// None where the bytes are not UTF-8 or a zero byte stands among them.
+    pub fn from_utf8(bytes: Vec<u8>) -> Option<Text>
+        ensures made { IfSome result (λ made. made ≡ bytes.items) }
+        ensures text { IsSome result ↔ IsText bytes.items }
+    {
+        match String::from_utf8(bytes) {
+            Ok(text) => Text::new(text),
+            Err(_) => None,
+        }
+    }
+
+    /// The text, lent as a string.
+    pub fn as_str(&self) -> &str
+        ensures value { result.now ≡ self.now }
+        ensures text { IsText self.now }
+    {
+        self.text.as_str()
+    }
+
+    /// The bytes of the text, lent.
+    pub fn as_bytes(&self) -> &[u8]
+        ensures value { result.now ≡ self.now }
+        ensures text { IsText self.now }
+    {
+        self.text.as_bytes()
+    }
+
+    /// The text as a string. It takes no memory.
+    pub fn into_string(self) -> String
+        ensures value { string_bytes result ≡ self }
+        ensures text { IsText self }
+    {
+        self.text
+    }
+
+    /// How many bytes the text has.
+    pub fn len(&self) -> usize
+        ensures { result ≡ length self.now }
+    {
+        self.text.len()
+    }
+
+    /// Whether the text has no byte.
+    pub fn is_empty(&self) -> bool
+        ensures { IsTrue result ↔ (self.now ≡ []) }
+    {
+        self.text.is_empty()
+    }
+
+    /// A second value of the same text, on the allocator of this one.
+    pub fn copy(&self) -> Result<Text, OutOfMemory>
+        ensures { IfOk result (λ copied. copied ≡ self.now) }
+    {
+        Ok(Text {
+            text: self.text.clone()?,
+        })
+    }
+}
+
+impl PartialEq for Text {
+    ghost eq = { pointwise nat_eq };
+
+    ghost laws = { partial_equiv_from_equiv nat_list_eq_equiv };
+
+    fn eq(&self, other: &Text) -> bool {
+        self.as_str() == other.as_str()
+    }
+}
+
+impl Eq for Text {
+    ghost laws = { nat_list_eq_equiv };
+}
+
+impl PartialOrd for Text {
+    ghost partial_cmp = { λ x y. Some (slice_cmp nat_cmp x y) };
+
+    ghost laws = { texts_po };
+
+    fn partial_cmp(&self, other: &Text) -> Option<Ordering> {
+        Some(self.cmp(other))
+    }
+}
+
+impl Ord for Text {
+    ghost cmp = { slice_cmp nat_cmp };
+
+    ghost total = { nat_list_cmp_total };
+
+    ghost matches_partial_cmp = { λ x y. refl };
+
+    ghost matches_eq = { texts_ties };
+
+    fn cmp(&self, other: &Text) -> Ordering {
+        self.as_str().cmp(other.as_str())
+    }
+}
+
+impl Hash for Text {
+    ghost hash_input = { fed.str };
+
+    ghost respects_eq = { Prim.search (hashing, rules) };
+
+    fn hash<H: Hasher>(&self, state: &mut H) {
+        self.as_str().hash(state);
+    }
+}
+
+impl fmt::Display for Text {
+    ghost output = { λ t. Some t };
+
+    ghost styled_output = { λ t options. Some (styled_text options t) };
+
+    fn fmt<W: fmt::Write>(&self, f: &mut fmt::Formatter<W>) -> fmt::Result {
+        fmt::Display::fmt(&self.as_str(), f)
+    }
+}
+
+impl fmt::Debug for Text {
+    ghost debug_output = { debug_str };
+
+    fn fmt<W: fmt::Write>(&self, f: &mut fmt::Formatter<W>) -> fmt::Result {
+        fmt::Debug::fmt(&self.as_str(), f)
+    }
+}
