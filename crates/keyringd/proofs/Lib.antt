@@ -1,0 +1,12 @@
+pub mod Body
+pub mod BodyLength
+pub mod CommandLemmas
+pub mod Complete
+pub mod Endings
+pub mod Inputs
+pub mod Name
+pub mod Opening
+pub mod Owed
+pub mod ReadingLemmas
+pub mod Sequence
+pub mod Serial
