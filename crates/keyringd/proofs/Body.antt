@@ -1,8 +1,8 @@
 -- The body of a call: the count of the name's bytes, three zero bytes, the name, and what stands behind it.
-use Rattle.std.proofs.Common.{◌≡◌, ℕ, ◌<◌, ◌≤◌, List, [], ◌∷◌, ◌++◌, length, get_or, Bool, refl, sym, ◌∙◌, ap, subst, arith, length-append}
+use Rattle.std.proofs.Common.{◌≡◌, ℕ, ◌≤◌, List, [], ◌∷◌, ◌++◌, length, get_or, Bool, refl, sym, ◌∙◌, ap, subst, arith, length-append}
 use Rattle.keyringd.specs.Expected.{IsBody, IsName, body_length, behind_algorithm}
 use Rattle.keyringd.specs.Reading.{IsOff, IsBegun, LacksWhole, texts}
-use Rattle.keyringd.proofs.Sequence.{Cut, Goes, free_by_length}
+use Rattle.keyringd.proofs.Sequence.{Goes, free_by_length}
 use Rattle.keyringd.proofs.Name.{some_name}
 
 -- one text and no other
@@ -34,27 +34,29 @@ some_named front count =
 pub goes_count : (size : ℕ) → Goes (texts (IsBody size)) (IsCount size) (λ x. IsNamed (0 ∷ 0 ∷ 0 ∷ []) (get_or x 0 0))
 goes_count size = record {
   cut = λ text form.
-    let f = form.1 in
-    record {
-      front = length f.name ∷ [];
-      back = 0 ∷ 0 ∷ 0 ∷ (f.name ++ behind_algorithm (length f.name));
-      part = record { count = length f.name; short = f.short; is = f.is; whole = refl };
-      rest = record { plain = form.0; name = f.name; is_name = f.is_name; whole = refl };
-      whole = f.whole;
-    };
+      let f = form.1 in
+      record {
+        front = length f.name ∷ [];
+        back = 0 ∷ 0 ∷ 0 ∷ (f.name ++ behind_algorithm (length f.name));
+        part = record { count = length f.name; short = f.short; is = f.is; whole = refl };
+        rest = record { plain = form.0; name = f.name; is_name = f.is_name; whole = refl };
+        whole = f.whole;
+      };
   join = λ x y part rest.
-    let counts : get_or x 0 0 ≡ part.count = ap (λ l. get_or l 0 0) part.whole in
-    let long : length rest.name ≡ part.count = rest.is_name.long ∙ counts in
-    (rest.plain, record {
-      name = rest.name;
-      short = omega (arith, part.short);
-      is_name = subst (λ n. IsName n rest.plain rest.name) (counts ∙ sym long) rest.is_name;
-      is = part.is ∙ ap body_length (sym long);
-      whole =
-        ap (λ l. l ++ y) part.whole ∙ ap (λ l. part.count ∷ l) rest.whole
-        ∙ ap (λ n. part.count ∷ 0 ∷ 0 ∷ 0 ∷ (rest.name ++ behind_algorithm n)) (counts ∙ sym long)
-        ∙ ap (λ n. n ∷ 0 ∷ 0 ∷ 0 ∷ (rest.name ++ behind_algorithm (length rest.name))) (sym long);
-    });
+      let counts : get_or x 0 0 ≡ part.count = ap (λ l. get_or l 0 0) part.whole in
+      let long : length rest.name ≡ part.count = rest.is_name.long ∙ counts in (
+        rest.plain,
+        record {
+          name = rest.name;
+          short = omega (arith, part.short);
+          is_name = subst (λ n. IsName n rest.plain rest.name) (counts ∙ sym long) rest.is_name;
+          is = part.is ∙ ap body_length (sym long);
+          whole =
+              ap (λ l. l ++ y) part.whole ∙ ap (λ l. part.count ∷ l) rest.whole
+              ∙ ap (λ n. part.count ∷ 0 ∷ 0 ∷ 0 ∷ (rest.name ++ behind_algorithm n)) (counts ∙ sym long)
+              ∙ ap (λ n. n ∷ 0 ∷ 0 ∷ 0 ∷ (rest.name ++ behind_algorithm (length rest.name))) (sym long);
+        },
+      );
   some = λ x part. some_named (0 ∷ 0 ∷ 0 ∷ []) (get_or x 0 0);
   free = free_by_length 1 (IsCount size) (λ x part. ap length part.whole);
 }

@@ -4,7 +4,7 @@ use Rattle.std.proofs.lemmas.Bool.{cases_lt}
 use Rattle.keyringd.specs.Message.{uint32}
 use Rattle.keyringd.specs.Expected.{IsBodyLength, body_length}
 use Rattle.keyringd.specs.Reading.{IsOff, IsBegun, LacksWhole, texts}
-use Rattle.keyringd.proofs.Sequence.{Cut, Goes, free_by_length}
+use Rattle.keyringd.proofs.Sequence.{Goes, free_by_length}
 
 -- a number below 2^16 in its four bytes
 pub uint32-small : (n : ℕ) → n < 65536 → uint32 n ≡ n % 256 ∷ n / 256 ∷ 0 ∷ 0 ∷ []
@@ -29,20 +29,23 @@ pub record IsLow (bytes : List ℕ) : Type 0 where
 pub goes_on : Goes (texts IsBodyLength) IsLow (λ _. texts (λ (_ : Unit {0}) read. read ≡ 0 ∷ 0 ∷ []))
 goes_on = record {
   cut = λ text form.
-    let f = form.1 in
+      let f = form.1 in
+      record {
+        front = body_length f.count % 256 ∷ body_length f.count / 256 ∷ [];
+        back = 0 ∷ 0 ∷ [];
+        part = record { count = f.count; short = f.short; whole = refl };
+        rest = (tt, refl);
+        whole = f.whole ∙ ap uint32 f.is ∙ uint32-small (body_length f.count) (omega (arith, f.short));
+      };
+  join = λ x y part rest. (
+    body_length part.count,
     record {
-      front = body_length f.count % 256 ∷ body_length f.count / 256 ∷ [];
-      back = 0 ∷ 0 ∷ [];
-      part = record { count = f.count; short = f.short; whole = refl };
-      rest = (tt, refl);
-      whole = f.whole ∙ ap uint32 f.is ∙ uint32-small (body_length f.count) (omega (arith, f.short));
-    };
-  join = λ x y part rest. (body_length part.count, record {
-    count = part.count;
-    short = part.short;
-    is = refl;
-    whole = ap (λ l. l ++ y) part.whole ∙ ap (λ l. body_length part.count % 256 ∷ body_length part.count / 256 ∷ l) rest.1 ∙ sym (uint32-small (body_length part.count) (omega (arith, part.short)));
-  });
+      count = part.count;
+      short = part.short;
+      is = refl;
+      whole = ap (λ l. l ++ y) part.whole ∙ ap (λ l. body_length part.count % 256 ∷ body_length part.count / 256 ∷ l) rest.1 ∙ sym (uint32-small (body_length part.count) (omega (arith, part.short)));
+    },
+  );
   some = λ x part. (0 ∷ 0 ∷ [], (tt, refl));
   free = free_by_length 2 IsLow (λ x part. ap length part.whole);
 }
@@ -84,7 +87,7 @@ IsBegun-none = (uint32 13, (13, valid 13 (omega arith) (omega arith) refl))
 
 pub IsBegun-low : (low : ℕ) → low < 256 → low % 4 ≡ 1 → IsBegun (texts IsBodyLength) (low ∷ [])
 IsBegun-low low fits odd = elim (cases_lt low 13) [
-  inl small ↦ by_value (256 + low) (omega arith) (omega arith) (omega arith) (omega arith)
+  | inl small ↦ by_value (256 + low) (omega arith) (omega arith) (omega arith) (omega arith)
   | inr large ↦ by_value low (omega arith) (omega arith) (omega arith) (omega arith)
 ]
   where

@@ -1,16 +1,15 @@
 -- Over streams that didn't fail, an input is answered to its end.
-use Rattle.std.proofs.Common.{◌≡◌, ℕ, ◌<◌, ◌≤◌, ◌⊎◌, Bool, List, [], ◌∷◌, ◌++◌, Option, Some, None, refl, sym, ◌∙◌, ap, subst, arith, append-nil, inl, inr}
+use Rattle.std.proofs.Common.{◌≡◌, ℕ, ◌⊎◌, Bool, List, [], ◌++◌, Option, Some, None, refl, sym, ◌∙◌, ap, subst, arith, append-nil, inl, inr}
 use Rattle.std.specs.Io.KnownBytes.{Consumes, IsAtEnd}
 use Rattle.kr_outside.specs.Faults.{Rose, StandsStill}
 use Rattle.keyringd.specs.Conversation.{IsInput, AnInput, Streams, EndsFor, Conversed}
-use Rattle.keyringd.specs.Reading.{IsOff, LacksWhole}
 use Rattle.keyringd.specs.declared.status.Status.{Status}
 use Rattle.keyringd.specs.declared.status.Status.TheVariants.{Done, Usage, ReadFault, WriteFault, Memory, NotBuilt}
 
 -- a count that stands still didn't rise
 still : (old new : ℕ) → StandsStill old new → Rose old new → ⊥
 still old new s (inl rose) = omega (arith, s.0)
-still old new s (inr stands) = omega (arith, s.1)
+still old new s (inr stands) = s.1 stands
 
 -- a front of the input isn't off
 front_of : (old new : Option (List ℕ)) (read bytes : List ℕ) → old ≡ Some bytes → Consumes old new read → (rest : List ℕ) × (bytes ≡ read ++ rest) × (new ≡ Some rest)
@@ -36,8 +35,8 @@ complete uid serial plain seed bytes old new status c form told input output = b
     by_end NotBuilt ends =
         let front = front_of old.left new.left c.read bytes told c.consumed in
         absurd (elim ends.1 [
-          inl off ↦ off front.0 (subst (AnInput uid) front.1 (serial, plain, form))
+          | inl off ↦ off front.0 (subst (AnInput uid) front.1 (serial, plain, form))
           | inr ended ↦
-            let none : front.0 ≡ [] = at_end new.left front.0 front.2 ended.0 in
-            ended.1 c.read [] (sym (append-nil c.read)) (subst (AnInput uid) (front.1 ∙ ap (λ l. c.read ++ l) none ∙ append-nil c.read) (serial, plain, form))
+              let none : front.0 ≡ [] = at_end new.left front.0 front.2 ended.0 in
+              ended.1 c.read [] (sym (append-nil c.read)) (subst (AnInput uid) (front.1 ∙ ap (λ l. c.read ++ l) none ∙ append-nil c.read) (serial, plain, form))
         ])

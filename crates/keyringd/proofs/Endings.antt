@@ -1,25 +1,25 @@
 -- The ends of a conversation, one for each exit.
-use Rattle.std.proofs.Common.{◌≡◌, ℕ, ◌≤◌, Bool, List, [], ◌∷◌, ◌++◌, Option, length, refl, sym, ◌∙◌, ap, subst, arith, append_assoc, append-nil, inl, inr}
-use Rattle.std.specs.Io.KnownBytes.{Appends, IsAtEnd}
+use Rattle.std.proofs.Common.{◌≡◌, ℕ, ◌≤◌, Bool, List, [], ◌∷◌, ◌++◌, Option, refl, sym, ◌∙◌, ap, subst, arith, append_assoc, append-nil, inl}
+use Rattle.std.specs.Io.KnownBytes.{Appends}
 use Rattle.std.proofs.KnownBytes.{Appends-nil, Appends-trans}
 use Rattle.kr_outside.specs.Faults.{KeepsSteady, Rose}
 use Rattle.kr_outside.specs.Written.{AppendsFront}
 use Rattle.kr_outside.proofs.FaultLemmas.{KeepsSteady-none, KeepsSteady-trans}
-use Rattle.keyringd.specs.Authentication.{greeting, begin, ok}
+use Rattle.keyringd.specs.Authentication.{greeting, ok}
 use Rattle.keyringd.specs.OpenSession.{reply}
-use Rattle.keyringd.specs.Conversation.{IsInput, AnInput, IsOwed, silent, greeted, answered, IsFrontOfOwed, Streams, EndsFor, Conversed}
+use Rattle.keyringd.specs.Conversation.{IsInput, AnInput, answered, IsFrontOfOwed, Streams, EndsFor, Conversed}
 use Rattle.keyringd.specs.Expected.{IsOpening}
 use Rattle.keyringd.specs.Reading.{Place, Took, Stopped, texts, GaveNone}
 use Rattle.keyringd.specs.Status.{status_of}
 use Rattle.keyringd.specs.declared.input.Stop.{Stop}
-use Rattle.keyringd.specs.declared.input.Stop.TheVariants.{Ended, Failed, Unlike}
+use Rattle.keyringd.specs.declared.input.Stop.TheVariants.{Ended, Failed}
 use Rattle.keyringd.specs.declared.status.Status.{Status}
 use Rattle.keyringd.specs.declared.status.Status.TheVariants.{Done, ReadFault, WriteFault, Memory, NotBuilt}
 use Rattle.keyringd.proofs.ReadingLemmas.{Took-trans, Rose-later}
 use Rattle.keyringd.proofs.Sequence.{stopped_front, stopped_behind}
 use Rattle.keyringd.proofs.Body.{Fixed}
 use Rattle.keyringd.proofs.Inputs.{goes_input}
-use Rattle.keyringd.proofs.Owed.{stop_ends, owed_silent, owed_greeted, front_greeted, front_answered, input_is, read_is, IsOff-behind}
+use Rattle.keyringd.proofs.Owed.{stop_ends, owed_silent, owed_greeted, front_greeted, front_answered, read_is, IsOff-behind}
 
 -- a sink, as contracts see it
 pub record Sunk : Type 0 where
@@ -107,10 +107,10 @@ pub failed_reply : (uid serial : ℕ) (plain : Bool) (seed : List ℕ) (p q : Pl
     → Conversed uid seed (both p a) (both q c) WriteFault
 failed_reply uid serial plain seed p q a b c input none t form gained front later steady rose =
     conversed uid seed p q a c WriteFault input (ok seed ++ front.front) t
-    (Gained-trans a b c (ok seed) front.front gained (record { given = front.put; later = later; steady = steady }))
-    (front_answered uid seed t.read input q.ahead front.front front.rest serial plain form (read_is p q input t none) front.whole,
-      Rose-later a.faults b.faults c.faults gained.later rose)
-
+    (Gained-trans a b c (ok seed) front.front gained (record { given = front.put; later = later; steady = steady })) (
+      front_answered uid seed t.read input q.ahead front.front front.rest serial plain form (read_is p q input t none) front.whole,
+      Rose-later a.faults b.faults c.faults gained.later rose,
+    )
 
 -- the input ended behind the call
 pub ended_whole : (uid serial : ℕ) (plain : Bool) (seed : List ℕ) (p q r : Place) (a b : Sunk) (input : List ℕ) → p.ahead ≡ [] → Took p q input → IsInput uid serial plain input
@@ -127,10 +127,11 @@ pub failed_whole : (uid serial : ℕ) (plain : Bool) (seed : List ℕ) (p q r : 
 failed_whole uid serial plain seed p q r a b input none t form gained end =
     let u = Took-trans p q r input [] t end.0 in
     let all : u.read ≡ input = read_is p r (input ++ []) u none ∙ ap (λ l. (input ++ []) ++ l) end.1.0 ∙ append-nil (input ++ []) ∙ append-nil input in
-    conversed uid seed p r a b ReadFault (input ++ []) (ok seed ++ reply serial plain) u gained
-    (answered serial plain input [] form (all ∙ sym (append-nil input)),
+    conversed uid seed p r a b ReadFault (input ++ []) (ok seed ++ reply serial plain) u gained (
+      answered serial plain input [] form (all ∙ sym (append-nil input)),
       ([], (serial, plain, subst (IsInput uid serial plain) (sym all ∙ sym (append-nil u.read)) form)),
-      Rose-later p.faults q.faults r.faults t.later end.1.1)
+      Rose-later p.faults q.faults r.faults t.later end.1.1,
+    )
 
 -- a byte stood behind the call
 pub more_behind : (uid serial byte : ℕ) (plain : Bool) (seed : List ℕ) (p q r : Place) (a b : Sunk) (input : List ℕ) → p.ahead ≡ [] → Took p q input → IsInput uid serial plain input

@@ -1,17 +1,13 @@
 -- Whole inputs: the greeting and then the opening; no input begins another.
-use Rattle.std.proofs.Common.{◌≡◌, ℕ, ◌+◌, ◌<◌, ◌≤◌, ◌↔◌, IsTrue, Bool, true, false, List, [], ◌∷◌, ◌++◌, length, get_or, refl, sym, ◌∙◌, ap, subst, arith, length-append, append_assoc, append-nil, inl, inr}
+use Rattle.std.proofs.Common.{◌≡◌, ℕ, ◌↔◌, IsTrue, Bool, true, false, List, [], ◌∷◌, ◌++◌, length, get_or, refl, sym, ◌∙◌, ap, subst, arith, append_assoc}
 use Rattle.std.specs.Prelude.{codes}
-use Rattle.std.proofs.lemmas.Bool.{false≢true}
-use Rattle.std.proofs.lemmas.List.{append_cancel_left, nil_from_length}
+use Rattle.std.proofs.lemmas.List.{append_cancel_left}
 use Rattle.keyringd.specs.Authentication.{greeting, begin}
 use Rattle.keyringd.specs.Message.{uint32}
-use Rattle.keyringd.specs.OpenSession.{IsCall, call}
 use Rattle.keyringd.specs.Conversation.{IsInput, AnInput}
 use Rattle.keyringd.specs.Expected.{IsOpening, opening, header_fields, body_length, behind_algorithm}
-use Rattle.keyringd.specs.declared.open_session.Call.{Call}
 use Rattle.keyringd.specs.Reading.{texts}
-use Rattle.keyringd.proofs.ReadingLemmas.{same_start}
-use Rattle.keyringd.proofs.Sequence.{Cut, Goes}
+use Rattle.keyringd.proofs.Sequence.{Goes}
 use Rattle.keyringd.proofs.Body.{Fixed, free_fixed}
 use Rattle.keyringd.proofs.BodyLength.{length-uint32}
 use Rattle.keyringd.proofs.Serial.{uint32-injective}
@@ -27,20 +23,23 @@ some_opening =
 pub goes_input : (uid : ℕ) → Goes (AnInput uid) (Fixed (greeting uid)) (λ _. texts IsOpening)
 goes_input uid = record {
   cut = λ text form.
-    let f = form.2 in
+      let f = form.2 in
+      record {
+        front = greeting uid;
+        back = begin ++ f.message;
+        part = (tt, refl);
+        rest = (record { serial = form.0; plain = form.1 }, record { message = f.message; is_call = f.is_call; whole = refl });
+        whole = f.whole;
+      };
+  join = λ x y part rest. (
+    rest.0.serial,
+    rest.0.plain,
     record {
-      front = greeting uid;
-      back = begin ++ f.message;
-      part = (tt, refl);
-      rest = (record { serial = form.0; plain = form.1 }, record { message = f.message; is_call = f.is_call; whole = refl });
-      whole = f.whole;
-    };
-  join = λ x y part rest.
-    (rest.0.serial, rest.0.plain, record {
       message = rest.1.message;
       is_call = rest.1.is_call;
       whole = ap (λ l. l ++ y) part.1 ∙ ap (λ l. greeting uid ++ l) rest.1.whole;
-    });
+    },
+  );
   some = λ x part. some_opening;
   free = free_fixed (greeting uid);
 }
@@ -91,7 +90,8 @@ same_input uid s t p q x y r w i j e =
     let body : n ∷ 0 ∷ 0 ∷ 0 ∷ (name ++ (behind_algorithm n ++ r)) ≡ m ∷ 0 ∷ 0 ∷ 0 ∷ (other ++ (behind_algorithm m ++ w)) = append_cancel_left header_fields _ _ serials.1 in
     let counts : n ≡ m = ap (λ l. get_or l 0 0) body in
     let names = same_front name _ other _ counts (append_cancel_left (n ∷ 0 ∷ 0 ∷ 0 ∷ []) _ _ (body ∙ ap (λ k. k ∷ 0 ∷ 0 ∷ 0 ∷ (other ++ (behind_algorithm m ++ w))) (sym counts))) in
-    let rests : behind_algorithm n ++ r ≡ behind_algorithm n ++ w = names.1 ∙ ap (λ k. behind_algorithm k ++ w) (sym counts) in
-    (uint32-injective s t i.is_call.fits j.is_call.fits serials.0,
+    let rests : behind_algorithm n ++ r ≡ behind_algorithm n ++ w = names.1 ∙ ap (λ k. behind_algorithm k ++ w) (sym counts) in (
+      uint32-injective s t i.is_call.fits j.is_call.fits serials.0,
       same_bool p q (name ≡ codes "plain") i.is_call.is_plain (subst (λ l. IsTrue q ↔ (l ≡ codes "plain")) (sym names.0) j.is_call.is_plain),
-      append_cancel_left (behind_algorithm n) r w rests)
+      append_cancel_left (behind_algorithm n) r w rests,
+    )

@@ -10,3 +10,4 @@ pub mod Owed
 pub mod ReadingLemmas
 pub mod Sequence
 pub mod Serial
+pub mod StandardFacts

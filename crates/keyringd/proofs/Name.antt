@@ -1,11 +1,11 @@
 -- The bytes of an algorithm's name.
-use Rattle.std.proofs.Common.{◌≡◌, ◌≢◌, ℕ, zero, suc, ◌+◌, ◌-◌, ◌*◌, ◌<◌, ◌≤◌, ◌↔◌, Bool, true, false, IsTrue, List, [], ◌∷◌, ◌++◌, length, get_or, take, set, replicate, refl, sym, ◌∙◌, ap, subst, arith, length-append, append-nil, append_assoc}
-use Rattle.std.specs.Prelude.{All, codes, slice_index_or}
-use Rattle.std.proofs.lemmas.List.{length-take-le, take_more, take_more_set, get_or-take}
-use Rattle.std.proofs.lemmas.Bool.{cases_lt, false≢true}
+use Rattle.std.proofs.Common.{◌≡◌, ℕ, zero, suc, ◌+◌, ◌-◌, ◌<◌, false, List, [], ◌∷◌, ◌++◌, length, get_or, take, set, replicate, refl, sym, ◌∙◌, ap, subst, arith, length-append, append_assoc}
+use Rattle.std.specs.Prelude.{All, codes}
+use Rattle.std.proofs.lemmas.List.{take_more_set}
+use Rattle.std.proofs.lemmas.Bool.{false≢true}
 use Rattle.std.proofs.Math.Seq.{get_or-append_seam}
 use Rattle.std.proofs.Math.ListN.{length-replicate}
-use Rattle.std.proofs.lemmas.List.Elements.{All-append, All-push, All-replicate, All-nil, All-get_or, All-more}
+use Rattle.std.proofs.lemmas.List.Elements.{All-append, All-push, All-replicate, All-nil, All-get_or}
 use Rattle.keyringd.specs.OpenSession.{IsPrintable}
 use Rattle.keyringd.specs.Expected.{IsName}
 use Rattle.keyringd.specs.Reading.{IsOff, IsBegun, LacksWhole, texts}
@@ -38,12 +38,17 @@ IsBegun-name count text short printable =
     let k : ℕ = count - length text - 1 in
     let tail : List ℕ = replicate k 97 ++ 97 ∷ [] in
     let regrouped : text ++ tail ≡ (text ++ replicate k 97) ++ 97 ∷ [] = sym (append_assoc text (replicate k 97) (97 ∷ [])) in
-    let letter : IsPrintable 97 = (omega arith, omega arith) in
-    (tail, (false, record {
-      long = omega (arith, length-append text tail, length-append {A = ℕ} (replicate k 97) (97 ∷ []), length-replicate {A = ℕ} k 97);
-      printable = All-append IsPrintable text tail printable (All-push IsPrintable (replicate k 97) 97 (All-replicate IsPrintable k 97 letter) letter);
-      is_plain = (λ e. absurd (false≢true e), λ e. absurd (not_plain (text ++ replicate k 97) (sym regrouped ∙ e)));
-    }))
+    let letter : IsPrintable 97 = (omega arith, omega arith) in (
+      tail,
+      (
+        false,
+        record {
+          long = omega (arith, length-append text tail, length-append {A = ℕ} (replicate k 97) (97 ∷ []), length-replicate {A = ℕ} k 97);
+          printable = All-append IsPrintable text tail printable (All-push IsPrintable (replicate k 97) 97 (All-replicate IsPrintable k 97 letter) letter);
+          is_plain = (λ e. absurd (false≢true e), λ e. absurd (not_plain (text ++ replicate k 97) (sym regrouped ∙ e)));
+        },
+      ),
+    )
 
 -- some name of each length
 pub some_name : (count : ℕ) → (name : List ℕ) × texts (IsName count) name

@@ -1,12 +1,11 @@
 -- The end of the handshake and the call: the call's bytes in the order in which they are read.
-use Rattle.std.proofs.Common.{◌≡◌, ℕ, ◌+◌, ◌-◌, ◌*◌, ◌/◌, ◌%◌, ◌^◌, ◌<◌, ◌≤◌, List, [], ◌∷◌, ◌++◌, length, get_or, replicate, Bool, refl, sym, ◌∙◌, ap, subst, arith, length-append, append_assoc, append-nil}
+use Rattle.std.proofs.Common.{◌≡◌, ℕ, ◌+◌, ◌-◌, ◌/◌, ◌%◌, ◌≤◌, List, [], ◌∷◌, ◌++◌, length, replicate, Bool, refl, sym, ◌∙◌, ap, subst, arith, length-append, append_assoc, append-nil}
 use Rattle.std.specs.Int.{w32, from_le_bytes}
 use Rattle.std.proofs.Math.ListN.{length-replicate}
 use Rattle.keyringd.specs.Authentication.{begin}
 use Rattle.keyringd.specs.Message.{uint32, padding, string, signature}
-use Rattle.keyringd.specs.OpenSession.{call, call_fields, call_body, IsCall}
-use Rattle.keyringd.specs.Expected.{IsOpening, IsBodyLength, IsSerial, IsBody, IsName, opening, header_fields, body_length, behind_algorithm}
-use Rattle.keyringd.specs.declared.open_session.Call.{Call}
+use Rattle.keyringd.specs.OpenSession.{call, call_fields, call_body}
+use Rattle.keyringd.specs.Expected.{IsOpening, IsBodyLength, IsSerial, IsBody, opening, header_fields, body_length, behind_algorithm}
 use Rattle.keyringd.specs.Reading.{Place, Stopped, texts}
 use Rattle.keyringd.specs.declared.input.Stop.{Stop}
 use Rattle.keyringd.proofs.Sequence.{Cut, Goes, goes_cut, free_by_length}
@@ -27,7 +26,7 @@ call_body-parts name short =
     let count : uint32 n ≡ n ∷ 0 ∷ 0 ∷ 0 ∷ [] = uint32-small n (omega arith) ∙ byte n short in
     let front : List ℕ = string name ++ signature (115 ∷ []) in
     let long : length front ≡ n + 8 =
-      omega (arith, length-append {A = ℕ} (string name) (1 ∷ 115 ∷ 0 ∷ []), length-append {A = ℕ} (uint32 n ++ name) (0 ∷ []), length-append (uint32 n) name, length-uint32 n) in
+    omega (arith, length-append {A = ℕ} (string name) (1 ∷ 115 ∷ 0 ∷ []), length-append {A = ℕ} (uint32 n ++ name) (0 ∷ []), length-append (uint32 n) name, length-uint32 n) in
     let zeros : List ℕ = replicate ((4 - (n + 8) % 4) % 4) 0 in
     let five : List ℕ = 0 ∷ 0 ∷ 0 ∷ 0 ∷ 0 ∷ [] in
     ap (λ k. (front ++ padding 4 k) ++ string []) long ∙ ap (λ z. (front ++ zeros) ++ z) empty
@@ -35,6 +34,7 @@ call_body-parts name short =
   where
     byte : (n : ℕ) → n ≤ 255 → n % 256 ∷ n / 256 ∷ 0 ∷ 0 ∷ [] ≡ n ∷ 0 ∷ 0 ∷ 0 ∷ []
     byte n short = let low : n % 256 ≡ n = omega arith in let high : n / 256 ≡ 0 = omega arith in rw (low, high) refl
+
     regroup : (c name z five : List ℕ) → (((((c ++ name) ++ 0 ∷ []) ++ 1 ∷ 115 ∷ 0 ∷ []) ++ z) ++ five) ≡ c ++ (name ++ (0 ∷ 1 ∷ 115 ∷ 0 ∷ (z ++ five)))
     regroup c name z five = simp append_assoc
 
@@ -122,11 +122,11 @@ opening-whole size serial plain l s h b length_is serial_is header_is body = rec
     whole = refl;
   };
   whole =
-    ap (λ k. opening ++ (k ++ (s ++ (h ++ b)))) (length_is.whole ∙ ap uint32 body.is)
-    ∙ ap (λ k. opening ++ (uint32 n ++ (k ++ (h ++ b)))) serial_is.whole
-    ∙ ap (λ k. opening ++ (uint32 n ++ (uint32 serial ++ (k ++ b)))) header_is
-    ∙ ap (λ k. opening ++ (uint32 n ++ (uint32 serial ++ (header_fields ++ k)))) body.whole
-    ∙ sym (call-parts serial body.name body.short);
+      ap (λ k. opening ++ (k ++ (s ++ (h ++ b)))) (length_is.whole ∙ ap uint32 body.is)
+      ∙ ap (λ k. opening ++ (uint32 n ++ (k ++ (h ++ b)))) serial_is.whole
+      ∙ ap (λ k. opening ++ (uint32 n ++ (uint32 serial ++ (k ++ b)))) header_is
+      ∙ ap (λ k. opening ++ (uint32 n ++ (uint32 serial ++ (header_fields ++ k)))) body.whole
+      ∙ sym (call-parts serial body.name body.short);
 }
   where
     n : ℕ
@@ -136,56 +136,60 @@ opening-whole size serial plain l s h b length_is serial_is header_is body = rec
 pub goes_opening : Goes (texts IsOpening) (Fixed opening) (λ _. Behind_opening)
 goes_opening = record {
   cut = λ text form.
-    let call = form.1.is_call in
-    let name = call.algorithm in
-    let size : ℕ = body_length (length name) in
-    let length_is : IsBodyLength size (uint32 size) = record { count = length name; short = call.short; is = refl; whole = refl } in
-    let body : List ℕ = length name ∷ 0 ∷ 0 ∷ 0 ∷ (name ++ behind_algorithm (length name)) in
-    record {
-      front = opening;
-      back = uint32 size ++ (uint32 form.0.serial ++ (header_fields ++ body));
-      part = (tt, refl);
-      rest = record {
-        front = uint32 size;
-        back = uint32 form.0.serial ++ (header_fields ++ body);
-        part = (size, length_is);
+      let call = form.1.is_call in
+      let name = call.algorithm in
+      let size : ℕ = body_length (length name) in
+      let length_is : IsBodyLength size (uint32 size) = record { count = length name; short = call.short; is = refl; whole = refl } in
+      let body : List ℕ = length name ∷ 0 ∷ 0 ∷ 0 ∷ (name ++ behind_algorithm (length name)) in
+      record {
+        front = opening;
+        back = uint32 size ++ (uint32 form.0.serial ++ (header_fields ++ body));
+        part = (tt, refl);
         rest = record {
-          front = uint32 form.0.serial;
-          back = header_fields ++ body;
-          part = (form.0.serial, record { nonzero = call.nonzero; fits = call.fits; whole = refl });
+          front = uint32 size;
+          back = uint32 form.0.serial ++ (header_fields ++ body);
+          part = (size, length_is);
           rest = record {
-            front = header_fields;
-            back = body;
-            part = (tt, refl);
-            rest = (form.0.plain, record {
-              name = name;
-              short = call.short;
-              is_name = record { long = refl; printable = call.printable; is_plain = call.is_plain };
-              is = size_is size (uint32 size) length_is;
+            front = uint32 form.0.serial;
+            back = header_fields ++ body;
+            part = (form.0.serial, record { nonzero = call.nonzero; fits = call.fits; whole = refl });
+            rest = record {
+              front = header_fields;
+              back = body;
+              part = (tt, refl);
+              rest = (
+                form.0.plain,
+                record {
+                  name = name;
+                  short = call.short;
+                  is_name = record { long = refl; printable = call.printable; is_plain = call.is_plain };
+                  is = size_is size (uint32 size) length_is;
+                  whole = refl;
+                },
+              );
               whole = refl;
-            });
+            };
             whole = refl;
           };
           whole = refl;
         };
-        whole = refl;
+        whole = form.1.whole ∙ ap (λ l. begin ++ l) call.whole ∙ call-parts form.0.serial name call.short;
       };
-      whole = form.1.whole ∙ ap (λ l. begin ++ l) call.whole ∙ call-parts form.0.serial name call.short;
-    };
   join = λ x y part rest.
-    let l = rest in
-    let s = l.rest in
-    let h = s.rest in
-    let spelled : IsBodyLength (from_le_bytes w32 l.front) l.front =
+      let l = rest in
+      let s = l.rest in
+      let h = s.rest in
+      let spelled : IsBodyLength (from_le_bytes w32 l.front) l.front =
       subst (λ n. IsBodyLength n l.front) (sym (size_is l.part.0 l.front l.part.1)) l.part.1 in
-    let whole : y ≡ l.front ++ (s.front ++ (h.front ++ h.back)) =
-      l.whole ∙ ap (λ k. l.front ++ k) (s.whole ∙ ap (λ k. s.front ++ k) h.whole) in
-    (record { serial = s.part.0; plain = h.rest.0 },
-      rw (part.1, whole) (opening-whole _ _ _ l.front s.front h.front h.back spelled s.part.1 h.part.1 h.rest.1));
+      let whole : y ≡ l.front ++ (s.front ++ (h.front ++ h.back)) =
+      l.whole ∙ ap (λ k. l.front ++ k) (s.whole ∙ ap (λ k. s.front ++ k) h.whole) in (
+        record { serial = s.part.0; plain = h.rest.0 },
+        rw (part.1, whole) (opening-whole _ _ _ l.front s.front h.front h.back spelled s.part.1 h.part.1 h.rest.1),
+      );
   some = λ x part.
-    let begun = IsBegun-none in
-    let serial = some_serial (from_le_bytes w32 begun.0) begun.1.1.count begun.1.1.short (size_is begun.1.0 begun.0 begun.1.1 ∙ begun.1.1.is) in
-    (begun.0 ++ serial.0, record { front = begun.0; back = serial.0; part = begun.1; rest = serial.1; whole = refl });
+      let begun = IsBegun-none in
+      let serial = some_serial (from_le_bytes w32 begun.0) begun.1.1.count begun.1.1.short (size_is begun.1.0 begun.0 begun.1.1 ∙ begun.1.1.is) in
+      (begun.0 ++ serial.0, record { front = begun.0; back = serial.0; part = begun.1; rest = serial.1; whole = refl });
   free = free_fixed opening;
 }
 

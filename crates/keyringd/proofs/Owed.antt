@@ -1,19 +1,16 @@
 -- What is owed at each end of a conversation.
-use Rattle.std.proofs.Common.{◌≡◌, ℕ, ◌≤◌, ◌⊎◌, Bool, List, [], ◌∷◌, ◌++◌, Option, length, refl, sym, ◌∙◌, ap, subst, arith, length-append, append_assoc, append-nil, inl, inr}
-use Rattle.std.specs.Io.KnownBytes.{IsAtEnd}
-use Rattle.kr_outside.specs.Faults.{Rose}
+use Rattle.std.proofs.Common.{◌≡◌, ℕ, Bool, List, [], ◌∷◌, ◌++◌, length, refl, sym, ◌∙◌, ap, subst, arith, append_assoc, append-nil, inl, inr}
 use Rattle.keyringd.specs.Authentication.{greeting, begin, ok}
 use Rattle.keyringd.specs.OpenSession.{reply}
-use Rattle.keyringd.specs.Conversation.{IsInput, AnInput, IsOwed, silent, greeted, answered, IsFront, IsFrontOfOwed, Streams, EndsFor}
+use Rattle.keyringd.specs.Conversation.{IsInput, AnInput, IsOwed, silent, greeted, answered, IsFrontOfOwed, Streams, EndsFor}
 use Rattle.keyringd.specs.Expected.{IsOpening}
-use Rattle.keyringd.specs.Reading.{Place, Took, IsOff, IsBegun, LacksWhole, StopsFor, Stopped, texts}
+use Rattle.keyringd.specs.Reading.{Place, Took, IsOff, IsBegun, LacksWhole, StopsFor, Stopped}
 use Rattle.keyringd.specs.Status.{status_of}
 use Rattle.keyringd.specs.declared.input.Stop.{Stop}
 use Rattle.keyringd.specs.declared.input.Stop.TheVariants.{Ended, Failed, Unlike}
-use Rattle.keyringd.proofs.ReadingLemmas.{same_start, Took-trans}
-use Rattle.keyringd.proofs.Sequence.{stopped_front, stopped_behind}
+use Rattle.keyringd.proofs.ReadingLemmas.{same_start}
 use Rattle.keyringd.proofs.Body.{Fixed}
-use Rattle.keyringd.proofs.Inputs.{goes_input, same_input}
+use Rattle.keyringd.proofs.Inputs.{same_input}
 
 -- what was read from an empty buffer on
 pub read_is : (p q : Place) (text : List ℕ) (t : Took p q text) → p.ahead ≡ [] → t.read ≡ text ++ q.ahead
@@ -25,12 +22,13 @@ lacks_read Form p q stop s none = rw (read_is p q s.text s.took none) (by_stop s
   where
     nothing_ahead : q.ahead ≡ [] → LacksWhole Form (s.text ++ q.ahead)
     nothing_ahead e = rw (e, append-nil s.text) s.lacks
+
     by_stop : (stop : Stop) → StopsFor Form s.text p q stop → LacksWhole Form (s.text ++ q.ahead)
     by_stop Ended cause = nothing_ahead cause.0
     by_stop Failed cause = nothing_ahead cause.0
     by_stop Unlike off = λ front rest e form.
         elim (same_start front rest s.text q.ahead (sym e)) [
-          inl m ↦ s.lacks front m.0 m.1 form
+          | inl m ↦ s.lacks front m.0 m.1 form
           | inr m ↦ off m.0 (subst Form m.1 form)
         ]
 
@@ -89,3 +87,28 @@ IsOff-behind uid serial byte plain input rest form more other =
     let same = same_input uid serial other.0 plain other.1 input whole (byte ∷ (rest ++ more)) [] form other.2 lined in
     let long : length (byte ∷ (rest ++ more)) ≡ 0 = ap length same.2 in
     omega arith
+
+-- an input begins with the greeting
+begins : (uid serial : ℕ) (plain : Bool) (input rest read : List ℕ) → (form : IsInput uid serial plain input) → read ≡ input ++ rest → read ≡ greeting uid ++ ((begin ++ form.message) ++ rest)
+begins uid serial plain input rest read form e = e ∙ ap (λ l. l ++ rest) form.whole ∙ append_assoc (greeting uid) (begin ++ form.message) rest
+
+-- at most one text is owed
+pub one_owed : (uid : ℕ) (seed read one other : List ℕ) → IsOwed uid seed read one → IsOwed uid seed read other → one ≡ other
+one_owed uid seed read one other (silent l) (silent m) = refl
+one_owed uid seed read one other (silent l) (greeted rest e m) = absurd (l (greeting uid) rest e refl)
+one_owed uid seed read one other (silent l) (answered s p input rest form e) = absurd (l (greeting uid) _ (begins uid s p input rest read form e) refl)
+one_owed uid seed read one other (greeted rest e l) (silent m) = absurd (m (greeting uid) rest e refl)
+one_owed uid seed read one other (greeted rest e l) (greeted more f m) = refl
+one_owed uid seed read one other (greeted rest e l) (answered s p input more form f) = absurd (l input more f (s, p, form))
+one_owed uid seed read one other (answered s p input rest form e) (silent m) = absurd (m (greeting uid) _ (begins uid s p input rest read form e) refl)
+one_owed uid seed read one other (answered s p input rest form e) (greeted more f m) = absurd (m input rest e (s, p, form))
+one_owed uid seed read one other (answered s p input rest form e) (answered t q two more other_form f) =
+    let same = same_input uid s t p q input two rest more form other_form (sym e ∙ f) in
+    ap (λ n. ok seed ++ reply n p) same.0 ∙ ap (λ b. ok seed ++ reply t b) same.1
+
+-- it can't be that none is
+pub some_owed : (uid : ℕ) (seed read : List ℕ) → ((owed : List ℕ) → IsOwed uid seed read owed → ⊥) → ⊥
+some_owed uid seed read none =
+    none [] (silent (λ front rest e is.
+    none (ok seed) (greeted rest (e ∙ ap (λ l. l ++ rest) is) (λ input more f form.
+    none (ok seed ++ reply form.0 form.1) (answered form.0 form.1 input more form.2 f)))))

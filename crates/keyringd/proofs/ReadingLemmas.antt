@@ -1,15 +1,13 @@
 -- Readings one behind the other.
-use Rattle.std.proofs.Common.{◌≡◌, ◌≢◌, ℕ, ◌+◌, ◌<◌, ◌≤◌, Bool, List, [], ◌∷◌, ◌++◌, Option, take, drop, length, get_or, set, refl, sym, ◌∙◌, ap, append_assoc, append-nil, length-append, drop-cons, add-one, take-append-drop, arith, subst, ◌⊎◌, inl, inr}
+use Rattle.std.proofs.Common.{◌≡◌, ◌≢◌, ℕ, ◌+◌, ◌<◌, ◌≤◌, List, [], ◌∷◌, ◌++◌, take, drop, length, get_or, set, refl, sym, ◌∙◌, ap, append_assoc, append-nil, length-append, take-append-drop, arith, subst, ◌⊎◌, inl, inr}
 use Rattle.std.proofs.lemmas.List.{length-take-le, take_more, take_more_set}
 use Rattle.std.proofs.Math.Seq.{get_or-append_seam}
-use Rattle.std.specs.Option.{option_to_list}
-use Rattle.std.specs.Io.KnownBytes.{Consumes, Keeps, IsAtEnd}
-use Rattle.std.proofs.KnownBytes.{Consumes-nil, Consumes-trans, Consumes-kept}
-use Rattle.kr_outside.specs.Faults.{KeepsSteady, Rose}
+use Rattle.std.proofs.KnownBytes.{Consumes-nil, Consumes-trans}
+use Rattle.kr_outside.specs.Faults.{Rose}
 use Rattle.kr_outside.proofs.FaultLemmas.{KeepsSteady-none, KeepsSteady-trans}
 use Rattle.keyringd.specs.declared.input.Stop.{Stop}
 use Rattle.keyringd.specs.declared.input.Stop.TheVariants.{Ended, Failed, Unlike}
-use Rattle.keyringd.specs.Reading.{Place, Took, IsOff, IsBegun, LacksWhole, StopsFor, Stopped, GaveNone, texts}
+use Rattle.keyringd.specs.Reading.{Place, Took, IsOff, IsBegun, LacksWhole, Stopped, GaveNone, texts}
 
 -- nothing was taken
 pub Took-none : (p : Place) → Took p p []
@@ -27,8 +25,8 @@ Took-trans old mid new s t p q = record {
   read = p.read ++ q.read;
   consumed = Consumes-trans old.left mid.left new.left p.read q.read p.consumed q.consumed;
   whole =
-    sym (append_assoc old.ahead p.read q.read) ∙ ap (λ l. l ++ q.read) p.whole
-    ∙ append_assoc s mid.ahead q.read ∙ ap (λ l. s ++ l) q.whole ∙ sym (append_assoc s t new.ahead);
+      sym (append_assoc old.ahead p.read q.read) ∙ ap (λ l. l ++ q.read) p.whole
+      ∙ append_assoc s mid.ahead q.read ∙ ap (λ l. s ++ l) q.whole ∙ sym (append_assoc s t new.ahead);
   later = omega (arith, p.later, q.later);
   steady = KeepsSteady-trans old.is_steady mid.is_steady new.is_steady old.faults mid.faults new.faults p.steady q.steady;
 }
@@ -51,7 +49,7 @@ same_start (c ∷ a) x (d ∷ b) y e =
     let heads : c ≡ d = cc in
     let tails : a ++ x ≡ b ++ y = cc in
     elim (same_start a x b y tails) [
-      inl p ↦ inl (p.0, (rw (sym heads) (ap (λ l. c ∷ l) p.1)), p.2)
+      | inl p ↦ inl (p.0, (rw (sym heads) (ap (λ l. c ∷ l) p.1)), p.2)
       | inr p ↦ inr (p.0, (rw heads (ap (λ l. d ∷ l) p.1)), p.2)
     ]
 
@@ -77,7 +75,7 @@ none_given Form old mid new text Unlike t (none, cause) lacks begun = absurd cau
 LacksWhole-more : (Form : List ℕ → Type 0) (text : List ℕ) (byte : ℕ) → LacksWhole Form text → IsOff Form (text ++ byte ∷ []) → LacksWhole Form (text ++ byte ∷ [])
 LacksWhole-more Form text byte lacks off front rest e form =
     elim (same_start front rest text (byte ∷ []) (sym e)) [
-      inl p ↦ lacks front p.0 p.1 form
+      | inl p ↦ lacks front p.0 p.1 form
       | inr p ↦ last p.0 p.1 p.2
     ]
   where

@@ -1,10 +1,9 @@
 -- A form that is one part and then another: where the reading of either stops, the reading of the form does.
-use Rattle.std.proofs.Common.{◌≡◌, ℕ, ◌≤◌, List, [], ◌∷◌, ◌++◌, length, refl, sym, ◌∙◌, ap, append_assoc, append-nil, length-append, subst, arith, inl, inr, Result, Ok, Err, IsErrAnd}
+use Rattle.std.proofs.Common.{◌≡◌, ℕ, List, [], ◌∷◌, ◌++◌, length, refl, sym, ◌∙◌, ap, append_assoc, append-nil, length-append, subst, arith, inl, inr}
 use Rattle.std.proofs.lemmas.List.{append_cancel_left}
-use Rattle.std.proofs.lemmas.Result.{err_from_is_err_and}
 use Rattle.keyringd.specs.declared.input.Stop.{Stop}
 use Rattle.keyringd.specs.declared.input.Stop.TheVariants.{Ended, Failed, Unlike}
-use Rattle.keyringd.specs.Reading.{Place, Took, IsOff, IsBegun, LacksWhole, StopsFor, Stopped, Found, Reads, texts}
+use Rattle.keyringd.specs.Reading.{Place, Took, StopsFor, Stopped}
 use Rattle.keyringd.proofs.ReadingLemmas.{Took-trans, Rose-later, same_start}
 
 -- a text in two parts
@@ -30,8 +29,8 @@ stopped_front Form Part Rest old new stop goes s = record {
   text = s.text;
   took = s.took;
   lacks = λ front rest e form.
-    let c = goes.cut front form in
-    s.lacks c.front (c.back ++ rest) (e ∙ ap (λ l. l ++ rest) c.whole ∙ append_assoc c.front c.back rest) c.part;
+      let c = goes.cut front form in
+      s.lacks c.front (c.back ++ rest) (e ∙ ap (λ l. l ++ rest) c.whole ∙ append_assoc c.front c.back rest) c.part;
   cause = why stop s.cause;
 }
   where
@@ -44,7 +43,7 @@ stopped_front Form Part Rest old new stop goes s = record {
     why Unlike off = λ more form.
         let c = goes.cut (s.text ++ more) form in
         elim (same_start s.text more c.front c.back c.whole) [
-          inl p ↦ off p.0 (subst Part p.1 c.part)
+          | inl p ↦ off p.0 (subst Part p.1 c.part)
           | inr p ↦ s.lacks c.front p.0 p.1 c.part
         ]
 
@@ -55,19 +54,21 @@ stopped_behind Form Part Rest old mid new x stop goes t part s = record {
   text = x ++ s.text;
   took = Took-trans old mid new x s.text t s.took;
   lacks = λ front rest e form.
-    let c = goes.cut front form in
-    let lined : c.front ++ (c.back ++ rest) ≡ x ++ s.text = sym (append_assoc c.front c.back rest) ∙ ap (λ l. l ++ rest) (sym c.whole) ∙ sym e in
-    let same : c.front ≡ x = goes.free c.front x (c.back ++ rest) s.text c.part part lined in
-    s.lacks c.back rest (sym (append_cancel_left x (c.back ++ rest) s.text (ap (λ l. l ++ (c.back ++ rest)) (sym same) ∙ lined)))
-    (subst (λ z. Rest z c.back) same c.rest);
+      let c = goes.cut front form in
+      let lined : c.front ++ (c.back ++ rest) ≡ x ++ s.text = sym (append_assoc c.front c.back rest) ∙ ap (λ l. l ++ rest) (sym c.whole) ∙ sym e in
+      let same : c.front ≡ x = goes.free c.front x (c.back ++ rest) s.text c.part part lined in
+      s.lacks c.back rest (sym (append_cancel_left x (c.back ++ rest) s.text (ap (λ l. l ++ (c.back ++ rest)) (sym same) ∙ lined)))
+      (subst (λ z. Rest z c.back) same c.rest);
   cause = why stop s.cause;
 }
   where
     why : (stop : Stop) → StopsFor (Rest x) s.text mid new stop → StopsFor Form (x ++ s.text) old new stop
     why Ended cause = cause
-    why Failed cause =
-        (cause.0, Rose-later old.faults mid.faults new.faults t.later cause.1,
-          (cause.2.0, subst Form (sym (append_assoc x s.text cause.2.0)) (goes.join x (s.text ++ cause.2.0) part cause.2.1)))
+    why Failed cause = (
+      cause.0,
+      Rose-later old.faults mid.faults new.faults t.later cause.1,
+      (cause.2.0, subst Form (sym (append_assoc x s.text cause.2.0)) (goes.join x (s.text ++ cause.2.0) part cause.2.1)),
+    )
     why Unlike off = λ more form.
         let c = goes.cut ((x ++ s.text) ++ more) form in
         let lined : c.front ++ c.back ≡ x ++ (s.text ++ more) = sym c.whole ∙ append_assoc x s.text more in

@@ -1,6 +1,6 @@
 -- A serial, byte by byte.
-use Rattle.std.proofs.Common.{◌≡◌, ◌≢◌, ℕ, zero, suc, ◌+◌, ◌*◌, ◌^◌, ◌<◌, ◌≤◌, List, [], ◌∷◌, ◌++◌, length, get_or, take, set, inl, inr, refl, sym, ◌∙◌, ap, subst, arith, length-append, append-nil}
-use Rattle.std.specs.Int.{w32, to_le_bytes, from_le_bytes}
+use Rattle.std.proofs.Common.{◌≡◌, ℕ, zero, suc, ◌+◌, ◌^◌, ◌<◌, ◌≤◌, List, [], ◌∷◌, ◌++◌, length, get_or, take, set, inl, inr, refl, sym, ◌∙◌, ap, subst, arith, length-append, append-nil}
+use Rattle.std.specs.Int.{w32, from_le_bytes}
 use Rattle.std.proofs.lemmas.Nat.{le_bytes_4, from_le_bytes-to_le_bytes_4}
 use Rattle.std.proofs.lemmas.List.{nil_from_length, length-take, get_or_past, get_or-take, get_or-set_same, get_or-set_other, take_all, set_past}
 use Rattle.std.proofs.lemmas.Bool.{cases_lt, cases_eq}
@@ -66,14 +66,14 @@ zeros_below = below 0 0 0 0 (omega arith) (omega arith) (omega arith) (omega ari
 
 pub take_below : (items : List ℕ) (i : ℕ) → ((k : ℕ) → get_or items k 0 < 256) → (k : ℕ) → get_or (take i items) k 0 < 256
 take_below items i bytes k = elim (cases_lt k i) [
-  inl less ↦ rw (get_or-take i items k 0 less) (bytes k)
+  | inl less ↦ rw (get_or-take i items k 0 less) (bytes k)
   | inr past ↦ rw (get_or_past (take i items) k 0 (omega (arith, length-take i items))) (omega arith)
 ]
 
 pub set_below : (items : List ℕ) (i byte : ℕ) → byte < 256 → ((k : ℕ) → get_or items k 0 < 256) → (k : ℕ) → get_or (set items i byte) k 0 < 256
 set_below items i byte fits bytes k = elim (cases_lt i (length items)) [
-  inl within ↦ elim (cases_eq k i) [
-    inl here ↦ rw (here, get_or-set_same items i byte 0 within) fits
+  | inl within ↦ elim (cases_eq k i) [
+    | inl here ↦ rw (here, get_or-set_same items i byte 0 within) fits
     | inr other ↦ rw (get_or-set_other items i k byte 0 other) (bytes k)
   ]
   | inr past ↦ rw (set_past items i byte past) (bytes k)

@@ -7,7 +7,7 @@ use Rattle.rand_chacha.specs.ChaCha.{word_at, key_of}
 
 -- a line, ended by CR LF
 abbrev pub line : List ℕ → List ℕ
-line text = text ++ codes "\r\n"
+line text = text ++ 13 ∷ 10 ∷ []
 
 -- the client's first byte, and the line that gives the user's number: its decimal digits, in hex
 unfoldable pub greeting : ℕ → List ℕ

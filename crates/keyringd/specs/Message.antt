@@ -1,6 +1,6 @@
 -- D-Bus Specification, "Marshaling" and "Message Format", as far as one call and its replies need them. All
 -- is little-endian.
-use Rattle.std.specs.Prelude.{ℕ, ◌+◌, ◌-◌, ◌%◌, List, [], ◌∷◌, ◌++◌, length, replicate}
+use Rattle.std.specs.Prelude.{ℕ, ◌-◌, ◌%◌, List, [], ◌∷◌, ◌++◌, length, replicate}
 use Rattle.std.specs.Int.{w32, to_le_bytes}
 
 -- UINT32

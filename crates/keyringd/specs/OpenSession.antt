@@ -12,12 +12,12 @@ call_body algorithm =
 -- the call's header fields
 unfoldable pub call_fields : List ℕ
 call_fields = fields_of (
-  field path (codes "o") (string (codes "/org/freedesktop/secrets"))
-  ∷ field interface (codes "s") (string (codes "org.freedesktop.Secret.Service"))
-  ∷ field member (codes "s") (string (codes "OpenSession"))
-  ∷ field signature_field (codes "g") (signature (codes "sv"))
-  ∷ []
-)
+    field path (codes "o") (string (codes "/org/freedesktop/secrets"))
+    ∷ field interface (codes "s") (string (codes "org.freedesktop.Secret.Service"))
+    ∷ field member (codes "s") (string (codes "OpenSession"))
+    ∷ field signature_field (codes "g") (signature (codes "sv"))
+    ∷ []
+    )
 
 -- the call with this serial, which names the algorithm
 unfoldable pub call : ℕ → List ℕ → List ℕ
@@ -55,9 +55,9 @@ unfoldable pub not_supported_reply : ℕ → List ℕ
 not_supported_reply to =
     message error 1 1
     (fields_of (
-      field error_name (codes "s") (string (codes "org.freedesktop.DBus.Error.NotSupported"))
-      ∷ field reply_serial (codes "u") (uint32 to)
-      ∷ []
+    field error_name (codes "s") (string (codes "org.freedesktop.DBus.Error.NotSupported"))
+    ∷ field reply_serial (codes "u") (uint32 to)
+    ∷ []
     ))
     []
 

@@ -24,7 +24,8 @@ fn status_of(stop: Stop) -> Status
 /// Answers the handshake of this user and one OpenSession call, and sees the input end behind it.
 /// The seed determines the server's number.
 ///
-/// What is owed is written as soon as what it answers stands whole.
+/// What is owed is written before more is read than what it answers, but for what came in one piece
+/// with it.
 pub fn converse<I: Source, O: Sink>(
     alloc: Global,
     uid: u32,

@@ -25,8 +25,10 @@ pub fn greeting_of(alloc: Global, uid: u32) -> Result<Vec<u8>, AllocError>
 /// The next word of the generator, in its four bytes, the least significant first.
 #[tactic(auto, unfolding(crate::specs::Message::uint32))]
 fn next_cells(generator: &mut ChaCha20Rng) -> [u8; 4]
-    ensures cells { result ≡ uint32 (word_at 10 generator.old.key generator.old.stream generator.old.word_pos) }
-    ensures next { generator.new ≡ record generator.old { word_pos = (generator.old.word_pos + 1) % 2 ^ 68 } }
+    ensures cells { let was = generator.old in
+        result ≡ uint32 (word_at 10 was.key was.stream was.word_pos) }
+    ensures next { let was = generator.old in
+        generator.new ≡ record was { word_pos = (was.word_pos + 1) % 2 ^ 68 } }
 {
     generator.next_word().to_le_bytes()
 }

@@ -37,7 +37,8 @@ impl Model for Buffer {
 
     ghost view = { λ b. drop b.at (take b.filled b.bytes.items) };
 
-    ghost invariant = { λ b. (b.at ≤ b.filled) × (b.filled ≤ vec_len b.bytes) × (0 < vec_len b.bytes) };
+    ghost invariant = { λ b.
+        (b.at ≤ b.filled) × (b.filled ≤ vec_len b.bytes) × (0 < vec_len b.bytes) };
 }
 
 impl Buffer {

@@ -11,6 +11,7 @@ mod command;
 mod conversation;
 mod handshake;
 mod input;
+mod laws;
 mod open_session;
 mod program;
 mod replies;

@@ -18,6 +18,7 @@ pub struct Call {
 
 /// The lengths of a body whose algorithm has no byte and 255 bytes.
 const SHORTEST_BODY: u16 = 13;
+
 const LONGEST_BODY: u16 = 269;
 
 /// The longest algorithm's name.

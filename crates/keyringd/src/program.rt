@@ -24,7 +24,8 @@ pub fn run<R: AllocGlobal, I: Source, O: Sink>(
 ) -> Status
     // The words are looked at first, and where they are no command nothing is read or written.
     ensures usage { (result ≡ Status.Usage) ↔ IsNoCommand words.now }
-    ensures untouched { result ≡ Status.Usage → (input.new ≡ input.old) × (output.new ≡ output.old) }
+    ensures untouched { result ≡ Status.Usage
+        → (input.new ≡ input.old) × (output.new ≡ output.old) }
 
     // What was read, what was written to it, and why the run ended so.
     ensures conversed { (uid : ℕ) → IsStdio words.now uid → Conversed uid seed

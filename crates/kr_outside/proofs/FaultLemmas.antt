@@ -1,6 +1,5 @@
 -- A count of faults over several calls.
-use Rattle.std.proofs.Common.{◌≡◌, ℕ, ◌≤◌, Bool, refl, ◌∙◌, subst, arith}
-use Rattle.std.specs.Prelude.{IsTrue}
+use Rattle.std.proofs.Common.{ℕ, Bool, refl, ◌∙◌}
 use Rattle.kr_outside.specs.Faults.{KeepsSteady}
 
 -- where no call was made

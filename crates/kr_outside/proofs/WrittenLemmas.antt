@@ -4,7 +4,6 @@ use Rattle.std.proofs.lemmas.List.{take_all}
 use Rattle.std.specs.Io.KnownBytes.{Appends}
 use Rattle.std.proofs.KnownBytes.{Appends-nil, Appends-trans}
 use Rattle.kr_outside.specs.Faults.{KeepsSteady}
-use Rattle.kr_outside.specs.Written.{AppendsFront}
 use Rattle.kr_outside.proofs.FaultLemmas.{KeepsSteady-none, KeepsSteady-trans}
 
 -- all of the piece was written but this rest, with no failure

@@ -10,9 +10,9 @@ last_count = 2 ^ 64 - 1
 abbrev pub Rose : ℕ → ℕ → Type 0
 Rose old new = (old < new) ⊎ (new ≡ last_count)
 
--- the contrary: the count is as before, and could have risen
+-- the contrary: the count is as before, and isn't the last one
 abbrev pub StandsStill : ℕ → ℕ → Type 0
-StandsStill old new = (new ≡ old) × (new < last_count)
+StandsStill old new = (new ≡ old) × (new ≡ last_count → ⊥)
 
 -- the count never falls, and a failure is answered only where it rose
 pub record HasCause {T E : Type 0} (old new : ℕ) (result : Result T E) : Type 0 where

@@ -36,11 +36,12 @@ pub trait Sink {
 
 /// Writes the whole piece, by as many calls as the sink needs.
 ///
-/// Refused with `Failed` at the first call that fails; a front of the piece is then written, which
-/// may be none or all but the last byte.
+/// Refused with `Failed` at the first call that fails; a front of the piece is then written, perhaps
+/// none of it.
 pub fn write_all<O: Sink>(output: &mut O, piece: &[u8]) -> Result<(), Failed>
     ensures whole { OnOk result (Appends (O.written output.old) (O.written output.new) piece.now) }
-    ensures front { OnErr result (AppendsFront (O.written output.old) (O.written output.new) piece.now) }
+    ensures front { OnErr result
+        (AppendsFront (O.written output.old) (O.written output.new) piece.now) }
     ensures cause { HasCause (O.faults output.old) (O.faults output.new) result }
     ensures steady { KeepsSteady (O.is_steady output.old) (O.is_steady output.new)
         (O.faults output.old) (O.faults output.new) }

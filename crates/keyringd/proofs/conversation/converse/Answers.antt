@@ -1,7 +1,7 @@
 use Rattle.std.proofs.Common.{◌++◌, refl, ◌∙◌}
 use Rattle.keyringd.proofs.ReadingLemmas.{Took-trans}
 use Rattle.keyringd.proofs.Owed.{input_is}
-use Rattle.keyringd.proofs.Endings.{Sunk, ended_silent, failed_greeted, ended_greeted, no_reply, failed_reply, ended_whole, failed_whole, more_behind, gained, Gained-trans}
+use Rattle.keyringd.proofs.Endings.{ended_silent, failed_greeted, ended_greeted, no_reply, failed_reply, ended_whole, failed_whole, more_behind, gained, Gained-trans}
 use Rattle.keyringd.proofs.conversation.converse.Goals as goal
 
 -- the greeting didn't stand
@@ -60,7 +60,7 @@ returns-in-Err-Ended g c =
     (Took-trans _ _ _ start.text call.text start.took call.took)
     (input_is _ _ _ start.text call.text (start.form ∙ c.as_slice.ensures.value ∙ c.in-Ok.ensures) call.form)
     (Gained-trans _ _ _ _ _ (gained _ _ _ (rw (c.as_slice-2.ensures.value, c.in-Ok-ok_of.ensures) at wrote.whole) wrote.cause.later wrote.steady)
-      (gained _ _ _ (rw (c.as_slice-3.ensures.value, c.in-Ok-reply_to.ensures) at last.whole) last.cause.later last.steady))
+    (gained _ _ _ (rw (c.as_slice-3.ensures.value, c.in-Ok-reply_to.ensures) at last.whole) last.cause.later last.steady))
     (rw c.in-Err-Ended.field-0-is at c.in-Err-Ended.ensures)
 
 pub returns-in-Err-Failed : goal.returns-in-Err-Failed
@@ -73,7 +73,7 @@ returns-in-Err-Failed g c =
     (Took-trans _ _ _ start.text call.text start.took call.took)
     (input_is _ _ _ start.text call.text (start.form ∙ c.as_slice.ensures.value ∙ c.in-Ok.ensures) call.form)
     (Gained-trans _ _ _ _ _ (gained _ _ _ (rw (c.as_slice-2.ensures.value, c.in-Ok-ok_of.ensures) at wrote.whole) wrote.cause.later wrote.steady)
-      (gained _ _ _ (rw (c.as_slice-3.ensures.value, c.in-Ok-reply_to.ensures) at last.whole) last.cause.later last.steady))
+    (gained _ _ _ (rw (c.as_slice-3.ensures.value, c.in-Ok-reply_to.ensures) at last.whole) last.cause.later last.steady))
     (rw c.in-Err-Failed.field-0-is at c.in-Err-Failed.ensures)
 
 pub returns-in-Ok-next_byte : goal.returns-in-Ok-next_byte
@@ -86,5 +86,5 @@ returns-in-Ok-next_byte g c =
     (Took-trans _ _ _ start.text call.text start.took call.took)
     (input_is _ _ _ start.text call.text (start.form ∙ c.as_slice.ensures.value ∙ c.in-Ok.ensures) call.form)
     (Gained-trans _ _ _ _ _ (gained _ _ _ (rw (c.as_slice-2.ensures.value, c.in-Ok-ok_of.ensures) at wrote.whole) wrote.cause.later wrote.steady)
-      (gained _ _ _ (rw (c.as_slice-3.ensures.value, c.in-Ok-reply_to.ensures) at last.whole) last.cause.later last.steady))
+    (gained _ _ _ (rw (c.as_slice-3.ensures.value, c.in-Ok-reply_to.ensures) at last.whole) last.cause.later last.steady))
     c.in-Ok-next_byte.ensures

@@ -1,7 +1,5 @@
-use Rattle.std.proofs.Common.{ℕ, [], ◌∷◌, ◌++◌, refl, arith, rules}
+use Rattle.std.proofs.Common.{[], ◌∷◌, ◌++◌, refl, rules}
 use Rattle.std.proofs.lemmas.Result.{err_from_is_err_and}
-use Rattle.keyringd.specs.Expected.{IsBody}
-use Rattle.keyringd.specs.Reading.{Stopped, texts}
 use Rattle.keyringd.proofs.ReadingLemmas.{Took-none, Took-trans, none_given, unlike}
 use Rattle.keyringd.proofs.Sequence.{stopped_front, stopped_behind}
 use Rattle.keyringd.proofs.Body.{IsCount, goes_count, goes_zeros, goes_name, IsOff-count, LacksWhole-body, IsBegun-body, IsBody-whole}

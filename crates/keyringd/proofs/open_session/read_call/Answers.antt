@@ -1,4 +1,4 @@
-use Rattle.std.proofs.Common.{ℕ, ◌++◌, ◌∙◌, ◌∷◌}
+use Rattle.std.proofs.Common.{◌++◌, ◌∙◌}
 use Rattle.std.specs.Int.{w32, from_le_bytes}
 use Rattle.std.proofs.lemmas.Result.{err_from_is_err_and}
 use Rattle.keyringd.proofs.ReadingLemmas.{Took-trans}
@@ -68,7 +68,7 @@ returns g c =
     record {
       text = start.text ++ (size.text ++ (serial.text ++ (fields.text ++ body.text)));
       took = Took-trans _ _ _ start.text _ start.took (Took-trans _ _ _ size.text _ size.took
-        (Took-trans _ _ _ serial.text _ serial.took (Took-trans _ _ _ fields.text body.text fields.took body.took)));
+          (Took-trans _ _ _ serial.text _ serial.took (Took-trans _ _ _ fields.text body.text fields.took body.took)));
       form = rw (start.form, c.opening_bytes.ensures)
-        (opening-whole _ _ _ size.text serial.text fields.text body.text size.form serial.form (fields.form ∙ c.header_bytes.ensures) body.form);
+          (opening-whole _ _ _ size.text serial.text fields.text body.text size.form serial.form (fields.form ∙ c.header_bytes.ensures) body.form);
     }

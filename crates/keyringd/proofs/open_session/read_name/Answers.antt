@@ -1,7 +1,7 @@
-use Rattle.std.proofs.Common.{◌<◌, ◌≡◌, ℕ, take, length, length-set, refl, ◌∙◌, arith, rules}
+use Rattle.std.proofs.Common.{◌<◌, take, length, length-set, ◌∙◌, arith, rules}
 use Rattle.std.proofs.lemmas.List.{length-take}
 use Rattle.std.proofs.lemmas.Result.{err_from_is_err_and}
-use Rattle.keyringd.proofs.ReadingLemmas.{Took-none, none_given, unlike, Took-set}
+use Rattle.keyringd.proofs.ReadingLemmas.{none_given, unlike, Took-set}
 use Rattle.keyringd.proofs.Name.{LacksWhole-name, IsOff-name, IsBegun-name, All-letter}
 use Rattle.keyringd.proofs.open_session.read_name.Goals as goal
 

@@ -1,4 +1,3 @@
-use Rattle.std.proofs.Common.{ℕ, sym, subst}
 use Rattle.keyringd.proofs.CommandLemmas.{one_user}
 use Rattle.keyringd.proofs.Complete.{complete}
 use Rattle.keyringd.proofs.program.run.Goals as goal
