@@ -1,3 +1,4 @@
+// The input, read by 16 KiB at a time and looked at byte by byte.
 ghost use Rattle.std.specs.Prelude.{◌≡◌, ℕ, ◌≤◌, ◌<◌, List, [], ◌∷◌, ◌++◌, length, take, drop, IfOk, IfNone, OnErr, vec_len};
 ghost use Rattle.std.specs.Option.{option_to_list};
 ghost use Rattle.std.specs.Io.KnownBytes.{Consumes, Keeps, IsAtEnd};
@@ -19,7 +20,7 @@ pub enum Stop {
     Unlike,
 }
 
-/// How many bytes are read at once, at most.
+/// How many bytes are read at once, at most: more than any input of the form has.
 const ROOM: usize = 16 * 1024;
 
 /// The bytes that were read and not looked at yet.

@@ -1,4 +1,5 @@
-// The one call that is read: OpenSession, of D-Bus's message format, behind the line BEGIN.
+// The one call that is read: OpenSession (Secret Service API draft 0.2, interface Service) in the bytes of
+// the D-Bus Specification, "Message Format" and "Marshaling", behind the line BEGIN.
 ghost use Rattle.std.specs.Prelude.{◌≡◌, ℕ, ◌<◌, ◌≤◌, ◌↔◌, IsTrue, length, Bool};
 ghost use Rattle.keyringd.specs.Message.{uint32};
 ghost use Rattle.keyringd.specs.Expected.{opening, header_fields, IsBodyLength, IsSerial, IsName, IsBody, IsOpening, body_length, behind_algorithm};
@@ -16,12 +17,13 @@ pub struct Call {
     pub plain: bool,
 }
 
-/// The lengths of a body whose algorithm has no byte and 255 bytes.
+/// The length of a body whose algorithm's name has no byte, in bytes.
 const SHORTEST_BODY: u16 = 13;
 
+/// The length of a body whose algorithm's name has 255 bytes, in bytes.
 const LONGEST_BODY: u16 = 269;
 
-/// The longest algorithm's name.
+/// The longest algorithm's name that is read, in bytes.
 const LONGEST_NAME: usize = 255;
 
 /// The line BEGIN, and a call's bytes before the length of its body.
@@ -78,6 +80,7 @@ fn read_body_length<I: Source>(input: &mut I, buffer: &mut Buffer) -> Result<u16
         (place I.left I.faults I.is_steady buffer.new input.new) }
 {
     let low = next_byte(input, buffer)?;
+    // Behind its padding to a multiple of 4 a body has the five bytes of the empty STRING.
     if low % 4 != 1 {
         return Err(Stop::Unlike);
     }
@@ -86,6 +89,7 @@ fn read_body_length<I: Source>(input: &mut I, buffer: &mut Buffer) -> Result<u16
     if !is_within_bodies(size) {
         return Err(Stop::Unlike);
     }
+    // No body is longer than two bytes can tell.
     expect(input, buffer, &[0, 0])?;
     Ok(size)
 }
@@ -98,7 +102,7 @@ fn number_of(cells: &[u8; 4]) -> u32
     u32::from_le_bytes(*cells)
 }
 
-/// Reads a serial. Zero is none.
+/// Reads a serial, which is any number of 32 bits but zero (D-Bus Specification, "Message Format").
 fn read_serial<I: Source>(input: &mut I, buffer: &mut Buffer) -> Result<u32, Stop>
     ensures { Reads IsSerial result
         (place I.left I.faults I.is_steady buffer.old input.old)
@@ -133,7 +137,8 @@ fn read_name<I: Source>(input: &mut I, buffer: &mut Buffer, count: u8) -> Result
     Ok(&name[..count] == b"plain".as_slice())
 }
 
-/// Reads the body of a call, which has this length, and answers whether its algorithm is `plain`.
+/// Reads the body of a call, which has this length in bytes, and answers whether its algorithm is
+/// `plain`.
 fn read_body<I: Source>(input: &mut I, buffer: &mut Buffer, size: u16) -> Result<bool, Stop>
     requires { (n : ℕ) × (n ≤ 255) × (size ≡ body_length n) }
     ensures { Reads (IsBody size) result
@@ -141,6 +146,7 @@ fn read_body<I: Source>(input: &mut I, buffer: &mut Buffer, size: u16) -> Result
         (place I.left I.faults I.is_steady buffer.new input.new) }
 {
     let count = next_byte(input, buffer)?;
+    // The header told the body's length first, and the name has to fill it.
     if body_length_of(count) != size {
         return Err(Stop::Unlike);
     }
@@ -150,7 +156,9 @@ fn read_body<I: Source>(input: &mut I, buffer: &mut Buffer, size: u16) -> Result
     Ok(plain)
 }
 
-/// Reads the end of the handshake and the call.
+/// Reads the line BEGIN, which ends the handshake, and the call behind it.
+///
+/// Refused as each of its parts is: with `Unlike` at the first byte with which no such call goes on.
 pub fn read_call<I: Source>(input: &mut I, buffer: &mut Buffer) -> Result<Call, Stop>
     ensures { Reads IsOpening result
         (place I.left I.faults I.is_steady buffer.old input.old)
