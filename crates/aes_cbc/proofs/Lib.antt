@@ -1,0 +1,13 @@
+pub mod CbcLemmas
+pub mod Computing
+pub mod FieldFacts
+pub mod ListLemmas
+pub mod MixLemmas
+pub mod ProductLemmas
+pub mod RoundLemmas
+pub mod ScheduleLemmas
+pub mod StandardFacts
+pub mod StateLemmas
+pub mod TableFacts
+pub mod UndoLemmas
+pub mod WordLemmas

@@ -1,0 +1,5 @@
+pub mod Field
+pub mod Aes
+pub mod Cbc
+pub mod State
+pub mod Key
