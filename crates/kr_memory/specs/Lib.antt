@@ -1,4 +1,7 @@
 pub mod Clock
+pub mod Place
 pub mod Plan
 pub mod Sink
+pub mod Slot
+pub mod SlotLaws
 pub mod Source

@@ -39,3 +39,10 @@ module _ {S : Type 0} (moment : S → ℕ) (left_since : S → ℕ → Image →
       (λ was. ⊎_elim (λ old_one. inl old_one) (λ is. inr (inl is)) (p.before t image le was))
       (λ is. inr (inr is)) (q.before t image (omega (arith, le, p.later)) left);
   }
+
+  -- one run behind another that leaves no fewer images
+  pub LeavesOnly-behind : (old mid new : S) (first images : Image → Type 0) → ((image : Image) → first image → images image)
+      → LeavesOnly moment left_since old mid first → LeavesOnly moment left_since mid new images → LeavesOnly moment left_since old new images
+  LeavesOnly-behind old mid new first images within p q =
+    LeavesOnly-weaker old new (λ image. first image ⊎ images image) images (λ image one. ⊎_elim (within image) (λ is. is) one)
+      (LeavesOnly-trans old mid new first images p q)
