@@ -1,4 +1,5 @@
 pub mod Clock
+pub mod Left
 pub mod Place
 pub mod Plan
 pub mod Sink

@@ -5,7 +5,8 @@ use Rattle.std.proofs.lemmas.List.{take_all}
 use Rattle.kr_outside.specs.RenameDisk.{Image}
 use Rattle.kr_memory.specs.Slot.{Stood, Whole, Torn, Disk, LeavesStood, DiskLeaves, image_stood, disk_at, SlotState, slot_may_leave, slot_left_since, slot_seen, slot_moment, disk_of}
 
-leaves_itself : (stood : Stood) → LeavesStood stood (image_stood stood)
+-- what a name stands for is among what a crash may leave of it
+pub leaves_itself : (stood : Stood) → LeavesStood stood (image_stood stood)
 leaves_itself (Whole image) = refl
 leaves_itself (Torn bytes) = refl
 

@@ -7,6 +7,7 @@
 #![tactic(auto)]
 
 mod clock;
+mod left;
 mod place;
 mod plan;
 mod sink;

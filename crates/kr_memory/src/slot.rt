@@ -1,4 +1,4 @@
-ghost use Rattle.std.specs.Prelude.{◌≡◌, ◌≤◌, ◌++◌, [], ◌∷◌, None, Some, IsNone, IfSome, true, false, length, take};
+ghost use Rattle.std.specs.Prelude.{◌≡◌, ◌≤◌, ◌++◌, [], ◌∷◌, None, Some, IsNone, IfSome, IfOk, true, false, length, take};
 ghost use Rattle.std.proofs.Common.{rules};
 ghost use Rattle.kr_outside.specs.Faults.{Rose, HasCause};
 ghost use Rattle.kr_outside.specs.RenameDisk.{FitsIn, Reads};
@@ -6,8 +6,8 @@ ghost use Rattle.kr_memory.specs.Plan.{next_count};
 ghost use Rattle.kr_memory.specs.Slot.{IsPlanned, IsNoted, slot_seen, slot_temporary, slot_may_leave, slot_moment, slot_left_since};
 ghost use Rattle.kr_memory.specs.SlotLaws.{leaves_seen, counts_moment, only_moment};
 
-use crate::place::{image_at, standing_of};
-use kr_base::Bytes;
+use crate::left::{image_left, stood};
+use kr_base::{Bytes, OutOfMemory};
 use kr_outside::{Failed, Seen, Slot};
 use std::alloc::Global;
 use std::marker::Model;
@@ -114,12 +114,23 @@ impl MemorySlot {
         self.calls.truncate(calls);
     }
 
+    /// A copy of an image that a crash now may leave, picked by a number: what the name stood for
+    /// after so many calls, or what it stands for now where the folder was synced since.
+    pub fn left(&self, choice: u64) -> Result<Option<Bytes>, OutOfMemory>
+        ensures { IfOk result (λ image. slot_may_leave self.now image) }
+    {
+        match image_left(&self.image, &self.calls, choice) {
+            None => Ok(None),
+            Some(bytes) => Ok(Some(Bytes::from_slice(self.alloc, bytes)?)),
+        }
+    }
+
     // What the name stands for: the bytes of a file, or no file.
     fn image(&self) -> Option<&[u8]>
         ensures file { IfSome result (λ bytes. slot_seen self.now ≡ Some bytes.now) }
         ensures none { IsNone result → slot_seen self.now ≡ None }
     {
-        image_at(&self.image, &self.calls, standing_of(&self.calls).name)
+        stood(&self.image, &self.calls)
     }
 
     // Counts a fault.

@@ -11,9 +11,9 @@ pub loop-number-preserved : goal.loop-number-preserved
 loop-number-preserved c =
     let call = c.index-calls-number.result in
     subst (StandsBefore c.args.calls.now (c.loop-number.number + 1)) (sym c.after-standing.ensures)
-      (StandsBefore-more c.args.calls.now c.loop-number.number call c.loop-number.standing c.loop-number-test.true
-        (slice_get-get_or c.args.calls.now c.loop-number.number call c.loop-number-test.true ∙ ap (λ r. Some r) (sym c.index-calls-number.is))
-        (sym c.index-calls-number.is) c.loop-number.invariant)
+    (StandsBefore-more c.args.calls.now c.loop-number.number call c.loop-number.standing c.loop-number-test.true
+    (slice_get-get_or c.args.calls.now c.loop-number.number call c.loop-number-test.true ∙ ap (λ r. Some r) (sym c.index-calls-number.is))
+    (sym c.index-calls-number.is) c.loop-number.invariant)
 
 pub returns : goal.returns
 returns c = StandsBefore-all c.args.calls.now c.loop-number.number c.loop-number.standing (omega arith) c.loop-number.invariant

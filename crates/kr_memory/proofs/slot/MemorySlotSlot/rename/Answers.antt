@@ -10,4 +10,4 @@ pub returns-clause-crash : goal.returns-clause-crash
 returns-clause-crash c _ =
     let old = disk_of c.args.self.now in
     noted_disk (λ disk. LeavesAlso (DiskLeaves old) (LeavesTemporary old.temporary) (DiskLeaves disk)) c.args.self.now Rename c.note.new.self c.note.result c.note.ensures.noted
-      (λ left leaves. inl leaves) (λ end. leaves_Rename end old)
+    (λ left leaves. inl leaves) (λ end. leaves_Rename end old)

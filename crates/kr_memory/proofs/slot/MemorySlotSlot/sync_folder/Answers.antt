@@ -10,4 +10,4 @@ pub returns-clause-settled : goal.returns-clause-settled
 returns-clause-settled c _ =
     let old = disk_of c.args.self.now in
     noted_ok (λ disk. LeavesAnyBytes (DiskLeaves old) ⊎ Only (image_stood old.name) (DiskLeaves disk)) c.args.self.now SyncFolder c.note.new.self c.note.result c.note.ensures.noted
-      (settles_SyncFolder old)
+    (settles_SyncFolder old)
