@@ -1,5 +1,5 @@
 -- What a crash may leave stays among what it may leave, until the folder is synced.
-use Rattle.std.proofs.Common.{◌≡◌, ◌⊎◌, inl, inr, ℕ, ◌+◌, ◌≤◌, List, [], ◌∷◌, ◌++◌, length, take, drop, fold, Option, None, Some, IfSome, refl, sym, ◌∙◌, ap, subst, arith, take-append-drop}
+use Rattle.std.proofs.Common.{◌≡◌, ◌⊎◌, inl, inr, ℕ, List, [], ◌∷◌, take, drop, fold, Option, None, Some, IfSome, refl, sym, subst, take-append-drop}
 use Rattle.std.proofs.lemmas.List.Sums.{fold-append}
 use Rattle.kr_outside.specs.RenameDisk.{Image, Temporary, Unknown}
 use Rattle.kr_outside.specs.RenameDisk as temporary
@@ -8,8 +8,8 @@ use Rattle.kr_memory.specs.declared.slot.SlotCall.TheVariants.{Size, Read, PutTe
 use Rattle.kr_memory.specs.declared.slot.CallEnd.{CallEnd}
 use Rattle.kr_memory.specs.declared.slot.CallEnd.TheVariants.{Done, Failed, FailedDone}
 use Rattle.kr_memory.specs.declared.slot.CallRecord.{CallRecord}
-use Rattle.kr_memory.specs.Slot.{image_stood, Disk, DiskLeaves, LeavesStood, LeavesOneOf, disk_after, disk_at, fresh_disk, takes_temporary, misses_temporary}
-use Rattle.kr_memory.specs.Left.{Settles, NoneSettles}
+use Rattle.kr_memory.specs.Slot.{image_stood, Disk, DiskLeaves, LeavesStood, LeavesOneOf, disk_after, disk_at, takes_temporary, misses_temporary}
+use Rattle.kr_memory.specs.Left.{NoneSettles}
 use Rattle.kr_memory.specs.SlotLaws.{leaves_itself}
 
 taken_keeps : (left : Temporary) (disk : Disk) (image : Image) → DiskLeaves disk image → DiskLeaves (takes_temporary left disk) image
@@ -61,7 +61,7 @@ pub stood_left : (start : Image) (calls front back : List CallRecord) (count : �
     → image_stood (disk_at start front).name ≡ image → DiskLeaves (disk_at start calls) image
 stood_left start calls front back count image front_is back_is none is =
     left_later start calls count image (subst NoneSettles back_is none)
-      (subst (λ c. DiskLeaves (disk_at start c) image) front_is (subst (λ i. DiskLeaves (disk_at start front) i) is (inl (leaves_itself (disk_at start front).name))))
+    (subst (λ c. DiskLeaves (disk_at start c) image) front_is (subst (λ i. DiskLeaves (disk_at start front) i) is (inl (leaves_itself (disk_at start front).name))))
 
 -- what holds of what is there holds by what follows
 pub some_weaker : {T : Type 0} (o : Option T) (P Q : T → Type 0) → ((x : T) → P x → Q x) → IfSome o P → IfSome o Q

@@ -1,17 +1,17 @@
 -- What a call of a slot in memory does to its disk, and its moments.
-use Rattle.std.proofs.Common.{◌≡◌, ◌⊎◌, ⊎_elim, inl, inr, ℕ, ◌+◌, ◌≤◌, ◌<◌, List, [], ◌∷◌, ◌++◌, length, take, fold, Option, None, Some, IsSome, Result, Ok, Err, IsOk, OnOk, OnErr, refl, sym, ◌∙◌, ap, subst, arith, length-append}
+use Rattle.std.proofs.Common.{◌≡◌, ◌⊎◌, ⊎_elim, inl, inr, ℕ, ◌+◌, ◌≤◌, List, [], ◌∷◌, ◌++◌, length, take, None, Result, Ok, Err, IsOk, OnOk, OnErr, refl, sym, ◌∙◌, ap, subst, arith, length-append}
 use Rattle.std.proofs.lemmas.List.{take_all, take-append-le}
 use Rattle.std.proofs.lemmas.Bool.{cases_lt}
 use Rattle.std.proofs.lemmas.List.Sums.{fold-append}
-use Rattle.kr_outside.specs.RenameDisk.{Image, Temporary, Unknown, Unsynced, Synced, synced, GivesTemporary, LeavesTemporary, Only, LeavesAnyBytes, LeavesNoMore, LeavesAlso}
+use Rattle.kr_outside.specs.RenameDisk.{Image, Temporary, Unknown, Unsynced, Synced, GivesTemporary, LeavesTemporary, Only, LeavesAnyBytes, LeavesNoMore, LeavesAlso}
 use Rattle.kr_outside.specs.Moments.{Elapses}
 use Rattle.kr_outside.specs.declared.source.Failed as refused
 use Rattle.kr_memory.specs.declared.slot.SlotCall.{SlotCall}
-use Rattle.kr_memory.specs.declared.slot.SlotCall.TheVariants.{Size, Read, PutTemp, SyncTemp, Rename, SyncFolder, Remove}
+use Rattle.kr_memory.specs.declared.slot.SlotCall.TheVariants.{PutTemp, SyncTemp, Rename, SyncFolder, Remove}
 use Rattle.kr_memory.specs.declared.slot.CallEnd.{CallEnd}
 use Rattle.kr_memory.specs.declared.slot.CallEnd.TheVariants.{Done, Failed, FailedDone}
 use Rattle.kr_memory.specs.declared.slot.CallRecord.{CallRecord}
-use Rattle.kr_memory.specs.Slot.{Stood, Whole, Torn, image_stood, Disk, DiskLeaves, LeavesStood, LeavesOneOf, takes_temporary, misses_temporary, disk_after, disk_at, disk_of, SlotState, slot_seen, slot_temporary, slot_may_leave, slot_moment, slot_left_since, IsPlanned, with_call, with_fault, IsFailure, unrecorded, recorded, IsNoted}
+use Rattle.kr_memory.specs.Slot.{Stood, Whole, Torn, image_stood, Disk, DiskLeaves, LeavesOneOf, takes_temporary, misses_temporary, disk_after, disk_at, disk_of, SlotState, slot_may_leave, slot_moment, slot_left_since, IsPlanned, with_call, with_fault, IsFailure, unrecorded, recorded, IsNoted}
 
 -- a call that didn't end as it should is recorded so
 pub noted_failure : (old : SlotState) (call : SlotCall) (new : SlotState) (end : CallEnd) → IsPlanned old end → (end ≡ Failed) ⊎ (end ≡ FailedDone)

@@ -1,8 +1,6 @@
 -- Which calls keep what a crash may leave.
-use Rattle.std.specs.Prelude.{◌≡◌, ℕ, ◌≤◌, List, [], ◌∷◌, ◌+◌, length, take, drop}
-use Rattle.kr_memory.specs.declared.slot.SlotCall.{SlotCall}
+use Rattle.std.specs.Prelude.{◌≡◌, List, [], ◌∷◌}
 use Rattle.kr_memory.specs.declared.slot.SlotCall.TheVariants.{SyncFolder}
-use Rattle.kr_memory.specs.declared.slot.CallEnd.{CallEnd}
 use Rattle.kr_memory.specs.declared.slot.CallEnd.TheVariants.{Done}
 use Rattle.kr_memory.specs.declared.slot.CallRecord.{CallRecord}
 

@@ -1,5 +1,5 @@
 -- The rename disk in memory: what a record of calls made of a name.
-use Rattle.std.specs.Prelude.{◌≡◌, ℕ, ◌+◌, ◌≤◌, ◌⊎◌, List, [], ◌∷◌, ◌++◌, length, take, fold, Contains, Option, None, Some, IsSome, Result, Ok, Err}
+use Rattle.std.specs.Prelude.{◌≡◌, ℕ, ◌≤◌, ◌⊎◌, List, [], ◌∷◌, ◌++◌, length, take, fold, Contains, None, Some, IsSome, Result, Ok, Err}
 use Rattle.kr_outside.specs.declared.source.Failed as refused
 use Rattle.kr_memory.specs.Plan.{next_count}
 use Rattle.kr_outside.specs.RenameDisk.{Image, Temporary, Unknown, Unsynced, Synced, synced}

@@ -1,9 +1,9 @@
 -- The laws of the moments of a slot in memory.
-use Rattle.std.specs.Prelude.{◌≡◌, ℕ, ◌≤◌, List, take, length, Option, Some}
-use Rattle.std.proofs.Common.{inl, refl, subst, sym, ap, arith}
+use Rattle.std.specs.Prelude.{ℕ, ◌≤◌, length}
+use Rattle.std.proofs.Common.{inl, refl, subst, sym, arith}
 use Rattle.std.proofs.lemmas.List.{take_all}
 use Rattle.kr_outside.specs.RenameDisk.{Image}
-use Rattle.kr_memory.specs.Slot.{Stood, Whole, Torn, Disk, LeavesStood, DiskLeaves, image_stood, disk_at, SlotState, slot_may_leave, slot_left_since, slot_seen, slot_moment, disk_of}
+use Rattle.kr_memory.specs.Slot.{Stood, Whole, Torn, LeavesStood, DiskLeaves, image_stood, disk_at, SlotState, slot_may_leave, slot_left_since, slot_seen, slot_moment, disk_of}
 
 -- what a name stands for is among what a crash may leave of it
 pub leaves_itself : (stood : Stood) → LeavesStood stood (image_stood stood)

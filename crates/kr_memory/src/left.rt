@@ -6,14 +6,15 @@ use crate::place::{image_at, standing_of};
 use crate::slot::{CallEnd, CallRecord, SlotCall};
 use kr_base::Bytes;
 
-// An image that a crash may leave after these calls: what the name stood for after so many of them
-// as the number says, or what it stands for now where the folder was synced since.
+/// An image that a crash may leave after these calls: what the name stood for after so many of them
+/// as the number says, or what it stands for now where the folder was synced since.
 pub fn image_left<'a>(
     image: &'a Option<Bytes>,
     calls: &'a [CallRecord],
     choice: u64,
 ) -> Option<&'a [u8]>
-    ensures file { IfSome result (λ bytes. DiskLeaves (disk_at image.now calls.now) (Some bytes.now)) }
+    ensures file { IfSome result (λ bytes.
+        DiskLeaves (disk_at image.now calls.now) (Some bytes.now)) }
     ensures none { IsNone result → DiskLeaves (disk_at image.now calls.now) None }
 {
     let count = (choice % (calls.len() as u64 + 1)) as usize;
@@ -25,9 +26,10 @@ pub fn image_left<'a>(
     }
 }
 
-// What the name stands for after these calls.
+/// What the name stands for after these calls.
 pub fn stood<'a>(image: &'a Option<Bytes>, calls: &'a [CallRecord]) -> Option<&'a [u8]>
-    ensures file { IfSome result (λ bytes. image_stood (disk_at image.now calls.now).name ≡ Some bytes.now) }
+    ensures file { IfSome result (λ bytes.
+        image_stood (disk_at image.now calls.now).name ≡ Some bytes.now) }
     ensures none { IsNone result → image_stood (disk_at image.now calls.now).name ≡ None }
 {
     image_at(image, calls, standing_of(calls).name)

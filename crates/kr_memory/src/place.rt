@@ -27,7 +27,7 @@ pub struct Standing {
     pub temporary: Place,
 }
 
-// What the name stands for after these calls, and the temporary file.
+/// What the name stands for after these calls, and the temporary file.
 pub fn standing_of(calls: &[CallRecord]) -> Standing
     ensures { StandsAt calls.now result }
 {
@@ -99,13 +99,14 @@ fn taken(standing: Standing) -> Standing
     }
 }
 
-// The bytes at a place; None where there is no file.
+/// The bytes at a place; None where there is no file.
 pub fn image_at<'a>(
     image: &'a Option<Bytes>,
     calls: &'a [CallRecord],
     place: Place,
 ) -> Option<&'a [u8]>
-    ensures file { IfSome result (λ bytes. image_stood (stood_at image.now calls.now place) ≡ Some bytes.now) }
+    ensures file { IfSome result (λ bytes.
+        image_stood (stood_at image.now calls.now place) ≡ Some bytes.now) }
     ensures none { IsNone result → image_stood (stood_at image.now calls.now place) ≡ None }
 {
     match place {

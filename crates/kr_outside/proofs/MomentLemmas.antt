@@ -1,5 +1,5 @@
 -- What a crash leaves during several steps of a slot.
-use Rattle.std.proofs.Common.{ℕ, ◌≤◌, ◌⊎◌, ⊎_elim, inl, inr, Result, arith}
+use Rattle.std.proofs.Common.{ℕ, ◌⊎◌, ⊎_elim, inl, inr, Result, arith}
 use Rattle.kr_outside.specs.RenameDisk.{Image}
 use Rattle.kr_outside.specs.Moments.{Elapses, LeavesOnly}
 
@@ -36,13 +36,13 @@ module _ {S : Type 0} (moment : S → ℕ) (left_since : S → ℕ → Image →
     later = omega (arith, p.later, q.later);
     each = λ image left. ⊎_elim (λ was. inl (p.each image was)) (λ is. inr is) (q.before (moment old) image p.later left);
     before = λ t image le left. ⊎_elim
-      (λ was. ⊎_elim (λ old_one. inl old_one) (λ is. inr (inl is)) (p.before t image le was))
-      (λ is. inr (inr is)) (q.before t image (omega (arith, le, p.later)) left);
+        (λ was. ⊎_elim (λ old_one. inl old_one) (λ is. inr (inl is)) (p.before t image le was))
+        (λ is. inr (inr is)) (q.before t image (omega (arith, le, p.later)) left);
   }
 
   -- one run behind another that leaves no fewer images
   pub LeavesOnly-behind : (old mid new : S) (first images : Image → Type 0) → ((image : Image) → first image → images image)
       → LeavesOnly moment left_since old mid first → LeavesOnly moment left_since mid new images → LeavesOnly moment left_since old new images
   LeavesOnly-behind old mid new first images within p q =
-    LeavesOnly-weaker old new (λ image. first image ⊎ images image) images (λ image one. ⊎_elim (within image) (λ is. is) one)
+      LeavesOnly-weaker old new (λ image. first image ⊎ images image) images (λ image one. ⊎_elim (within image) (λ is. is) one)
       (LeavesOnly-trans old mid new first images p q)

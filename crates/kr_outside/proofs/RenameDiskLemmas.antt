@@ -1,5 +1,5 @@
 -- Of which files a crash can leave any bytes.
-use Rattle.std.proofs.Common.{◌≡◌, ◌⊎◌, inl, inr, ℕ, List, [], ◌∷◌, Option, Some, sym, ◌∙◌}
+use Rattle.std.proofs.Common.{◌≡◌, ◌⊎◌, inl, inr, [], ◌∷◌, Some}
 use Rattle.kr_outside.specs.RenameDisk.{Image, Only, LeavesAnyBytes}
 
 -- two images aren't the files of three lengths

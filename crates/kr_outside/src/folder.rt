@@ -81,7 +81,7 @@ pub trait Folder {
             → IfOk result (λ cell. Self.Cell.seen cell ≡ images self.old name.now) }
         ensures crash { IsTrue (is_honest self.old) → ¬ (Contains (made self.old) name.now)
             → IfOk result (λ cell.
-                LeavesNoMore (may_leave self.old name.now) (Self.Cell.may_leave cell)) }
+            LeavesNoMore (may_leave self.old name.now) (Self.Cell.may_leave cell)) }
         ensures fresh { IfOk result (λ cell. Self.Cell.faults cell ≡ 0) }
         ensures honest_slot { IfOk result (λ cell. Self.Cell.is_honest cell ≡ is_honest self.old) }
         ensures steady_slot { IfOk result (λ cell. Self.Cell.is_steady cell ≡ is_steady self.old) }

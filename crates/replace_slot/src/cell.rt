@@ -6,7 +6,7 @@ ghost use Rattle.replace_slot.specs.Cell.{Known, Doubt, IsKnown, HasFile, image_
 ghost use Rattle.replace_slot.specs.Found.{Gave, found_file, Shows};
 
 use crate::images::{Found, Images};
-use crate::steps::{publish, retire, settle, stage};
+use crate::steps::{prepare, publish, retire, settle};
 use kr_outside::Slot;
 use std::marker::Model;
 use thiserror::Error;
@@ -125,7 +125,7 @@ impl<S: Slot> FileCell<S> {
         ensures steady { KeepsSteady (S.is_steady self.old.slot) (S.is_steady self.new.slot)
             (S.faults self.old.slot) (S.faults self.new.slot) }
     {
-        if let Err(_) = stage(&mut self.slot, &image) {
+        if let Err(_) = prepare(&mut self.slot, &image) {
             return Err(ReplaceFault::FaultBefore);
         }
         match publish(&mut self.slot) {
@@ -187,7 +187,8 @@ impl<S: Slot> FileCell<S> {
 
         ensures found { IfOk result (λ found. self.new.file ≡ found_file found self.old.file) }
         ensures shown { IfOk result (λ found. Shows found self.old.file buffer.new) }
-        ensures one { IsTrue (S.is_honest self.old.slot) → IfOk result (λ found. found ≢ Found.Other) }
+        ensures one { IsTrue (S.is_honest self.old.slot)
+            → IfOk result (λ found. found ≢ Found.Other) }
         ensures unchanged { OnErr result (self.new.file ≡ self.old.file) }
 
         // A crash leaves the image that was found, and one of the two at each moment of the call.

@@ -17,7 +17,7 @@ pub enum Found {
     Other,
 }
 
-// What is known of a file: its image, or the older and the newer of which it has one.
+/// What is known of a file: its image, or the older and the newer of which it has one.
 #[derive(Drop)]
 pub struct Images {
     image: Option<Vec<u8>>,
@@ -33,18 +33,21 @@ impl Model for Images {
 }
 
 impl Images {
+    /// The image is known.
     pub fn known(image: Option<Vec<u8>>) -> Images
         ensures { result ≡ Known (image_of image) }
     {
         Images { image, newer: None }
     }
 
+    /// Whether the image is known.
     pub fn is_known(&self) -> bool
         ensures { IsTrue result ↔ IsKnown self.now }
     {
         self.newer.is_none()
     }
 
+    /// How many bytes the longest image has; 0 for no file.
     pub fn longest(&self) -> usize
         ensures { result ≡ longest_of self.now }
     {
@@ -54,14 +57,14 @@ impl Images {
         }
     }
 
-    // From now on the file has this image.
+    /// From now on the file has this image.
     pub fn set(&mut self, image: Option<Vec<u8>>)
         ensures { self.new ≡ Known (image_of image) }
     {
         *self = Images::known(image);
     }
 
-    // From now on it has the known image or this newer one.
+    /// From now on it has the known image or this newer one.
     pub fn doubt(&mut self, newer: Option<Vec<u8>>)
         requires { IsKnown self.old }
         ensures { self.new ≡ Doubt (old_image self.old) (image_of newer) }
@@ -69,7 +72,7 @@ impl Images {
         self.newer = Some(newer);
     }
 
-    // Ends a doubt by what the read with this answer left in the buffer.
+    /// Ends a doubt by what the read with this answer left in the buffer.
     pub fn find(&mut self, seen: Seen, buffer: &[u8]) -> Found
         requires doubt { ¬ (IsKnown self.old) }
         requires fits { FitsIn (length buffer.now) seen }

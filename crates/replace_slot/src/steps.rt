@@ -5,8 +5,8 @@ ghost use Rattle.kr_outside.specs.RenameDisk.{Synced, Only, LeavesAnyBytes, Leav
 
 use kr_outside::{Failed, Seen, Slot};
 
-// Puts the bytes into the temporary file, and the temporary file on the disk.
-pub fn stage<S: Slot>(slot: &mut S, bytes: &[u8]) -> Result<(), Failed>
+/// Puts the bytes into the temporary file, and the temporary file on the disk.
+pub fn prepare<S: Slot>(slot: &mut S, bytes: &[u8]) -> Result<(), Failed>
     ensures staged { IsTrue (S.is_honest slot.old)
         → OnOk result (S.temporary slot.new ≡ Synced bytes.now) }
 
@@ -27,7 +27,7 @@ pub fn stage<S: Slot>(slot: &mut S, bytes: &[u8]) -> Result<(), Failed>
     slot.sync_temp()
 }
 
-// Makes the name stand for the temporary file, for good.
+/// Makes the name stand for the temporary file, for good.
 pub fn publish<S: Slot>(slot: &mut S) -> Result<(), Failed>
     ensures stored { (old : Option (List ℕ)) (bytes : List ℕ) → IsTrue (S.is_honest slot.old)
         → Only old (S.may_leave slot.old) → S.temporary slot.old ≡ Synced bytes
@@ -52,7 +52,7 @@ pub fn publish<S: Slot>(slot: &mut S) -> Result<(), Failed>
     slot.sync_folder()
 }
 
-// Makes the name stand for no file, for good.
+/// Makes the name stand for no file, for good.
 pub fn retire<S: Slot>(slot: &mut S) -> Result<(), Failed>
     ensures removed { (old : Option (List ℕ)) → IsTrue (S.is_honest slot.old)
         → Only old (S.may_leave slot.old) → OnOk result (Only None (S.may_leave slot.new)) }
@@ -75,10 +75,11 @@ pub fn retire<S: Slot>(slot: &mut S) -> Result<(), Failed>
     slot.sync_folder()
 }
 
-// Puts on the disk what the name stands for, and reads it.
+/// Puts on the disk what the name stands for, and reads it.
 pub fn settle<S: Slot>(slot: &mut S, buffer: &mut [u8]) -> Result<Seen, Failed>
     ensures fits { IfOk result (FitsIn (length buffer.new)) }
-    ensures answer { IsTrue (S.is_honest slot.old) → IfOk result (Reads (S.seen slot.new) buffer.new) }
+    ensures answer { IsTrue (S.is_honest slot.old)
+        → IfOk result (Reads (S.seen slot.new) buffer.new) }
     ensures settled { IsTrue (S.is_honest slot.old)
         → OnOk result (LeavesAnyBytes (S.may_leave slot.old)
         ⊎ Only (S.seen slot.new) (S.may_leave slot.new)) }

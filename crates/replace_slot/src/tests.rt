@@ -118,6 +118,17 @@ fn a_removal_is_known_or_in_doubt(rt: HostRuntime) -> Result<(), Fail> {
     Ok(())
 }
 
+fn letter_of(image: &Option<Bytes>) -> u8 {
+    match image {
+        None => b'x',
+        Some(bytes) => match bytes.as_slice() {
+            b"old" => b'o',
+            b"newer" => b'n',
+            _ => b'x',
+        },
+    }
+}
+
 // What a crash leaves of a replacement that stopped behind so many calls: o for the old image, n for
 // the new one, x for another.
 fn left_at(
@@ -127,18 +138,16 @@ fn left_at(
     calls: usize,
 ) -> Result<Vec<u8>, AllocError> {
     let mut cell = cell_of_old(alloc, failing, done)?;
-    let _ = cell.replace(b"newer".as_slice().to_vec(alloc)?);
+    let image = b"newer".as_slice().to_vec(alloc)?;
+    let _ = cell.replace(image);
     let mut slot = cell.into_slot();
     slot.cut(calls);
     let mut left = Vec::new(alloc);
     for choice in 0..8 {
-        let image = match slot.left(choice)? {
-            Some(bytes) if bytes.as_slice() == b"old".as_slice() => b'o',
-            Some(bytes) if bytes.as_slice() == b"newer".as_slice() => b'n',
-            _ => b'x',
-        };
-        if !left.contains(&image) {
-            left.push(image)?;
+        let image = slot.left(choice)?;
+        let letter = letter_of(&image);
+        if !left.contains(&letter) {
+            left.push(letter)?;
         }
     }
     Ok(left)

@@ -1,4 +1,3 @@
-use Rattle.std.proofs.Common.{refl}
 use Rattle.kr_memory.specs.declared.slot.SlotCall.TheVariants.{PutTemp}
 use Rattle.kr_memory.specs.Slot.{unrecorded}
 use Rattle.kr_memory.proofs.SlotLemmas.{noted_time, failed_time}
