@@ -1,2 +1,4 @@
 pub mod FaultLemmas
+pub mod MomentLemmas
+pub mod RenameDiskLemmas
 pub mod WrittenLemmas

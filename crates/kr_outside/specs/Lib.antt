@@ -1,3 +1,6 @@
 pub mod Clock
 pub mod Faults
+pub mod Folder
+pub mod Moments
+pub mod RenameDisk
 pub mod Written

@@ -1,0 +1,98 @@
+ghost use Rattle.std.specs.Prelude.{◌≡◌, ℕ, Bool, IsTrue, List, [], ◌∷◌, Contains, Option, IfOk, OnOk, OnErr};
+ghost use Rattle.kr_outside.specs.Faults.{HasCause, KeepsSteady, IsBelowLast};
+ghost use Rattle.kr_outside.specs.Folder.{HasOutsideCause, Lists, Stays, IsSettled};
+ghost use Rattle.kr_outside.specs.RenameDisk.{LeavesNoMore};
+
+use crate::{Failed, Slot};
+use kr_base::{OutOfMemory, Text};
+use thiserror::Error;
+
+/// Why a call of the outside that takes memory was refused.
+#[derive(Clone, Copy, Debug, PartialEq, Eq, Error)]
+pub enum OutsideRefused {
+    /// The device failed in this call.
+    #[error("the device failed")]
+    Failed,
+    /// No memory was left.
+    #[error("out of memory")]
+    OutOfMemory,
+}
+
+/// A folder of files, each under a name of its own.
+///
+/// What is said of names and content holds of an honest folder, and of the names of which no slot
+/// was made: what is made of a name is told by its slot.
+pub trait Folder {
+    /// The slot of a name.
+    type Cell: Slot;
+
+    /// What a slot that is made of a name would read: the bytes of a file, or no file.
+    ghost images: { Self → List ℕ → Option (List ℕ) };
+
+    /// The images that a crash at this moment may leave under a name.
+    ghost may_leave: { Self → List ℕ → Option (List ℕ) → Type 0 };
+
+    /// The names of which slots were made.
+    ghost made: { Self → List (List ℕ) };
+
+    /// How often the folder has failed. The count never falls, and stands still at 2^64 - 1.
+    ghost faults: { Self → ℕ };
+
+    /// Whether the folder behaves as the rename disk does, and nobody else writes it.
+    ghost is_honest: { Self → Bool };
+
+    /// Whether the folder never fails, and so its count stands still at every call.
+    ghost is_steady: { Self → Bool };
+
+    /// Puts on the disk what each name stands for: from then on a crash leaves what a read gives.
+    ///
+    /// Refused with `Failed` only where the count of faults rose.
+    fn sync(&mut self) -> Result<(), Failed>
+        ensures settled { IsTrue (is_honest self.old)
+            → OnOk result (IsSettled (made self.old) (images self.new) (may_leave self.new)) }
+        ensures stays { IsTrue (is_honest self.old)
+            → Stays images may_leave (made self.old) self.old self.new }
+        ensures made { made self.new ≡ made self.old }
+        ensures honest { is_honest self.new ≡ is_honest self.old }
+        ensures cause { HasCause (faults self.old) (faults self.new) result }
+        ensures steady { KeepsSteady (is_steady self.old) (is_steady self.new)
+            (faults self.old) (faults self.new) };
+
+    /// The names of all files, each once, in any order.
+    ///
+    /// Refused with `Failed` only where the count of faults rose, and with `OutOfMemory`.
+    fn names(&mut self) -> Result<Vec<Text>, OutsideRefused>
+        ensures listed { IsTrue (is_honest self.old)
+            → IfOk result (λ names. Lists (made self.old) (images self.old) names.items) }
+        ensures stays { IsTrue (is_honest self.old)
+            → Stays images may_leave (made self.old) self.old self.new }
+        ensures made { made self.new ≡ made self.old }
+        ensures honest { is_honest self.new ≡ is_honest self.old }
+        ensures cause { HasOutsideCause (faults self.old) (faults self.new) result }
+        ensures steady { KeepsSteady (is_steady self.old) (is_steady self.new)
+            (faults self.old) (faults self.new) };
+
+    /// The slot of a name, with no fault counted yet. Of a name that `names` didn't give, it stands
+    /// for no file. It is made once of each name: of a second slot nothing is known.
+    ///
+    /// Refused where no memory was left; no slot was made then.
+    fn slot(&mut self, name: &str) -> Result<Self::Cell, OutOfMemory>
+        ensures seen { IsTrue (is_honest self.old) → ¬ (Contains (made self.old) name.now)
+            → IfOk result (λ cell. Self.Cell.seen cell ≡ images self.old name.now) }
+        ensures crash { IsTrue (is_honest self.old) → ¬ (Contains (made self.old) name.now)
+            → IfOk result (λ cell.
+            LeavesNoMore (may_leave self.old name.now) (Self.Cell.may_leave cell)) }
+        ensures fresh { IfOk result (λ cell. Self.Cell.faults cell ≡ 0) }
+        ensures honest_slot { IfOk result (λ cell. Self.Cell.is_honest cell ≡ is_honest self.old) }
+        ensures steady_slot { IfOk result (λ cell. Self.Cell.is_steady cell ≡ is_steady self.old) }
+        ensures made { OnOk result (made self.new ≡ name.now ∷ made self.old) }
+        ensures made_none { OnErr result (made self.new ≡ made self.old) }
+        ensures stays { IsTrue (is_honest self.old)
+            → Stays images may_leave (made self.new) self.old self.new }
+        ensures honest { is_honest self.new ≡ is_honest self.old }
+        ensures count { faults self.new ≡ faults self.old }
+        ensures steady { is_steady self.new ≡ is_steady self.old };
+
+    /// The count of a steady folder could still rise: since it stands still, no call has failed.
+    ghost steady_below: { (folder : Self) → IsBelowLast (is_steady folder) (faults folder) };
+}

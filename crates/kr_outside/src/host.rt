@@ -1,0 +1,57 @@
+ghost use Rattle.std.specs.Prelude.{◌≡◌, ℕ, Bool, List, [], Option, IfOk};
+ghost use Rattle.kr_outside.specs.Faults.{KeepsSteady, IsBelowLast};
+ghost use Rattle.kr_outside.specs.Folder.{HasOutsideCause, AreTold};
+
+use crate::{Clock, Folder, OutsideRefused};
+
+/// The machine on which the program runs: it opens folders and has a clock.
+pub trait Host {
+    /// What a folder of it is.
+    type Dir: Folder;
+
+    /// What a clock of it is.
+    type Time: Clock;
+
+    /// What the names of the folder at a path stand for, where the host tells it.
+    ghost told: { Self → List ℕ → Option (List ℕ → Option (List ℕ)) };
+
+    /// The moments that its clock is to give, where the host tells them.
+    ghost coming: { Self → Option (ℕ → ℕ) };
+
+    /// How often the host has failed. The count never falls, and stands still at 2^64 - 1.
+    ghost faults: { Self → ℕ };
+
+    /// Whether its folders behave as the rename disk does, and nobody else writes them.
+    ghost is_honest: { Self → Bool };
+
+    /// Whether neither the host nor what it gives ever fails.
+    ghost is_steady: { Self → Bool };
+
+    /// The folder at a path, of which no slot was made yet.
+    ///
+    /// Refused with `Failed` only where the count of faults rose, and with `OutOfMemory`.
+    fn folder(&mut self, path: &str) -> Result<Self::Dir, OutsideRefused>
+        ensures told { IfOk result (λ folder.
+            AreTold (told self.old path.now) (Self.Dir.images folder)) }
+        ensures fresh { IfOk result (λ folder. Self.Dir.made folder ≡ []) }
+        ensures honest_folder { IfOk result (λ folder.
+            Self.Dir.is_honest folder ≡ is_honest self.old) }
+        ensures steady_folder { IfOk result (λ folder.
+            Self.Dir.is_steady folder ≡ is_steady self.old) }
+        ensures coming { coming self.new ≡ coming self.old }
+        ensures honest { is_honest self.new ≡ is_honest self.old }
+        ensures cause { HasOutsideCause (faults self.old) (faults self.new) result }
+        ensures steady { KeepsSteady (is_steady self.old) (is_steady self.new)
+            (faults self.old) (faults self.new) };
+
+    /// The clock. It can't be refused.
+    fn clock(&mut self) -> Self::Time
+        ensures told { Self.Time.coming result ≡ coming self.old }
+        ensures steady_clock { Self.Time.is_steady result ≡ is_steady self.old }
+        ensures honest { is_honest self.new ≡ is_honest self.old }
+        ensures count { faults self.new ≡ faults self.old }
+        ensures steady { is_steady self.new ≡ is_steady self.old };
+
+    /// The count of a steady host could still rise: since it stands still, no call has failed.
+    ghost steady_below: { (host : Self) → IsBelowLast (is_steady host) (faults host) };
+}

@@ -1,0 +1,189 @@
+ghost use Rattle.std.specs.Prelude.{◌≡◌, ℕ, ◌≤◌, ◌⊎◌, Bool, IsTrue, List, Option, None, length, IfOk, OnOk, OnErr};
+ghost use Rattle.kr_outside.specs.Faults.{HasCause, KeepsSteady, IsBelowLast};
+ghost use Rattle.kr_outside.specs.Moments.{Elapses};
+ghost use Rattle.kr_outside.specs.RenameDisk.{Temporary, Unsynced, synced, GivesTemporary, LeavesTemporary, Only, LeavesAnyBytes, LeavesNoMore, LeavesAlso, size_of, FitsIn, Reads};
+
+use crate::Failed;
+
+/// What a read of a slot found.
+#[derive(Clone, Copy, Debug, PartialEq, Eq)]
+pub enum Seen {
+    /// The name stands for no file.
+    Missing,
+    /// The file has this many bytes, and they are the front of the buffer.
+    Whole(usize),
+    /// The file is longer than the buffer.
+    Longer,
+}
+
+/// One name of a folder, and the temporary file beside it that may take the name.
+///
+/// What is said of content, time and crashes holds of an honest slot, one that behaves as the rename
+/// disk does. No call takes memory.
+pub trait Slot {
+    /// What a read gives: the bytes of a file, or no file.
+    ghost seen: { Self → Option (List ℕ) };
+
+    /// What is known of the temporary file.
+    ghost temporary: { Self → Temporary };
+
+    /// The images that a crash at this moment may leave under the name.
+    ghost may_leave: { Self → Option (List ℕ) → Type 0 };
+
+    /// The moment, as a number of the slot's own clock.
+    ghost moment: { Self → ℕ };
+
+    /// The images that a crash at some moment from that one on might have left, within a call or
+    /// between two.
+    ghost left_since: { Self → ℕ → Option (List ℕ) → Type 0 };
+
+    /// How often the slot has failed. The count never falls, and stands still at 2^64 - 1.
+    ghost faults: { Self → ℕ };
+
+    /// Whether the slot behaves as the rename disk does, and nobody else writes its folder.
+    ghost is_honest: { Self → Bool };
+
+    /// Whether the slot never fails, and so its count stands still at every call.
+    ghost is_steady: { Self → Bool };
+
+    /// How many bytes the file has; None where the name stands for no file.
+    fn size(&mut self) -> Result<Option<u64>, Failed>
+        ensures answer { IsTrue (is_honest self.old)
+            → IfOk result (λ size. size ≡ size_of (seen self.old)) }
+        ensures same { IsTrue (is_honest self.old) → seen self.new ≡ seen self.old }
+        ensures same_temporary { IsTrue (is_honest self.old)
+            → temporary self.new ≡ temporary self.old }
+        ensures crash { IsTrue (is_honest self.old)
+            → LeavesNoMore (may_leave self.old) (may_leave self.new) }
+        ensures time { IsTrue (is_honest self.old)
+            → Elapses moment left_since may_leave self.old self.new result }
+        ensures honest { is_honest self.new ≡ is_honest self.old }
+        ensures cause { HasCause (faults self.old) (faults self.new) result }
+        ensures steady { KeepsSteady (is_steady self.old) (is_steady self.new)
+            (faults self.old) (faults self.new) };
+
+    /// Reads the file to the front of the buffer. The answer is `Longer` exactly where the file is
+    /// longer than the buffer.
+    ///
+    /// Refused with `Failed` only where the count of faults rose; nothing is known of the buffer then.
+    fn read(&mut self, buffer: &mut [u8]) -> Result<Seen, Failed>
+        ensures fits { IfOk result (FitsIn (length buffer.new)) }
+        ensures answer { IsTrue (is_honest self.old)
+            → IfOk result (Reads (seen self.old) buffer.new) }
+        ensures same { IsTrue (is_honest self.old) → seen self.new ≡ seen self.old }
+        ensures same_temporary { IsTrue (is_honest self.old)
+            → temporary self.new ≡ temporary self.old }
+        ensures crash { IsTrue (is_honest self.old)
+            → LeavesNoMore (may_leave self.old) (may_leave self.new) }
+        ensures time { IsTrue (is_honest self.old)
+            → Elapses moment left_since may_leave self.old self.new result }
+        ensures honest { is_honest self.new ≡ is_honest self.old }
+        ensures cause { HasCause (faults self.old) (faults self.new) result }
+        ensures steady { KeepsSteady (is_steady self.old) (is_steady self.new)
+            (faults self.old) (faults self.new) };
+
+    /// Makes the temporary file anew with these bytes. Until a sync of it succeeds, a crash may leave
+    /// any bytes in it.
+    ///
+    /// Refused with `Failed` only where the count of faults rose; nothing of the name has changed.
+    fn put_temp(&mut self, bytes: &[u8]) -> Result<(), Failed>
+        ensures put { IsTrue (is_honest self.old)
+            → OnOk result (temporary self.new ≡ Unsynced bytes.now) }
+        ensures same { IsTrue (is_honest self.old) → seen self.new ≡ seen self.old }
+        ensures crash { IsTrue (is_honest self.old)
+            → LeavesNoMore (may_leave self.old) (may_leave self.new) }
+        ensures time { IsTrue (is_honest self.old)
+            → Elapses moment left_since may_leave self.old self.new result }
+        ensures honest { is_honest self.new ≡ is_honest self.old }
+        ensures cause { HasCause (faults self.old) (faults self.new) result }
+        ensures steady { KeepsSteady (is_steady self.old) (is_steady self.new)
+            (faults self.old) (faults self.new) };
+
+    /// Puts the bytes of the temporary file on the disk, so that a crash leaves them in it.
+    ///
+    /// Refused with `Failed` only where the count of faults rose; nothing of the name has changed.
+    fn sync_temp(&mut self) -> Result<(), Failed>
+        ensures synced { IsTrue (is_honest self.old)
+            → OnOk result (temporary self.new ≡ synced (temporary self.old)) }
+        ensures same { IsTrue (is_honest self.old) → seen self.new ≡ seen self.old }
+        ensures crash { IsTrue (is_honest self.old)
+            → LeavesNoMore (may_leave self.old) (may_leave self.new) }
+        ensures time { IsTrue (is_honest self.old)
+            → Elapses moment left_since may_leave self.old self.new result }
+        ensures honest { is_honest self.new ≡ is_honest self.old }
+        ensures cause { HasCause (faults self.old) (faults self.new) result }
+        ensures steady { KeepsSteady (is_steady self.old) (is_steady self.new)
+            (faults self.old) (faults self.new) };
+
+    /// Makes the name stand for the temporary file. Until a sync of the folder succeeds, a crash may
+    /// leave what the name stood for before or what it stands for now.
+    ///
+    /// Refused with `Failed` only where the count of faults rose; a read from then on gives the old
+    /// image or the new one, as the disk chose, and a crash may leave either.
+    fn rename(&mut self) -> Result<(), Failed>
+        ensures renamed { IsTrue (is_honest self.old)
+            → OnOk result (GivesTemporary (temporary self.old) (seen self.new)) }
+        ensures unsure { IsTrue (is_honest self.old) → OnErr result ((seen self.new ≡ seen self.old)
+            ⊎ GivesTemporary (temporary self.old) (seen self.new)) }
+        ensures crash { IsTrue (is_honest self.old) → LeavesAlso (may_leave self.old)
+            (LeavesTemporary (temporary self.old)) (may_leave self.new) }
+        ensures time { IsTrue (is_honest self.old)
+            → Elapses moment left_since may_leave self.old self.new result }
+        ensures honest { is_honest self.new ≡ is_honest self.old }
+        ensures cause { HasCause (faults self.old) (faults self.new) result }
+        ensures steady { KeepsSteady (is_steady self.old) (is_steady self.new)
+            (faults self.old) (faults self.new) };
+
+    /// Puts on the disk what this name stands for; it says nothing of another name. After it a crash
+    /// leaves what a read gives, unless the name stands for a file whose bytes weren't synced.
+    ///
+    /// Refused with `Failed` only where the count of faults rose; a crash may leave what it could
+    /// leave before.
+    fn sync_folder(&mut self) -> Result<(), Failed>
+        ensures settled { IsTrue (is_honest self.old)
+            → OnOk result (LeavesAnyBytes (may_leave self.old)
+            ⊎ Only (seen self.old) (may_leave self.new)) }
+        ensures same { IsTrue (is_honest self.old) → seen self.new ≡ seen self.old }
+        ensures same_temporary { IsTrue (is_honest self.old)
+            → temporary self.new ≡ temporary self.old }
+        ensures crash { IsTrue (is_honest self.old)
+            → LeavesNoMore (may_leave self.old) (may_leave self.new) }
+        ensures time { IsTrue (is_honest self.old)
+            → Elapses moment left_since may_leave self.old self.new result }
+        ensures honest { is_honest self.new ≡ is_honest self.old }
+        ensures cause { HasCause (faults self.old) (faults self.new) result }
+        ensures steady { KeepsSteady (is_steady self.old) (is_steady self.new)
+            (faults self.old) (faults self.new) };
+
+    /// Makes the name stand for no file. Until a sync of the folder succeeds, a crash may leave what
+    /// the name stood for before, or no file.
+    ///
+    /// Refused with `Failed` only where the count of faults rose; a read from then on gives the old
+    /// image or no file, as the disk chose, and a crash may leave either.
+    fn remove(&mut self) -> Result<(), Failed>
+        ensures removed { IsTrue (is_honest self.old) → OnOk result (seen self.new ≡ None) }
+        ensures unsure { IsTrue (is_honest self.old)
+            → OnErr result ((seen self.new ≡ seen self.old) ⊎ (seen self.new ≡ None)) }
+        ensures crash { IsTrue (is_honest self.old) → LeavesAlso (may_leave self.old)
+            (λ image. image ≡ None) (may_leave self.new) }
+        ensures time { IsTrue (is_honest self.old)
+            → Elapses moment left_since may_leave self.old self.new result }
+        ensures honest { is_honest self.new ≡ is_honest self.old }
+        ensures cause { HasCause (faults self.old) (faults self.new) result }
+        ensures steady { KeepsSteady (is_steady self.old) (is_steady self.new)
+            (faults self.old) (faults self.new) };
+
+    /// What a read gives is one of the images that a crash now may leave.
+    ghost may_leave_seen: { (slot : Self) → IsTrue (is_honest slot) → may_leave slot (seen slot) };
+
+    /// This moment is one of those since an earlier one.
+    ghost counts_now: { (slot : Self) (t : ℕ) (image : Option (List ℕ)) → IsTrue (is_honest slot)
+        → t ≤ moment slot → may_leave slot image → left_since slot t image };
+
+    /// Since this moment there is no other.
+    ghost only_now: { (slot : Self) (image : Option (List ℕ)) → IsTrue (is_honest slot)
+        → left_since slot (moment slot) image → may_leave slot image };
+
+    /// The count of a steady slot could still rise: since it stands still, no call has failed.
+    ghost steady_below: { (slot : Self) → IsBelowLast (is_steady slot) (faults slot) };
+}

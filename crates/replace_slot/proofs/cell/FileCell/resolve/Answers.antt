@@ -1,0 +1,17 @@
+use Rattle.std.proofs.Common.{sym, ◌∙◌, ap, subst, ◌<◌, length, arith}
+use Rattle.replace_slot.specs.Cell.{IsKnown, longest_of}
+use Rattle.replace_slot.proofs.FoundLemmas.{found_alone, never_other_of}
+use Rattle.replace_slot.proofs.cell.FileCell.resolve.Goals as goal
+
+-- the image that was read is the one that is left
+pub invariant_of-self : goal.invariant_of-self
+invariant_of-self g c honest =
+    let was = sym c.settle.ensures.honest ∙ honest in
+    let file_is = ap (λ s. s.file) c.self.view_is in
+    rw c.find.ensures.found (found_alone c.self.inside.file (g.S.Slot.seen c.settle.new.slot) c.in-Ok.seen c.settle.new.buffer c.find.result _ _
+    (subst (λ f. ¬ (IsKnown f)) (sym file_is) c.requires.doubt) (subst (λ f. longest_of f < length c.settle.new.buffer) (sym file_is) (omega (arith, c.requires.room)))
+    (c.self.invariant was) (c.settle.ensures.crash was _ (g.met.S.Slot.may_leave_seen c.settle.new.slot honest))
+    (c.in-Ok.ensures.answer was) c.find.ensures.gave (c.in-Ok.ensures.settled was))
+
+pub returns-in-Ok-clause-crash : goal.returns-in-Ok-clause-crash
+returns-in-Ok-clause-crash g c honest = invariant_of-self g c honest

@@ -1,0 +1,58 @@
+-- A file that is replaced whole (docs/DECISIONS.md, "What a crash claim rests on").
+use Rattle.std.specs.Prelude.{◌≡◌, ℕ, ◌⊎◌, max, List, length, Option, None, Some, Vec, IsTrue, Bool}
+use Rattle.std.specs.Option.{option_map, option_map_or}
+use Rattle.std.specs.declared.alloc.Global.{Global}
+use Rattle.kr_outside.specs.RenameDisk.{Image}
+
+-- the image that a vector is, and no file for none
+abbrev pub image_of : Option (Vec ℕ Global) → Image
+image_of image = option_map (λ bytes. bytes.items) image
+
+-- what is known of a file: its image, or the two of which it has one
+pub data File : Type 0 where
+  Known : (image : Image) → File
+  Doubt : (old new : Image) → File
+
+-- the image is known, whichever it is
+abbrev pub IsKnown : File → Type 0
+IsKnown (Known image) = Unit {0}
+IsKnown (Doubt old new) = ⊥
+
+-- the image is known, and is a file
+abbrev pub HasFile : File → Type 0
+HasFile (Known None) = ⊥
+HasFile (Known (Some bytes)) = Unit {0}
+HasFile (Doubt old new) = ⊥
+
+-- the image that is known, or the older one of the two
+abbrev pub old_image : File → Image
+old_image (Known image) = image
+old_image (Doubt old new) = old
+
+-- these images, and no others
+abbrev pub IsOneOf : File → Image → Type 0
+IsOneOf (Known image) left = left ≡ image
+IsOneOf (Doubt old new) left = (left ≡ old) ⊎ (left ≡ new)
+
+-- a crash leaves one of the file's images
+abbrev pub LeavesFile : File → (Image → Type 0) → Type 0
+LeavesFile file outcomes = (left : Image) → outcomes left → IsOneOf file left
+
+-- how many bytes an image has; no file has none
+abbrev pub length_of : Image → ℕ
+length_of image = option_map_or length image 0
+
+-- the length of the longest image
+abbrev pub longest_of : File → ℕ
+longest_of (Known image) = length_of image
+longest_of (Doubt old new) = max (length_of old) (length_of new)
+
+-- a cell as contracts see it: its slot, and what is known of the file
+pub record CellState (S : Type 0) : Type 0 where
+  pub slot : S
+  pub file : File
+
+-- the file of a cell with this image, and perhaps a newer one that it may have in its place
+abbrev pub file_of : Option (Vec ℕ Global) → Option (Option (Vec ℕ Global)) → File
+file_of image None = Known (image_of image)
+file_of image (Some newer) = Doubt (image_of image) (image_of newer)

@@ -1,0 +1,211 @@
+ghost use Rattle.std.specs.Prelude.{◌≡◌, ◌≢◌, ◌+◌, ◌≤◌, ◌<◌, ◌⊎◌, ◌↔◌, IsTrue, None, Some, length, IfOk, OnOk, OnErr, IsErrOf};
+ghost use Rattle.kr_outside.specs.Faults.{HasCause, KeepsSteady};
+ghost use Rattle.kr_outside.specs.Moments.{LeavesOnly};
+ghost use Rattle.kr_outside.specs.RenameDisk.{Only, FitsIn};
+ghost use Rattle.replace_slot.specs.Cell.{Known, Doubt, IsKnown, HasFile, image_of, old_image, IsOneOf, LeavesFile, length_of, longest_of};
+ghost use Rattle.replace_slot.specs.Found.{Gave, found_file, Shows};
+
+use crate::images::{Found, Images};
+use crate::steps::{prepare, publish, retire, settle};
+use kr_outside::Slot;
+use std::marker::Model;
+use thiserror::Error;
+
+/// Why a file wasn't replaced.
+#[derive(Clone, Copy, Debug, PartialEq, Eq, Error)]
+pub enum ReplaceFault {
+    /// The temporary file couldn't be written or synced. The file is as before.
+    #[error("the new file could not be written")]
+    FaultBefore,
+    /// The temporary file couldn't take the name, or the folder couldn't be synced. The file is in
+    /// doubt.
+    #[error("the file was replaced or it was not")]
+    FaultUnsure,
+}
+
+/// Why a file wasn't removed.
+#[derive(Clone, Copy, Debug, PartialEq, Eq, Error)]
+pub enum RemoveFault {
+    /// The name couldn't be taken away, or the folder couldn't be synced. The file is in doubt.
+    #[error("the file was removed or it was not")]
+    FaultUnsure,
+}
+
+/// The folder couldn't be synced or the file couldn't be read. The file stays in doubt.
+#[derive(Clone, Copy, Debug, PartialEq, Eq, Error)]
+#[error("the file could not be read again")]
+pub struct FaultRead;
+
+/// A slot, and what is known of its file: the image that it has, or the two of which it has one.
+#[derive(Drop)]
+pub struct FileCell<S: Slot> {
+    slot: S,
+    file: Images,
+}
+
+impl<S: Slot> Model for FileCell<S> {
+    ghost use Rattle.std.specs.Prelude.{IsTrue};
+    ghost use Rattle.replace_slot.specs.Cell.{CellState, LeavesFile};
+
+    ghost Value = { CellState S };
+
+    ghost view = { λ c. record { slot = c.slot; file = c.file } };
+
+    ghost invariant = { λ c. IsTrue (S.is_honest c.slot) → LeavesFile c.file (S.may_leave c.slot) };
+}
+
+impl<S: Slot> FileCell<S> {
+    /// A cell whose file is known to have this image, or to be none.
+    pub fn known(slot: S, image: Option<Vec<u8>>) -> FileCell<S>
+        requires { IsTrue (S.is_honest slot) → Only (image_of image) (S.may_leave slot) }
+        ensures { result ≡ record { slot = slot; file = Known (image_of image) } }
+    {
+        FileCell {
+            slot,
+            file: Images::known(image),
+        }
+    }
+
+    /// Whether the image is known.
+    pub fn is_known(&self) -> bool
+        ensures known { IsTrue result ↔ IsKnown self.now.file }
+        ensures crash { IsTrue (S.is_honest self.now.slot)
+            → LeavesFile self.now.file (S.may_leave self.now.slot) }
+    {
+        self.file.is_known()
+    }
+
+    /// How many bytes the longest image has; 0 for no file.
+    pub fn longest(&self) -> usize
+        ensures { result ≡ longest_of self.now.file }
+    {
+        self.file.longest()
+    }
+
+    /// The slot alone. What is known of its file is lost.
+    pub fn into_slot(self) -> S
+        ensures slot { result ≡ self.slot }
+        ensures crash { IsTrue (S.is_honest self.slot)
+            → LeavesFile self.file (S.may_leave self.slot) }
+    {
+        self.slot
+    }
+
+    /// Replaces the file: the new bytes go into the temporary file, which is synced and takes the
+    /// name, and the folder is synced. At `Ok` each crash leaves the new image. It takes no memory.
+    ///
+    /// Refused with `FaultBefore` where the temporary file couldn't be written or synced, and with
+    /// `FaultUnsure` where it couldn't take the name or the folder couldn't be synced.
+    pub fn replace(&mut self, image: Vec<u8>) -> Result<(), ReplaceFault>
+        requires { IsKnown self.old.file }
+
+        ensures stored { OnOk result (self.new.file ≡ Known (Some image.items)) }
+        ensures before { IsErrOf result ReplaceFault.FaultBefore → self.new.file ≡ self.old.file }
+        ensures unsure { IsErrOf result ReplaceFault.FaultUnsure
+            → self.new.file ≡ Doubt (old_image self.old.file) (Some image.items) }
+
+        // A crash leaves one of the file's images afterwards, and the old one or the new one at each
+        // moment of the call: none but the old one up to `FaultBefore`.
+        ensures crash { IsTrue (S.is_honest self.new.slot)
+            → LeavesFile self.new.file (S.may_leave self.new.slot) }
+        ensures any_moment { IsTrue (S.is_honest self.old.slot)
+            → LeavesOnly S.moment S.left_since self.old.slot self.new.slot
+            (IsOneOf (Doubt (old_image self.old.file) (Some image.items))) }
+        ensures old_alone { IsTrue (S.is_honest self.old.slot)
+            → IsErrOf result ReplaceFault.FaultBefore
+            → LeavesOnly S.moment S.left_since self.old.slot self.new.slot
+            (IsOneOf self.old.file) }
+
+        // Each fault has its cause, and two steps succeed before one that leaves a doubt.
+        ensures cause { HasCause (S.faults self.old.slot) (S.faults self.new.slot) result }
+        ensures staged { IsTrue (S.is_honest self.old.slot)
+            → IsErrOf result ReplaceFault.FaultUnsure
+            → S.moment self.old.slot + 2 ≤ S.moment self.new.slot }
+        ensures honest { S.is_honest self.new.slot ≡ S.is_honest self.old.slot }
+        ensures steady { KeepsSteady (S.is_steady self.old.slot) (S.is_steady self.new.slot)
+            (S.faults self.old.slot) (S.faults self.new.slot) }
+    {
+        if let Err(_) = prepare(&mut self.slot, &image) {
+            return Err(ReplaceFault::FaultBefore);
+        }
+        match publish(&mut self.slot) {
+            Ok(()) => {
+                self.file.set(Some(image));
+                Ok(())
+            }
+            Err(_) => {
+                self.file.doubt(Some(image));
+                Err(ReplaceFault::FaultUnsure)
+            }
+        }
+    }
+
+    /// Removes the file: the name is taken away, and the folder is synced. At `Ok` each crash leaves
+    /// no file. It takes no memory.
+    ///
+    /// Refused with `FaultUnsure` where the name couldn't be taken away or the folder couldn't be
+    /// synced.
+    pub fn remove(&mut self) -> Result<(), RemoveFault>
+        requires { HasFile self.old.file }
+
+        ensures removed { OnOk result (self.new.file ≡ Known None) }
+        ensures unsure { OnErr result (self.new.file ≡ Doubt (old_image self.old.file) None) }
+
+        // A crash leaves one of the file's images afterwards, and the old one or none at each moment
+        // of the call.
+        ensures crash { IsTrue (S.is_honest self.new.slot)
+            → LeavesFile self.new.file (S.may_leave self.new.slot) }
+        ensures any_moment { IsTrue (S.is_honest self.old.slot)
+            → LeavesOnly S.moment S.left_since self.old.slot self.new.slot
+            (IsOneOf (Doubt (old_image self.old.file) None)) }
+
+        ensures cause { HasCause (S.faults self.old.slot) (S.faults self.new.slot) result }
+        ensures honest { S.is_honest self.new.slot ≡ S.is_honest self.old.slot }
+        ensures steady { KeepsSteady (S.is_steady self.old.slot) (S.is_steady self.new.slot)
+            (S.faults self.old.slot) (S.faults self.new.slot) }
+    {
+        match retire(&mut self.slot) {
+            Ok(()) => {
+                self.file.set(None);
+                Ok(())
+            }
+            Err(_) => {
+                self.file.doubt(None);
+                Err(RemoveFault::FaultUnsure)
+            }
+        }
+    }
+
+    /// Ends a doubt: the folder is synced and the file read into the buffer. The file is then known
+    /// to have the image that was found, and the old one where neither was. It takes no memory.
+    ///
+    /// Refused with `FaultRead` where the folder couldn't be synced or the file couldn't be read; the
+    /// doubt stays.
+    pub fn resolve(&mut self, buffer: &mut [u8]) -> Result<Found, FaultRead>
+        requires doubt { ¬ (IsKnown self.old.file) }
+        requires room { longest_of self.old.file < length buffer.old }
+
+        ensures found { IfOk result (λ found. self.new.file ≡ found_file found self.old.file) }
+        ensures shown { IfOk result (λ found. Shows found self.old.file buffer.new) }
+        ensures one { IsTrue (S.is_honest self.old.slot)
+            → IfOk result (λ found. found ≢ Found.Other) }
+        ensures unchanged { OnErr result (self.new.file ≡ self.old.file) }
+
+        // A crash leaves the image that was found, and one of the two at each moment of the call.
+        ensures crash { IsTrue (S.is_honest self.new.slot)
+            → LeavesFile self.new.file (S.may_leave self.new.slot) }
+        ensures any_moment { IsTrue (S.is_honest self.old.slot)
+            → LeavesOnly S.moment S.left_since self.old.slot self.new.slot
+            (IsOneOf self.old.file) }
+
+        ensures cause { HasCause (S.faults self.old.slot) (S.faults self.new.slot) result }
+        ensures honest { S.is_honest self.new.slot ≡ S.is_honest self.old.slot }
+        ensures steady { KeepsSteady (S.is_steady self.old.slot) (S.is_steady self.new.slot)
+            (S.faults self.old.slot) (S.faults self.new.slot) }
+    {
+        match settle(&mut self.slot, buffer) {
+            Ok(seen) => Ok(self.file.find(seen, buffer)),
+            Err(_) => Err(FaultRead),
+        }
+    }
+}

@@ -1,0 +1,115 @@
+ghost use Rattle.std.specs.Prelude.{◌≡◌, ◌<◌, ◌↔◌, IsTrue, length};
+ghost use Rattle.kr_outside.specs.RenameDisk.{FitsIn};
+ghost use Rattle.replace_slot.specs.Cell.{Known, Doubt, IsKnown, image_of, old_image, length_of, longest_of};
+ghost use Rattle.replace_slot.specs.Found.{Gave, found_file, IsFound, Shows};
+
+use kr_outside::Seen;
+use std::marker::Model;
+
+/// Which image a file in doubt turned out to have.
+#[derive(Clone, Copy, Debug, PartialEq, Eq)]
+pub enum Found {
+    /// The older of the two.
+    Old,
+    /// The newer of the two.
+    New,
+    /// Neither. An honest slot never shows that.
+    Other,
+}
+
+/// What is known of a file: its image, or the older and the newer of which it has one.
+#[derive(Drop)]
+pub struct Images {
+    image: Option<Vec<u8>>,
+    newer: Option<Option<Vec<u8>>>,
+}
+
+impl Model for Images {
+    ghost use Rattle.replace_slot.specs.Cell.{File, file_of};
+
+    ghost Value = { File };
+
+    ghost view = { λ i. file_of i.image i.newer };
+}
+
+impl Images {
+    /// The image is known.
+    pub fn known(image: Option<Vec<u8>>) -> Images
+        ensures { result ≡ Known (image_of image) }
+    {
+        Images { image, newer: None }
+    }
+
+    /// Whether the image is known.
+    pub fn is_known(&self) -> bool
+        ensures { IsTrue result ↔ IsKnown self.now }
+    {
+        self.newer.is_none()
+    }
+
+    /// How many bytes the longest image has; 0 for no file.
+    pub fn longest(&self) -> usize
+        ensures { result ≡ longest_of self.now }
+    {
+        match &self.newer {
+            None => length(&self.image),
+            Some(newer) => length(&self.image).max(length(newer)),
+        }
+    }
+
+    /// From now on the file has this image.
+    pub fn set(&mut self, image: Option<Vec<u8>>)
+        ensures { self.new ≡ Known (image_of image) }
+    {
+        *self = Images::known(image);
+    }
+
+    /// From now on it has the known image or this newer one.
+    pub fn doubt(&mut self, newer: Option<Vec<u8>>)
+        requires { IsKnown self.old }
+        ensures { self.new ≡ Doubt (old_image self.old) (image_of newer) }
+    {
+        self.newer = Some(newer);
+    }
+
+    /// Ends a doubt by what the read with this answer left in the buffer.
+    pub fn find(&mut self, seen: Seen, buffer: &[u8]) -> Found
+        requires doubt { ¬ (IsKnown self.old) }
+        requires fits { FitsIn (length buffer.now) seen }
+        ensures found { self.new ≡ found_file result self.old }
+        ensures gave { IsFound seen buffer.now result self.old }
+        ensures shown { Shows result self.old buffer.now }
+    {
+        let newer = self.newer.take().unwrap();
+        if gave(seen, buffer, &self.image) {
+            return Found::Old;
+        }
+        if gave(seen, buffer, &newer) {
+            self.image = newer;
+            return Found::New;
+        }
+        Found::Other
+    }
+}
+
+// Whether the read with this answer, into this buffer, gave the image.
+fn gave(seen: Seen, buffer: &[u8], image: &Option<Vec<u8>>) -> bool
+    requires { FitsIn (length buffer.now) seen }
+    ensures { IsTrue result ↔ Gave seen buffer.now (image_of image.now) }
+{
+    match (seen, image) {
+        (Seen::Missing, None) => true,
+        (Seen::Whole(count), Some(bytes)) => buffer[..count] == bytes[..],
+        _ => false,
+    }
+}
+
+// How many bytes an image has.
+fn length(image: &Option<Vec<u8>>) -> usize
+    ensures { result ≡ length_of (image_of image.now) }
+{
+    match image {
+        None => 0,
+        Some(bytes) => bytes.len(),
+    }
+}

@@ -1,0 +1,100 @@
+ghost use Rattle.std.specs.Prelude.{◌≡◌, ℕ, ◌+◌, ◌≤◌, ◌⊎◌, IsTrue, List, Option, None, Some, length, IfOk, OnOk, IsErr};
+ghost use Rattle.kr_outside.specs.Faults.{HasCause, KeepsSteady};
+ghost use Rattle.kr_outside.specs.Moments.{LeavesOnly};
+ghost use Rattle.kr_outside.specs.RenameDisk.{Synced, Only, LeavesAnyBytes, LeavesNoMore, FitsIn, Reads};
+
+use kr_outside::{Failed, Seen, Slot};
+
+/// Puts the bytes into the temporary file, and the temporary file on the disk.
+pub fn prepare<S: Slot>(slot: &mut S, bytes: &[u8]) -> Result<(), Failed>
+    ensures staged { IsTrue (S.is_honest slot.old)
+        → OnOk result (S.temporary slot.new ≡ Synced bytes.now) }
+
+    // Nothing of the name changes, at any moment.
+    ensures crash { IsTrue (S.is_honest slot.old)
+        → LeavesNoMore (S.may_leave slot.old) (S.may_leave slot.new) }
+    ensures any_moment { IsTrue (S.is_honest slot.old)
+        → LeavesOnly S.moment S.left_since slot.old slot.new (S.may_leave slot.old) }
+    ensures rises { IsTrue (S.is_honest slot.old)
+        → OnOk result (S.moment slot.old + 2 ≤ S.moment slot.new) }
+
+    ensures honest { S.is_honest slot.new ≡ S.is_honest slot.old }
+    ensures cause { HasCause (S.faults slot.old) (S.faults slot.new) result }
+    ensures steady { KeepsSteady (S.is_steady slot.old) (S.is_steady slot.new)
+        (S.faults slot.old) (S.faults slot.new) }
+{
+    slot.put_temp(bytes)?;
+    slot.sync_temp()
+}
+
+/// Makes the name stand for the temporary file, for good.
+pub fn publish<S: Slot>(slot: &mut S) -> Result<(), Failed>
+    ensures stored { (old : Option (List ℕ)) (bytes : List ℕ) → IsTrue (S.is_honest slot.old)
+        → Only old (S.may_leave slot.old) → S.temporary slot.old ≡ Synced bytes
+        → OnOk result (Only (Some bytes) (S.may_leave slot.new)) }
+
+    // At each moment a crash leaves the old image or the temporary file.
+    ensures any_moment { (old : Option (List ℕ)) (bytes : List ℕ) → IsTrue (S.is_honest slot.old)
+        → Only old (S.may_leave slot.old) → S.temporary slot.old ≡ Synced bytes
+        → LeavesOnly S.moment S.left_since slot.old slot.new
+        (λ left. (left ≡ old) ⊎ (left ≡ Some bytes)) }
+    ensures crash { (old : Option (List ℕ)) (bytes : List ℕ) → IsTrue (S.is_honest slot.old)
+        → Only old (S.may_leave slot.old) → S.temporary slot.old ≡ Synced bytes
+        → (left : Option (List ℕ)) → S.may_leave slot.new left
+        → (left ≡ old) ⊎ (left ≡ Some bytes) }
+
+    ensures honest { S.is_honest slot.new ≡ S.is_honest slot.old }
+    ensures cause { HasCause (S.faults slot.old) (S.faults slot.new) result }
+    ensures steady { KeepsSteady (S.is_steady slot.old) (S.is_steady slot.new)
+        (S.faults slot.old) (S.faults slot.new) }
+{
+    slot.rename()?;
+    slot.sync_folder()
+}
+
+/// Makes the name stand for no file, for good.
+pub fn retire<S: Slot>(slot: &mut S) -> Result<(), Failed>
+    ensures removed { (old : Option (List ℕ)) → IsTrue (S.is_honest slot.old)
+        → Only old (S.may_leave slot.old) → OnOk result (Only None (S.may_leave slot.new)) }
+
+    // At each moment a crash leaves the old image or no file.
+    ensures any_moment { (old : Option (List ℕ)) → IsTrue (S.is_honest slot.old)
+        → Only old (S.may_leave slot.old)
+        → LeavesOnly S.moment S.left_since slot.old slot.new
+        (λ left. (left ≡ old) ⊎ (left ≡ None)) }
+    ensures crash { (old : Option (List ℕ)) → IsTrue (S.is_honest slot.old)
+        → Only old (S.may_leave slot.old) → (left : Option (List ℕ)) → S.may_leave slot.new left
+        → (left ≡ old) ⊎ (left ≡ None) }
+
+    ensures honest { S.is_honest slot.new ≡ S.is_honest slot.old }
+    ensures cause { HasCause (S.faults slot.old) (S.faults slot.new) result }
+    ensures steady { KeepsSteady (S.is_steady slot.old) (S.is_steady slot.new)
+        (S.faults slot.old) (S.faults slot.new) }
+{
+    slot.remove()?;
+    slot.sync_folder()
+}
+
+/// Puts on the disk what the name stands for, and reads it.
+pub fn settle<S: Slot>(slot: &mut S, buffer: &mut [u8]) -> Result<Seen, Failed>
+    ensures fits { IfOk result (FitsIn (length buffer.new)) }
+    ensures answer { IsTrue (S.is_honest slot.old)
+        → IfOk result (Reads (S.seen slot.new) buffer.new) }
+    ensures settled { IsTrue (S.is_honest slot.old)
+        → OnOk result (LeavesAnyBytes (S.may_leave slot.old)
+        ⊎ Only (S.seen slot.new) (S.may_leave slot.new)) }
+
+    // At each moment a crash leaves what it might have left before.
+    ensures crash { IsTrue (S.is_honest slot.old)
+        → LeavesNoMore (S.may_leave slot.old) (S.may_leave slot.new) }
+    ensures any_moment { IsTrue (S.is_honest slot.old)
+        → LeavesOnly S.moment S.left_since slot.old slot.new (S.may_leave slot.old) }
+
+    ensures honest { S.is_honest slot.new ≡ S.is_honest slot.old }
+    ensures cause { HasCause (S.faults slot.old) (S.faults slot.new) result }
+    ensures steady { KeepsSteady (S.is_steady slot.old) (S.is_steady slot.new)
+        (S.faults slot.old) (S.faults slot.new) }
+{
+    slot.sync_folder()?;
+    slot.read(buffer)
+}
