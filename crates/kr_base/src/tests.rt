@@ -147,3 +147,132 @@ fn values_are_in_order(rt: HostRuntime) -> Result<(), Fail> {
     }
     Ok(())
 }
+
+// The text, and so many letters `a` behind it.
+fn lengthened(alloc: Global, front: &str, letters: u32) -> Result<String, Fail> {
+    let mut text = String::from_str(alloc, front)?;
+    for _ in 0..letters {
+        text.push('a')?;
+    }
+    Ok(text)
+}
+
+#[test]
+fn a_stem_can_be_a_file_name(rt: HostRuntime) -> Result<(), Fail> {
+    let alloc = rt.alloc();
+    let longest = lengthened(alloc, "", 243)?;
+    let too_long = lengthened(alloc, "", 244)?;
+    let cases = [
+        ("", false),
+        ("a", true),
+        ("My Keys", true),
+        ("\u{e9}", true),
+        (".", true),
+        ("a/b", false),
+        ("a\0", false),
+        (longest.as_str(), true),
+        (too_long.as_str(), false),
+    ];
+    for (text, want) in cases {
+        let made = Stem::new(alloc, text)?;
+        assert_eq!(rt; made.is_some(), want, "at {text:?}");
+        if let Some(stem) = made {
+            assert_eq!(rt; stem.as_str(), text, "at {text:?}");
+            assert_eq!(rt; stem.as_text().as_str(), text, "at {text:?}");
+            assert_eq!(rt; stem.to_string(alloc)?.as_str(), text, "at {text:?}");
+            let copied = stem.copy()?;
+            assert_eq!(rt; copied, stem, "at {text:?}");
+            let again = Stem::from_text(copied.into_text()).ok_or("no stem")?;
+            assert_eq!(rt; again, stem, "at {text:?}");
+        }
+    }
+    Ok(())
+}
+
+// Pairs as `name=value`, each followed by a comma.
+fn pairs_of(alloc: Global, text: &str) -> Result<Vec<(Text, Text)>, Fail> {
+    let mut pairs = Vec::new(alloc);
+    for pair in text.split_terminator(',') {
+        let (name, value) = pair.split_once('=').ok_or("no pair")?;
+        pairs.push((text_of(alloc, name)?, text_of(alloc, value)?))?;
+    }
+    Ok(pairs)
+}
+
+fn printed(alloc: Global, attributes: &Attributes) -> Result<String, Fail> {
+    let mut text = String::new(alloc);
+    for (name, value) in attributes.as_slice() {
+        match value {
+            AttrValue::Text(value) => write!(text, "{name}={value},")?,
+            AttrValue::Number(number) => write!(text, "{name}#{number},")?,
+        }
+    }
+    Ok(text)
+}
+
+#[test]
+fn of_equal_names_the_later_pair_counts(rt: HostRuntime) -> Result<(), Fail> {
+    let alloc = rt.alloc();
+    let cases = [
+        ("", ""),
+        ("a=b,", "a=b,"),
+        ("b=1,a=2,", "a=2,b=1,"),
+        ("a=1,a=2,", "a=2,"),
+        ("a=1,b=2,a=3,b=,", "a=3,b=,"),
+        ("ab=1,a=2,Z=3,=4,\u{e9}=5,", "=4,Z=3,a=2,ab=1,\u{e9}=5,"),
+    ];
+    for (pairs, want) in cases {
+        let made = Attributes::from_pairs(alloc, pairs_of(alloc, pairs)?)?;
+        assert_eq!(rt; printed(alloc, &made)?.as_str(), want, "at {pairs}");
+        assert_eq!(rt; made.is_empty(), want == "", "at {pairs}");
+        assert_eq!(rt; made.len(), made.as_slice().len(), "at {pairs}");
+        let copied = made.copy()?;
+        assert!(rt; copied == made, "at {pairs}");
+        let wanted = Attributes::from_pairs(alloc, pairs_of(alloc, want)?)?;
+        assert!(rt; wanted == made, "at {pairs}");
+    }
+    Ok(())
+}
+
+#[test]
+fn a_value_is_found_by_its_name(rt: HostRuntime) -> Result<(), Fail> {
+    let alloc = rt.alloc();
+    let mut pairs = Vec::new(alloc);
+    for (name, number) in [("b", 1), ("d", 2), ("a", 3), ("b", 4)] {
+        pairs.push((text_of(alloc, name)?, AttrValue::Number(number)))?;
+    }
+    let held = Attributes::from_values(alloc, pairs)?;
+    let cases = [
+        ("a", Some(3)),
+        ("b", Some(4)),
+        ("d", Some(2)),
+        ("", None),
+        ("c", None),
+        ("e", None),
+    ];
+    for (name, want) in cases {
+        let found = held.get(name);
+        assert_eq!(rt; found.is_some(), want.is_some(), "at {name}");
+        if let (Some(value), Some(number)) = (found, want) {
+            assert_eq!(rt; value.copy()?, AttrValue::Number(number), "at {name}");
+        }
+    }
+    assert!(rt; Attributes::new(alloc).get("a").is_none());
+    assert!(rt; Attributes::new(alloc) != held);
+    Ok(())
+}
+
+#[test]
+fn a_hashed_pair_is_copied(rt: HostRuntime) -> Result<(), Fail> {
+    let alloc = rt.alloc();
+    let hash = Bytes::from_slice(alloc, b"900150983cd24fb0d6963f7d28e17f72")?;
+    for value in [HashedValue::Text(hash), HashedValue::Number(0x18273645)] {
+        let pair = HashedPair {
+            name: text_of(alloc, "a")?,
+            value: value.copy()?,
+        };
+        assert_eq!(rt; pair.value, value);
+        assert_eq!(rt; pair.copy()?, pair);
+    }
+    Ok(())
+}

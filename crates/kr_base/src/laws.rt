@@ -1,0 +1,18 @@
+// What the definitions of attributes say together. Each law is the contract of a function
+// that does nothing.
+ghost use Rattle.std.specs.Prelude.{◌≡◌, ℕ, ◌↔◌, IsTrue, List};
+ghost use Rattle.kr_base.specs.Attributes.{Gathers};
+
+use crate::{AttrValue, Attributes};
+
+/// What is gathered of pairs is one list.
+pub fn pairs_gather_one_list()
+    ensures { (pairs one other : List (List ℕ × AttrValue))
+        → Gathers pairs one → Gathers pairs other → one ≡ other }
+{}
+
+/// Attributes compare as equal where they are the same list.
+pub fn equal_attributes_are_one_list()
+    ensures { (one other : List (List ℕ × AttrValue))
+        → IsTrue (⟦<Attributes as PartialEq>⟧.eq one other) ↔ (one ≡ other) }
+{}
