@@ -150,9 +150,11 @@ impl PartialEq for Attributes {
     ghost use Rattle.std.specs.Prelude.{nat_eq};
     ghost use Rattle.kr_base.specs.contracts.attributes.AttrValueEq.TheImpl.Laws.{laws-law};
 
-    ghost eq = { pointwise (eq_of_both (on (λ p. p.0) (pointwise nat_eq)) (on (λ p. p.1) ⟦<AttrValue as PartialEq>⟧.eq)) };
+    ghost eq = { pointwise (eq_of_both (on (λ p. p.0) (pointwise nat_eq))
+        (on (λ p. p.1) ⟦<AttrValue as PartialEq>⟧.eq)) };
 
-    ghost laws = { partial_equiv_from_equiv (lists_equiv (and_equiv (on_equiv (λ p. p.0) nat_list_eq_equiv) (on_equiv (λ p. p.1) laws-law))) };
+    ghost laws = { partial_equiv_from_equiv (lists_equiv
+        (and_equiv (on_equiv (λ p. p.0) nat_list_eq_equiv) (on_equiv (λ p. p.1) laws-law))) };
 
     fn eq(&self, other: &Attributes) -> bool {
         self.pairs == other.pairs
@@ -164,5 +166,6 @@ impl Eq for Attributes {
     ghost use Rattle.std.specs.Cmp.Lexicographic.{lists_equiv, nat_list_eq_equiv};
     ghost use Rattle.kr_base.specs.contracts.attributes.AttrValueEq.TheImpl.Laws.{laws-law};
 
-    ghost laws = { lists_equiv (and_equiv (on_equiv (λ p. p.0) nat_list_eq_equiv) (on_equiv (λ p. p.1) laws-law)) };
+    ghost laws = { lists_equiv
+        (and_equiv (on_equiv (λ p. p.0) nat_list_eq_equiv) (on_equiv (λ p. p.1) laws-law)) };
 }

@@ -2,56 +2,42 @@ use super::*;
 use std::alloc::Global;
 use std::test::Fail;
 
-// A value as later crates have it: texts, bytes and numbers in one enum.
-#[derive(Debug, Drop, PartialEq, Eq, PartialOrd, Ord)]
-enum Named {
-    Nothing,
-    Session(SessionId),
-    Label(Text),
-    Kept {
-        name: Text,
-        secret: Bytes,
-        item: ItemId,
-    },
-}
-
 fn text_of(alloc: Global, text: &str) -> Result<Text, Fail> {
     Ok(Text::from_str(alloc, text)?.ok_or("a zero byte")?)
 }
 
-fn kept(alloc: Global, name: &str, secret: &[u8], item: u32) -> Result<Named, Fail> {
-    Ok(Named::Kept {
-        name: text_of(alloc, name)?,
-        secret: Bytes::from_slice(alloc, secret)?,
-        item: ItemId(item),
-    })
-}
-
 // The Unicode Standard, table 3-7 (well-formed UTF-8), and D-Bus Specification, "Type System".
+const TEXTS: [&[u8]; 5] = [
+    b"",
+    b"plain",
+    b"\xc3\xa9",
+    b"\xef\xbf\xbe",
+    b"\xf4\x8f\xbf\xbf",
+];
+
+const NO_TEXTS: [&[u8]; 9] = [
+    b"\0",
+    b"plain\0",
+    b"\0plain",
+    b"\xc3",
+    b"\xa9",
+    b"\xff",
+    b"\xc0\x80",
+    b"\xed\xa0\x80",
+    b"\xf4\x90\x80\x80",
+];
+
 #[test]
 fn a_text_is_utf8_without_a_zero_byte(rt: HostRuntime) -> Result<(), Fail> {
-    let cases: [(&[u8], bool); 14] = [
-        (b"", true),
-        (b"plain", true),
-        (b"\xc3\xa9", true),
-        (b"\xef\xbf\xbe", true),
-        (b"\xf4\x8f\xbf\xbf", true),
-        (b"\0", false),
-        (b"plain\0", false),
-        (b"\0plain", false),
-        (b"\xc3", false),
-        (b"\xa9", false),
-        (b"\xff", false),
-        (b"\xc0\x80", false),
-        (b"\xed\xa0\x80", false),
-        (b"\xf4\x90\x80\x80", false),
-    ];
-    for (bytes, want) in cases {
-        let made = Text::from_utf8(bytes.to_vec(rt.alloc())?);
-        assert_eq!(rt; made.is_some(), want, "at {bytes:?}");
-        if let Some(text) = made {
-            assert_eq!(rt; text.as_bytes(), bytes, "at {bytes:?}");
-        }
+    for bytes in TEXTS {
+        let text = Text::from_utf8(bytes.to_vec(rt.alloc())?).ok_or("no text")?;
+        assert_eq!(rt; text.as_bytes(), bytes);
+    }
+    for bytes in NO_TEXTS {
+        assert!(rt;
+            Text::from_utf8(bytes.to_vec(rt.alloc())?).is_none(),
+            "at {bytes:?}"
+        );
     }
     Ok(())
 }
@@ -61,21 +47,12 @@ fn a_text_is_made_and_read(rt: HostRuntime) -> Result<(), Fail> {
     let alloc = rt.alloc();
     for (text, len) in [("", 0), ("plain", 5), ("\u{e9}t\u{e9}", 5)] {
         let made = Text::new(String::from_str(alloc, text)?).ok_or("a zero byte")?;
-        assert_eq!(rt; made.as_str(), text, "at {text}");
         assert_eq!(rt; made.len(), len, "at {text}");
-        assert_eq!(rt; made.is_empty(), len == 0, "at {text}");
-        let copied = made.copy()?;
-        assert_eq!(rt; copied, made, "at {text}");
-        assert_eq!(rt; copied, text_of(alloc, text)?, "at {text}");
-        assert_eq!(rt; copied.into_string().as_str(), text, "at {text}");
+        assert_eq!(rt; made.copy()?, text_of(alloc, text)?, "at {text}");
+        assert_eq!(rt; made.into_string().as_str(), text);
     }
-    for text in ["\0", "a\0b"] {
-        assert!(rt;
-            Text::new(String::from_str(alloc, text)?).is_none(),
-            "at {text:?}"
-        );
-        assert!(rt; Text::from_str(alloc, text)?.is_none(), "at {text:?}");
-    }
+    assert!(rt; Text::new(String::from_str(alloc, "a\0b")?).is_none());
+    assert!(rt; Text::from_str(alloc, "\0")?.is_none());
     Ok(())
 }
 
@@ -84,66 +61,50 @@ fn bytes_are_made_and_read(rt: HostRuntime) -> Result<(), Fail> {
     let alloc = rt.alloc();
     for bytes in [b"".as_slice(), b"\0", b"\xff\0plain"] {
         let made = Bytes::new(bytes.to_vec(alloc)?);
-        assert_eq!(rt; made.as_slice(), bytes, "at {bytes:?}");
         assert_eq!(rt; made.len(), bytes.len(), "at {bytes:?}");
-        assert_eq!(rt; made.is_empty(), bytes.len() == 0, "at {bytes:?}");
-        let copied = made.copy()?;
-        assert_eq!(rt; copied, made, "at {bytes:?}");
-        assert_eq!(rt; copied, Bytes::from_slice(alloc, bytes)?, "at {bytes:?}");
-        assert_eq!(rt; copied.into_vec().as_slice(), bytes, "at {bytes:?}");
+        assert_eq!(rt;
+            made.copy()?,
+            Bytes::from_slice(alloc, bytes)?,
+            "at {bytes:?}"
+        );
+        assert_eq!(rt; made.into_vec().as_slice(), bytes);
     }
     Ok(())
 }
 
 #[test]
-fn values_are_printed(rt: HostRuntime) -> Result<(), Fail> {
+fn numbers_are_printed(rt: HostRuntime) -> Result<(), Fail> {
+    let alloc = rt.alloc();
+    assert_eq!(rt; ConnId(0).to_string(alloc)?.as_str(), "0");
+    assert_eq!(rt;
+        SessionId(u64::MAX).to_string(alloc)?.as_str(),
+        "18446744073709551615"
+    );
+    assert_eq!(rt; PromptId(10).to_string(alloc)?.as_str(), "10");
+    assert_eq!(rt; ItemId(u32::MAX).to_string(alloc)?.as_str(), "4294967295");
+    Ok(())
+}
+
+#[test]
+fn texts_are_printed_and_secrets_are_not(rt: HostRuntime) -> Result<(), Fail> {
     let alloc = rt.alloc();
     let text = text_of(alloc, "a \"b\"")?;
-    let secret = Bytes::from_slice(alloc, b"hunter2")?;
-    let held = kept(alloc, "a", b"hunter2", 9)?;
-    let cases = [
-        (ConnId(0).to_string(alloc)?, "0"),
-        (
-            SessionId(u64::MAX).to_string(alloc)?,
-            "18446744073709551615",
-        ),
-        (PromptId(10).to_string(alloc)?, "10"),
-        (ItemId(u32::MAX).to_string(alloc)?, "4294967295"),
-        (text.to_string(alloc)?, "a \"b\""),
-        (format!(in alloc; "{text:?}")?, "\"a \\\"b\\\"\""),
-        (format!(in alloc; "{text:>8}|")?, "   a \"b\"|"),
-        (format!(in alloc; "{secret:?}")?, "7 bytes"),
-        (
-            format!(in alloc; "{held:?}")?,
-            "Kept { name: \"a\", secret: 7 bytes, item: ItemId(9) }",
-        ),
-    ];
-    for (printed, want) in cases {
-        assert_eq!(rt; printed.as_str(), want);
-    }
+    let secret = HashedValue::Text(Bytes::from_slice(alloc, b"hunter2")?);
+    assert_eq!(rt; text.to_string(alloc)?.as_str(), "a \"b\"");
+    assert_eq!(rt; format!(in alloc; "{text:?}")?.as_str(), "\"a \\\"b\\\"\"");
+    assert_eq!(rt; format!(in alloc; "{text:>8}|")?.as_str(), "   a \"b\"|");
+    assert_eq!(rt; format!(in alloc; "{secret:?}")?.as_str(), "Text(7 bytes)");
     Ok(())
 }
 
-// By the variant, then by the fields in turn; texts and bytes by the first byte that differs.
+// By the first byte that differs, and a front of a text before the text.
 #[test]
-fn values_are_in_order(rt: HostRuntime) -> Result<(), Fail> {
+fn texts_are_in_order(rt: HostRuntime) -> Result<(), Fail> {
     let alloc = rt.alloc();
-    let mut rising = Vec::new(alloc);
-    rising.push(Named::Nothing)?;
-    for number in [2, 10] {
-        rising.push(Named::Session(SessionId(number)))?;
-    }
-    for text in ["", "Z", "a", "ab", "\u{e9}"] {
-        rising.push(Named::Label(text_of(alloc, text)?))?;
-    }
-    for (name, secret, item) in [("a", b"".as_slice(), 1), ("a", b"\x01", 0), ("b", b"", 0)] {
-        rising.push(kept(alloc, name, secret, item)?)?;
-    }
-    for (i, low) in rising.iter().enumerate() {
-        for (j, high) in rising.iter().enumerate() {
-            assert_eq!(rt; low.cmp(high), i.cmp(&j), "at {i} and {j}");
-            assert_eq!(rt; low == high, i == j, "at {i} and {j}");
-        }
+    for (low, high) in [("", "Z"), ("Z", "a"), ("a", "ab"), ("ab", "\u{e9}")] {
+        let low = AttrValue::Text(text_of(alloc, low)?);
+        let high = AttrValue::Text(text_of(alloc, high)?);
+        assert!(rt; low < high && high < AttrValue::Number(0), "at {low:?}");
     }
     Ok(())
 }
@@ -160,31 +121,22 @@ fn lengthened(alloc: Global, front: &str, letters: u32) -> Result<String, Fail> 
 #[test]
 fn a_stem_can_be_a_file_name(rt: HostRuntime) -> Result<(), Fail> {
     let alloc = rt.alloc();
-    let longest = lengthened(alloc, "", 243)?;
-    let too_long = lengthened(alloc, "", 244)?;
-    let cases = [
-        ("", false),
-        ("a", true),
-        ("My Keys", true),
-        ("\u{e9}", true),
-        (".", true),
-        ("a/b", false),
-        ("a\0", false),
-        (longest.as_str(), true),
-        (too_long.as_str(), false),
-    ];
-    for (text, want) in cases {
-        let made = Stem::new(alloc, text)?;
-        assert_eq!(rt; made.is_some(), want, "at {text:?}");
-        if let Some(stem) = made {
-            assert_eq!(rt; stem.as_str(), text, "at {text:?}");
-            assert_eq!(rt; stem.as_text().as_str(), text, "at {text:?}");
-            assert_eq!(rt; stem.to_string(alloc)?.as_str(), text, "at {text:?}");
-            let copied = stem.copy()?;
-            assert_eq!(rt; copied, stem, "at {text:?}");
-            let again = Stem::from_text(copied.into_text()).ok_or("no stem")?;
-            assert_eq!(rt; again, stem, "at {text:?}");
-        }
+    for text in ["a", "My Keys", "\u{e9}", "."] {
+        let stem = Stem::new(alloc, text)?.ok_or("no stem")?;
+        assert_eq!(rt; stem.as_text().as_str(), text);
+        assert_eq!(rt; stem.copy()?, stem, "at {text}");
+        assert!(rt; Stem::from_text(stem.into_text()).is_some(), "at {text}");
+    }
+    for text in ["", "a/b", "a\0"] {
+        assert!(rt; Stem::new(alloc, text)?.is_none(), "at {text:?}");
+    }
+    for (letters, want) in [(243, true), (244, false)] {
+        let text = lengthened(alloc, "", letters)?;
+        assert_eq!(rt;
+            Stem::new(alloc, text.as_str())?.is_some(),
+            want,
+            "at {letters}"
+        );
     }
     Ok(())
 }
@@ -210,26 +162,24 @@ fn printed(alloc: Global, attributes: &Attributes) -> Result<String, Fail> {
     Ok(text)
 }
 
+// Pairs, and the attributes that they are.
+const GATHERED: [(&str, &str); 6] = [
+    ("", ""),
+    ("a=b,", "a=b,"),
+    ("b=1,a=2,", "a=2,b=1,"),
+    ("a=1,a=2,", "a=2,"),
+    ("a=1,b=2,a=3,b=,", "a=3,b=,"),
+    ("ab=1,a=2,Z=3,=4,\u{e9}=5,", "=4,Z=3,a=2,ab=1,\u{e9}=5,"),
+];
+
 #[test]
 fn of_equal_names_the_later_pair_counts(rt: HostRuntime) -> Result<(), Fail> {
     let alloc = rt.alloc();
-    let cases = [
-        ("", ""),
-        ("a=b,", "a=b,"),
-        ("b=1,a=2,", "a=2,b=1,"),
-        ("a=1,a=2,", "a=2,"),
-        ("a=1,b=2,a=3,b=,", "a=3,b=,"),
-        ("ab=1,a=2,Z=3,=4,\u{e9}=5,", "=4,Z=3,a=2,ab=1,\u{e9}=5,"),
-    ];
-    for (pairs, want) in cases {
+    for (pairs, want) in GATHERED {
         let made = Attributes::from_pairs(alloc, pairs_of(alloc, pairs)?)?;
-        assert_eq!(rt; printed(alloc, &made)?.as_str(), want, "at {pairs}");
-        assert_eq!(rt; made.is_empty(), want == "", "at {pairs}");
+        assert_eq!(rt; printed(alloc, &made)?.as_str(), want);
         assert_eq!(rt; made.len(), made.as_slice().len(), "at {pairs}");
-        let copied = made.copy()?;
-        assert!(rt; copied == made, "at {pairs}");
-        let wanted = Attributes::from_pairs(alloc, pairs_of(alloc, want)?)?;
-        assert!(rt; wanted == made, "at {pairs}");
+        assert!(rt; made.copy()? == made, "at {pairs}");
     }
     Ok(())
 }
@@ -242,22 +192,13 @@ fn a_value_is_found_by_its_name(rt: HostRuntime) -> Result<(), Fail> {
         pairs.push((text_of(alloc, name)?, AttrValue::Number(number)))?;
     }
     let held = Attributes::from_values(alloc, pairs)?;
-    let cases = [
-        ("a", Some(3)),
-        ("b", Some(4)),
-        ("d", Some(2)),
-        ("", None),
-        ("c", None),
-        ("e", None),
-    ];
-    for (name, want) in cases {
-        let found = held.get(name);
-        assert_eq!(rt; found.is_some(), want.is_some(), "at {name}");
-        if let (Some(value), Some(number)) = (found, want) {
-            assert_eq!(rt; value.copy()?, AttrValue::Number(number), "at {name}");
-        }
+    for (name, number) in [("a", 3), ("b", 4), ("d", 2)] {
+        let value = held.get(name).ok_or("no value")?;
+        assert_eq!(rt; value.copy()?, AttrValue::Number(number), "at {name}");
     }
-    assert!(rt; Attributes::new(alloc).get("a").is_none());
+    for name in ["", "c", "e"] {
+        assert!(rt; held.get(name).is_none(), "at {name}");
+    }
     assert!(rt; Attributes::new(alloc) != held);
     Ok(())
 }
