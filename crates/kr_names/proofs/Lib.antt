@@ -1,0 +1,5 @@
+pub mod TextLemmas
+pub mod EscapeLemmas
+pub mod NumberLemmas
+pub mod PathLemmas
+pub mod NameLemmas

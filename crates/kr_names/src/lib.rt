@@ -1,0 +1,18 @@
+//! Names and paths: which object of the service an object path names (Secret Service API, "Object
+//! Paths"; docs/SERVICE.md, "Names and paths"). A name is a value, and what it names need not be there.
+//! Contracts see a path as the list of its bytes. Callers may rely on these: `path_of` gives the one
+//! path that `parse_path` reads as the name, `parse_path` answers None exactly where a path is that of
+//! no name, and a path is that of one name at most.
+#![tactic(auto)]
+
+mod escape;
+mod laws;
+mod object_name;
+mod path;
+#[cfg(test)]
+mod tests;
+
+pub use escape::{escaped_stem, stem_of_escaped};
+pub use laws::a_path_has_one_name;
+pub use object_name::{ObjectName, is_alias_name};
+pub use path::{parse_path, path_of};
