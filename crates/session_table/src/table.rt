@@ -1,0 +1,138 @@
+ghost use Rattle.std.specs.Prelude.{◌≡◌, IsTrue, IfOk, OnOk, OnErr, IsErrOf, true, false};
+ghost use Rattle.session_table.specs.Sessions.{no_sessions, owns, is_full, opened, closed, abandoned};
+
+use crate::{SessionRow, keys};
+use kr_base::{ConnId, OutOfMemory, SessionId};
+use std::alloc::Global;
+use std::collections::BTreeSet;
+use std::marker::Model;
+use thiserror::Error;
+
+/// How many sessions a connection may have at once.
+const MOST: usize = 64;
+
+/// Why a session wasn't opened or closed.
+#[derive(Clone, Copy, Debug, PartialEq, Eq, Error)]
+pub enum SessionRefused {
+    /// The connection has 64 sessions, or no number is left.
+    #[error("the connection has all the sessions that it may have")]
+    TooMany,
+    /// The connection has no such session.
+    #[error("the connection has no such session")]
+    NoSession,
+    /// No memory was left.
+    #[error("no memory was left")]
+    OutOfMemory,
+}
+
+/// The open sessions. A contract sees their rows, by the owners' numbers and then their own, and the
+/// number that the next session gets.
+#[derive(Drop)]
+pub struct SessionTable {
+    alloc: Global,
+    keys: BTreeSet<(u64, u64)>,
+    next: u64,
+}
+
+impl Model for SessionTable {
+    ghost use Rattle.session_table.specs.Sessions.{Sessions};
+
+    ghost Value = { Sessions };
+
+    ghost use Rattle.session_table.specs.Keys.{sessions_of, AreKept};
+
+    ghost view = { λ t. sessions_of t.keys.keys t.next };
+
+    ghost invariant = { λ t. AreKept t.next t.keys.keys };
+}
+
+impl SessionTable {
+    /// No session is open, and the first gets the number 1. It takes no memory.
+    pub fn new(alloc: Global) -> SessionTable
+        ensures { result ≡ no_sessions }
+    {
+        SessionTable {
+            alloc,
+            keys: BTreeSet::new(alloc),
+            next: 1,
+        }
+    }
+
+    /// Opens a session of the connection, and gives it the next number.
+    ///
+    /// Refused with `TooMany` where the connection has 64 sessions or no number is left.
+    pub fn open(&mut self, owner: ConnId) -> Result<SessionId, SessionRefused>
+        ensures number { IfOk result (λ session. session.0 ≡ self.old.next) }
+        ensures opened { OnOk result (self.new ≡ opened owner self.old) }
+        ensures room { OnOk result (is_full owner self.old ≡ false) }
+
+        // After a refusal nothing has changed.
+        ensures too_many { IsErrOf result SessionRefused.TooMany → is_full owner self.old ≡ true }
+        ensures no_other { IsErrOf result SessionRefused.NoSession → ⊥ }
+        ensures unchanged { OnErr result (self.new ≡ self.old) }
+    {
+        if self.is_full(owner) {
+            return Err(SessionRefused::TooMany);
+        }
+        let number = self.next;
+        if let Err(_) = keys::add(&mut self.keys, owner.0, number) {
+            return Err(SessionRefused::OutOfMemory);
+        }
+        self.next = number + 1;
+        Ok(SessionId(number))
+    }
+
+    /// Closes a session of the connection. It takes no memory.
+    ///
+    /// Refused with `NoSession` where the connection owns no such session: another connection's
+    /// session is refused like one that was never opened.
+    pub fn close(&mut self, session: SessionId, owner: ConnId) -> Result<(), SessionRefused>
+        ensures owned { OnOk result (owns owner session self.old ≡ true) }
+        ensures closed { OnOk result (self.new ≡ closed owner session self.old) }
+
+        // Nothing else is refused, and nothing has changed then.
+        ensures no_session { OnErr result (owns owner session self.old ≡ false) }
+        ensures cause { OnErr result (IsErrOf result SessionRefused.NoSession) }
+        ensures unchanged { OnErr result (self.new ≡ self.old) }
+    {
+        if !keys::take(&mut self.keys, owner.0, session.0) {
+            return Err(SessionRefused::NoSession);
+        }
+        Ok(())
+    }
+
+    /// Whether the connection owns the session. It takes no memory.
+    pub fn owned_by(&self, session: SessionId, owner: ConnId) -> bool
+        ensures { result ≡ owns owner session self.now }
+    {
+        keys::has(&self.keys, owner.0, session.0)
+    }
+
+    /// Whether the connection can open no further session. It takes no memory.
+    pub fn is_full(&self, owner: ConnId) -> bool
+        ensures { result ≡ is_full owner self.now }
+    {
+        self.next == u64::MAX || keys::count_of(&self.keys, owner.0) >= MOST
+    }
+
+    /// Closes all sessions of a connection. It takes no memory.
+    pub fn gone(&mut self, owner: ConnId)
+        ensures { self.new ≡ abandoned owner self.old }
+    {
+        keys::take_all(&mut self.keys, owner.0);
+    }
+
+    /// The number that the next session gets.
+    pub fn next(&self) -> u64
+        ensures { result ≡ self.now.next }
+    {
+        self.next
+    }
+
+    /// The sessions as rows, in order. One pass over them.
+    pub fn rows(&self) -> Result<Vec<SessionRow>, OutOfMemory>
+        ensures { IfOk result (λ rows. rows.items ≡ self.now.rows) }
+    {
+        keys::rows(self.alloc, &self.keys)
+    }
+}
