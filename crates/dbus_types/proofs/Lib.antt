@@ -1,0 +1,4 @@
+pub mod Views
+pub mod ValueViews
+pub mod SignatureLaws
+pub mod SignatureReading

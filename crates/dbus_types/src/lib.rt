@@ -1,0 +1,25 @@
+//! The types, values and messages of D-Bus (D-Bus Specification, "Type System", "Message Format"). A
+//! signature, an object path and a text were checked when they were made, and a message has a serial
+//! that isn't 0. Contracts see types and values as plain trees (`Ty` and `Val` of `specs/`), which
+//! say nothing of where they lie in memory.
+#![tactic(auto)]
+
+mod complete_type;
+mod endian;
+mod message;
+mod object_path;
+mod signature;
+mod signature_reading;
+#[cfg(test)]
+mod tests;
+mod value;
+
+pub use complete_type::{BasicType, CompleteType};
+pub use endian::Endian;
+pub use message::Message;
+pub use object_path::ObjectPath;
+pub use signature::{Signature, SignatureFault};
+pub use value::{DictEntry, Value};
+
+/// No memory was left for a call. It is the one refusal that may come at any time.
+pub type OutOfMemory = kr_base::OutOfMemory;
