@@ -1,0 +1,11 @@
+-- The keys that stood before in one list, as the keys of a set that is kept while the list is read.
+use Rattle.std.specs.Prelude.{◌≡◌, Bool, ◌||◌, List}
+use Rattle.std.specs.List.{list_any}
+
+-- whether the set's keys, each seen by view, have this key
+abbrev pub stood_in : {K Q : Type 0} → (Q → Q → Bool) → (K → Q) → List K → Q → Bool
+stood_in same view keys q = list_any (λ k. same q (view k)) keys
+
+-- the new keys are the old ones and this one
+abbrev pub AddsKey : {K Q : Type 0} → (Q → Q → Bool) → (K → Q) → List K → List K → Q → Type 0
+AddsKey {K} {Q} same view old new key = (q : Q) → stood_in same view new q ≡ (same q key || stood_in same view old q)

@@ -1,0 +1,42 @@
+ghost use Rattle.std.specs.Prelude.{◌≡◌};
+ghost use Rattle.keyring_text.specs.declared.fault.ReadRefused.TheVariants.{OutOfMemory};
+
+use std::alloc::{AllocError, AllocFailed};
+
+/// What may be wrong with the fields of a keyring file.
+#[derive(Clone, Copy, Debug, PartialEq, Eq)]
+pub enum FieldFault {
+    /// A field passes the end.
+    Short,
+    /// A text isn't UTF-8, or holds a zero byte.
+    BadText,
+    /// A kind is neither 0 nor 1.
+    BadKind,
+    /// A name stands twice among the attributes of one item.
+    DuplicateName,
+}
+
+/// Why bytes weren't read: the first fault from the left, or want of memory.
+#[derive(Clone, Copy, Debug, Drop, PartialEq, Eq)]
+pub enum ReadRefused<F> {
+    /// The fault that was met.
+    Fault(F),
+    /// No memory was left.
+    OutOfMemory,
+}
+
+impl<F> From<AllocError> for ReadRefused<F> {
+    ghost from_gives = { λ _ e. e ≡ OutOfMemory };
+
+    fn from(_error: AllocError) -> ReadRefused<F> {
+        ReadRefused::OutOfMemory
+    }
+}
+
+impl<F, T: Drop> From<AllocFailed<T>> for ReadRefused<F> {
+    ghost from_gives = { λ _ e. e ≡ OutOfMemory };
+
+    fn from(_error: AllocFailed<T>) -> ReadRefused<F> {
+        ReadRefused::OutOfMemory
+    }
+}
