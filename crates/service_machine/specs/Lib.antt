@@ -1,0 +1,9 @@
+pub mod Connections
+pub mod Desks
+pub mod Machine
+pub mod Plan
+pub mod Replay
+pub mod Rows
+pub mod SessionCalls
+pub mod Sound
+pub mod Step

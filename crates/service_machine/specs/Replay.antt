@@ -1,0 +1,34 @@
+-- Lists of events: what they lead to from a state, whether each fits, what each answers, and what they cost.
+use Rattle.std.specs.Prelude.{ℕ, ◌+◌, List, [], ◌∷◌, sum_by}
+use Rattle.service_machine.specs.declared.rows.Rows.{Rows}
+use Rattle.service_machine.specs.declared.event.Event.{Event}
+use Rattle.service_machine.specs.declared.event.Event.TheVariants as event
+use Rattle.service_machine.specs.declared.event.Output.{Output}
+use Rattle.service_machine.specs.Step.{step, output_of, Fits}
+
+-- the state after all the events
+abbrev pub replay : Rows → List Event → Rows
+replay state [] = state
+replay state (event ∷ events) = replay (step state event) events
+
+-- each event fits the state that those before it lead to
+abbrev pub Legal : Rows → List Event → Type 0
+Legal state [] = Unit {0}
+Legal state (event ∷ events) = Fits state event × Legal (step state event) events
+
+-- what each event answers
+abbrev pub outputs : Rows → List Event → List Output
+outputs state [] = []
+outputs state (event ∷ events) = output_of state event ∷ outputs (step state event) events
+
+-- what an event costs of the memory that stored events take
+abbrev pub cost_of : Event → ℕ
+cost_of (event.Connect conn) = 64
+cost_of (event.Arrive conn request now salt) = 64 + request.length
+cost_of (event.Leave conn) = 64
+cost_of (event.Take conn) = 64
+cost_of (event.Gone conn) = 64
+
+-- what events cost
+abbrev pub cost : List Event → ℕ
+cost events = sum_by cost_of events

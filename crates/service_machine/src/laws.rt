@@ -1,0 +1,29 @@
+// What the definitions of a step and of lists of events say together. Each law is the contract of a
+// function that does nothing.
+ghost use Rattle.std.specs.Prelude.{◌≡◌, ◌++◌, ◌∷◌, [], List};
+ghost use Rattle.service_machine.specs.declared.rows.Rows.{Rows};
+ghost use Rattle.service_machine.specs.declared.event.Event.{Event};
+ghost use Rattle.service_machine.specs.Step.{opened_rows, step, output_of, Fits};
+ghost use Rattle.service_machine.specs.Replay.{replay, Legal, outputs};
+ghost use Rattle.service_machine.specs.Sound.{IsSound};
+
+/// The start is sound, and each event that fits keeps a sound state sound.
+pub fn steps_keep_the_rows_sound()
+    ensures start { IsSound opened_rows }
+    ensures step { (state : Rows) (event : Event) → IsSound state → Fits state event
+        → IsSound (step state event) }
+    ensures replay { (state : Rows) (events : List Event) → IsSound state → Legal state events
+        → IsSound (replay state events) }
+{}
+
+/// One list behind another leads on from where the first one led, is legal where both are, and answers
+/// what both answer.
+pub fn lists_of_events_go_on()
+    ensures replay { (state : Rows) (events more : List Event)
+        → replay state (events ++ more) ≡ replay (replay state events) more }
+    ensures legal { (state : Rows) (events more : List Event) → Legal state events
+        → Legal (replay state events) more → Legal state (events ++ more) }
+    ensures outputs { (state : Rows) (events more : List Event)
+        → outputs state (events ++ more) ≡ outputs state events
+        ++ outputs (replay state events) more }
+{}

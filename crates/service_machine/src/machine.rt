@@ -1,0 +1,258 @@
+ghost use Rattle.std.specs.Prelude.{◌≡◌, ◌≢◌, true, false, IfOk, OnOk, OnErr, IsErrOf};
+ghost use Rattle.service_machine.specs.Connections.{has, changed, left, emptied, waiting_for, desk_of};
+ghost use Rattle.service_machine.specs.Machine.{Records, IsDue, IsOfNone, IsConnect, TakesMemory};
+ghost use Rattle.service_machine.specs.SessionCalls.{is_plain, open_session, close_session};
+ghost use Rattle.service_machine.specs.Step.{opened_rows, step, output_of, arrived, asked, plan_of, performed_all, message_of, IsCrowded, Fits};
+
+use crate::connections::Connections;
+use crate::{ApplyRefused, DeskRow, Event, Incoming, Output, Rows};
+use kr_base::{ConnId, OutOfMemory, SessionId, Text};
+use kr_items::Items;
+use secret_calls::{Body, Call, CallFault, ErrorName, Out, Request};
+use session_table::{SessionRefused, SessionTable};
+use std::alloc::Global;
+
+/// The service: its connections and sessions, and what waits.
+#[derive(Drop)]
+pub struct Machine {
+    connections: Connections,
+    sessions: SessionTable,
+}
+
+// What answers a call: the values of a return, or the name of an error.
+type Answer = Result<Body, ErrorName>;
+
+impl Machine {
+    ghost use Rattle.service_machine.specs.Rows.{rows_of};
+
+    /// The service as it starts: nothing is there. It takes no memory.
+    pub fn open(alloc: Global) -> Machine
+        ensures { rows_of result ≡ opened_rows }
+    {
+        Machine {
+            connections: Connections::new(alloc),
+            sessions: SessionTable::new(alloc),
+        }
+    }
+
+    /// One event whole: what it answers, and the event as it is to be recorded. The rows afterwards are
+    /// the step's from the rows before.
+    ///
+    /// Refused with `NoConnection` where the connection isn't there, and with `TooManyConnections` where
+    /// 256 are there or no number is left. Leaving, taking and going take no memory.
+    pub fn apply(&mut self, event: Incoming) -> Result<(Output, Event), ApplyRefused>
+        requires { IsDue (rows_of self.old) event }
+
+        ensures recorded { IfOk result (λ answer. Records event answer.1) }
+        ensures fits { IfOk result (λ answer. Fits (rows_of self.old) answer.1) }
+        ensures stepped { IfOk result (λ answer.
+            rows_of self.new ≡ step (rows_of self.old) answer.1) }
+        ensures output { IfOk result (λ answer.
+            answer.0 ≡ output_of (rows_of self.old) answer.1) }
+
+        // Each refusal has its cause, and changes nothing.
+        ensures no_connection { IsErrOf result ApplyRefused.NoConnection
+            → IsOfNone (rows_of self.old) event }
+        ensures crowded { IsErrOf result ApplyRefused.TooManyConnections → IsConnect event }
+        ensures full { IsErrOf result ApplyRefused.TooManyConnections
+            → IsCrowded (rows_of self.old) }
+        ensures memory { IsErrOf result ApplyRefused.OutOfMemory → TakesMemory event }
+        ensures unchanged { OnErr result (rows_of self.new ≡ rows_of self.old) }
+    {
+        match event {
+            Incoming::Connect => {
+                let conn = self.connections.join()?;
+                Ok((Output::Joined(conn), Event::Connect(conn)))
+            }
+            Incoming::Arrive {
+                conn,
+                request,
+                now,
+                salt,
+            } => {
+                self.arrive(conn, &request)?;
+                let event = Event::Arrive {
+                    conn,
+                    request,
+                    now,
+                    salt,
+                };
+                Ok((Output::Arrived, event))
+            }
+            Incoming::Leave(conn) => {
+                self.leave(conn)?;
+                Ok((Output::Left, Event::Leave(conn)))
+            }
+            Incoming::Take(conn) => {
+                let outs = self.take(conn)?;
+                Ok((Output::Taken(outs), Event::Take(conn)))
+            }
+            Incoming::Gone(conn) => {
+                self.gone(conn)?;
+                Ok((Output::Gone, Event::Gone(conn)))
+            }
+        }
+    }
+
+    // A request of a connection that is there: its call is answered, and the reply waits.
+    fn arrive(&mut self, conn: ConnId, request: &Request) -> Result<(), ApplyRefused>
+        ensures arrived { OnOk result
+            (rows_of self.new ≡ arrived conn request.now (rows_of self.old)) }
+        ensures there { OnOk result (has conn (rows_of self.old).connections ≡ true) }
+        ensures no_connection { IsErrOf result ApplyRefused.NoConnection
+            → has conn (rows_of self.old).connections ≡ false }
+        ensures no_other { result ≢ Err ApplyRefused.TooManyConnections }
+        ensures unchanged { OnErr result (rows_of self.new ≡ rows_of self.old) }
+    {
+        if !self.connections.has(conn) {
+            return Err(ApplyRefused::NoConnection);
+        }
+        if let Err(_) = self.connections.reserve(conn) {
+            return Err(ApplyRefused::OutOfMemory);
+        }
+        let answer = self.call(conn, &request.call)?;
+        if request.wants_reply {
+            self.connections.push(conn, message(request.serial, answer));
+        }
+        Ok(())
+    }
+
+    // The row of a call. The connection's room stays.
+    fn call(&mut self, conn: ConnId, call: &Result<Call, CallFault>) -> Result<Answer, ApplyRefused>
+        ensures answer { IfOk result (λ answer.
+            answer ≡ (plan_of call.now (asked conn (rows_of self.old))).answer) }
+        ensures changes { OnOk result (rows_of self.new ≡ performed_all conn
+            (plan_of call.now (asked conn (rows_of self.old))).changes (rows_of self.old)) }
+        ensures room { self.new.connections ≡ self.old.connections }
+        ensures memory { OnErr result (IsErrOf result ApplyRefused.OutOfMemory) }
+        ensures unchanged { OnErr result (rows_of self.new ≡ rows_of self.old) }
+    {
+        match call {
+            Err(fault) => Ok(Err(fault.error())),
+            Ok(Call::Ping) => Ok(Ok(Body::Empty)),
+            Ok(Call::OpenSession { algorithm }) => self.open_session(conn, algorithm),
+            Ok(Call::CloseSession { session }) => Ok(self.close_session(conn, *session)),
+        }
+    }
+
+    // The row of OpenSession.
+    fn open_session(&mut self, conn: ConnId, algorithm: &Text) -> Result<Answer, ApplyRefused>
+        ensures answer { IfOk result (λ answer.
+            answer ≡ (open_session algorithm.now (asked conn (rows_of self.old))).answer) }
+        ensures changes { OnOk result (rows_of self.new ≡ performed_all conn
+            (open_session algorithm.now (asked conn (rows_of self.old))).changes
+            (rows_of self.old)) }
+        ensures room { self.new.connections ≡ self.old.connections }
+        ensures memory { OnErr result (IsErrOf result ApplyRefused.OutOfMemory) }
+        ensures unchanged { OnErr result (rows_of self.new ≡ rows_of self.old) }
+    {
+        if !is_plain(algorithm) {
+            return Ok(Err(ErrorName::NotSupported));
+        }
+        match self.sessions.open(conn) {
+            Ok(session) => Ok(Ok(Body::Session(session))),
+            Err(SessionRefused::OutOfMemory) => Err(ApplyRefused::OutOfMemory),
+            Err(_) => Ok(Err(ErrorName::LimitsExceeded)),
+        }
+    }
+
+    // The row of Close.
+    fn close_session(&mut self, conn: ConnId, session: SessionId) -> Answer
+        ensures answer { result ≡ (close_session session (asked conn (rows_of self.old))).answer }
+        ensures changes { rows_of self.new ≡ performed_all conn
+            (close_session session (asked conn (rows_of self.old))).changes (rows_of self.old) }
+        ensures room { self.new.connections ≡ self.old.connections }
+    {
+        match self.sessions.close(session, conn) {
+            Ok(()) => Ok(Body::Empty),
+            Err(_) => Err(ErrorName::NoSession),
+        }
+    }
+
+    // A connection asks no more.
+    fn leave(&mut self, conn: ConnId) -> Result<(), ApplyRefused>
+        ensures left { OnOk result (rows_of self.new ≡ record (rows_of self.old) {
+          connections = changed conn left (rows_of self.old).connections;
+        }) }
+        ensures there { OnOk result (has conn (rows_of self.old).connections ≡ true) }
+        ensures no_connection { OnErr result (has conn (rows_of self.old).connections ≡ false) }
+        ensures cause { OnErr result (IsErrOf result ApplyRefused.NoConnection) }
+        ensures unchanged { OnErr result (rows_of self.new ≡ rows_of self.old) }
+    {
+        if !self.connections.has(conn) {
+            return Err(ApplyRefused::NoConnection);
+        }
+        self.connections.leave(conn);
+        Ok(())
+    }
+
+    // A connection takes what waits for it.
+    fn take(&mut self, conn: ConnId) -> Result<Items<Out>, ApplyRefused>
+        ensures outs { IfOk result (λ outs.
+            outs ≡ waiting_for conn (rows_of self.old).connections) }
+        ensures taken { OnOk result (rows_of self.new ≡ record (rows_of self.old) {
+          connections = changed conn emptied (rows_of self.old).connections;
+        }) }
+        ensures there { OnOk result (has conn (rows_of self.old).connections ≡ true) }
+        ensures no_connection { OnErr result (has conn (rows_of self.old).connections ≡ false) }
+        ensures cause { OnErr result (IsErrOf result ApplyRefused.NoConnection) }
+        ensures unchanged { OnErr result (rows_of self.new ≡ rows_of self.old) }
+    {
+        if !self.connections.has(conn) {
+            return Err(ApplyRefused::NoConnection);
+        }
+        Ok(self.connections.take(conn))
+    }
+
+    // A connection is gone, and its sessions with it.
+    fn gone(&mut self, conn: ConnId) -> Result<(), ApplyRefused>
+        ensures gone { OnOk result (rows_of self.new ≡ step (rows_of self.old) (Event.Gone conn)) }
+        ensures there { OnOk result (has conn (rows_of self.old).connections ≡ true) }
+        ensures no_connection { OnErr result (has conn (rows_of self.old).connections ≡ false) }
+        ensures cause { OnErr result (IsErrOf result ApplyRefused.NoConnection) }
+        ensures unchanged { OnErr result (rows_of self.new ≡ rows_of self.old) }
+    {
+        if !self.connections.has(conn) {
+            return Err(ApplyRefused::NoConnection);
+        }
+        self.connections.remove(conn);
+        self.sessions.gone(conn);
+        Ok(())
+    }
+
+    /// What is told of the connection. None where it isn't there. It takes no memory.
+    pub fn desk(&self, conn: ConnId) -> Option<DeskRow>
+        ensures { result ≡ desk_of conn (rows_of self.now).connections }
+    {
+        self.connections.desk(conn)
+    }
+
+    /// The rows, as plain data. One pass over them.
+    pub fn rows(&self) -> Result<Rows, OutOfMemory>
+        ensures { IfOk result (λ rows. rows ≡ rows_of self.now) }
+    {
+        Ok(Rows {
+            connections: Items::new(self.connections.rows()?),
+            sessions: Items::new(self.sessions.rows()?),
+            next_conn: self.connections.next(),
+            next_session: self.sessions.next(),
+        })
+    }
+}
+
+// Whether the algorithm needs no encryption.
+fn is_plain(algorithm: &Text) -> bool
+    ensures { result ≡ is_plain algorithm.now }
+{
+    algorithm.as_bytes() == b"plain".as_slice()
+}
+
+// The message that answers the call with this serial.
+fn message(serial: u32, answer: Answer) -> Out
+    ensures { result ≡ message_of serial answer }
+{
+    match answer {
+        Ok(body) => Out::Return { to: serial, body },
+        Err(name) => Out::Error { to: serial, name },
+    }
+}

@@ -1,0 +1,43 @@
+use kr_base::ConnId;
+use kr_items::Items;
+use secret_calls::Out;
+use session_table::SessionRow;
+
+/// A connection.
+#[derive(Debug, Drop)]
+pub struct ConnRow {
+    /// Its number.
+    pub conn: ConnId,
+    /// The outputs that wait for it, in order.
+    pub waiting: Items<Out>,
+    /// Whether an output was lost, since too much waited.
+    pub overrun: bool,
+    /// Whether it has left: it asks no more, and takes what waits.
+    pub leaving: bool,
+    /// How many outputs it took.
+    pub taken: u64,
+}
+
+/// What is told of a connection.
+#[derive(Clone, Copy, Debug, PartialEq, Eq)]
+pub struct DeskRow {
+    /// Whether something waits for it.
+    pub waits: bool,
+    /// Whether an output was lost.
+    pub overrun: bool,
+    /// Whether it has left.
+    pub leaving: bool,
+}
+
+/// What the service is at a moment: rows, with no trace of how they are kept.
+#[derive(Debug, Drop)]
+pub struct Rows {
+    /// The connections, by rising number.
+    pub connections: Items<ConnRow>,
+    /// The sessions, by their owners' numbers and then their own.
+    pub sessions: Items<SessionRow>,
+    /// The number that the next connection gets.
+    pub next_conn: u64,
+    /// The number that the next session gets.
+    pub next_session: u64,
+}
