@@ -12,6 +12,7 @@ pub record Joined (first second : List ℕ → Type 0) (bytes : List ℕ) : Type
   pub is_second : second back
 
 infixr 5 ◌⨾◌
+-- the same, written between the two forms
 abbrev pub ◌⨾◌ : (List ℕ → Type 0) → (List ℕ → Type 0) → List ℕ → Type 0
 (first ⨾ second) bytes = Joined first second bytes
 
