@@ -1,0 +1,4 @@
+mod HistoryLemmas
+mod KeptLemmas
+mod RoomLemmas
+mod WindowLemmas

@@ -1,0 +1,112 @@
+-- The service and its history, as contracts see it: the state, and the window whose events led to it.
+use Rattle.std.specs.Prelude.{◌≡◌, ℕ, ◌+◌, ◌≤◌, Bool, ◌&&◌, ◌||◌, not, nat_le, if◌then◌else◌, List, [], ◌∷◌, ◌++◌, length, Option, Some, None}
+use Rattle.kr_base.specs.declared.ids.ConnId.{ConnId}
+use Rattle.secret_calls.specs.declared.taken.Taken.{Taken}
+use Rattle.secret_calls.specs.declared.taken.Taken.TheVariants as taken
+use Rattle.service_machine.specs.declared.rows.Rows.{Rows}
+use Rattle.service_machine.specs.declared.rows.DeskRow.{DeskRow}
+use Rattle.service_machine.specs.declared.event.Incoming.{Incoming}
+use Rattle.service_machine.specs.declared.event.Incoming.TheVariants as incoming
+use Rattle.service_machine.specs.declared.event.Event.{Event}
+use Rattle.service_machine.specs.declared.event.Event.TheVariants as event
+use Rattle.service_machine.specs.declared.event.Output.{Output}
+use Rattle.service_machine.specs.Connections.{waiting_for, desk_of}
+use Rattle.service_machine.specs.Machine.{Records}
+use Rattle.service_machine.specs.Step.{opened_rows, step, output_of, Fits}
+use Rattle.service_machine.specs.Replay.{replay, Legal, cost}
+use Rattle.service_machine.specs.Sound.{IsSound}
+use Rattle.service_history.specs.Room.{room}
+
+-- the state, and the window that it is in
+pub record History : Type 0 where
+  pub state : Rows
+  pub base : Rows
+  pub events : List Event
+  pub era : ℕ
+
+-- the service as it starts
+abbrev pub opened_history : History
+opened_history = record { state = opened_rows; base = opened_rows; events = []; era = 0 }
+
+-- how many events the run has had
+abbrev pub total : History → ℕ
+total history = history.era + length history.events
+
+-- What every service keeps: its base is sound, its events are legal from there and lead to its state, and its events
+-- are counted, those that are sure to come included.
+pub record IsHistory (history : History) : Type 0 where
+  pub sound : IsSound history.base
+  pub legal : Legal history.base history.events
+  pub replayed : history.state ≡ replay history.base history.events
+  pub counted : total history + room history.state.connections ≤ 18446744073709001000
+
+-- a cut is due: the stored events are many, or cost much
+abbrev pub is_due : History → Bool
+is_due history = nat_le 65536 (length history.events) || nat_le 268435456 (cost history.events)
+
+-- the state as the base of a new window
+abbrev pub cut : History → History
+cut history = record history { base = history.state; events = []; era = total history }
+
+-- a cut where one is due
+abbrev pub cut_where_due : History → History
+cut_where_due history = if is_due history then cut history else history
+
+-- one more event
+abbrev pub with_event : Event → History → History
+with_event event history = record history { state = step history.state event; events = history.events ++ event ∷ [] }
+
+-- The event that came is recorded, behind a cut where one is due, and answered as the step answers it.
+pub record IsRecorded (old : History) (came : Incoming) (answer : Output) (new : History) : Type 0 where
+  pub event : Event
+  pub records : Records came event
+  pub fits : Fits old.state event
+  pub answers : answer ≡ output_of old.state event
+  pub appends : new ≡ with_event event (cut_where_due old)
+
+-- the same with no cut
+pub record IsAppended (old : History) (came : Incoming) (answer : Output) (new : History) : Type 0 where
+  pub event : Event
+  pub records : Records came event
+  pub fits : Fits old.state event
+  pub answers : answer ≡ output_of old.state event
+  pub appends : new ≡ with_event event old
+
+-- all that events can be counted has been recorded
+abbrev pub IsSpent : History → Type 0
+IsSpent history = 18446744073709000000 ≤ total history
+
+-- the events that `event` takes: a connection joins, or asks for something
+abbrev pub IsAsked : Incoming → Type 0
+IsAsked incoming.Connect = Unit {0}
+IsAsked (incoming.Arrive conn request now salt) = Unit {0}
+IsAsked _ = ⊥
+
+-- what a connection is given that takes: by what is told of it
+abbrev pub given_for : ConnId → Rows → Option DeskRow → Taken
+given_for conn state None = taken.Missing
+given_for conn state (Some desk) =
+    if desk.waits then taken.Outs (waiting_for conn state.connections)
+    else (if desk.overrun then taken.Overrun
+    else (if desk.leaving then taken.Closed else taken.Empty))
+
+-- what is recorded of it: that it takes, or, where it is closed, that it is gone
+abbrev pub taken_by : ConnId → Option DeskRow → History → History
+taken_by conn None history = history
+taken_by conn (Some desk) history =
+    if desk.waits then with_event (event.Take conn) history
+    else (if desk.leaving && not desk.overrun then with_event (event.Gone conn) history else history)
+
+-- what is recorded of a connection that leaves: nothing where it isn't there or is leaving
+abbrev pub left_by : ConnId → Option DeskRow → History → History
+left_by conn None history = history
+left_by conn (Some desk) history = if desk.leaving then history else with_event (event.Leave conn) history
+
+-- what is recorded of a connection that is gone: nothing where it isn't there
+abbrev pub gone_by : ConnId → Option DeskRow → History → History
+gone_by conn None history = history
+gone_by conn (Some desk) history = with_event (event.Gone conn) history
+
+-- what is told of a connection of the history's state
+abbrev pub told : ConnId → History → Option DeskRow
+told conn history = desk_of conn history.state.connections

@@ -1,0 +1,5 @@
+pub mod History
+pub mod Inside
+pub mod Refusals
+pub mod Room
+pub mod Windows

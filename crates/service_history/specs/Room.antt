@@ -1,0 +1,14 @@
+-- The events for which room is kept, so that they never want memory: for each connection that it leaves, where it
+-- hasn't; that it takes, where something waits; and that it is gone.
+use Rattle.std.specs.Prelude.{ℕ, ◌+◌, if◌then◌else◌, List, [], ◌∷◌}
+use Rattle.service_machine.specs.declared.rows.ConnRow.{ConnRow}
+use Rattle.service_machine.specs.Connections.{waits}
+
+-- how many such events a connection may bring
+abbrev pub room_of : ConnRow → ℕ
+room_of row = 1 + (if row.leaving then 0 else 1) + (if waits row then 1 else 0)
+
+-- how many all connections may bring
+abbrev pub room : List ConnRow → ℕ
+room [] = 0
+room (row ∷ rows) = room_of row + room rows

@@ -1,0 +1,16 @@
+//! The service with its history: each event that happens is recorded, and the state is at every moment
+//! what the stored events lead to from a base. Once they are many, or cost much, the state becomes the
+//! base of a new window and they are let go. Callers may rely on these: an event is recorded exactly
+//! where it is answered, as its own arguments say, and its answer is the machine's step's; a cut is made
+//! exactly where one is due; leaving, taking and going need no memory, since each event makes the room
+//! for those that it makes possible. An event takes no longer for the events that are stored; a cut
+//! takes one pass over the rows.
+#![tactic(auto)]
+
+mod laws;
+mod service;
+#[cfg(test)]
+mod tests;
+
+pub use laws::{an_answer_is_the_output_at_its_place, windows_are_one_history};
+pub use service::{EventRefused, Service};
