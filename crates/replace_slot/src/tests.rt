@@ -3,7 +3,7 @@ ghost use Rattle.replace_slot.specs.Cell.{IsKnown, HasFile};
 
 use super::*;
 use kr_base::Bytes;
-use kr_memory::MemorySlot;
+use kr_memory_disk::MemorySlot;
 use std::alloc::{AllocError, Global};
 use std::test::Fail;
 
