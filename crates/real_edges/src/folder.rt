@@ -1,4 +1,4 @@
-ghost use Rattle.std.specs.Prelude.{◌≡◌, None, false, reverse};
+ghost use Rattle.std.specs.Prelude.{◌≡◌, [], None, false, reverse};
 ghost use Rattle.std.proofs.Common.{rules};
 
 use crate::faults::{count, counted};
@@ -110,10 +110,7 @@ fn listed<R: Files + AllocGlobal + Copy>(rt: &R, path: &str) -> io::Result<Vec<T
 }
 
 // Whether the entry stands for a file, be it by a link.
-fn is_file<R: Files + AllocGlobal + Copy>(
-    rt: &R,
-    entry: &DirEntry<R, Global>,
-) -> io::Result<bool> {
+fn is_file<R: Files + AllocGlobal + Copy>(rt: &R, entry: &DirEntry<R, Global>) -> io::Result<bool> {
     match fs::metadata(rt, entry.path()) {
         Ok(found) => Ok(found.is_file()),
         Err(error) => {
@@ -126,10 +123,7 @@ fn is_file<R: Files + AllocGlobal + Copy>(
     }
 }
 
-fn name_of<R: Files + AllocGlobal + Copy>(
-    rt: &R,
-    entry: &DirEntry<R, Global>,
-) -> io::Result<Text> {
+fn name_of<R: Files + AllocGlobal + Copy>(rt: &R, entry: &DirEntry<R, Global>) -> io::Result<Text> {
     match Text::from_str(rt.alloc(), entry.file_name())? {
         Some(name) => Ok(name),
         None => Err(ErrorKind::InvalidFilename.into()),

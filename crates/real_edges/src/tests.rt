@@ -23,7 +23,12 @@ fn a_file_in_a_real_folder_is_replaced_whole(rt: HostRuntime) -> Result<(), Fail
     let mut slot = folder.slot("a")?;
     assert_eq!(rt; read(&rt, &mut slot)?.as_slice(), b".".as_slice());
     // What is put, and what is then read; before each a temporary file is left over.
-    let cases: [(&[u8], &[u8]); 4] = [(b"one", b"one"), (b"", b""), (b"four", b"four"), (b"fives", b"+")];
+    let cases: [(&[u8], &[u8]); 4] = [
+        (b"one", b"one"),
+        (b"", b""),
+        (b"four", b"four"),
+        (b"fives", b"+"),
+    ];
     for (bytes, want) in cases {
         fs::write(&rt, "ring/a.tmp", b"left over from before")?;
         slot.put_temp(bytes)?;
