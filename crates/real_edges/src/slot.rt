@@ -11,7 +11,7 @@ use std::fs::{self, Files, OpenFile, OpenOptions};
 use std::io::{self, ErrorKind};
 use std::os::unix::fs::OpenOptionsExt;
 
-/// A name of a real folder, with the temporary file NAME.tmp. Its calls take no memory.
+/// A name of a real folder, with the temporary file beside it. Its calls take no memory.
 #[derive(Drop)]
 pub struct RealSlot<R: Files + Copy> {
     rt: R,
