@@ -58,9 +58,7 @@ fn a_folder_that_cannot_be_opened_is_a_fault(rt: HostRuntime) -> Result<(), Fail
     fs::create_dir(&rt, "closed")?;
     fs::set_permissions(&rt, "closed", Permissions::from_mode(0))?;
     let mut host = RealHost::new(rt);
-    let mut faults = 0;
-    for path in ["missing", "file", "closed"] {
-        faults += 1;
+    for (path, faults) in [("missing", 1), ("file", 2), ("closed", 3)] {
         let refused = matches!(host.folder(path), Err(OutsideRefused::Failed));
         assert!(rt; refused, "at {path}");
         assert_eq!(rt; host.faults(), faults, "at {path}");
