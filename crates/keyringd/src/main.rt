@@ -15,15 +15,14 @@ mod laws;
 mod open_session;
 mod program;
 mod replies;
-mod standard;
 mod status;
 #[cfg(test)]
 mod tests;
 
 use crate::program::run;
-use crate::standard::{ReaderSource, WriterSink};
 use crate::status::Status;
 use kr_base::Text;
+use real_edges::{ReaderSource, WriterSink};
 use std::env;
 use std::io::ErrorKind;
 use std::process::ExitCode;

@@ -7,16 +7,12 @@
 #![tactic(auto)]
 
 mod clock;
-mod left;
-mod place;
 mod plan;
 mod sink;
-mod slot;
 mod source;
 #[cfg(test)]
 mod tests;
 
 pub use clock::ListedClock;
 pub use sink::{MemorySink, SteadySink};
-pub use slot::{CallEnd, CallRecord, MemorySlot, SlotCall};
 pub use source::{MemorySource, SteadySource};

@@ -4,7 +4,7 @@ ghost use Rattle.kr_outside.specs.Faults.{KeepsSteady, IsBelowLast};
 
 /// The time of day. It can't fail: a clock that doesn't know the time gives a moment all the same,
 /// and may count that as a fault. Nothing is known of the order of its moments.
-pub trait Clock {
+pub trait Clock: Drop {
     /// The moments that are still to be given, the first at 0, where the clock tells them. They
     /// have no end.
     ghost coming: { Self → Option (ℕ → ℕ) };

@@ -22,7 +22,7 @@ pub enum OutsideRefused {
 ///
 /// What is said of names and content holds of an honest folder, and of the names of which no slot
 /// was made: what is made of a name is told by its slot.
-pub trait Folder {
+pub trait Folder: Drop {
     /// The slot of a name.
     type Cell: Slot;
 

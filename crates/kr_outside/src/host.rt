@@ -1,4 +1,4 @@
-ghost use Rattle.std.specs.Prelude.{◌≡◌, ℕ, Bool, List, [], Option, IfOk};
+ghost use Rattle.std.specs.Prelude.{◌≡◌, ℕ, Bool, IsTrue, List, [], Option, IfOk};
 ghost use Rattle.kr_outside.specs.Faults.{KeepsSteady, IsBelowLast};
 ghost use Rattle.kr_outside.specs.Folder.{HasOutsideCause, AreTold};
 
@@ -47,7 +47,7 @@ pub trait Host {
     /// The clock. It can't be refused.
     fn clock(&mut self) -> Self::Time
         ensures told { Self.Time.coming result ≡ coming self.old }
-        ensures steady_clock { Self.Time.is_steady result ≡ is_steady self.old }
+        ensures steady_clock { IsTrue (is_steady self.old) → IsTrue (Self.Time.is_steady result) }
         ensures honest { is_honest self.new ≡ is_honest self.old }
         ensures count { faults self.new ≡ faults self.old }
         ensures steady { is_steady self.new ≡ is_steady self.old };

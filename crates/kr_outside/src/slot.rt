@@ -20,7 +20,7 @@ pub enum Seen {
 ///
 /// What is said of content, time and crashes holds of an honest slot, one that behaves as the rename
 /// disk does. No call takes memory.
-pub trait Slot {
+pub trait Slot: Drop {
     /// What a read gives: the bytes of a file, or no file.
     ghost seen: { Self → Option (List ℕ) };
 

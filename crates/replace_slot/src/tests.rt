@@ -3,7 +3,7 @@ ghost use Rattle.replace_slot.specs.Cell.{IsKnown, HasFile};
 
 use super::*;
 use kr_base::Bytes;
-use kr_memory::MemorySlot;
+use kr_memory_disk::MemorySlot;
 use std::alloc::{AllocError, Global};
 use std::test::Fail;
 
@@ -120,7 +120,7 @@ fn a_removal_is_known_or_in_doubt(rt: HostRuntime) -> Result<(), Fail> {
 
 fn letter_of(image: &Option<Bytes>) -> u8 {
     match image {
-        None => b'x',
+        None => b'.',
         Some(bytes) => match bytes.as_slice() {
             b"old" => b'o',
             b"newer" => b'n',
@@ -129,23 +129,13 @@ fn letter_of(image: &Option<Bytes>) -> u8 {
     }
 }
 
-// What a crash leaves of a replacement that stopped behind so many calls: o for the old image, n for
-// the new one, x for another.
-fn left_at(
-    alloc: Global,
-    failing: &[u64],
-    done: &[u64],
-    calls: usize,
-) -> Result<Vec<u8>, AllocError> {
-    let mut cell = cell_of_old(alloc, failing, done)?;
-    let image = b"newer".as_slice().to_vec(alloc)?;
-    let _ = cell.replace(image);
-    let mut slot = cell.into_slot();
+// What a crash leaves of the slot where the machine stopped behind so many of its calls: o for the old
+// image, n for the new one, . for no file, x for another.
+fn left_at(alloc: Global, slot: &mut MemorySlot, calls: usize) -> Result<Vec<u8>, AllocError> {
     slot.cut(calls);
     let mut left = Vec::new(alloc);
-    for choice in 0..8 {
-        let image = slot.left(choice)?;
-        let letter = letter_of(&image);
+    for choice in 0..6 {
+        let letter = letter_of(&slot.left(choice)?);
         if !left.contains(&letter) {
             left.push(letter)?;
         }
@@ -153,23 +143,55 @@ fn left_at(
     Ok(left)
 }
 
+// What a crash leaves behind all calls of the slot, then behind one fewer, down to none, each with a
+// bar.
+fn left_behind_each(alloc: Global, mut slot: MemorySlot) -> Result<Vec<u8>, AllocError> {
+    let mut left = Vec::new(alloc);
+    for calls in (0..slot.calls().len().saturating_add(1)).rev() {
+        left.extend_from_slice(&left_at(alloc, &mut slot, calls)?)?;
+        left.push(b'|')?;
+    }
+    Ok(left)
+}
+
 #[test]
 fn a_crash_leaves_the_old_image_then_either_then_the_new(rt: HostRuntime) -> Result<(), Fail> {
-    // The calls that fail, those done all the same, the calls before the crash, what it leaves.
-    let cases: [(&[u64], &[u64], usize, &[u8]); 8] = [
-        (&[], &[], 0, b"o"),
-        (&[], &[], 1, b"o"),
-        (&[], &[], 2, b"o"),
-        (&[], &[], 3, b"on"),
-        (&[], &[], 4, b"n"),
-        (&[1], &[], 2, b"o"),
-        (&[2], &[2], 3, b"on"),
-        (&[3], &[], 4, b"on"),
+    // The calls that fail, those of them done all the same, and what a crash leaves behind all calls,
+    // then behind one fewer, down to none: before the rename the old image, from it on the old or the
+    // new, and behind a sync of the folder the new. A rename that failed and did nothing leaves the old.
+    let cases: [(&[u64], &[u64], &[u8]); 6] = [
+        (&[], &[], b"n|on|o|o|o|"),
+        (&[0], &[], b"o|o|"),
+        (&[1], &[], b"o|o|o|"),
+        (&[2], &[], b"o|o|o|o|"),
+        (&[2], &[2], b"on|o|o|o|"),
+        (&[3], &[], b"on|on|o|o|o|"),
     ];
     let alloc = rt.alloc();
-    for (failing, done, calls, want) in cases {
-        let left = left_at(alloc, failing, done, calls)?;
-        assert_eq!(rt; left.as_slice(), want, "behind {calls} calls");
+    for (failing, done, want) in cases {
+        let mut cell = cell_of_old(alloc, failing, done)?;
+        let _ = cell.replace(b"newer".as_slice().to_vec(alloc)?);
+        let left = left_behind_each(alloc, cell.into_slot())?;
+        assert_eq!(rt; left.as_slice(), want);
+    }
+    Ok(())
+}
+
+#[test]
+fn a_crash_leaves_the_old_image_then_either_then_no_file(rt: HostRuntime) -> Result<(), Fail> {
+    // The same of a removal.
+    let cases: [(&[u64], &[u64], &[u8]); 4] = [
+        (&[], &[], b".|o.|o|"),
+        (&[0], &[], b"o|o|"),
+        (&[0], &[0], b"o.|o|"),
+        (&[1], &[], b"o.|o.|o|"),
+    ];
+    let alloc = rt.alloc();
+    for (failing, done, want) in cases {
+        let mut cell = cell_of_old(alloc, failing, done)?;
+        let _ = cell.remove();
+        let left = left_behind_each(alloc, cell.into_slot())?;
+        assert_eq!(rt; left.as_slice(), want);
     }
     Ok(())
 }

@@ -1,6 +1,0 @@
-use Rattle.kr_memory.proofs.PlaceLemmas.{StandsBefore}
-use Rattle.kr_memory.proofs.place.standing_of.Given as goal
-
--- the places after the calls so far
-abbrev pub invariant-loop-number : goal.invariant-loop-number
-invariant-loop-number l = StandsBefore l.calls l.number l.standing

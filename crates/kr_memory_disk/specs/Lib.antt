@@ -1,0 +1,9 @@
+pub mod Files
+pub mod Folder
+pub mod Host
+pub mod Left
+pub mod Place
+pub mod Plan
+pub mod Slot
+pub mod SlotLaws
+pub mod Steady

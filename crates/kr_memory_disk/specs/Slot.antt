@@ -1,0 +1,160 @@
+-- The rename disk in memory: what a record of calls made of a name.
+use Rattle.std.specs.Prelude.{◌≡◌, ℕ, ◌≤◌, ◌⊎◌, List, [], ◌∷◌, ◌++◌, length, take, fold, Contains, None, Some, IsSome, Result, Ok, Err}
+use Rattle.kr_outside.specs.declared.source.Failed as refused
+use Rattle.kr_memory.specs.Plan.{next_count}
+use Rattle.kr_outside.specs.RenameDisk.{Image, Temporary, Unknown, Unsynced, Synced, synced}
+use Rattle.kr_memory_disk.specs.declared.slot.SlotCall.{SlotCall}
+use Rattle.kr_memory_disk.specs.declared.slot.SlotCall.TheVariants.{Size, Read, PutTemp, SyncTemp, Rename, SyncFolder, Remove}
+use Rattle.kr_memory_disk.specs.declared.slot.CallEnd.{CallEnd}
+use Rattle.kr_memory_disk.specs.declared.slot.CallEnd.TheVariants.{Done, Failed, FailedDone}
+use Rattle.kr_memory_disk.specs.declared.slot.CallRecord.{CallRecord}
+
+-- what a name has stood for: this image and no other, or a file of these bytes that wasn't synced
+pub data Stood : Type 0 where
+  Whole : (image : Image) → Stood
+  Torn : (bytes : List ℕ) → Stood
+
+-- what a read of it gives
+abbrev pub image_stood : Stood → Image
+image_stood (Whole image) = image
+image_stood (Torn bytes) = Some bytes
+
+-- what a crash may leave of it: of a file that wasn't synced any bytes
+abbrev pub LeavesStood : Stood → Image → Type 0
+LeavesStood (Whole image) left = left ≡ image
+LeavesStood (Torn bytes) left = IsSome left
+
+-- what a crash may leave of one of them
+abbrev pub LeavesOneOf : List Stood → Image → Type 0
+LeavesOneOf [] left = ⊥
+LeavesOneOf (stood ∷ others) left = LeavesStood stood left ⊎ LeavesOneOf others left
+
+-- the disk: what the name stands for, what else counts as having stood since the last sync of the
+-- folder that succeeded, the newest first, and the temporary file
+pub record Disk : Type 0 where
+  pub name : Stood
+  pub others : List Stood
+  pub temporary : Temporary
+
+-- a name that stands for this image for good, with no temporary file
+abbrev pub fresh_disk : Image → Disk
+fresh_disk image = record { name = Whole image; others = []; temporary = Unknown }
+
+-- the name stands for something else from now on
+abbrev pub stands_for : Stood → Disk → Disk
+stands_for stood disk = record { name = stood; others = disk.name ∷ disk.others; temporary = disk.temporary }
+
+-- something else counts as having stood
+abbrev pub counts_also : Stood → Disk → Disk
+counts_also stood disk = record { name = disk.name; others = stood ∷ disk.others; temporary = disk.temporary }
+
+-- the temporary file is another one from now on
+abbrev pub with_temporary : Temporary → Disk → Disk
+with_temporary temporary disk = record { name = disk.name; others = disk.others; temporary = temporary }
+
+-- the name takes the temporary file, if there is one
+abbrev pub takes_temporary : Temporary → Disk → Disk
+takes_temporary Unknown disk = disk
+takes_temporary (Unsynced bytes) disk = with_temporary Unknown (stands_for (Torn bytes) disk)
+takes_temporary (Synced bytes) disk = with_temporary Unknown (stands_for (Whole (Some bytes)) disk)
+
+-- the name doesn't take the temporary file, which counts as having stood
+abbrev pub misses_temporary : Temporary → Disk → Disk
+misses_temporary Unknown disk = disk
+misses_temporary (Unsynced bytes) disk = with_temporary Unknown (counts_also (Torn bytes) disk)
+misses_temporary (Synced bytes) disk = with_temporary Unknown (counts_also (Whole (Some bytes)) disk)
+
+-- the disk after a call with this end
+abbrev pub disk_after : SlotCall → CallEnd → Disk → Disk
+disk_after Size end disk = disk
+disk_after Read end disk = disk
+disk_after (PutTemp bytes) Done disk = with_temporary (Unsynced bytes) disk
+disk_after (PutTemp bytes) end disk = with_temporary Unknown disk
+disk_after SyncTemp Done disk = with_temporary (synced disk.temporary) disk
+disk_after SyncTemp end disk = with_temporary Unknown disk
+disk_after Rename Failed disk = misses_temporary disk.temporary disk
+disk_after Rename end disk = takes_temporary disk.temporary disk
+disk_after SyncFolder Done disk = record { name = disk.name; others = []; temporary = disk.temporary }
+disk_after SyncFolder end disk = disk
+disk_after Remove Failed disk = counts_also (Whole None) disk
+disk_after Remove end disk = stands_for (Whole None) disk
+
+-- the disk after these calls, the first of them first
+abbrev pub disk_at : Image → List CallRecord → Disk
+disk_at image calls = fold (λ disk call. disk_after call.call call.end disk) (fresh_disk image) calls
+
+-- what a crash of this disk may leave
+abbrev pub DiskLeaves : Disk → Image → Type 0
+DiskLeaves disk left = LeavesOneOf (disk.name ∷ disk.others) left
+
+-- a slot that fails as planned: the image that it began with, the record of its calls, the numbers of
+-- the calls that are to fail, those of them which the disk does all the same, and the count of faults
+pub record SlotState : Type 0 where
+  pub image : Image
+  pub calls : List CallRecord
+  pub failing : List ℕ
+  pub done : List ℕ
+  pub faults : ℕ
+
+-- the disk of a slot
+abbrev pub disk_of : SlotState → Disk
+disk_of slot = disk_at slot.image slot.calls
+
+-- what a read of it gives
+abbrev pub slot_seen : SlotState → Image
+slot_seen slot = image_stood (disk_of slot).name
+
+-- its temporary file
+abbrev pub slot_temporary : SlotState → Temporary
+slot_temporary slot = (disk_of slot).temporary
+
+-- what a crash now may leave
+abbrev pub slot_may_leave : SlotState → Image → Type 0
+slot_may_leave slot left = DiskLeaves (disk_of slot) left
+
+-- its clock: how many calls were recorded
+abbrev pub slot_moment : SlotState → ℕ
+slot_moment slot = length slot.calls
+
+-- what a crash after that many calls or more might have left
+abbrev pub slot_left_since : SlotState → ℕ → Image → Type 0
+slot_left_since slot t left =
+    (k : ℕ) × (t ≤ k) × (k ≤ length slot.calls) × DiskLeaves (disk_at slot.image (take k slot.calls)) left
+
+-- how the call that comes is to end
+abbrev pub IsPlanned : SlotState → CallEnd → Type 0
+IsPlanned slot Done = ¬ (Contains slot.failing (length slot.calls))
+IsPlanned slot Failed = Contains slot.failing (length slot.calls) × ¬ (Contains slot.done (length slot.calls))
+IsPlanned slot FailedDone = Contains slot.failing (length slot.calls) × Contains slot.done (length slot.calls)
+
+-- the slot with one more call recorded
+abbrev pub with_call : SlotState → SlotCall → CallEnd → SlotState
+with_call slot call end =
+    record {
+      image = slot.image;
+      calls = slot.calls ++ (record { call = call; end = end }) ∷ [];
+      failing = slot.failing;
+      done = slot.done;
+      faults = slot.faults;
+    }
+
+-- the slot with one more fault counted
+abbrev pub with_fault : SlotState → SlotState
+with_fault slot =
+    record {
+      image = slot.image;
+      calls = slot.calls;
+      failing = slot.failing;
+      done = slot.done;
+      faults = next_count slot.faults;
+    }
+
+-- a call that failed: there was no memory for its record, or it is recorded with this end
+pub data IsFailure (old : SlotState) (call : SlotCall) (new : SlotState) : Type 0 where
+  unrecorded : new ≡ with_fault old → IsFailure old call new
+  recorded : (end : CallEnd) → IsPlanned old end → ¬ (end ≡ Done) → new ≡ with_fault (with_call old call end) → IsFailure old call new
+
+-- what a call leaves: it is recorded where it succeeds, which it does only as planned
+abbrev pub IsNoted : SlotState → SlotCall → SlotState → Result (Unit {0}) refused.Failed → Type 0
+IsNoted old call new (Ok none) = IsPlanned old Done × (new ≡ with_call old call Done)
+IsNoted old call new (Err refused) = IsFailure old call new

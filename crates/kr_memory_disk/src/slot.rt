@@ -1,0 +1,254 @@
+ghost use Rattle.std.specs.Prelude.{◌≡◌, ◌≤◌, ◌++◌, [], ◌∷◌, None, Some, IsNone, IfSome, IfOk, true, false, length, take};
+ghost use Rattle.std.proofs.Common.{rules};
+ghost use Rattle.kr_outside.specs.Faults.{Rose, HasCause};
+ghost use Rattle.kr_outside.specs.RenameDisk.{FitsIn, Reads};
+ghost use Rattle.kr_memory.specs.Plan.{next_count};
+ghost use Rattle.kr_memory_disk.specs.Slot.{IsPlanned, IsNoted, slot_seen, slot_temporary, slot_may_leave, slot_moment, slot_left_since};
+ghost use Rattle.kr_memory_disk.specs.SlotLaws.{leaves_seen, counts_moment, only_moment};
+
+use crate::left::{image_left, stood};
+use kr_base::{Bytes, OutOfMemory};
+use kr_outside::{Failed, Seen, Slot};
+use std::alloc::Global;
+use std::marker::Model;
+
+/// A call of a slot.
+#[derive(Debug, Drop)]
+pub enum SlotCall {
+    /// `size`.
+    Size,
+    /// `read`.
+    Read,
+    /// `put_temp`, with the bytes.
+    PutTemp(Bytes),
+    /// `sync_temp`.
+    SyncTemp,
+    /// `rename`.
+    Rename,
+    /// `sync_folder`.
+    SyncFolder,
+    /// `remove`.
+    Remove,
+}
+
+/// How a call of a slot ended.
+#[derive(Clone, Copy, Debug, PartialEq, Eq)]
+pub enum CallEnd {
+    /// It did what it is for.
+    Done,
+    /// It failed.
+    Failed,
+    /// It failed, and of a rename or a removal the disk did all the same what it is for.
+    FailedDone,
+}
+
+/// A call of a slot, with its end.
+#[derive(Debug, Drop)]
+pub struct CallRecord {
+    /// The call.
+    pub call: SlotCall,
+    /// Its end.
+    pub end: CallEnd,
+}
+
+/// A slot in memory, which records its calls and fails those that it is told to.
+#[derive(Debug, Drop)]
+pub struct MemorySlot {
+    alloc: Global,
+    image: Option<Bytes>,
+    calls: Vec<CallRecord>,
+    failing: Vec<u64>,
+    done: Vec<u64>,
+    faults: u64,
+}
+
+impl Model for MemorySlot {
+    ghost use Rattle.kr_memory_disk.specs.Slot.{SlotState};
+
+    ghost Value = { SlotState };
+
+    ghost view = { λ s. record {
+      image = s.image;
+      calls = s.calls.items;
+      failing = s.failing.items;
+      done = s.done.items;
+      faults = s.faults;
+    } };
+}
+
+impl MemorySlot {
+    /// A slot of a name that stands for this image for good. Its calls are numbered from 0. The call
+    /// of number k fails where k is among `failing`; a rename or a removal is done all the same where
+    /// k is among `done` too, and a read then gives the new image.
+    pub fn new(alloc: Global, image: Option<Bytes>, failing: Vec<u64>, done: Vec<u64>) -> MemorySlot
+        ensures { result ≡ record {
+          image = image;
+          calls = [];
+          failing = failing.items;
+          done = done.items;
+          faults = 0;
+        } }
+    {
+        MemorySlot {
+            alloc,
+            image,
+            calls: Vec::new(alloc),
+            failing,
+            done,
+            faults: 0,
+        }
+    }
+
+    /// The record of the calls, the first of them first.
+    pub fn calls(&self) -> &[CallRecord]
+        ensures { result.now ≡ self.now.calls }
+    {
+        &self.calls
+    }
+
+    /// Takes back every call behind the first ones, as if the machine had stopped there. The count of
+    /// faults stays.
+    pub fn cut(&mut self, calls: usize)
+        ensures { self.new ≡ record self.old { calls = take calls self.old.calls } }
+    {
+        self.calls.truncate(calls);
+    }
+
+    /// A copy of an image that a crash now may leave, picked by a number: what the name stood for
+    /// after so many calls, or what it stands for now where the folder was synced since.
+    pub fn left(&self, choice: u64) -> Result<Option<Bytes>, OutOfMemory>
+        ensures { IfOk result (λ image. slot_may_leave self.now image) }
+    {
+        match image_left(&self.image, &self.calls, choice) {
+            None => Ok(None),
+            Some(bytes) => Ok(Some(Bytes::from_slice(self.alloc, bytes)?)),
+        }
+    }
+
+    // What the name stands for: the bytes of a file, or no file.
+    fn image(&self) -> Option<&[u8]>
+        ensures file { IfSome result (λ bytes. slot_seen self.now ≡ Some bytes.now) }
+        ensures none { IsNone result → slot_seen self.now ≡ None }
+    {
+        stood(&self.image, &self.calls)
+    }
+
+    // Counts a fault.
+    fn fail(&mut self) -> Failed
+        ensures counted { self.new ≡ record self.old { faults = next_count self.old.faults } }
+        ensures later { self.old.faults ≤ self.new.faults }
+        ensures rose { Rose self.old.faults self.new.faults }
+    {
+        self.faults = self.faults.saturating_add(1);
+        Failed
+    }
+
+    // How the call that comes is to end.
+    fn end(&self) -> CallEnd
+        ensures { IsPlanned self.now result }
+    {
+        let number = self.calls.len() as u64;
+        if !self.failing.contains(&number) {
+            return CallEnd::Done;
+        }
+        if self.done.contains(&number) {
+            CallEnd::FailedDone
+        } else {
+            CallEnd::Failed
+        }
+    }
+
+    // Records a call with its planned end. It fails also where there is no memory for the record.
+    fn note(&mut self, call: SlotCall) -> Result<(), Failed>
+        ensures noted { IsNoted self.old call self.new result }
+        ensures cause { HasCause self.old.faults self.new.faults result }
+    {
+        let end = self.end();
+        if self.calls.reserve(1).is_err() {
+            return Err(self.fail());
+        }
+        self.calls.push(CallRecord { call, end }).unwrap();
+        match end {
+            CallEnd::Done => Ok(()),
+            CallEnd::Failed | CallEnd::FailedDone => Err(self.fail()),
+        }
+    }
+}
+
+impl Slot for MemorySlot {
+    ghost seen = { slot_seen };
+
+    ghost temporary = { slot_temporary };
+
+    ghost may_leave = { slot_may_leave };
+
+    ghost moment = { slot_moment };
+
+    ghost left_since = { slot_left_since };
+
+    ghost faults = { λ s. s.faults };
+
+    ghost is_honest = { λ _. true };
+
+    ghost is_steady = { λ _. false };
+
+    ghost may_leave_seen = { λ slot _. leaves_seen slot };
+
+    ghost counts_now = { λ slot t image _ le now. counts_moment slot t image le now };
+
+    ghost only_now = { λ slot image _ left. only_moment slot image left };
+
+    ghost steady_below = { Prim.search rules };
+
+    fn size(&mut self) -> Result<Option<u64>, Failed> {
+        self.note(SlotCall::Size)?;
+        Ok(match self.image() {
+            None => None,
+            Some(bytes) => Some(bytes.len() as u64),
+        })
+    }
+
+    fn read(&mut self, buffer: &mut [u8]) -> Result<Seen, Failed> {
+        self.note(SlotCall::Read)?;
+        Ok(match self.image() {
+            None => Seen::Missing,
+            Some(bytes) => fill(bytes, buffer),
+        })
+    }
+
+    fn put_temp(&mut self, bytes: &[u8]) -> Result<(), Failed> {
+        match Bytes::from_slice(self.alloc, bytes) {
+            Ok(bytes) => self.note(SlotCall::PutTemp(bytes)),
+            Err(_) => Err(self.fail()),
+        }
+    }
+
+    fn sync_temp(&mut self) -> Result<(), Failed> {
+        self.note(SlotCall::SyncTemp)
+    }
+
+    fn rename(&mut self) -> Result<(), Failed> {
+        self.note(SlotCall::Rename)
+    }
+
+    fn sync_folder(&mut self) -> Result<(), Failed> {
+        self.note(SlotCall::SyncFolder)
+    }
+
+    fn remove(&mut self) -> Result<(), Failed> {
+        self.note(SlotCall::Remove)
+    }
+}
+
+/// Reads the bytes of a file to the front of a buffer.
+pub fn fill(bytes: &[u8], buffer: &mut [u8]) -> Seen
+    ensures fits { FitsIn (length buffer.new) result }
+    ensures reads { Reads (Some bytes.now) buffer.new result }
+{
+    if bytes.len() > buffer.len() {
+        buffer.copy_from_slice(&bytes[..buffer.len()]);
+        return Seen::Longer;
+    }
+    buffer[..bytes.len()].copy_from_slice(bytes);
+    Seen::Whole(bytes.len())
+}

@@ -1,0 +1,77 @@
+ghost use Rattle.std.specs.Prelude.{◌≡◌, None, false};
+ghost use Rattle.std.proofs.Common.{rules};
+
+use crate::clock::SystemClock;
+use crate::faults::count;
+use crate::folder::RealFolder;
+use kr_outside::{Host, OutsideRefused};
+use std::fs::{self, Files};
+use std::io::{self, ErrorKind};
+use std::time;
+
+/// The machine on which the program runs.
+#[derive(Drop)]
+pub struct RealHost<R: Files + time::Clock + AllocGlobal + Copy> {
+    rt: R,
+    faults: u64,
+}
+
+impl<R: Files + time::Clock + AllocGlobal + Copy> RealHost<R> {
+    /// The machine, with no fault so far.
+    pub fn new(rt: R) -> Self
+        ensures { result.faults ≡ 0 }
+    {
+        RealHost { rt, faults: 0 }
+    }
+
+    /// How often the system answered an error.
+    pub fn faults(&self) -> u64
+        ensures { result ≡ self.now.faults }
+    {
+        self.faults
+    }
+}
+
+impl<R: Files + time::Clock + AllocGlobal + Copy> Host for RealHost<R> {
+    type Dir = RealFolder<R>;
+
+    type Time = SystemClock<R>;
+
+    ghost told = { λ _ _. None };
+
+    ghost coming = { λ _. None };
+
+    ghost faults = { λ h. h.faults };
+
+    ghost is_honest = { λ _. false };
+
+    ghost is_steady = { λ _. false };
+
+    ghost steady_below = { Prim.search rules };
+
+    fn folder(&mut self, path: &str) -> Result<RealFolder<R>, OutsideRefused> {
+        match opened(&self.rt, path) {
+            Ok(path) => Ok(RealFolder::new(self.rt, path)),
+            Err(error) => {
+                if error.kind() == ErrorKind::OutOfMemory {
+                    return Err(OutsideRefused::OutOfMemory);
+                }
+                count(&mut self.faults);
+                Err(OutsideRefused::Failed)
+            }
+        }
+    }
+
+    fn clock(&mut self) -> SystemClock<R> {
+        SystemClock::new(self.rt)
+    }
+}
+
+// A copy of the path, where a folder is there that can be read.
+fn opened<R: Files + AllocGlobal>(rt: &R, path: &str) -> io::Result<String> {
+    if !fs::metadata(rt, path)?.is_dir() {
+        return Err(ErrorKind::NotADirectory.into());
+    }
+    let _ = fs::open(rt, path)?;
+    Ok(String::from_str(rt.alloc(), path)?)
+}

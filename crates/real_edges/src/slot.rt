@@ -1,0 +1,204 @@
+// One name of a real folder: its file, and the temporary file beside it.
+ghost use Rattle.std.specs.Prelude.{◌≡◌, ◌≤◌, None, IfOk, length, false};
+ghost use Rattle.std.proofs.Common.{rules};
+ghost use Rattle.kr_outside.specs.Faults.{HasCause};
+ghost use Rattle.kr_outside.specs.RenameDisk.{Unknown, FitsIn};
+
+use crate::faults::{count, counted};
+use crate::standard::{ReaderSource, WriterSink};
+use kr_outside::{Failed, Seen, Slot, Source, write_all};
+use std::fs::{self, Files, OpenFile, OpenOptions};
+use std::io::{self, ErrorKind};
+use std::os::unix::fs::OpenOptionsExt;
+
+/// A name of a real folder, with the temporary file beside it. Its calls take no memory.
+#[derive(Drop)]
+pub struct RealSlot<R: Files + Copy> {
+    rt: R,
+    folder: String,
+    path: String,
+    temporary: String,
+    written: Option<R::File>,
+    faults: u64,
+}
+
+impl<R: Files + Copy> RealSlot<R> {
+    /// The slot of the file at this path, in this folder, with this temporary file; no fault so far.
+    pub fn new(rt: R, folder: String, path: String, temporary: String) -> Self
+        ensures { result.faults ≡ 0 }
+    {
+        RealSlot {
+            rt,
+            folder,
+            path,
+            temporary,
+            written: None,
+            faults: 0,
+        }
+    }
+
+    /// How often the system answered an error.
+    pub fn faults(&self) -> u64
+        ensures { result ≡ self.now.faults }
+    {
+        self.faults
+    }
+}
+
+impl<R: Files + Copy> Slot for RealSlot<R> {
+    ghost seen = { λ _. None };
+
+    ghost temporary = { λ _. Unknown };
+
+    ghost may_leave = { λ _ _. Unit {0} };
+
+    ghost moment = { λ _. 0 };
+
+    ghost left_since = { λ _ _ _. Unit {0} };
+
+    ghost faults = { λ s. s.faults };
+
+    ghost is_honest = { λ _. false };
+
+    ghost is_steady = { λ _. false };
+
+    ghost may_leave_seen = { λ _ _. tt };
+
+    ghost counts_now = { λ _ _ _ _ _ _. tt };
+
+    ghost only_now = { λ _ _ _ _. tt };
+
+    ghost steady_below = { Prim.search rules };
+
+    fn size(&mut self) -> Result<Option<u64>, Failed> {
+        let size = size_of(&self.rt, &self.path);
+        counted(&mut self.faults, size)
+    }
+
+    fn read(&mut self, buffer: &mut [u8]) -> Result<Seen, Failed> {
+        let seen = read_file(&self.rt, &self.path, buffer);
+        counted(&mut self.faults, seen)
+    }
+
+    fn put_temp(&mut self, bytes: &[u8]) -> Result<(), Failed> {
+        let written = write_anew(&self.rt, &self.temporary, bytes);
+        self.written = Some(counted(&mut self.faults, written)?);
+        Ok(())
+    }
+
+    fn sync_temp(&mut self) -> Result<(), Failed> {
+        match self.written.take() {
+            Some(file) => counted(&mut self.faults, file.sync_all()),
+            None => {
+                count(&mut self.faults);
+                Err(Failed)
+            }
+        }
+    }
+
+    fn rename(&mut self) -> Result<(), Failed> {
+        let renamed = fs::rename(&self.rt, &self.temporary, &self.path);
+        counted(&mut self.faults, renamed)
+    }
+
+    fn sync_folder(&mut self) -> Result<(), Failed> {
+        let synced = sync_folder(&self.rt, &self.folder);
+        counted(&mut self.faults, synced)
+    }
+
+    fn remove(&mut self) -> Result<(), Failed> {
+        let removed = fs::remove_file(&self.rt, &self.path);
+        counted(&mut self.faults, removed)
+    }
+}
+
+/// Puts on the disk what the names of this folder stand for.
+pub fn sync_folder<R: Files>(rt: &R, path: &str) -> io::Result<()> {
+    fs::open(rt, path)?.sync_all()
+}
+
+// How many bytes the file at this path has; None where there is none. What is no file, as a folder or a
+// pipe, is an error: to open a pipe would wait for its writer.
+fn size_of<R: Files>(rt: &R, path: &str) -> io::Result<Option<u64>> {
+    match fs::metadata(rt, path) {
+        Ok(found) => {
+            if found.is_file() {
+                Ok(Some(found.len()))
+            } else {
+                Err(ErrorKind::Unsupported.into())
+            }
+        }
+        Err(error) => {
+            if error.kind() == ErrorKind::NotFound {
+                Ok(None)
+            } else {
+                Err(error)
+            }
+        }
+    }
+}
+
+// Reads the file at this path to the front of the buffer.
+fn read_file<R: Files>(rt: &R, path: &str, buffer: &mut [u8]) -> io::Result<Seen>
+    ensures { IfOk result (FitsIn (length buffer.new)) }
+{
+    if size_of(rt, path)?.is_none() {
+        return Ok(Seen::Missing);
+    }
+    let mut file = ReaderSource::new(fs::open(rt, path)?);
+    let mut behind = [0; 1];
+    let Ok(count) = fill(&mut file, buffer) else {
+        return Err(ErrorKind::Other.into());
+    };
+    if count < buffer.len() {
+        return Ok(Seen::Whole(count));
+    }
+    match fill(&mut file, &mut behind) {
+        Ok(0) => Ok(Seen::Whole(count)),
+        Ok(_) => Ok(Seen::Longer),
+        Err(_) => Err(ErrorKind::Other.into()),
+    }
+}
+
+// Reads until the buffer is full or the input ends, and says how many bytes were read.
+fn fill<I: Source>(input: &mut I, buffer: &mut [u8]) -> Result<usize, Failed>
+    ensures { IfOk result (λ count. count ≤ length buffer.new) }
+{
+    let mut count = 0;
+    while count < buffer.len() {
+        let more = input.read(&mut buffer[count..])?;
+        if more == 0 {
+            break;
+        }
+        count += more;
+    }
+    Ok(count)
+}
+
+// Makes the file at this path anew, for its owner alone, and writes the bytes. One that a run before
+// left over is removed first.
+fn write_anew<R: Files>(rt: &R, path: &str, bytes: &[u8]) -> io::Result<R::File> {
+    let file = match new_file(rt, path) {
+        Err(error) => {
+            if error.kind() != ErrorKind::AlreadyExists {
+                return Err(error);
+            }
+            fs::remove_file(rt, path)?;
+            new_file(rt, path)?
+        }
+        Ok(file) => file,
+    };
+    let mut sink = WriterSink::new(file);
+    match write_all(&mut sink, bytes) {
+        Ok(()) => Ok(sink.into_writer()),
+        Err(_) => Err(ErrorKind::Other.into()),
+    }
+}
+
+fn new_file<R: Files>(rt: &R, path: &str) -> io::Result<R::File> {
+    OpenOptions::new()
+        .write(true)
+        .create_new(true)
+        .mode(0o600)
+        .open(rt, path)
+}
