@@ -1,0 +1,11 @@
+pub mod Keeps
+pub mod Refusals
+pub mod ClearLaws
+pub mod FileLaws
+pub mod GatheredLemmas
+pub mod AreaLaws
+pub mod Plain
+pub mod Bounds
+pub mod Answering
+pub mod CanonicalLaws
+pub mod Writing

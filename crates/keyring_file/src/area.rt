@@ -1,0 +1,30 @@
+use kr_base::{Attributes, Bytes, Text};
+use kr_items::Items;
+
+/// A program that may use an item, as GNOME keyring has kept it. It is kept as it was read.
+#[derive(Debug, Drop, PartialEq, Eq)]
+pub struct Access {
+    /// The types of access that are allowed.
+    pub allowed: u32,
+    /// The program's name.
+    pub display: Text,
+    /// The program's path.
+    pub path: Text,
+}
+
+/// An item as the encrypted area tells it.
+#[derive(Debug, Drop, PartialEq, Eq)]
+pub struct FullItem {
+    /// The item's label.
+    pub label: Text,
+    /// The secret.
+    pub value: Bytes,
+    /// When the item was made, in seconds since 1970.
+    pub created: u64,
+    /// When the item was changed last, in seconds since 1970.
+    pub modified: u64,
+    /// The attributes.
+    pub attributes: Attributes,
+    /// The access entries.
+    pub access: Items<Access>,
+}

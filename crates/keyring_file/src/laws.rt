@@ -1,0 +1,50 @@
+// What the definitions of the two texts say together. Each law is the contract of a function that
+// does nothing.
+ghost use Rattle.std.specs.Prelude.{◌≡◌, ℕ, ◌<◌, ◌^◌, ◌++◌, List, length, Ok};
+ghost use Rattle.std.specs.List.{AllByRecursion};
+ghost use Rattle.keyring_text.specs.Fields.{IsBytes};
+ghost use Rattle.keyring_file.specs.declared.area.FullItem.{FullItem};
+ghost use Rattle.keyring_file.specs.AreaText.{AreaText};
+ghost use Rattle.keyring_file.specs.Clear.{ClearPart};
+ghost use Rattle.keyring_file.specs.ClearText.{ClearText, IsAreaLength};
+ghost use Rattle.keyring_file.specs.Canonical.{clear_text, area_text};
+ghost use Rattle.keyring_file.specs.Short.{IsShortClear, IsShortItem};
+ghost use Rattle.keyring_file.specs.Sound.{IsSoundClear, IsSoundItem};
+ghost use Rattle.keyring_file.specs.Reading.{clear_read, area_read};
+
+/// A file that is read is a text of what was read.
+pub fn a_file_that_is_read_is_spelled_so()
+    ensures { (file area : List ℕ) (clear : ClearPart) → IsBytes file
+        → clear_read file ≡ Ok (clear, area) → ClearText file clear area }
+{}
+
+/// A text of a clear part is read as that clear part.
+pub fn a_file_that_is_spelled_so_is_read()
+    ensures { (file area : List ℕ) (clear : ClearPart) → ClearText file clear area
+        → clear_read file ≡ Ok (clear, area) }
+{}
+
+/// An area that is read is a text of what was read.
+pub fn an_area_that_is_read_is_spelled_so()
+    ensures { (area : List ℕ) (count : ℕ) (items : List FullItem) → IsBytes area
+        → area_read count area ≡ Ok items → AreaText area items × (length items ≡ count) }
+{}
+
+/// A text of items is read as those items.
+pub fn an_area_that_is_spelled_so_is_read()
+    ensures { (area : List ℕ) (items : List FullItem) → AreaText area items
+        → area_read (length items) area ≡ Ok items }
+{}
+
+/// What is written of a clear part is a text of it, whatever area is put behind it.
+pub fn a_canonical_clear_part_is_spelled_so()
+    ensures { (clear : ClearPart) (area : List ℕ) → IsSoundClear clear → IsShortClear clear
+        → IsAreaLength (length area) → length area < 2 ^ 32
+        → ClearText (clear_text clear (length area) ++ area) clear area }
+{}
+
+/// What is written of items is a text of them.
+pub fn a_canonical_area_is_spelled_so()
+    ensures { (items : List FullItem) → AllByRecursion IsSoundItem items
+        → AllByRecursion IsShortItem items → AreaText (area_text items) items }
+{}

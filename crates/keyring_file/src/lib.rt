@@ -1,0 +1,28 @@
+//! The two texts of a keyring file (GNOME keyring file format): the clear part with the encrypted area
+//! behind it, and the area once it is decrypted. Both are read exactly, with the first fault from the
+//! left, and written in the one canonical form.
+#![tactic(auto)]
+
+mod area;
+mod area_reading;
+mod area_writing;
+mod clear;
+mod clear_reading;
+mod clear_writing;
+mod fault;
+mod laws;
+#[cfg(test)]
+mod tests;
+
+pub use area::{Access, FullItem};
+pub use area_reading::read_area;
+pub use area_writing::write_area;
+pub use clear::{Clear, ClearItem};
+pub use clear_reading::read_clear;
+pub use clear_writing::write_clear;
+pub use fault::{AreaFault, ClearFault};
+pub use laws::{
+    a_canonical_area_is_spelled_so, a_canonical_clear_part_is_spelled_so,
+    a_file_that_is_read_is_spelled_so, a_file_that_is_spelled_so_is_read,
+    an_area_that_is_read_is_spelled_so, an_area_that_is_spelled_so_is_read,
+};
