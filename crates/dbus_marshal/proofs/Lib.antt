@@ -1,0 +1,12 @@
+pub mod Texts
+pub mod ValueReading
+pub mod Taking
+pub mod Relation
+pub mod TakenBasics
+pub mod TakenValues
+pub mod AgainBasics
+pub mod AgainValues
+pub mod CountLemmas
+pub mod UnmarshalLaws
+pub mod WritingLemmas
+pub mod MarshalLaws

@@ -1,0 +1,364 @@
+-- What the writers leave behind the bytes that they found.
+use Rattle.std.proofs.Common.{◌≡◌, ℕ, zero, suc, ◌+◌, ◌-◌, ◌%◌, ◌<◌, ◌≤◌, ◌&&◌, Bool, true, false, List, [], ◌∷◌, ◌++◌, length, take, drop, get_or, replicate, Result, Ok, Err, refl, sym, ap, subst, ◌∙◌, arith, append_assoc, append-nil, length-append, length-drop, Vec, Global}
+use Rattle.std.specs.Prelude.{nat_le}
+use Rattle.std.specs.Int.{w8, w32}
+use Rattle.std.proofs.Math.Seq.{drop-cons}
+use Rattle.std.proofs.lemmas.Bool.{le-leb, lt-leb}
+use Rattle.std.proofs.Math.ListN.{drop_of_length-le}
+use Rattle.std.proofs.Math.Numerals.{add-one}
+use Rattle.std.proofs.lemmas.List.{take_at, drop_at, length-replicate}
+use Rattle.dbus_types.specs.declared.complete_type.BasicType.TheVariants as basics
+use Rattle.dbus_types.specs.declared.endian.Endian.{Endian}
+use Rattle.dbus_types.specs.declared.endian.Endian.TheVariants.{Little, Big}
+use Rattle.dbus_types.specs.declared.value.Value.{Value, Array, Struct}
+use Rattle.dbus_types.specs.declared.complete_type.CompleteType.{CompleteType}
+use Rattle.dbus_types.proofs.ValueViews.{struct_holds, array_holds}
+use Rattle.dbus_types.specs.Types.{Ty}
+use Rattle.dbus_types.specs.Values.{Val, Vals, bytes_as_values}
+use Rattle.dbus_types.specs.Views.{type_of}
+use Rattle.dbus_types.specs.ValueViews.{value_of, values_of}
+use Rattle.dbus_marshal.specs.declared.refused.MarshalFault.{MarshalFault}
+use Rattle.dbus_marshal.specs.declared.refused.MarshalFault.TheVariants.{TooLong, OutOfMemory}
+use Rattle.dbus_marshal.specs.Wire.{alignment_of, padding, behind, start_of, zeros, number_bytes}
+use Rattle.dbus_marshal.specs.Spelling.{aligned, text_spelled, array_spelled, first_at, spelled, all_spelled, is_short, are_short}
+use Rattle.dbus_marshal.specs.Writing.{Writes}
+use Rattle.dbus_marshal.proofs.Taking.{IsBytes, wide32}
+use Rattle.dbus_marshal.proofs.AgainBasics.{behind_twice}
+
+-- where the bytes behind others stand
+pub behind_both : (phase : ℕ) (xs ys : List ℕ) → behind phase (length (xs ++ ys)) ≡ behind (behind phase (length xs)) (length ys)
+behind_both phase xs ys = ap (behind phase) (length-append xs ys) ∙ sym (behind_twice phase (length xs) (length ys))
+
+-- a fault of a part is a fault of the whole
+pub writes_fault : (e : MarshalFault) (x y : List ℕ) (short whole : Bool) (a b c d : List ℕ) → (short ≡ false → whole ≡ false)
+    → Writes {X = Unit {0}} (Err e) x short a b → Writes {X = Unit {0}} (Err e) y whole c d
+writes_fault TooLong x y short whole a b c d part w = part w
+writes_fault OutOfMemory x y short whole a b c d part w = tt
+
+pub false_front : (a b : Bool) → a ≡ false → (a && b) ≡ false
+false_front false b e = refl
+false_front true b e = absurd cc
+
+pub false_behind : (a b : Bool) → b ≡ false → (a && b) ≡ false
+false_behind false b e = refl
+false_behind true b e = e
+
+pub true_both : (a b : Bool) → a ≡ true → b ≡ true → (a && b) ≡ true
+true_both true b e f = f
+true_both false b e f = absurd cc
+
+-- what is written behind what was written before
+pub writes_behind : {X : Type 0} (result : Result X MarshalFault) (front bytes : List ℕ) (short : Bool) (old mid new : List ℕ) → mid ≡ old ++ front
+    → Writes result bytes short mid new → Writes result (front ++ bytes) short old new
+writes_behind (Ok x) front bytes short old mid new is w = (w.0 ∙ ap (λ (m : List ℕ). m ++ bytes) is ∙ append_assoc old front bytes, w.1)
+writes_behind (Err TooLong) front bytes short old mid new is w = w
+writes_behind (Err OutOfMemory) front bytes short old mid new is w = tt
+
+-- and stands where the front ends
+pub writes_at : {X : Type 0} (result : Result X MarshalFault) (phase : ℕ) (bytes : ℕ → List ℕ) (short : ℕ → Bool) (front old mid new : List ℕ) → mid ≡ old ++ front
+    → Writes result (bytes (behind phase (length mid))) (short (behind phase (length mid))) mid new
+    → Writes result (front ++ bytes (behind (behind phase (length old)) (length front))) (short (behind (behind phase (length old)) (length front))) old new
+writes_at result phase bytes short front old mid new is w =
+    let there : behind phase (length mid) ≡ behind (behind phase (length old)) (length front) = ap (λ (m : List ℕ). behind phase (length m)) is ∙ behind_both phase old front in
+    subst (λ (p : ℕ). Writes result (front ++ bytes p) (short p) old new) there
+    (writes_behind result front (bytes (behind phase (length mid))) (short (behind phase (length mid))) old mid new is w)
+
+-- two parts, of which the first was written
+pub writes_both : {X : Type 0} (result : Result X MarshalFault) (phase : ℕ) (front : List ℕ) (first : Bool) (bytes : ℕ → List ℕ) (short : ℕ → Bool) (old mid new : List ℕ) → mid ≡ old ++ front → first ≡ true
+    → Writes result (bytes (behind phase (length mid))) (short (behind phase (length mid))) mid new
+    → Writes result (front ++ bytes (behind (behind phase (length old)) (length front))) (first && short (behind (behind phase (length old)) (length front))) old new
+writes_both result phase front first bytes short old mid new is fine w =
+    subst (λ (b : Bool). Writes result (front ++ bytes (behind (behind phase (length old)) (length front))) (b && short (behind (behind phase (length old)) (length front))) old new) (sym fine)
+    (writes_at result phase bytes short front old mid new is w)
+
+-- ---- padding
+
+pub zeros_front : (n : ℕ) → n < 8 → take n (replicate 8 0) ≡ zeros n
+zeros_front zero lt = refl
+zeros_front (suc zero) lt = refl
+zeros_front (suc (suc zero)) lt = refl
+zeros_front (suc (suc (suc zero))) lt = refl
+zeros_front (suc (suc (suc (suc zero)))) lt = refl
+zeros_front (suc (suc (suc (suc (suc zero))))) lt = refl
+zeros_front (suc (suc (suc (suc (suc (suc zero)))))) lt = refl
+zeros_front (suc (suc (suc (suc (suc (suc (suc zero))))))) lt = refl
+zeros_front (suc (suc (suc (suc (suc (suc (suc (suc n)))))))) lt = absurd (omega arith)
+
+pub zeros_long : (n : ℕ) → length (zeros n) ≡ n
+zeros_long n = length-replicate {A = ℕ} n 0
+
+-- where the padded bytes stand
+pub start_is : (phase alignment : ℕ) (old mid : List ℕ) → mid ≡ old ++ zeros (padding alignment (behind phase (length old))) → behind phase (length mid) ≡ start_of alignment (behind phase (length old))
+start_is phase alignment old mid is =
+    ap (λ (m : List ℕ). behind phase (length m)) is ∙ behind_both phase old (zeros (padding alignment (behind phase (length old))))
+    ∙ ap (behind (behind phase (length old))) (zeros_long (padding alignment (behind phase (length old))))
+
+-- padding, and what is written behind it
+pub writes_padded : {X : Type 0} (result : Result X MarshalFault) (phase alignment : ℕ) (bytes : ℕ → List ℕ) (short : ℕ → Bool) (old mid new : List ℕ) → mid ≡ old ++ zeros (padding alignment (behind phase (length old)))
+    → Writes result (bytes (behind phase (length mid))) (short (behind phase (length mid))) mid new
+    → Writes result (aligned alignment (behind phase (length old)) (bytes (start_of alignment (behind phase (length old))))) (short (start_of alignment (behind phase (length old)))) old new
+writes_padded result phase alignment bytes short old mid new is w =
+    subst (λ (p : ℕ). Writes result (zeros (padding alignment (behind phase (length old))) ++ bytes p) (short p) old new) (start_is phase alignment old mid is)
+    (writes_behind result (zeros (padding alignment (behind phase (length old)))) (bytes (behind phase (length mid))) (short (behind phase (length mid))) old mid new is w)
+
+-- ---- texts with a length in one byte
+
+pub text_bare : (endian : Endian) (text : List ℕ) (place : ℕ) → text_spelled endian basics.Signature text place ≡ number_bytes endian w8 (length text) ++ (text ++ 0 ∷ [])
+text_bare endian text place =
+    let none : padding 1 place ≡ 0 = omega arith in
+    ap (λ (n : ℕ). zeros n ++ (number_bytes endian w8 (length text) ++ (text ++ 0 ∷ []))) none
+
+-- the text stands behind the byte of its length
+pub signature_wrote : (endian : Endian) (old one two new text : List ℕ) (mark place : ℕ) → mark ≡ length old → one ≡ old ++ 0 ∷ [] → two ≡ one ++ text
+    → new ≡ take mark two ++ (number_bytes endian w8 (length (drop (mark + 1) two)) ++ (drop (mark + 1) two ++ 0 ∷ [])) → new ≡ old ++ text_spelled endian basics.Signature text place
+signature_wrote endian old one two new text mark place at is_one is_two is =
+    let parts : two ≡ old ++ 0 ∷ text = is_two ∙ ap (λ (l : List ℕ). l ++ text) is_one ∙ append_assoc old (0 ∷ []) text in
+    let parts_one : two ≡ (old ++ 0 ∷ []) ++ text = is_two ∙ ap (λ (l : List ℕ). l ++ text) is_one in
+    let front : take mark two ≡ old = ap (take mark) parts ∙ take_at old (0 ∷ text) mark (sym at) in
+    let long : length (old ++ 0 ∷ []) ≡ mark + 1 = omega (arith, length-append old (0 ∷ []), at) in
+    let rest : drop (mark + 1) two ≡ text = ap (drop (mark + 1)) parts_one ∙ drop_at (old ++ 0 ∷ []) text (mark + 1) long in
+    is ∙ ap (λ (f : List ℕ). f ++ (number_bytes endian w8 (length (drop (mark + 1) two)) ++ (drop (mark + 1) two ++ 0 ∷ []))) front
+    ∙ ap (λ (r : List ℕ). old ++ (number_bytes endian w8 (length r) ++ (r ++ 0 ∷ []))) rest ∙ ap (λ (r : List ℕ). old ++ r) (sym (text_bare endian text place))
+
+-- ---- arrays
+
+pub array_wrote : (endian : Endian) (old opened done new zs ys elements : List ℕ) (mark count : ℕ) → opened ≡ old ++ (zs ++ (number_bytes endian w32 0 ++ ys)) → mark ≡ length old + length zs
+    → done ≡ opened ++ elements → new ≡ take mark done ++ (number_bytes endian w32 count ++ drop (mark + 4) done)
+    → new ≡ old ++ (zs ++ (number_bytes endian w32 count ++ (ys ++ elements)))
+array_wrote endian old opened done new zs ys elements mark count opens at is_done is =
+    let four = number_bytes endian w32 0 in
+    let long : length four ≡ 4 = wide32.len endian 0 in
+    let A = old ++ zs in
+    let front_long : length A ≡ mark = omega (arith, length-append old zs, at) in
+    let parts : done ≡ A ++ (four ++ (ys ++ elements)) =
+    is_done ∙ ap (λ (l : List ℕ). l ++ elements) opens ∙ append_assoc old (zs ++ (four ++ ys)) elements
+    ∙ ap (λ (l : List ℕ). old ++ l) (append_assoc zs (four ++ ys) elements ∙ ap (λ (l : List ℕ). zs ++ l) (append_assoc four ys elements))
+    ∙ sym (append_assoc old zs (four ++ (ys ++ elements))) in
+    let front : take mark done ≡ A = ap (take mark) parts ∙ take_at A (four ++ (ys ++ elements)) mark front_long in
+    let parts_four : done ≡ (A ++ four) ++ (ys ++ elements) = parts ∙ sym (append_assoc A four (ys ++ elements)) in
+    let four_long : length (A ++ four) ≡ mark + 4 = omega (arith, length-append A four, front_long, long) in
+    let rest : drop (mark + 4) done ≡ ys ++ elements = ap (drop (mark + 4)) parts_four ∙ drop_at (A ++ four) (ys ++ elements) (mark + 4) four_long in
+    is ∙ ap (λ (f : List ℕ). f ++ (number_bytes endian w32 count ++ drop (mark + 4) done)) front ∙ ap (λ (r : List ℕ). A ++ (number_bytes endian w32 count ++ r)) rest
+    ∙ append_assoc old zs (number_bytes endian w32 count ++ (ys ++ elements))
+
+-- ---- an array of bytes
+
+byte_bytes : (endian : Endian) (b : ℕ) → b < 256 → number_bytes endian w8 b ≡ b ∷ []
+unfolding number_bytes
+byte_bytes Little b lt = let same : b % 256 ≡ b = omega arith in ap (λ (k : ℕ). k ∷ []) same
+byte_bytes Big b lt = let same : b % 256 ≡ b = omega arith in ap (λ (k : ℕ). k ∷ []) same
+
+byte_spelled : (endian : Endian) (b place : ℕ) → b < 256 → spelled endian (Val.number basics.Byte b) place ≡ b ∷ []
+byte_spelled endian b place lt =
+    let none : padding 1 place ≡ 0 = omega arith in
+    ap (λ (n : ℕ). zeros n ++ number_bytes endian w8 b) none ∙ byte_bytes endian b lt
+
+pub bytes_spelled : (endian : Endian) (bytes : List ℕ) (place : ℕ) → IsBytes bytes → all_spelled endian (bytes_as_values bytes) place ≡ bytes
+bytes_spelled endian [] place fits = refl
+bytes_spelled endian (b ∷ bytes) place fits =
+    ap (λ (f : List ℕ). f ++ all_spelled endian (bytes_as_values bytes) (behind place (length f))) (byte_spelled endian b place (fits 0))
+    ∙ ap (λ (r : List ℕ). b ∷ r) (bytes_spelled endian bytes (behind place 1) (λ i. fits (suc i)))
+
+pub bytes_short : (endian : Endian) (bytes : List ℕ) (place : ℕ) → are_short endian (bytes_as_values bytes) place ≡ true
+bytes_short endian [] place = refl
+bytes_short endian (b ∷ bytes) place = bytes_short endian bytes (behind place (length (spelled endian (Val.number basics.Byte b) place)))
+
+pub bytes_array : (endian : Endian) (bytes : List ℕ) (place : ℕ) → IsBytes bytes
+    → spelled endian (Val.array (Ty.basic basics.Byte) (bytes_as_values bytes)) place ≡ aligned 4 place (number_bytes endian w32 (length bytes)) ++ bytes
+bytes_array endian bytes place fits =
+    let first = first_at 1 place in
+    let none : padding 1 (behind (start_of 4 place) 4) ≡ 0 = omega arith in
+    ap (array_spelled endian 1 place) (bytes_spelled endian bytes first fits)
+    ∙ ap (λ (n : ℕ). aligned 4 place (number_bytes endian w32 (length bytes) ++ (zeros n ++ bytes))) none
+    ∙ sym (append_assoc (zeros (padding 4 place)) (number_bytes endian w32 (length bytes)) bytes)
+
+pub bytes_array_short : (endian : Endian) (bytes : List ℕ) (place : ℕ) → IsBytes bytes → is_short endian (Val.array (Ty.basic basics.Byte) (bytes_as_values bytes)) place ≡ nat_le (length bytes) 67108864
+bytes_array_short endian bytes place fits =
+    ap (λ (b : Bool). b && nat_le (length (all_spelled endian (bytes_as_values bytes) (first_at 1 place))) 67108864) (bytes_short endian bytes (first_at 1 place))
+    ∙ ap (λ (bs : List ℕ). nat_le (length bs) 67108864) (bytes_spelled endian bytes (first_at 1 place) fits)
+
+-- ---- numbers of which the lower bits are written
+
+four : {a b c d e f g h : ℕ} → a ≡ e → b ≡ f → c ≡ g → d ≡ h → a ∷ b ∷ c ∷ d ∷ [] ≡ e ∷ f ∷ g ∷ h ∷ []
+four {a} {b} {c} {d} {e} {f} {g} {h} p q r s = rw (p, q, r, s) refl
+
+number_mod8 : (endian : Endian) (n : ℕ) → number_bytes endian w8 (n % 256) ≡ number_bytes endian w8 n
+unfolding number_bytes
+number_mod8 Little n = let same : n % 256 % 256 ≡ n % 256 = omega arith in ap (λ (k : ℕ). k ∷ []) same
+number_mod8 Big n = let same : n % 256 % 256 ≡ n % 256 = omega arith in ap (λ (k : ℕ). k ∷ []) same
+
+number_mod32 : (endian : Endian) (n : ℕ) → number_bytes endian w32 (n % 4294967296) ≡ number_bytes endian w32 n
+unfolding number_bytes
+number_mod32 Little n = four (omega arith) (omega arith) (omega arith) (omega arith)
+number_mod32 Big n = four (omega arith) (omega arith) (omega arith) (omega arith)
+
+pub signature_ended : (endian : Endian) (old put new : List ℕ) (mark count : ℕ) → put ≡ take mark old ++ (number_bytes endian w8 (count % 256) ++ drop (mark + 1) old) → count ≡ length old - mark - 1
+    → new ≡ put ++ 0 ∷ [] → new ≡ take mark old ++ (number_bytes endian w8 (length (drop (mark + 1) old)) ++ (drop (mark + 1) old ++ 0 ∷ []))
+signature_ended endian old put new mark count is_put counted is =
+    let A = take mark old in
+    let D = drop (mark + 1) old in
+    let N = number_bytes endian w8 (count % 256) in
+    let long : count ≡ length D = omega (arith, length-drop (mark + 1) old, counted) in
+    is ∙ ap (λ (l : List ℕ). l ++ 0 ∷ []) is_put ∙ append_assoc A (N ++ D) (0 ∷ []) ∙ ap (λ (r : List ℕ). A ++ r) (append_assoc N D (0 ∷ []))
+    ∙ ap (λ (r : List ℕ). A ++ (r ++ (D ++ 0 ∷ []))) (number_mod8 endian count) ∙ ap (λ (k : ℕ). A ++ (number_bytes endian w8 k ++ (D ++ 0 ∷ []))) long
+
+pub text_wrote : (endian : Endian) (old one two new text : List ℕ) (place : ℕ) → one ≡ old ++ aligned 4 place (number_bytes endian w32 (length text % 4294967296)) → two ≡ one ++ text → new ≡ two ++ 0 ∷ []
+    → new ≡ old ++ text_spelled endian basics.String text place
+text_wrote endian old one two new text place is_one is_two is =
+    let Z = zeros (padding 4 place) in
+    let N = number_bytes endian w32 (length text % 4294967296) in
+    is ∙ ap (λ (l : List ℕ). l ++ 0 ∷ []) is_two ∙ append_assoc one text (0 ∷ []) ∙ ap (λ (l : List ℕ). l ++ (text ++ 0 ∷ [])) is_one
+    ∙ append_assoc old (Z ++ N) (text ++ 0 ∷ []) ∙ ap (λ (r : List ℕ). old ++ r) (append_assoc Z N (text ++ 0 ∷ []))
+    ∙ ap (λ (r : List ℕ). old ++ (Z ++ (r ++ (text ++ 0 ∷ [])))) (number_mod32 endian (length text))
+
+pub array_opened : (endian : Endian) (phase alignment : ℕ) (old one two three : List ℕ) (mark : ℕ) → one ≡ old ++ zeros (padding 4 (behind phase (length old))) → two ≡ one ++ number_bytes endian w32 0
+    → three ≡ two ++ zeros (padding alignment (behind phase (length two))) → mark ≡ length one
+    → three ≡ old ++ (zeros (padding 4 (behind phase (length old))) ++ (number_bytes endian w32 0 ++ zeros (padding alignment (behind phase (mark + 4)))))
+array_opened endian phase alignment old one two three mark is_one is_two is at =
+    let Z = zeros (padding 4 (behind phase (length old))) in
+    let N = number_bytes endian w32 0 in
+    let long : length N ≡ 4 = wide32.len endian 0 in
+    let there : length two ≡ mark + 4 = ap length is_two ∙ omega (arith, length-append one N, long, at) in
+    let Y = zeros (padding alignment (behind phase (mark + 4))) in
+    is ∙ ap (λ (k : ℕ). two ++ zeros (padding alignment (behind phase k))) there ∙ ap (λ (l : List ℕ). l ++ Y) is_two ∙ ap (λ (l : List ℕ). (l ++ N) ++ Y) is_one
+    ∙ append_assoc (old ++ Z) N Y ∙ append_assoc old Z (N ++ Y)
+
+-- codes around the texts of a struct's fields
+pub struct_text : (old one two three text : List ℕ) → one ≡ old ++ 40 ∷ [] → two ≡ one ++ text → three ≡ two ++ 41 ∷ [] → three ≡ old ++ 40 ∷ (text ++ 41 ∷ [])
+struct_text old one two three text is_one is_two is =
+    is ∙ ap (λ (l : List ℕ). l ++ 41 ∷ []) is_two ∙ append_assoc one text (41 ∷ []) ∙ ap (λ (l : List ℕ). l ++ (text ++ 41 ∷ [])) is_one ∙ append_assoc old (40 ∷ []) (text ++ 41 ∷ [])
+
+-- ---- the arms of a value
+
+-- what is written of a tree is written of a value that has it
+pub writes_tree : {X : Type 0} (result : Result X MarshalFault) (endian : Endian) (v w : Val) (place : ℕ) (old new : List ℕ) → v ≡ w → Writes result (spelled endian w place) (is_short endian w place) old new
+    → Writes result (spelled endian v place) (is_short endian v place) old new
+writes_tree result endian v w place old new same written = subst (λ (u : Val). Writes result (spelled endian u place) (is_short endian u place) old new) (sym same) written
+
+pub writes_array : {X : Type 0} (result : Result X MarshalFault) (endian : Endian) (t : Ty) (vs : Vals) (place alignment : ℕ) (old new : List ℕ) → alignment ≡ alignment_of t
+    → Writes result (array_spelled endian alignment place (all_spelled endian vs (first_at alignment place)))
+    (are_short endian vs (first_at alignment place) && nat_le (length (all_spelled endian vs (first_at alignment place))) 67108864) old new
+    → Writes result (spelled endian (Val.array t vs) place) (is_short endian (Val.array t vs) place) old new
+writes_array result endian t vs place alignment old new same written =
+    subst (λ (a : ℕ). Writes result (array_spelled endian a place (all_spelled endian vs (first_at a place)))
+    (are_short endian vs (first_at a place) && nat_le (length (all_spelled endian vs (first_at a place))) 67108864) old new) same written
+
+pub array_tree : (value : Value) (t : CompleteType) (values : Vec Value Global) (slice : List Value) → value ≡ Array t values → slice ≡ values.items → value_of value ≡ Val.array (type_of t) (values_of slice)
+array_tree value t values slice is same = ap value_of is ∙ array_holds t values ∙ ap (λ (l : List Value). Val.array (type_of t) (values_of l)) (sym same)
+
+pub struct_tree : (value : Value) (values : Vec Value Global) (slice : List Value) → value ≡ Struct values → slice ≡ values.items → value_of value ≡ Val.struct (values_of slice)
+struct_tree value values slice is same = ap value_of is ∙ struct_holds values ∙ ap (λ (l : List Value). Val.struct (values_of l)) (sym same)
+
+-- ---- the elements of an array
+
+-- where the elements stand
+elements_at : (endian : Endian) (phase alignment mark : ℕ) (old opened : List ℕ)
+    → opened ≡ old ++ (zeros (padding 4 (behind phase (length old))) ++ (number_bytes endian w32 0 ++ zeros (padding alignment (behind phase (mark + 4)))))
+    → mark ≡ length old + length (zeros (padding 4 (behind phase (length old)))) → behind phase (length opened) ≡ first_at alignment (behind phase (length old))
+elements_at endian phase alignment mark old opened opens at =
+    let place = behind phase (length old) in
+    let Z = zeros (padding 4 place) in
+    let N = number_bytes endian w32 0 in
+    let Y = zeros (padding alignment (behind phase (mark + 4))) in
+    let long : length N ≡ 4 = wide32.len endian 0 in
+    let four_at : behind phase (mark + 4) ≡ behind (start_of 4 place) 4 =
+    ap (λ (k : ℕ). behind phase (k + 4)) (at ∙ ap (λ (k : ℕ). length old + k) (zeros_long (padding 4 place))) ∙ omega arith in
+    let whole : length opened ≡ (mark + 4) + padding alignment (behind phase (mark + 4)) =
+    ap length opens ∙ omega (arith, length-append old (Z ++ (N ++ Y)), length-append Z (N ++ Y), length-append N Y, long, at, zeros_long (padding alignment (behind phase (mark + 4)))) in
+    ap (behind phase) whole ∙ sym (behind_twice phase (mark + 4) (padding alignment (behind phase (mark + 4)))) ∙ ap (start_of alignment) four_at
+
+-- the spelling and the test of an array, by where its elements stand
+pub array_fault : (e : MarshalFault) (endian : Endian) (phase alignment mark : ℕ) (vs : Vals) (old opened done : List ℕ)
+    → opened ≡ old ++ (zeros (padding 4 (behind phase (length old))) ++ (number_bytes endian w32 0 ++ zeros (padding alignment (behind phase (mark + 4)))))
+    → mark ≡ length old + length (zeros (padding 4 (behind phase (length old))))
+    → Writes {X = Unit {0}} (Err e) (all_spelled endian vs (behind phase (length opened))) (are_short endian vs (behind phase (length opened))) opened done
+    → Writes {X = Unit {0}} (Err e) (array_spelled endian alignment (behind phase (length old)) (all_spelled endian vs (first_at alignment (behind phase (length old)))))
+    (are_short endian vs (first_at alignment (behind phase (length old))) && nat_le (length (all_spelled endian vs (first_at alignment (behind phase (length old))))) 67108864) old done
+array_fault e endian phase alignment mark vs old opened done opens at w =
+    let there = elements_at endian phase alignment mark old opened opens at in
+    writes_fault e (all_spelled endian vs (behind phase (length opened))) (array_spelled endian alignment (behind phase (length old)) (all_spelled endian vs (first_at alignment (behind phase (length old)))))
+    (are_short endian vs (behind phase (length opened))) _ opened done old done
+    (λ no. false_front _ _ (subst (λ (p : ℕ). are_short endian vs p ≡ false) there no)) w
+
+-- so many bytes of elements were written
+elements_long : (endian : Endian) (phase alignment mark : ℕ) (vs : Vals) (old opened done : List ℕ) (start end : ℕ)
+    → opened ≡ old ++ (zeros (padding 4 (behind phase (length old))) ++ (number_bytes endian w32 0 ++ zeros (padding alignment (behind phase (mark + 4)))))
+    → mark ≡ length old + length (zeros (padding 4 (behind phase (length old)))) → done ≡ opened ++ all_spelled endian vs (behind phase (length opened)) → start ≡ length opened → end ≡ length done
+    → end - start ≡ length (all_spelled endian vs (first_at alignment (behind phase (length old))))
+elements_long endian phase alignment mark vs old opened done start end opens at is from to =
+    let there = elements_at endian phase alignment mark old opened opens at in
+    let E = all_spelled endian vs (behind phase (length opened)) in
+    let long : end - start ≡ length E = omega (arith, from, to ∙ ap length is, length-append opened E) in
+    long ∙ ap (λ (p : ℕ). length (all_spelled endian vs p)) there
+
+pub array_long : (endian : Endian) (phase alignment mark : ℕ) (vs : Vals) (old opened done : List ℕ) (start end : ℕ)
+    → opened ≡ old ++ (zeros (padding 4 (behind phase (length old))) ++ (number_bytes endian w32 0 ++ zeros (padding alignment (behind phase (mark + 4)))))
+    → mark ≡ length old + length (zeros (padding 4 (behind phase (length old)))) → done ≡ opened ++ all_spelled endian vs (behind phase (length opened)) → start ≡ length opened → end ≡ length done
+    → 67108864 < end - start
+    → (are_short endian vs (first_at alignment (behind phase (length old))) && nat_le (length (all_spelled endian vs (first_at alignment (behind phase (length old))))) 67108864) ≡ false
+array_long endian phase alignment mark vs old opened done start end opens at is from to over =
+    let long = elements_long endian phase alignment mark vs old opened done start end opens at is from to in
+    false_behind _ _ (lt-leb _ _ (subst (λ (k : ℕ). 67108864 < k) long over))
+
+pub array_room : (endian : Endian) (phase alignment mark : ℕ) (vs : Vals) (old opened done : List ℕ)
+    → opened ≡ old ++ (zeros (padding 4 (behind phase (length old))) ++ (number_bytes endian w32 0 ++ zeros (padding alignment (behind phase (mark + 4)))))
+    → mark ≡ length old + length (zeros (padding 4 (behind phase (length old)))) → done ≡ opened ++ all_spelled endian vs (behind phase (length opened)) → mark + 4 ≤ length done
+array_room endian phase alignment mark vs old opened done opens at is =
+    let Z = zeros (padding 4 (behind phase (length old))) in
+    let N = number_bytes endian w32 0 in
+    let Y = zeros (padding alignment (behind phase (mark + 4))) in
+    let long : length N ≡ 4 = wide32.len endian 0 in
+    let whole : length done ≡ length opened + length (all_spelled endian vs (behind phase (length opened))) = ap length is ∙ length-append opened _ in
+    let front : length opened ≡ length (old ++ (Z ++ (N ++ Y))) = ap length opens in
+    omega (arith, whole, front, length-append old (Z ++ (N ++ Y)), length-append Z (N ++ Y), length-append N Y, long, at)
+
+pub array_done : (endian : Endian) (phase alignment mark : ℕ) (vs : Vals) (old opened done new : List ℕ) (start end : ℕ)
+    → opened ≡ old ++ (zeros (padding 4 (behind phase (length old))) ++ (number_bytes endian w32 0 ++ zeros (padding alignment (behind phase (mark + 4)))))
+    → mark ≡ length old + length (zeros (padding 4 (behind phase (length old)))) → done ≡ opened ++ all_spelled endian vs (behind phase (length opened))
+    → are_short endian vs (behind phase (length opened)) ≡ true → start ≡ length opened → end ≡ length done → end - start ≤ 67108864
+    → new ≡ take mark done ++ (number_bytes endian w32 (end - start) ++ drop (mark + 4) done)
+    → (new ≡ old ++ array_spelled endian alignment (behind phase (length old)) (all_spelled endian vs (first_at alignment (behind phase (length old)))))
+    × ((are_short endian vs (first_at alignment (behind phase (length old))) && nat_le (length (all_spelled endian vs (first_at alignment (behind phase (length old))))) 67108864) ≡ true)
+array_done endian phase alignment mark vs old opened done new start end opens at is short from to fits closed =
+    let place = behind phase (length old) in
+    let there = elements_at endian phase alignment mark old opened opens at in
+    let long = elements_long endian phase alignment mark vs old opened done start end opens at is from to in
+    let Z = zeros (padding 4 place) in
+    let E = all_spelled endian vs (first_at alignment place) in
+    let is_done : done ≡ opened ++ E = is ∙ ap (λ (p : ℕ). opened ++ all_spelled endian vs p) there in
+    let four_at : behind phase (mark + 4) ≡ behind (start_of 4 place) 4 =
+    ap (λ (k : ℕ). behind phase (k + 4)) (at ∙ ap (λ (k : ℕ). length old + k) (zeros_long (padding 4 place))) ∙ omega arith in (
+      array_wrote endian old opened done new Z (zeros (padding alignment (behind phase (mark + 4)))) E mark (end - start) opens at is_done closed
+          ∙ ap (λ (k : ℕ). old ++ (Z ++ (number_bytes endian w32 k ++ (zeros (padding alignment (behind phase (mark + 4))) ++ E)))) long
+          ∙ ap (λ (p : ℕ). old ++ (Z ++ (number_bytes endian w32 (length E) ++ (zeros (padding alignment p) ++ E)))) four_at,
+      true_both _ _ (subst (λ (p : ℕ). are_short endian vs p ≡ true) there short) (le-leb _ _ (subst (λ (k : ℕ). k ≤ 67108864) long fits)),
+    )
+
+-- ---- values one behind the other
+
+values_left : (values : List Value) (i : ℕ) (each : Value) → i < length values → each ≡ get_or values i each → values_of (drop i values) ≡ Vals.more (value_of each) (values_of (drop (i + 1) values))
+values_left values i each lt is =
+    ap values_of (drop-cons values i each lt) ∙ ap (λ (x : Value). values_of (x ∷ drop (suc i) values)) (sym is) ∙ ap (λ (k : ℕ). Vals.more (value_of each) (values_of (drop k values))) (sym (add-one i))
+
+pub all_step : (endian : Endian) (phase i : ℕ) (out new total : List ℕ) (test : Bool) (values : List Value) (each : Value) → i < length values → each ≡ get_or values i each
+    → new ≡ out ++ spelled endian (value_of each) (behind phase (length out)) → is_short endian (value_of each) (behind phase (length out)) ≡ true
+    → (out ++ all_spelled endian (values_of (drop i values)) (behind phase (length out)) ≡ total) × (are_short endian (values_of (drop i values)) (behind phase (length out)) ≡ test)
+    → (new ++ all_spelled endian (values_of (drop (i + 1) values)) (behind phase (length new)) ≡ total) × (are_short endian (values_of (drop (i + 1) values)) (behind phase (length new)) ≡ test)
+all_step endian phase i out new total test values each lt is written short before =
+    let here = behind phase (length out) in
+    let S = spelled endian (value_of each) here in
+    let rest = values_of (drop (i + 1) values) in
+    let parts = values_left values i each lt is in
+    let there : behind phase (length new) ≡ behind here (length S) = ap (λ (l : List ℕ). behind phase (length l)) written ∙ behind_both phase out S in (
+      ap (λ (p : ℕ). new ++ all_spelled endian rest p) there ∙ ap (λ (l : List ℕ). l ++ all_spelled endian rest (behind here (length S))) written ∙ append_assoc out S (all_spelled endian rest (behind here (length S)))
+          ∙ ap (λ (vs : Vals). out ++ all_spelled endian vs here) (sym parts) ∙ before.0,
+      ap (are_short endian rest) there ∙ ap (λ (b : Bool). b && are_short endian rest (behind here (length S))) (sym short) ∙ ap (λ (vs : Vals). are_short endian vs here) (sym parts) ∙ before.1,
+    )
+
+pub all_over : (endian : Endian) (phase i : ℕ) (out total : List ℕ) (test : Bool) (values : List Value) → length values ≤ i
+    → (out ++ all_spelled endian (values_of (drop i values)) (behind phase (length out)) ≡ total) × (are_short endian (values_of (drop i values)) (behind phase (length out)) ≡ test) → (out ≡ total) × (test ≡ true)
+all_over endian phase i out total test values le before =
+    let none : values_of (drop i values) ≡ Vals.end = ap values_of (drop_of_length-le values le) in (
+      sym (append-nil out) ∙ ap (λ (vs : Vals). out ++ all_spelled endian vs (behind phase (length out))) (sym none) ∙ before.0,
+      sym before.1 ∙ ap (λ (vs : Vals). are_short endian vs (behind phase (length out))) none,
+    )

@@ -1,0 +1,7 @@
+-- Where a cursor stands.
+use Rattle.dbus_marshal.specs.Reading.{Spot}
+use Rattle.dbus_marshal.specs.declared.cursor.Cursor.{Cursor}
+
+-- the spot of a cursor
+abbrev pub spot_of : Cursor → Spot
+spot_of cursor = record { place = cursor.place; left = cursor.left.now }

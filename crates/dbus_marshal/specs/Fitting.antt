@@ -1,0 +1,31 @@
+-- D-Bus Specification, "Type System", "Marshaling": which values a type has, but for the length of their arrays.
+use Rattle.std.specs.Prelude.{ℕ, ◌<◌, ◌≡◌, IsTrue}
+use Rattle.dbus_types.specs.Types.{Ty, Tys, is_signature}
+use Rattle.dbus_types.specs.Values.{Val, Vals, ty_of, tys_of}
+use Rattle.dbus_marshal.specs.Wire.{limit_of, IsTextOf, Opens}
+
+abbrev mutual
+  -- a value of the type, in which at most so many arrays, structs, dict entries and variants are open at once
+  pub Fits : ℕ → Ty → Val → Type 0
+  Fits depth (Ty.basic b) (Val.number c n) = (c ≡ b) × (n < limit_of b)
+  Fits depth (Ty.basic b) (Val.text c bytes) = (c ≡ b) × IsTextOf b bytes
+  Fits depth Ty.variant (Val.variant v) = Opens depth (λ fewer. IsTrue (is_signature (Tys.more (ty_of v) Tys.end)) × Fits fewer (ty_of v) v)
+  Fits depth (Ty.array t) (Val.array u vs) = Opens depth (λ fewer. (u ≡ t) × EachFits fewer t vs)
+  Fits depth (Ty.struct ts) (Val.struct vs) = Opens depth (λ fewer. AllFit fewer ts vs)
+  Fits depth (Ty.entry key t) (Val.entry k v) = Opens depth (λ fewer. Fits fewer (Ty.basic key) k × Fits fewer t v)
+  Fits depth t v = ⊥
+
+  -- values of the types
+  pub AllFit : ℕ → Tys → Vals → Type 0
+  AllFit depth Tys.end Vals.end = Unit {0}
+  AllFit depth (Tys.more t ts) (Vals.more v vs) = Fits depth t v × AllFit depth ts vs
+  AllFit depth ts vs = ⊥
+
+  -- values of one type
+  pub EachFits : ℕ → Ty → Vals → Type 0
+  EachFits depth t Vals.end = Unit {0}
+  EachFits depth t (Vals.more v vs) = Fits depth t v × EachFits depth t vs
+
+-- the values have a spelling, but for the length of their arrays
+abbrev pub HaveSpelling : Vals → Type 0
+HaveSpelling vs = AllFit 64 (tys_of vs) vs

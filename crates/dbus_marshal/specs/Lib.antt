@@ -1,0 +1,9 @@
+pub mod Wire
+pub mod Marshals
+pub mod Fitting
+pub mod Spelling
+pub mod Reading
+pub mod Cursors
+pub mod Counting
+pub mod Writing
+pub mod TypeTexts

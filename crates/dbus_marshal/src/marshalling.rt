@@ -1,0 +1,45 @@
+ghost use Rattle.std.specs.Prelude.{◌≡◌, ◌%◌, Ok, IfOk, IsErrOf, IsTrue, IsFalse};
+ghost use Rattle.dbus_types.specs.Types.{is_signature};
+ghost use Rattle.dbus_types.specs.Values.{tys_of};
+ghost use Rattle.dbus_types.specs.ValueViews.{values_of};
+ghost use Rattle.dbus_marshal.specs.Fitting.{HaveSpelling};
+ghost use Rattle.dbus_marshal.specs.Marshals.{AreSpelled};
+ghost use Rattle.dbus_marshal.specs.Reading.{values_at};
+ghost use Rattle.dbus_marshal.specs.Spelling.{are_short};
+
+use crate::refused::MarshalFault;
+use crate::writers::write_all;
+use dbus_types::{Endian, Value};
+use std::alloc::Global;
+
+/// The bytes that values are (D-Bus Specification, "Marshaling"). `place` is where the first byte
+/// stands, counted from the message's start.
+///
+/// Refused with `TooLong` exactly where an array has over 67,108,864 bytes of elements, and with
+/// `OutOfMemory`.
+pub fn marshal(
+    alloc: Global,
+    values: &[Value],
+    endian: Endian,
+    place: u64,
+) -> Result<Vec<u8>, MarshalFault>
+    requires { HaveSpelling (values_of values.now) }
+
+    // It gives the one spelling, which is read as the same values.
+    ensures spelled { IfOk result (λ bytes. AreSpelled endian place
+        (tys_of (values_of values.now)) (values_of values.now) bytes.items) }
+    ensures again { IfOk result (λ bytes. IsTrue (is_signature (tys_of (values_of values.now)))
+        → values_at endian (tys_of (values_of values.now))
+        (record { place = place % 8; left = bytes.items }) ≡ Ok (values_of values.now)) }
+
+    // No array is too long, or one is.
+    ensures short { IfOk result (λ bytes.
+        IsTrue (are_short endian (values_of values.now) (place % 8))) }
+    ensures long { IsErrOf result MarshalFault.TooLong
+        → IsFalse (are_short endian (values_of values.now) (place % 8)) }
+{
+    let mut out = Vec::new(alloc);
+    let phase = (place % 8) as usize;
+    write_all(&mut out, phase, endian, values)?;
+    Ok(out)
+}

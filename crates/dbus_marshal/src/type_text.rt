@@ -1,0 +1,141 @@
+ghost use Rattle.std.specs.Prelude.{◌≡◌, ◌++◌, [], ◌∷◌, length, Some, None, OnOk};
+ghost use Rattle.dbus_types.specs.Types.{Ty, code_of, text_of, texts_of};
+ghost use Rattle.dbus_types.specs.Values.{ty_of, tys_of};
+ghost use Rattle.dbus_types.specs.Views.{type_of, types_of};
+ghost use Rattle.dbus_types.specs.ValueViews.{value_of, values_of};
+ghost use Rattle.dbus_marshal.specs.TypeTexts.{BasicIs};
+
+use crate::OutOfMemory;
+use dbus_types::{BasicType, CompleteType, Value};
+
+fn code(basic: BasicType) -> u8
+    ensures { result ≡ code_of basic }
+{
+    match basic {
+        BasicType::Byte => b'y',
+        BasicType::Boolean => b'b',
+        BasicType::Int16 => b'n',
+        BasicType::Uint16 => b'q',
+        BasicType::Int32 => b'i',
+        BasicType::Uint32 => b'u',
+        BasicType::Int64 => b'x',
+        BasicType::Uint64 => b't',
+        BasicType::Double => b'd',
+        BasicType::UnixFd => b'h',
+        BasicType::String => b's',
+        BasicType::ObjectPath => b'o',
+        BasicType::Signature => b'g',
+    }
+}
+
+/// Writes the text of a type (D-Bus Specification, "Type System").
+#[cycle(types)]
+pub fn write_type(out: &mut Vec<u8>, complete_type: &CompleteType) -> Result<(), OutOfMemory>
+    ensures { OnOk result (out.new.items ≡ out.old.items ++ text_of (type_of complete_type.now)) }
+{
+    match complete_type {
+        CompleteType::Basic(basic) => out.push(code(*basic))?,
+        CompleteType::Variant => out.push(b'v')?,
+        CompleteType::Array(element) => {
+            out.push(b'a')?;
+            write_type(out, element)?;
+        }
+        CompleteType::Struct(fields) => {
+            out.push(b'(')?;
+            write_types(out, fields.as_slice())?;
+            out.push(b')')?;
+        }
+        CompleteType::DictEntry(key, value) => {
+            out.push(b'{')?;
+            out.push(code(*key))?;
+            write_type(out, value)?;
+            out.push(b'}')?;
+        }
+    }
+    Ok(())
+}
+
+/// Writes the texts of types, one behind the other.
+#[cycle(types)]
+pub fn write_types(out: &mut Vec<u8>, types: &[CompleteType]) -> Result<(), OutOfMemory>
+    ensures { OnOk result (out.new.items ≡ out.old.items ++ texts_of (types_of types.now)) }
+{
+    for each in types {
+        write_type(out, each)?;
+    }
+    Ok(())
+}
+
+// The basic type of a value, where it has one.
+fn basic_of(value: &Value) -> Option<BasicType>
+    ensures { BasicIs result (ty_of (value_of value.now)) }
+{
+    match value {
+        Value::Byte(_) => Some(BasicType::Byte),
+        Value::Boolean(_) => Some(BasicType::Boolean),
+        Value::Int16(_) => Some(BasicType::Int16),
+        Value::Uint16(_) => Some(BasicType::Uint16),
+        Value::Int32(_) => Some(BasicType::Int32),
+        Value::Uint32(_) => Some(BasicType::Uint32),
+        Value::Int64(_) => Some(BasicType::Int64),
+        Value::Uint64(_) => Some(BasicType::Uint64),
+        Value::Double(_) => Some(BasicType::Double),
+        Value::UnixFd(_) => Some(BasicType::UnixFd),
+        Value::String(_) => Some(BasicType::String),
+        Value::ObjectPath(_) => Some(BasicType::ObjectPath),
+        Value::Signature(_) => Some(BasicType::Signature),
+        Value::Variant(_) => None,
+        Value::Array(_, _) => None,
+        Value::Bytes(_) => None,
+        Value::Struct(_) => None,
+        Value::DictEntry(_) => None,
+    }
+}
+
+/// Writes the text of a value's type. An entry whose key isn't basic has none; it is written as a
+/// variant, which `ty_of` also says, and no value that has a spelling holds one.
+#[cycle(value_types)]
+pub fn write_type_of(out: &mut Vec<u8>, value: &Value) -> Result<(), OutOfMemory>
+    ensures { OnOk result (out.new.items ≡ out.old.items ++ text_of (ty_of (value_of value.now))) }
+{
+    if let Some(basic) = basic_of(value) {
+        out.push(code(basic))?;
+        return Ok(());
+    }
+    match value {
+        Value::Variant(_) => out.push(b'v')?,
+        Value::Bytes(_) => out.extend_from_slice(b"ay")?,
+        Value::Array(element, _) => {
+            out.push(b'a')?;
+            write_type(out, element)?;
+        }
+        Value::Struct(fields) => {
+            out.push(b'(')?;
+            write_types_of(out, fields.as_slice())?;
+            out.push(b')')?;
+        }
+        Value::DictEntry(entry) => {
+            let Some(key) = basic_of(&entry.key) else {
+                out.push(b'v')?;
+                return Ok(());
+            };
+            out.push(b'{')?;
+            out.push(code(key))?;
+            write_type_of(out, &entry.value)?;
+            out.push(b'}')?;
+        }
+        _ => unreachable!(),
+    }
+    Ok(())
+}
+
+#[cycle(value_types)]
+fn write_types_of(out: &mut Vec<u8>, values: &[Value]) -> Result<(), OutOfMemory>
+    ensures { OnOk result (out.new.items
+        ≡ out.old.items ++ texts_of (tys_of (values_of values.now))) }
+{
+    for each in values {
+        write_type_of(out, each)?;
+    }
+    Ok(())
+}

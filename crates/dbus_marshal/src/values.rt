@@ -1,0 +1,280 @@
+ghost use Rattle.std.specs.Prelude.{◌≡◌, ◌<◌, ◌≤◌, ◌*◌, ◌%◌, length, IfOk, IsTrue, Ok};
+ghost use Rattle.dbus_types.specs.Views.{type_of, types_of};
+ghost use Rattle.dbus_types.specs.SignatureViews.{types_in};
+ghost use Rattle.dbus_types.specs.ValueViews.{value_of, values_of};
+ghost use Rattle.dbus_marshal.specs.Reading.{Reads, value_at, variant_by, array_by, struct_by, entry_by, fields_by, elements_of, elements_from, values_at, only_type, with_values, with_fields};
+ghost use Rattle.dbus_types.specs.Values.{Vals, tys_of};
+ghost use Rattle.dbus_marshal.specs.Fitting.{HaveSpelling};
+ghost use Rattle.dbus_marshal.specs.Counting.{counts};
+ghost use Rattle.dbus_marshal.specs.Cursors.{spot_of};
+ghost use Rattle.dbus_marshal.specs.Marshals.{AreSpelled};
+
+use crate::cursor::Cursor;
+use crate::places::alignment;
+use crate::reading::{read_basic, read_signature, read_u32, skip_padding, take_bytes};
+use crate::refused::ValueFault;
+use dbus_types::{BasicType, CompleteType, DictEntry, Endian, Signature, Value};
+use kr_base::Bytes;
+use std::alloc::Global;
+
+// A variant's signature lists one type.
+fn only_of(types: &[CompleteType]) -> Result<&CompleteType, ValueFault>
+    ensures { Reads (λ t. type_of t.now) result (only_type (types_of types.now)) }
+{
+    let Some((only, others)) = types.split_first() else {
+        return Err(ValueFault::BadSignature);
+    };
+    if !others.is_empty() {
+        return Err(ValueFault::BadSignature);
+    }
+    Ok(only)
+}
+
+#[cycle(readers)]
+fn read_value<'a>(
+    alloc: Global,
+    depth: u8,
+    endian: Endian,
+    complete_type: &CompleteType,
+    cursor: Cursor<'a>,
+) -> Result<(Value, Cursor<'a>), ValueFault>
+    ensures { Reads (λ x. (value_of x.0, spot_of x.1)) result
+        (value_at depth endian (type_of complete_type.now) (spot_of cursor.entry)) }
+{
+    if let CompleteType::Basic(basic) = complete_type {
+        return read_basic(alloc, endian, *basic, cursor);
+    }
+    if depth == 0 {
+        return Err(ValueFault::TooDeep);
+    }
+    match complete_type {
+        CompleteType::Basic(_) => unreachable!(),
+        CompleteType::Variant => read_variant(alloc, depth - 1, endian, cursor),
+        CompleteType::Array(element) => read_array(alloc, depth - 1, endian, element, cursor),
+        CompleteType::Struct(types) => read_struct(
+            alloc,
+            depth - 1,
+            endian,
+            types.as_slice(),
+            cursor,
+        ),
+        CompleteType::DictEntry(key, value) => read_entry(
+            alloc,
+            depth - 1,
+            endian,
+            *key,
+            value,
+            cursor,
+        ),
+    }
+}
+
+#[cycle(readers)]
+#[tactic(auto, unfolding(crate::specs::Reading::variant_by))]
+fn read_variant<'a>(
+    alloc: Global,
+    depth: u8,
+    endian: Endian,
+    cursor: Cursor<'a>,
+) -> Result<(Value, Cursor<'a>), ValueFault>
+    ensures { Reads (λ x. (value_of x.0, spot_of x.1)) result
+        (variant_by (value_at depth endian) endian (spot_of cursor.entry)) }
+{
+    let (signature, start) = read_signature(alloc, endian, cursor)?;
+    let only = only_of(signature.types())?;
+    let (value, after) = read_value(alloc, depth, endian, only, start)?;
+    Ok((Value::Variant(Box::new(alloc, value)?), after))
+}
+
+#[cycle(readers)]
+#[tactic(auto, unfolding(crate::specs::Reading::array_by))]
+fn read_array<'a>(
+    alloc: Global,
+    depth: u8,
+    endian: Endian,
+    element: &CompleteType,
+    cursor: Cursor<'a>,
+) -> Result<(Value, Cursor<'a>), ValueFault>
+    ensures { Reads (λ x. (value_of x.0, spot_of x.1)) result
+        (array_by (value_at depth endian (type_of element.now)) endian
+        (type_of element.now) (spot_of cursor.entry)) }
+{
+    let (count, start) = read_u32(endian, cursor)?;
+    if count > 67_108_864 {
+        return Err(ValueFault::ArrayTooLong);
+    }
+    let start = skip_padding(start, alignment(element))?;
+    let place = start.place;
+    let (bytes, after) = take_bytes(start, count as usize)?;
+    let elements = Cursor { place, left: bytes };
+    let array = read_elements(alloc, depth, endian, element, elements)?;
+    Ok((array, after))
+}
+
+#[cycle(readers)]
+#[tactic(auto, unfolding(crate::specs::Reading::elements_of))]
+fn read_elements(
+    alloc: Global,
+    depth: u8,
+    endian: Endian,
+    element: &CompleteType,
+    cursor: Cursor<'_>,
+) -> Result<Value, ValueFault>
+    ensures { Reads value_of result
+        (elements_of (value_at depth endian (type_of element.now))
+        (type_of element.now) (spot_of cursor.entry)) }
+{
+    if let CompleteType::Basic(basic) = element
+        && let BasicType::Byte = *basic
+    {
+        return Ok(Value::Bytes(Bytes::from_slice(alloc, cursor.left)?));
+    }
+    let values = read_each(alloc, depth, endian, element, cursor)?;
+    let element = element.copy(alloc)?;
+    Ok(Value::Array(element, values))
+}
+
+#[cycle(readers)]
+fn read_each(
+    alloc: Global,
+    depth: u8,
+    endian: Endian,
+    element: &CompleteType,
+    cursor: Cursor<'_>,
+) -> Result<Vec<Value>, ValueFault>
+    ensures { Reads (λ x. values_of x.items) result
+        (elements_from (value_at depth endian (type_of element.now)) (length cursor.entry.left.now)
+        (spot_of cursor.entry) cursor.entry.left.now) }
+{
+    let count = cursor.left.len();
+    let mut values = Vec::new(alloc);
+    let mut rest = cursor;
+    for _ in 0..count {
+        if rest.left.is_empty() {
+            return Ok(values);
+        }
+        let (value, after) = read_value(alloc, depth, endian, element, rest)?;
+        values.push(value)?;
+        rest = after;
+    }
+    if rest.left.is_empty() {
+        return Ok(values);
+    }
+    Err(ValueFault::Short)
+}
+
+#[cycle(readers)]
+#[tactic(auto, unfolding(crate::specs::Reading::struct_by))]
+fn read_struct<'a>(
+    alloc: Global,
+    depth: u8,
+    endian: Endian,
+    types: &[CompleteType],
+    cursor: Cursor<'a>,
+) -> Result<(Value, Cursor<'a>), ValueFault>
+    ensures { Reads (λ x. (value_of x.0, spot_of x.1)) result
+        (struct_by (value_at depth endian) (types_of types.now) (spot_of cursor.entry)) }
+{
+    let start = skip_padding(cursor, 8)?;
+    let (fields, after) = read_fields(alloc, depth, endian, types, start)?;
+    Ok((Value::Struct(fields), after))
+}
+
+#[cycle(readers)]
+fn read_fields<'a>(
+    alloc: Global,
+    depth: u8,
+    endian: Endian,
+    types: &[CompleteType],
+    cursor: Cursor<'a>,
+) -> Result<(Vec<Value>, Cursor<'a>), ValueFault>
+    ensures { Reads (λ x. (values_of x.0.items, spot_of x.1)) result
+        (fields_by (value_at depth endian) (types_of types.now) (spot_of cursor.entry)) }
+{
+    let mut values = Vec::new(alloc);
+    let mut rest = cursor;
+    let mut left = types;
+    while let Some((next, others)) = left.split_first() {
+        let (value, after) = read_value(alloc, depth, endian, next, rest)?;
+        values.push(value)?;
+        rest = after;
+        left = others;
+    }
+    Ok((values, rest))
+}
+
+#[cycle(readers)]
+#[tactic(auto, unfolding(crate::specs::Reading::entry_by))]
+fn read_entry<'a>(
+    alloc: Global,
+    depth: u8,
+    endian: Endian,
+    key: BasicType,
+    complete_type: &CompleteType,
+    cursor: Cursor<'a>,
+) -> Result<(Value, Cursor<'a>), ValueFault>
+    ensures { Reads (λ x. (value_of x.0, spot_of x.1)) result
+        (entry_by (value_at depth endian) endian key
+        (type_of complete_type.now) (spot_of cursor.entry)) }
+{
+    let start = skip_padding(cursor, 8)?;
+    let (key, behind) = read_basic(alloc, endian, key, start)?;
+    let (value, after) = read_value(alloc, depth, endian, complete_type, behind)?;
+    let entry = Box::new(alloc, DictEntry { key, value })?;
+    Ok((Value::DictEntry(entry), after))
+}
+
+// The values of the types that are all of the bytes.
+#[tactic(auto, unfolding(crate::specs::Reading::values_at))]
+fn read_values(
+    alloc: Global,
+    types: &[CompleteType],
+    endian: Endian,
+    place: u64,
+    bytes: &[u8],
+) -> Result<Vec<Value>, ValueFault>
+    ensures { Reads (λ x. values_of x.items) result
+        (values_at endian (types_of types.now) (record { place = place % 8; left = bytes.now })) }
+{
+    let start = Cursor {
+        place: (place % 8) as usize,
+        left: bytes,
+    };
+    let (values, after) = read_fields(alloc, 64, endian, types, start)?;
+    if !after.left.is_empty() {
+        return Err(ValueFault::Rest);
+    }
+    Ok(values)
+}
+
+/// Reads the values of a signature's types, of which the bytes are the spelling (D-Bus
+/// Specification, "Marshaling"). `place` is where the bytes stand, counted from the message's start.
+///
+/// Refused with the first fault from the left: of a container that is too deep before anything of it
+/// is looked at; of padding by the bytes that are there, before Short; of a length that passes the
+/// end before what it counts. `Rest` comes where all values are read. And with `OutOfMemory`.
+pub fn unmarshal(
+    alloc: Global,
+    signature: &Signature,
+    endian: Endian,
+    place: u64,
+    bytes: &[u8],
+) -> Result<Vec<Value>, ValueFault>
+    // What is read is spelled so, and what is spelled so is read.
+    ensures found { IfOk result (λ x.
+        AreSpelled endian place (types_in signature.now) (values_of x.items) bytes.now) }
+    ensures only { (vs : Vals) → AreSpelled endian place (types_in signature.now) vs bytes.now
+        → Reads (λ x. values_of x.items) result (Ok vs) }
+
+    // Which fault it is.
+    ensures exact { Reads (λ x. values_of x.items) result (values_at endian (types_in signature.now)
+        (record { place = place % 8; left = bytes.now })) }
+
+    // The values have these types and can be written, and they are few for their bytes.
+    ensures types { IfOk result (λ x. tys_of (values_of x.items) ≡ types_in signature.now) }
+    ensures fits { IfOk result (λ x. HaveSpelling (values_of x.items)) }
+    ensures few { IfOk result (λ x. counts (values_of x.items) ≤ 65 * length bytes.now) }
+{
+    let types = signature.types();
+    read_values(alloc, types, endian, place, bytes)
+}

@@ -1,0 +1,278 @@
+ghost use Rattle.std.specs.Prelude.{◌≡◌, ◌+◌, ◌*◌, ◌%◌, ◌<◌, ◌≤◌, ◌++◌, ◌&&◌, [], ◌∷◌, nat_le, length, take, drop, true, IfOk, IsErrOf, IsTrue, IsFalse, Ok, OnOk};
+ghost use Rattle.std.specs.Int.{w8, w32};
+ghost use Rattle.dbus_types.specs.declared.complete_type.BasicType.TheVariants.{Byte, Signature};
+ghost use Rattle.dbus_types.specs.Types.{Ty, is_signature, text_of, texts_of};
+ghost use Rattle.dbus_types.specs.Values.{Val, ty_of, tys_of, bytes_as_values};
+ghost use Rattle.dbus_types.specs.Views.{types_of};
+ghost use Rattle.dbus_types.specs.ValueViews.{value_of, values_of};
+ghost use Rattle.dbus_marshal.specs.Wire.{behind, start_of, padding, zeros, number_bytes};
+ghost use Rattle.dbus_marshal.specs.Spelling.{aligned, spelled, all_spelled, array_spelled, first_at, is_short, are_short, text_spelled};
+ghost use Rattle.dbus_marshal.specs.Writing.{Writes};
+
+use crate::OutOfMemory;
+use crate::places::alignment;
+use crate::refused::MarshalFault;
+use crate::type_text::{write_type_of, write_types};
+use crate::writing::{pad, put_u32, write_text, write_u8, write_u16, write_u32, write_u64};
+use dbus_types::{CompleteType, DictEntry, Endian, Value};
+
+// Puts the length of a text into the byte at the mark.
+#[tactic(auto, unfolding(crate::specs::Wire::number_bytes))]
+fn put_length(out: &mut Vec<u8>, mark: usize, endian: Endian, count: u8)
+    requires { mark + 1 ≤ length out.old.items }
+    ensures { out.new.items ≡ take mark out.old.items
+        ++ (number_bytes endian w8 count ++ drop (mark + 1) out.old.items) }
+{
+    match endian {
+        Endian::Little => out[mark..mark + 1].copy_from_slice(&count.to_le_bytes()),
+        Endian::Big => out[mark..mark + 1].copy_from_slice(&count.to_be_bytes()),
+    }
+}
+
+// Ends the text that stands behind the byte at the mark, and puts its length there. Of a text of over
+// 255 bytes, which no signature has, it puts the lower bits.
+fn end_signature(out: &mut Vec<u8>, mark: usize, endian: Endian) -> Result<(), OutOfMemory>
+    requires { mark + 1 ≤ length out.old.items }
+    ensures { OnOk result (out.new.items ≡ take mark out.old.items
+        ++ (number_bytes endian w8 (length (drop (mark + 1) out.old.items))
+        ++ (drop (mark + 1) out.old.items ++ 0 ∷ []))) }
+{
+    let count = out.len() - mark - 1;
+    put_length(out, mark, endian, (count % 256) as u8);
+    out.push(0)?;
+    Ok(())
+}
+
+// A signature is its length in one byte, the text, and a zero byte.
+fn write_signature(
+    out: &mut Vec<u8>,
+    phase: usize,
+    endian: Endian,
+    types: &[CompleteType],
+) -> Result<(), MarshalFault>
+    ensures { Writes result (text_spelled endian Signature (texts_of (types_of types.now))
+        (behind phase (length out.old.items))) true out.old.items out.new.items }
+{
+    let mark = out.len();
+    out.push(0)?;
+    write_types(out, types)?;
+    end_signature(out, mark, endian)?;
+    Ok(())
+}
+
+// The signature of a value's type.
+fn write_signature_of(
+    out: &mut Vec<u8>,
+    phase: usize,
+    endian: Endian,
+    value: &Value,
+) -> Result<(), MarshalFault>
+    ensures { Writes result (text_spelled endian Signature (text_of (ty_of (value_of value.now)))
+        (behind phase (length out.old.items))) true out.old.items out.new.items }
+{
+    let mark = out.len();
+    out.push(0)?;
+    write_type_of(out, value)?;
+    end_signature(out, mark, endian)?;
+    Ok(())
+}
+
+// An array of bytes is written in one go.
+fn write_bytes(
+    out: &mut Vec<u8>,
+    phase: usize,
+    endian: Endian,
+    bytes: &[u8],
+) -> Result<(), MarshalFault>
+    ensures { Writes result
+        (spelled endian (Val.array (Ty.basic Byte) (bytes_as_values bytes.now))
+        (behind phase (length out.old.items)))
+        (is_short endian (Val.array (Ty.basic Byte) (bytes_as_values bytes.now))
+        (behind phase (length out.old.items)))
+        out.old.items out.new.items }
+{
+    if bytes.len() > 67_108_864 {
+        return Err(MarshalFault::TooLong);
+    }
+    write_u32(out, phase, endian, bytes.len() as u32)?;
+    out.extend_from_slice(bytes)?;
+    Ok(())
+}
+
+// Writes four bytes for the length of an array, which stand at the mark, and the padding of its
+// first element.
+fn open_array(
+    out: &mut Vec<u8>,
+    phase: usize,
+    endian: Endian,
+    alignment: usize,
+) -> Result<usize, OutOfMemory>
+    requires some { 0 < alignment }
+    requires most { alignment ≤ 8 }
+    ensures opens { IfOk result (λ mark. out.new.items ≡ out.old.items
+        ++ (zeros (padding 4 (behind phase (length out.old.items)))
+        ++ (number_bytes endian w32 0 ++ zeros (padding alignment (behind phase (mark + 4)))))) }
+    ensures mark { IfOk result (λ mark. mark ≡ length out.old.items
+        + length (zeros (padding 4 (behind phase (length out.old.items))))) }
+{
+    pad(out, phase, 4)?;
+    let mark = out.len();
+    put_u32(out, endian, 0)?;
+    pad(out, phase, alignment)?;
+    Ok(mark)
+}
+
+// Puts the length of an array into its four bytes.
+#[tactic(auto, unfolding(crate::specs::Wire::number_bytes))]
+fn close_array(out: &mut Vec<u8>, mark: usize, endian: Endian, count: u32)
+    requires { mark + 4 ≤ length out.old.items }
+    ensures { out.new.items ≡ take mark out.old.items
+        ++ (number_bytes endian w32 count ++ drop (mark + 4) out.old.items) }
+{
+    match endian {
+        Endian::Little => out[mark..mark + 4].copy_from_slice(&count.to_le_bytes()),
+        Endian::Big => out[mark..mark + 4].copy_from_slice(&count.to_be_bytes()),
+    }
+}
+
+/// Writes a value with its padding (D-Bus Specification, "Marshaling").
+#[cycle(writers)]
+pub fn write_value(
+    out: &mut Vec<u8>,
+    phase: usize,
+    endian: Endian,
+    value: &Value,
+) -> Result<(), MarshalFault>
+    ensures { Writes result
+        (spelled endian (value_of value.now) (behind phase (length out.old.items)))
+        (is_short endian (value_of value.now) (behind phase (length out.old.items)))
+        out.old.items out.new.items }
+{
+    match value {
+        Value::Byte(number) => write_u8(out, phase, endian, *number),
+        Value::Boolean(is_true) => write_u32(out, phase, endian, u32::from(*is_true)),
+        Value::Int16(number) => write_u16(out, phase, endian, number.cast_unsigned()),
+        Value::Uint16(number) => write_u16(out, phase, endian, *number),
+        Value::Int32(number) => write_u32(out, phase, endian, number.cast_unsigned()),
+        Value::Uint32(number) => write_u32(out, phase, endian, *number),
+        Value::Int64(number) => write_u64(out, phase, endian, number.cast_unsigned()),
+        Value::Uint64(number) => write_u64(out, phase, endian, *number),
+        Value::Double(bits) => write_u64(out, phase, endian, *bits),
+        Value::UnixFd(number) => write_u32(out, phase, endian, *number),
+        Value::String(text) => write_text(out, phase, endian, text.as_bytes()),
+        Value::ObjectPath(path) => write_text(out, phase, endian, path.as_bytes()),
+        Value::Signature(signature) => write_signature(out, phase, endian, signature.types()),
+        Value::Variant(inner) => write_variant(out, phase, endian, inner),
+        Value::Bytes(bytes) => write_bytes(out, phase, endian, bytes.as_slice()),
+        Value::Array(element, values) => write_array(
+            out,
+            phase,
+            endian,
+            alignment(element),
+            values.as_slice(),
+        ),
+        Value::Struct(fields) => write_struct(out, phase, endian, fields.as_slice()),
+        Value::DictEntry(entry) => write_entry(out, phase, endian, entry),
+    }
+}
+
+#[cycle(writers)]
+fn write_variant(
+    out: &mut Vec<u8>,
+    phase: usize,
+    endian: Endian,
+    value: &Value,
+) -> Result<(), MarshalFault>
+    ensures { Writes result
+        (spelled endian (Val.variant (value_of value.now)) (behind phase (length out.old.items)))
+        (is_short endian (Val.variant (value_of value.now)) (behind phase (length out.old.items)))
+        out.old.items out.new.items }
+{
+    write_signature_of(out, phase, endian, value)?;
+    write_value(out, phase, endian, value)
+}
+
+#[cycle(writers)]
+fn write_array(
+    out: &mut Vec<u8>,
+    phase: usize,
+    endian: Endian,
+    alignment: usize,
+    values: &[Value],
+) -> Result<(), MarshalFault>
+    requires some { 0 < alignment }
+    requires most { alignment ≤ 8 }
+    ensures { Writes result
+        (array_spelled endian alignment (behind phase (length out.old.items))
+        (all_spelled endian (values_of values.now)
+        (first_at alignment (behind phase (length out.old.items)))))
+        (are_short endian (values_of values.now)
+        (first_at alignment (behind phase (length out.old.items)))
+        && nat_le (length (all_spelled endian (values_of values.now)
+        (first_at alignment (behind phase (length out.old.items))))) 67108864)
+        out.old.items out.new.items }
+{
+    let mark = open_array(out, phase, endian, alignment)?;
+    let start = out.len();
+    write_all(out, phase, endian, values)?;
+    let count = out.len() - start;
+    if count > 67_108_864 {
+        return Err(MarshalFault::TooLong);
+    }
+    close_array(out, mark, endian, count as u32);
+    Ok(())
+}
+
+#[cycle(writers)]
+fn write_struct(
+    out: &mut Vec<u8>,
+    phase: usize,
+    endian: Endian,
+    fields: &[Value],
+) -> Result<(), MarshalFault>
+    ensures { Writes result
+        (spelled endian (Val.struct (values_of fields.now)) (behind phase (length out.old.items)))
+        (is_short endian (Val.struct (values_of fields.now)) (behind phase (length out.old.items)))
+        out.old.items out.new.items }
+{
+    pad(out, phase, 8)?;
+    write_all(out, phase, endian, fields)
+}
+
+#[cycle(writers)]
+fn write_entry(
+    out: &mut Vec<u8>,
+    phase: usize,
+    endian: Endian,
+    entry: &DictEntry,
+) -> Result<(), MarshalFault>
+    ensures { Writes result
+        (spelled endian (Val.entry (value_of entry.now.key) (value_of entry.now.value))
+        (behind phase (length out.old.items)))
+        (is_short endian (Val.entry (value_of entry.now.key) (value_of entry.now.value))
+        (behind phase (length out.old.items)))
+        out.old.items out.new.items }
+{
+    pad(out, phase, 8)?;
+    write_value(out, phase, endian, &entry.key)?;
+    write_value(out, phase, endian, &entry.value)
+}
+
+/// Writes values, one behind the other.
+#[cycle(writers)]
+pub fn write_all(
+    out: &mut Vec<u8>,
+    phase: usize,
+    endian: Endian,
+    values: &[Value],
+) -> Result<(), MarshalFault>
+    ensures { Writes result
+        (all_spelled endian (values_of values.now) (behind phase (length out.old.items)))
+        (are_short endian (values_of values.now) (behind phase (length out.old.items)))
+        out.old.items out.new.items }
+{
+    for each in values {
+        write_value(out, phase, endian, each)?;
+    }
+    Ok(())
+}
