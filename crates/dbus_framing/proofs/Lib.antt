@@ -1,0 +1,5 @@
+pub mod Heads
+pub mod Readings
+pub mod Cuts
+pub mod Fronts
+pub mod Exact

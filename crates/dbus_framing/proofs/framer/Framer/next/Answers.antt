@@ -1,0 +1,54 @@
+-- What was found behind the bytes that messages took.
+use Rattle.std.proofs.Common.{ap, ◌∙◌, drop}
+use Rattle.dbus_framing.specs.Framers.{Framing}
+use Rattle.dbus_framing.proofs.Fronts.{behind_found, kept_broken, refused_again, refused_now, waits_now, not_broken, unbroken}
+use Rattle.dbus_framing.proofs.Exact.{exact_none, exact_refused, exact_whole, exact_memory}
+use Rattle.dbus_framing.proofs.framer.Framer.next.Goals as goal
+
+pub returns-in-Broken-clause-refused : goal.returns-in-Broken-clause-refused
+returns-in-Broken-clause-refused c = refused_again c.self.inside.most c.self.inside.start c.self.inside.fed.items c.self.inside.progress c.in-Broken.cause c.args.self.now c.self.invariant c.in-Broken.is c.self.view_is
+
+pub returns-in-Broken-clause-exact : goal.returns-in-Broken-clause-exact
+returns-in-Broken-clause-exact c = exact_refused _ _ _ (refused_again c.self.inside.most c.self.inside.start c.self.inside.fed.items c.self.inside.progress c.in-Broken.cause c.args.self.now c.self.invariant c.in-Broken.is c.self.view_is)
+
+pub invariant_of-self-in-Broken-look : goal.invariant_of-self-in-Broken-look
+invariant_of-self-in-Broken-look c =
+    let it = behind_found c.self.inside.most c.self.inside.start c.self.inside.fed.items c.split_at.result.1.now c.in_ok-found.found _
+    (record { within = c.self.invariant.within; rest_is = c.split_at.ensures.back ∙ ap (drop c.self.inside.start) c.as_slice.ensures.value; finds = c.in_ok-found.ensures; look_is = c.in-Broken-look.is }) in
+    kept_broken c.self.inside.most c.self.inside.start c.in_ok-found.found.taken c.self.inside.fed.items c.in-Broken-look.cause c.self.invariant.limited it
+
+pub returns-in-Waits : goal.returns-in-Waits
+returns-in-Waits c =
+    let it = behind_found c.self.inside.most c.self.inside.start c.self.inside.fed.items c.split_at.result.1.now c.in_ok-found.found _
+    (record { within = c.self.invariant.within; rest_is = c.split_at.ensures.back ∙ ap (drop c.self.inside.start) c.as_slice.ensures.value; finds = c.in_ok-found.ensures; look_is = c.in-Waits.is }) in
+    let waits = waits_now c.self.inside.most c.self.inside.start c.in_ok-found.found.taken c.self.inside.fed.items c.let_go.new.bytes.items c.self.inside.progress c.in-Waits.progress c.args.self.now it c.let_go.ensures c.self.view_is in
+    record {
+      message = tt;
+      waits = (waits.stream, waits.no_violation);
+      unbroken = it.sees.unbroken;
+      most = ap (λ (f : Framing). f.most) c.self.view_is;
+      refused = tt;
+      remembered = λ cause broken. absurd (not_broken c.self.inside.most c.self.inside.start c.self.inside.fed.items c.self.inside.progress c.args.self.now cause (unbroken c.self.inside.progress c.in_default.not-Broken) c.self.view_is broken);
+      exact = exact_none c.args.self.now.most c.args.self.now.rest _ waits.stream waits.no_violation;
+    }
+
+pub returns-in-Broken-look : goal.returns-in-Broken-look
+returns-in-Broken-look c =
+    let it = behind_found c.self.inside.most c.self.inside.start c.self.inside.fed.items c.split_at.result.1.now c.in_ok-found.found _
+    (record { within = c.self.invariant.within; rest_is = c.split_at.ensures.back ∙ ap (drop c.self.inside.start) c.as_slice.ensures.value; finds = c.in_ok-found.ensures; look_is = c.in-Broken-look.is }) in
+    let refused = refused_now c.self.inside.most c.self.inside.start c.in_ok-found.found.taken c.self.inside.fed.items c.in-Broken-look.cause c.self.inside.progress c.args.self.now it c.self.view_is in
+    record {
+      message = tt;
+      waits = tt;
+      unbroken = tt;
+      most = ap (λ (f : Framing). f.most) c.self.view_is;
+      refused = refused;
+      remembered = λ cause broken. absurd (not_broken c.self.inside.most c.self.inside.start c.self.inside.fed.items c.self.inside.progress c.args.self.now cause (unbroken c.self.inside.progress c.in_default.not-Broken) c.self.view_is broken);
+      exact = exact_refused _ _ _ refused;
+    }
+
+pub returns-in-Whole-clause-exact : goal.returns-in-Whole-clause-exact
+returns-in-Whole-clause-exact c =
+    let it = behind_found c.self.inside.most c.self.inside.start c.self.inside.fed.items c.split_at.result.1.now c.in_ok-found.found _
+    (record { within = c.self.invariant.within; rest_is = c.split_at.ensures.back ∙ ap (drop c.self.inside.start) c.as_slice.ensures.value; finds = c.in_ok-found.ensures; look_is = c.in-Whole.is }) in
+    rw c.in-Whole.message-is (exact_whole c.self.inside.most c.self.inside.start c.in_ok-found.found.taken c.self.inside.fed.items c.in-Whole.message c.self.inside.progress c.args.self.now it c.self.view_is)

@@ -1,0 +1,52 @@
+-- What is seen in front of a stream, and what is found behind the messages of ignored types.
+use Rattle.std.specs.Prelude.{◌≡◌, ℕ, ◌≤◌, List, [], ◌∷◌, length, take, drop, None}
+use Rattle.dbus_types.specs.declared.message.Message.{Message}
+use Rattle.dbus_framing.specs.declared.violation.Violation.{Violation}
+use Rattle.dbus_framing.specs.declared.progress.Progress.{Progress}
+use Rattle.dbus_framing.specs.declared.framer.Look.{Look}
+use Rattle.dbus_framing.specs.declared.framer.Look.TheVariants as looks
+use Rattle.dbus_framing.specs.declared.framer.Found.{Found}
+use Rattle.dbus_framing.specs.Messages.{Parts, parts_of, IsMessage}
+use Rattle.dbus_framing.specs.Streams.{Cut, BeginsNone, Breaks, BreaksNone}
+use Rattle.dbus_framing.specs.Framers.{IsKnown, broken_in}
+
+-- no message stands whole in front and no violation shows
+pub record SeesNothing (most : ℕ) (bytes : List ℕ) (progress : Progress) : Type 0 where
+  pub no_message : BeginsNone most bytes
+  pub no_violation : BreaksNone most bytes
+  pub known : IsKnown most bytes progress
+  pub unbroken : broken_in progress ≡ None
+
+-- the bytes break a rule
+pub record SeesViolation (most : ℕ) (bytes : List ℕ) (cause : Violation) : Type 0 where
+  pub no_message : BeginsNone most bytes
+  pub breaks : Breaks most bytes cause
+
+-- a message stands whole in front
+pub record SeesMessage (most : ℕ) (bytes : List ℕ) (message : Message) : Type 0 where
+  pub fits : message.length ≤ length bytes
+  pub spelled : IsMessage most (take message.length bytes) (parts_of message)
+
+-- what a look at the bytes sees
+abbrev pub Sees : ℕ → List ℕ → Look → Type 0
+Sees most bytes (looks.Waits progress) = SeesNothing most bytes progress
+Sees most bytes (looks.Broken cause) = SeesViolation most bytes cause
+Sees most bytes (looks.Whole message) = SeesMessage most bytes message
+
+-- the messages that a look answers
+abbrev pub seen_in : Look → List Parts
+seen_in (looks.Waits progress) = []
+seen_in (looks.Broken cause) = []
+seen_in (looks.Whole message) = parts_of message ∷ []
+
+-- what is seen of the bytes behind the messages that were taken
+abbrev pub SeesBehind : ℕ → List ℕ → Look → Type 0
+SeesBehind most bytes (looks.Waits progress) = SeesNothing most bytes progress
+SeesBehind most bytes (looks.Broken cause) = SeesViolation most bytes cause
+SeesBehind most bytes (looks.Whole message) = Unit {0}
+
+-- So many bytes are the messages of ignored types, and the message that is answered if there is one.
+pub record Finds (most : ℕ) (bytes : List ℕ) (found : Found) : Type 0 where
+  pub fits : found.taken ≤ length bytes
+  pub cut : Cut most bytes (seen_in found.look) (drop found.taken bytes)
+  pub sees : SeesBehind most (drop found.taken bytes) found.look

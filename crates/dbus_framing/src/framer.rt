@@ -1,0 +1,246 @@
+ghost use Rattle.std.specs.Prelude.{◌≡◌, ◌≤◌, ◌<◌, ℕ, List, [], ◌∷◌, ◌++◌, length, drop, take, vec_len, None, Some, Ok, Err, IfOk, IfErr, IfSome, IfNone, OnOk, OnErr};
+ghost use Rattle.dbus_framing.specs.declared.violation.Violation.{Violation};
+ghost use Rattle.dbus_framing.specs.declared.violation.FrameRefused.TheVariants as refused;
+ghost use Rattle.dbus_framing.specs.Messages.{parts_of, head_of};
+ghost use Rattle.dbus_framing.specs.Streams.{Cut, Stream, BreaksNone};
+ghost use Rattle.dbus_framing.specs.Framers.{Framing, IsKnown, IsRefusal, IsExact, broken_in};
+ghost use Rattle.dbus_framing.specs.Looks.{Sees, Finds};
+
+use crate::OutOfMemory;
+use crate::head::{Head, head_of};
+use crate::progress::Progress;
+use crate::reading::message_at;
+use crate::violation::{FrameRefused, Violation};
+use dbus_types::Message;
+use std::alloc::{AllocError, Global};
+use std::marker::Model;
+
+// The room that an empty buffer may keep.
+const KEPT_ROOM: usize = 65_536;
+
+/// What is seen in front of a stream.
+#[derive(Debug, Drop)]
+enum Look {
+    Waits(Progress),
+    Broken(Violation),
+    Whole(Message),
+}
+
+/// What is found behind the messages of ignored types.
+#[derive(Debug, Drop)]
+struct Found {
+    taken: usize,
+    look: Look,
+}
+
+/// Takes messages out of bytes that come in any pieces (D-Bus Specification, "Message Format"). A
+/// contract sees the reader's limit, the bytes that no message took, and the violation that was found.
+#[derive(Debug, Drop)]
+pub struct Framer {
+    most: u32,
+    // The bytes fed, from the first one that is kept.
+    fed: Vec<u8>,
+    // How many of them messages took.
+    start: usize,
+    progress: Progress,
+}
+
+impl Model for Framer {
+    ghost use Rattle.dbus_framing.specs.Framers.{Framing};
+
+    ghost Value = { Framing };
+
+    ghost use Rattle.std.specs.Prelude.{drop};
+    ghost use Rattle.dbus_framing.specs.Framers.{IsKnown, broken_in, IsKept};
+
+    ghost view = { λ framer. record {
+      most = framer.most;
+      rest = drop framer.start framer.fed.items;
+      broken = broken_in framer.progress;
+    } };
+
+    ghost invariant = { λ framer.
+        IsKept framer.most framer.fed.items framer.start framer.progress };
+}
+
+// What is known of the first 16 bytes, or is read of them now.
+fn head_known(most: u32, progress: Progress, bytes: &[u8]) -> Result<Head, Violation>
+    requires begun { 16 ≤ length bytes.now }
+    requires known { IsKnown most bytes.now progress }
+    requires whole { broken_in progress ≡ None }
+    ensures { result ≡ head_of most bytes.now }
+{
+    match progress {
+        Progress::Begun(head) => Ok(head),
+        _ => head_of(most, bytes),
+    }
+}
+
+fn look_at(alloc: Global, most: u32, progress: Progress, bytes: &[u8]) -> Result<Look, OutOfMemory>
+    requires known { IsKnown most bytes.now progress }
+    requires whole { broken_in progress ≡ None }
+    ensures { IfOk result (Sees most bytes.now) }
+{
+    if bytes.len() < 16 {
+        return Ok(Look::Waits(Progress::Nothing));
+    }
+    let head = match head_known(most, progress, bytes) {
+        Ok(head) => head,
+        Err(cause) => return Ok(Look::Broken(cause)),
+    };
+    if bytes.len() < head.size {
+        return Ok(Look::Waits(Progress::Begun(head)));
+    }
+    let (whole, _) = bytes.split_at(head.size);
+    match message_at(alloc, head.endian, whole) {
+        Ok(message) => Ok(Look::Whole(message)),
+        Err(FrameRefused::Violation(cause)) => Ok(Look::Broken(cause)),
+        Err(FrameRefused::OutOfMemory) => Err(AllocError),
+    }
+}
+
+fn find(alloc: Global, most: u32, progress: Progress, bytes: &[u8]) -> Result<Found, OutOfMemory>
+    requires known { IsKnown most bytes.now progress }
+    requires whole { broken_in progress ≡ None }
+    ensures { IfOk result (Finds most bytes.now) }
+{
+    let mut taken = 0;
+    let mut left = bytes;
+    let mut progress = progress;
+    'messages: loop {
+        let seen = look_at(alloc, most, progress, left)?;
+        let Look::Whole(message) = seen else {
+            return Ok(Found { taken, look: seen });
+        };
+        let size = message.length as usize;
+        let (_, behind) = left.split_at(size);
+        taken += size;
+        if message.kind <= 4 {
+            let look = Look::Whole(message);
+            return Ok(Found { taken, look });
+        }
+        left = behind;
+        progress = Progress::Nothing;
+    }
+}
+
+fn remove_front(bytes: &mut Vec<u8>, count: usize)
+    requires { count ≤ vec_len bytes.old }
+    ensures { bytes.new.items ≡ drop count bytes.old.items }
+{
+    let len = bytes.len();
+    bytes.as_mut_slice().copy_within(count..len, 0);
+    bytes.truncate(len - count);
+}
+
+// Lets go of the bytes that messages took, and of much room where no byte is left.
+fn let_go(bytes: &mut Vec<u8>, taken: usize)
+    requires { taken ≤ vec_len bytes.old }
+    ensures { bytes.new.items ≡ drop taken bytes.old.items }
+{
+    if taken == 0 {
+        return;
+    }
+    remove_front(bytes, taken);
+    if bytes.is_empty() && bytes.capacity() > KEPT_ROOM {
+        let alloc = *bytes.allocator();
+        *bytes = Vec::new(alloc);
+    }
+}
+
+// Lets go of the bytes that messages took where moving the others costs no more than they did, and
+// answers where the others stand then.
+fn make_room(bytes: &mut Vec<u8>, taken: usize) -> usize
+    requires { taken ≤ vec_len bytes.old }
+    ensures rest { drop result bytes.new.items ≡ drop taken bytes.old.items }
+    ensures within { result ≤ vec_len bytes.new }
+{
+    if taken < bytes.len() - taken {
+        return taken;
+    }
+    let_go(bytes, taken);
+    0
+}
+
+impl Framer {
+    /// A framer that nothing was fed to. `most` is how many bytes a message may have. It takes no
+    /// memory.
+    pub fn new(alloc: Global, most: u32) -> Framer
+        ensures { result ≡ record { most = most; rest = []; broken = None } }
+    {
+        Framer {
+            most,
+            fed: Vec::new(alloc),
+            start: 0,
+            progress: Progress::Nothing,
+        }
+    }
+
+    /// Takes further bytes of the stream.
+    ///
+    /// Refused with `OutOfMemory`, and then nothing has changed.
+    pub fn feed(&mut self, piece: &[u8]) -> Result<(), OutOfMemory>
+        ensures fed { OnOk result
+            (self.new ≡ record self.old { rest = self.old.rest ++ piece.now }) }
+        ensures unchanged { OnErr result (self.new ≡ self.old) }
+    {
+        self.start = make_room(&mut self.fed, self.start);
+        self.fed.extend_from_slice(piece)?;
+        Ok(())
+    }
+
+    /// The next message of the stream. Messages of types over 4 are looked at and left out.
+    ///
+    /// None where no further message stands whole and no violation shows. Refused with the first
+    /// violation of what stands behind the messages, and from then on always with that one; and with
+    /// `OutOfMemory`, and then nothing has changed.
+    pub fn next(&mut self) -> Result<Option<Message>, FrameRefused>
+        // A message is the next one of the stream. None waits for more bytes.
+        ensures message { IfOk result (λ found. IfSome found (λ message.
+            Cut self.old.most self.old.rest (parts_of message ∷ []) self.new.rest)) }
+        ensures waits { IfOk result (λ found. IfNone found
+            (Stream self.old.most self.old.rest [] self.new.rest
+            × BreaksNone self.old.most self.new.rest)) }
+        ensures unbroken { OnOk result (self.new.broken ≡ None) }
+        ensures most { self.new.most ≡ self.old.most }
+
+        // A violation is the first one, and stays. For want of memory nothing changes.
+        ensures refused { IfErr result (λ refusal. IsRefusal self.old refusal self.new) }
+        ensures remembered { (cause : Violation) → self.old.broken ≡ Some cause
+            → (result ≡ Err (refused.Violation cause)) × (self.new ≡ self.old) }
+
+        // None, a violation and a message each come wherever they may, but where memory ran out.
+        ensures exact { IsExact self.old.most self.old.rest result }
+    {
+        if let Progress::Broken(cause) = self.progress {
+            return Err(FrameRefused::Violation(cause));
+        }
+        let alloc = *self.fed.allocator();
+        let (_, rest) = self.fed.as_slice().split_at(self.start);
+        let found = find(alloc, self.most, self.progress, rest)?;
+        self.start += found.taken;
+        match found.look {
+            Look::Waits(progress) => {
+                self.progress = progress;
+                let_go(&mut self.fed, self.start);
+                self.start = 0;
+                Ok(None)
+            }
+            Look::Broken(cause) => {
+                self.progress = Progress::Broken(cause);
+                Err(FrameRefused::Violation(cause))
+            }
+            Look::Whole(message) => {
+                self.progress = Progress::Nothing;
+                Ok(Some(message))
+            }
+        }
+    }
+
+    /// How many of the bytes fed no message took.
+    pub fn rest(&self) -> usize
+        ensures { result ≡ length self.now.rest }
+    {
+        self.fed.len() - self.start
+    }
+}

@@ -1,0 +1,69 @@
+// What the definitions of messages and streams say together. Each law is the contract of a function
+// that does nothing.
+ghost use Rattle.std.specs.Prelude.{◌≡◌, ℕ, ◌++◌, List, []};
+ghost use Rattle.dbus_framing.specs.declared.violation.Violation.{Violation};
+ghost use Rattle.dbus_framing.specs.Messages.{Parts, IsMessage};
+ghost use Rattle.dbus_framing.specs.Streams.{Cut, Stream, BeginsNone, Breaks, Turn, Went, fed_in, answered_in};
+
+/// No spelling of a message begins another, also under another limit: what was sent is read again,
+/// whatever follows.
+pub fn a_spelling_begins_no_other()
+    ensures { (most more : ℕ) (spelling behind : List ℕ) (one other : Parts)
+        → IsMessage most spelling one → IsMessage more (spelling ++ behind) other → behind ≡ [] }
+{}
+
+/// The bytes of a message say one thing.
+pub fn a_message_has_one_meaning()
+    ensures { (most : ℕ) (bytes : List ℕ) (one other : Parts)
+        → IsMessage most bytes one → IsMessage most bytes other → one ≡ other }
+{}
+
+/// Bytes are one stream: the messages that stand whole in them are these and no others, and the rest is
+/// this one.
+pub fn bytes_are_one_stream()
+    ensures { (most : ℕ) (bytes rest left : List ℕ) (messages others : List Parts)
+        → Stream most bytes messages rest → Stream most bytes others left
+        → (messages ≡ others) × (rest ≡ left) }
+{}
+
+/// What `next` answered in turn is answered of all bytes that were fed, in whatever pieces: a further
+/// piece stands behind the rest, a further answer behind the answers, and the stream of the rest ends
+/// the stream of all bytes.
+pub fn answers_add_up()
+    ensures fed { (most : ℕ) (bytes piece rest : List ℕ) (answers : List Parts)
+        → Cut most bytes answers rest → Cut most (bytes ++ piece) answers (rest ++ piece) }
+    ensures answered { (most : ℕ) (bytes rest left : List ℕ) (answers further : List Parts)
+        → Cut most bytes answers rest → Cut most rest further left
+        → Cut most bytes (answers ++ further) left }
+    ensures ended { (most : ℕ) (bytes rest left : List ℕ) (answers further : List Parts)
+        → Cut most bytes answers rest → Stream most rest further left
+        → Stream most bytes (answers ++ further) left }
+{}
+
+/// What was answered begins the messages of the stream, and what is left of them is the stream of the
+/// rest.
+pub fn answers_begin_the_stream()
+    ensures { (most : ℕ) (bytes left rest : List ℕ) (answers messages : List Parts)
+        → Cut most bytes answers left → Stream most bytes messages rest
+        → (further : List Parts) × (messages ≡ answers ++ further)
+        × Stream most left further rest }
+{}
+
+/// After any turns of pieces and answers, what was answered in all begins the messages of the stream
+/// of all bytes that were fed, in whatever pieces they came.
+pub fn answers_begin_the_stream_of_any_pieces()
+    ensures { (most : ℕ) (turns : List Turn) (left rest : List ℕ) (messages : List Parts)
+        → Went most turns left → Stream most (fed_in turns) messages rest
+        → (further : List Parts) × (messages ≡ answered_in turns ++ further)
+        × Stream most left further rest }
+{}
+
+/// A violation shows whatever is fed behind it, is one, and no message stands where it shows.
+pub fn violations_stay()
+    ensures stays { (most : ℕ) (bytes piece : List ℕ) (cause : Violation)
+        → Breaks most bytes cause → Breaks most (bytes ++ piece) cause }
+    ensures one { (most : ℕ) (bytes : List ℕ) (cause other : Violation)
+        → Breaks most bytes cause → Breaks most bytes other → cause ≡ other }
+    ensures no_message { (most : ℕ) (bytes : List ℕ) (cause : Violation)
+        → Breaks most bytes cause → BeginsNone most bytes }
+{}

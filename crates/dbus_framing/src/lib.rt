@@ -1,0 +1,31 @@
+//! From a stream of bytes to messages (D-Bus Specification, "Message Format"). Contracts speak of whole
+//! lists of bytes: a message is its whole spelling (`IsMessage`), a stream is spellings one behind the
+//! other and a rest of which no front is a message (`Stream`). Callers may rely on these: what the calls
+//! of `next` answer are the messages of the stream of all bytes that were fed, in order, however the
+//! bytes were cut; None comes exactly where no further message stands whole and no violation shows; a
+//! violation is the first one and is answered for ever.
+#![tactic(auto)]
+
+mod framer;
+mod head;
+mod header;
+mod laws;
+mod names;
+mod opened;
+mod progress;
+mod reading;
+#[cfg(test)]
+mod tests;
+mod violation;
+
+pub use framer::Framer;
+pub use laws::{
+    a_message_has_one_meaning, a_spelling_begins_no_other, answers_add_up,
+    answers_begin_the_stream, answers_begin_the_stream_of_any_pieces, bytes_are_one_stream,
+    violations_stay,
+};
+pub use names::{is_interface_name, is_member_name};
+pub use violation::{FrameRefused, Violation};
+
+/// No memory was left for a call. It is the one refusal that may come at any time.
+pub type OutOfMemory = kr_base::OutOfMemory;

@@ -1,0 +1,55 @@
+ghost use Rattle.std.specs.Prelude.{◌≡◌};
+ghost use Rattle.dbus_framing.specs.declared.violation.FrameRefused.TheVariants.{OutOfMemory};
+
+use std::alloc::AllocError;
+use thiserror::Error;
+
+/// Which rule of messages bytes break (D-Bus Specification, "Message Format"). It prints as its name.
+#[derive(Clone, Copy, Debug, PartialEq, Eq, Error)]
+pub enum Violation {
+    /// The first byte says no byte order: it is neither `l` nor `B`.
+    #[error("Endian")]
+    Endian,
+    /// The major version isn't 1.
+    #[error("Version")]
+    Version,
+    /// The serial is 0.
+    #[error("ZeroSerial")]
+    ZeroSerial,
+    /// The message is longer than the reader takes.
+    #[error("TooLarge")]
+    TooLarge,
+    /// The header fields or the padding behind them can't be read, or a field isn't as it must be: its
+    /// code is 0, or a known one has another type, stands twice, or holds no right path, name or serial.
+    #[error("BadHeader")]
+    BadHeader,
+    /// A field is missing that messages of this type need.
+    #[error("MissingField")]
+    MissingField,
+    /// The body isn't the spelling of the types that SIGNATURE lists.
+    #[error("BadBody")]
+    BadBody,
+    /// The message's type is 0.
+    #[error("InvalidType")]
+    InvalidType,
+    /// The input ended inside a message. A framer never answers this: its caller knows of the end.
+    #[error("EndInside")]
+    EndInside,
+}
+
+/// Why `Framer::next` answered no message.
+#[derive(Clone, Copy, Debug, PartialEq, Eq)]
+pub enum FrameRefused {
+    /// The bytes break a rule.
+    Violation(Violation),
+    /// No memory was left.
+    OutOfMemory,
+}
+
+impl From<AllocError> for FrameRefused {
+    ghost from_gives = { λ _ e. e ≡ OutOfMemory };
+
+    fn from(_error: AllocError) -> Self {
+        FrameRefused::OutOfMemory
+    }
+}
