@@ -1,0 +1,142 @@
+ghost use Rattle.std.specs.Prelude.{◌≡◌, ◌++◌, [], ◌∷◌, IfOk};
+ghost use Rattle.dbus_types.specs.Types.{code_of, text_of, texts_of};
+ghost use Rattle.dbus_types.specs.Values.{ty_of, tys_of};
+ghost use Rattle.dbus_types.specs.Views.{type_of, types_of};
+ghost use Rattle.dbus_types.specs.ValueViews.{value_of, values_of};
+ghost use Rattle.dbus_spelling.specs.Texts.{BasicIs};
+
+use crate::OutOfMemory;
+use crate::numbers::{copied, joined};
+use dbus_types::{BasicType, CompleteType, Value};
+use std::alloc::Global;
+
+fn code(basic: BasicType) -> u8
+    ensures { result ≡ code_of basic }
+{
+    match basic {
+        BasicType::Byte => b'y',
+        BasicType::Boolean => b'b',
+        BasicType::Int16 => b'n',
+        BasicType::Uint16 => b'q',
+        BasicType::Int32 => b'i',
+        BasicType::Uint32 => b'u',
+        BasicType::Int64 => b'x',
+        BasicType::Uint64 => b't',
+        BasicType::Double => b'd',
+        BasicType::UnixFd => b'h',
+        BasicType::String => b's',
+        BasicType::ObjectPath => b'o',
+        BasicType::Signature => b'g',
+    }
+}
+
+/// The text of a type (D-Bus Specification, "Type System").
+#[cycle(types)]
+pub fn text_of_type(alloc: Global, complete_type: &CompleteType) -> Result<Vec<u8>, OutOfMemory>
+    ensures { IfOk result (λ made. made.items ≡ text_of (type_of complete_type.now)) }
+{
+    match complete_type {
+        CompleteType::Basic(basic) => copied(alloc, &[code(*basic)]),
+        CompleteType::Variant => copied(alloc, b"v"),
+        CompleteType::Array(element) => {
+            let inner = text_of_type(alloc, element)?;
+            joined(alloc, b"a", inner.as_slice())
+        }
+        CompleteType::Struct(fields) => {
+            let inner = texts_of_types(alloc, fields.as_slice())?;
+            let ended = joined(alloc, inner.as_slice(), b")")?;
+            let made = joined(alloc, b"(", ended.as_slice())?;
+            Ok(made)
+        }
+        CompleteType::DictEntry(key, value) => {
+            let inner = text_of_type(alloc, value)?;
+            let ended = joined(alloc, inner.as_slice(), b"}")?;
+            joined(alloc, &[b'{', code(*key)], ended.as_slice())
+        }
+    }
+}
+
+/// The texts of types, one behind the other.
+#[cycle(types)]
+pub fn texts_of_types(alloc: Global, types: &[CompleteType]) -> Result<Vec<u8>, OutOfMemory>
+    ensures { IfOk result (λ made. made.items ≡ texts_of (types_of types.now)) }
+{
+    let mut made = Vec::new(alloc);
+    for each in types {
+        let text = text_of_type(alloc, each)?;
+        made.extend_from_slice(text.as_slice())?;
+    }
+    Ok(made)
+}
+
+// The basic type of a value, where it has one.
+fn basic_of(value: &Value) -> Option<BasicType>
+    ensures { BasicIs result (ty_of (value_of value.now)) }
+{
+    match value {
+        Value::Byte(_) => Some(BasicType::Byte),
+        Value::Boolean(_) => Some(BasicType::Boolean),
+        Value::Int16(_) => Some(BasicType::Int16),
+        Value::Uint16(_) => Some(BasicType::Uint16),
+        Value::Int32(_) => Some(BasicType::Int32),
+        Value::Uint32(_) => Some(BasicType::Uint32),
+        Value::Int64(_) => Some(BasicType::Int64),
+        Value::Uint64(_) => Some(BasicType::Uint64),
+        Value::Double(_) => Some(BasicType::Double),
+        Value::UnixFd(_) => Some(BasicType::UnixFd),
+        Value::String(_) => Some(BasicType::String),
+        Value::ObjectPath(_) => Some(BasicType::ObjectPath),
+        Value::Signature(_) => Some(BasicType::Signature),
+        Value::Variant(_) => None,
+        Value::Array(_, _) => None,
+        Value::Bytes(_) => None,
+        Value::Struct(_) => None,
+        Value::DictEntry(_) => None,
+    }
+}
+
+/// The text of a value's type. An entry whose key isn't basic has none; it stands for a variant, as
+/// `ty_of` has it.
+#[cycle(value_types)]
+pub fn text_of_value_type(alloc: Global, value: &Value) -> Result<Vec<u8>, OutOfMemory>
+    ensures { IfOk result (λ made. made.items ≡ text_of (ty_of (value_of value.now))) }
+{
+    if let Some(basic) = basic_of(value) {
+        return copied(alloc, &[code(basic)]);
+    }
+    match value {
+        Value::Variant(_) => copied(alloc, b"v"),
+        Value::Bytes(_) => copied(alloc, b"ay"),
+        Value::Array(element, _) => {
+            let inner = text_of_type(alloc, element)?;
+            joined(alloc, b"a", inner.as_slice())
+        }
+        Value::Struct(fields) => {
+            let inner = texts_of_value_types(alloc, fields.as_slice())?;
+            let ended = joined(alloc, inner.as_slice(), b")")?;
+            let made = joined(alloc, b"(", ended.as_slice())?;
+            Ok(made)
+        }
+        Value::DictEntry(entry) => {
+            let Some(key) = basic_of(&entry.key) else {
+                return copied(alloc, b"v");
+            };
+            let inner = text_of_value_type(alloc, &entry.value)?;
+            let ended = joined(alloc, inner.as_slice(), b"}")?;
+            joined(alloc, &[b'{', code(key)], ended.as_slice())
+        }
+        _ => unreachable!(),
+    }
+}
+
+#[cycle(value_types)]
+fn texts_of_value_types(alloc: Global, values: &[Value]) -> Result<Vec<u8>, OutOfMemory>
+    ensures { IfOk result (λ made. made.items ≡ texts_of (tys_of (values_of values.now))) }
+{
+    let mut made = Vec::new(alloc);
+    for each in values {
+        let text = text_of_value_type(alloc, each)?;
+        made.extend_from_slice(text.as_slice())?;
+    }
+    Ok(made)
+}
