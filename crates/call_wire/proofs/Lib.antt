@@ -1,0 +1,5 @@
+mod CallLemmas
+mod FrontLemmas
+mod MemberLemmas
+mod ValueLemmas
+mod WritingLemmas

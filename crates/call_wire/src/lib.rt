@@ -1,0 +1,20 @@
+//! Messages to calls, and outputs to messages (D-Bus Specification, "Message Format"; Secret Service
+//! API draft 0.2). Which object has which interfaces, and which method takes what, is one table.
+//! Callers may rely on these: a method call is read as the one request that the table says, each
+//! fault the first in its order, and an output is written as its one spelling.
+#![tactic(auto)]
+
+mod arguments;
+mod laws;
+mod members;
+mod reading;
+#[cfg(test)]
+mod tests;
+mod writing;
+
+pub use laws::a_message_is_one_request;
+pub use reading::call_of;
+pub use writing::message_of;
+
+/// No memory was left for a call. It is the one refusal that may come at any time.
+pub type OutOfMemory = kr_base::OutOfMemory;
