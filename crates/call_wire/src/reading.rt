@@ -60,7 +60,8 @@ fn algorithm_in(values: &[Value]) -> Option<&Text>
 }
 
 fn opened_with(values: &[Value]) -> Result<Option<Call>, OutOfMemory>
-    ensures { IfOk result (λ call. call ≡ call_with Method.OpenSession None (values_of values.now)) }
+    ensures { IfOk result (λ call.
+        call ≡ call_with Method.OpenSession None (values_of values.now)) }
 {
     match algorithm_in(values) {
         Some(algorithm) => {
