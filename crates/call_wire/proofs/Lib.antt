@@ -3,3 +3,7 @@ mod FrontLemmas
 mod MemberLemmas
 mod ValueLemmas
 mod WritingLemmas
+mod PlainLemmas
+mod SentLemmas
+mod SaidLemmas
+mod AgainLemmas

@@ -30,7 +30,7 @@ two_fields-length f g =
 empty_variant-length : length empty_variant ≡ 9
 empty_variant-length = simp (length-append, uint32-length)
 
-session_body-length : (session : SessionId) → length (spelled_body (body.Session session)) ≡ 51 + length (decimal session.0)
+pub session_body-length : (session : SessionId) → length (spelled_body (body.Session session)) ≡ 51 + length (decimal session.0)
 session_body-length session =
     let path : length (session_path session.0) ≡ 34 + length (decimal session.0) = length-append (codes "/org/freedesktop/secrets/session/s") (decimal session.0) in
     let front : length (empty_variant ++ padding 4 (length empty_variant)) ≡ 12 = length-append empty_variant (padding 4 (length empty_variant)) ∙ rw empty_variant-length refl in

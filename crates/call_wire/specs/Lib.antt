@@ -1,3 +1,4 @@
 pub mod Members
 pub mod Fronts
 pub mod CallOf
+pub mod Said

@@ -1,7 +1,10 @@
 // What the definitions of calls say together. Each law is the contract of a function that does nothing.
-ghost use Rattle.std.specs.Prelude.{◌≡◌};
+ghost use Rattle.std.specs.Prelude.{◌≡◌, ℕ};
 ghost use Rattle.secret_calls.specs.declared.call.Request.{Request};
-ghost use Rattle.dbus_framing.specs.Messages.{Parts};
+ghost use Rattle.secret_calls.specs.declared.out.Out.{Out};
+ghost use Rattle.secret_calls.specs.Outs.{spelled};
+ghost use Rattle.dbus_framing.specs.Messages.{Parts, IsMessage};
+ghost use Rattle.call_wire.specs.Said.{said, FitsOut, IsSendable};
 ghost use Rattle.call_wire.specs.CallOf.{CallOf};
 
 /// A message is one request: its call, or the fault that it has, is the only one, and so is what
@@ -12,4 +15,14 @@ pub fn a_message_is_one_request()
     ensures beside { (parts : Parts) (one other : Request) → CallOf parts one → CallOf parts other
         → (one.serial ≡ other.serial) × (one.wants_reply ≡ other.wants_reply)
         × (one.length ≡ other.length) }
+{}
+
+/// What is sent is read again as the same output: its spelling is a message that says it, and by
+/// `a_message_has_one_meaning` of `dbus_framing` nothing else; and what a message says is one output,
+/// with one serial.
+pub fn what_is_sent_is_read_again()
+    ensures message { (most serial : ℕ) (out : Out) → IsSendable most out serial
+        → IsMessage most (spelled out serial) (said out serial) }
+    ensures one { (serial again : ℕ) (one other : Out) → FitsOut one → FitsOut other
+        → said one serial ≡ said other again → (one ≡ other) × (serial ≡ again) }
 {}

@@ -12,7 +12,7 @@ mod reading;
 mod tests;
 mod writing;
 
-pub use laws::a_message_is_one_request;
+pub use laws::{a_message_is_one_request, what_is_sent_is_read_again};
 pub use reading::call_of;
 pub use writing::message_of;
 
