@@ -96,10 +96,18 @@ item_text item =
 abbrev pub padding : ℕ → ℕ
 padding n = (16 - n % 16) % 16
 
--- the items, and the fewest zero bytes of padding
-abbrev pub body_text : List FullItem → List ℕ
-body_text items = flat_map item_text items ++ zeros (padding (length (flat_map item_text items)))
+-- a text, and the fewest zero bytes of padding
+abbrev pub padded : List ℕ → List ℕ
+padded text = text ++ zeros (padding (length text))
 
--- the area: the MD5 of the body (RFC 1321), and the body
+-- the MD5 of a body (RFC 1321), and the body
+abbrev pub checked : List ℕ → List ℕ
+checked body = md5 body ++ body
+
+-- the items with their padding
+abbrev pub body_text : List FullItem → List ℕ
+body_text items = padded (flat_map item_text items)
+
+-- the area: the check, the items and the padding
 abbrev pub area_text : List FullItem → List ℕ
-area_text items = md5 (body_text items) ++ body_text items
+area_text items = checked (body_text items)

@@ -1,8 +1,8 @@
-ghost use Rattle.std.specs.Prelude.{◌≡◌, ◌<◌, ◌^◌, ◌++◌, length, IfOk, OnOk};
+ghost use Rattle.std.specs.Prelude.{◌≡◌, ◌<◌, ◌≤◌, ◌^◌, ◌++◌, length, drop, IfOk, OnOk};
 ghost use Rattle.std.specs.List.{AllByRecursion, flat_map};
 ghost use Rattle.kr_base.specs.declared.attributes.AttrValue.{AttrValue};
 ghost use Rattle.keyring_file.specs.Canonical as canonical;
-ghost use Rattle.keyring_file.specs.Canonical.{attribute_text, access_text, item_text, body_text, area_text, padding, zeros, value_text};
+ghost use Rattle.keyring_file.specs.Canonical.{attribute_text, access_text, item_text, area_text, checked, padded, padding, zeros, value_text};
 ghost use Rattle.keyring_file.specs.Short.{IsShortValue, IsShortAttribute, IsShortAccess, IsShortItem};
 
 use crate::{Access, FullItem};
@@ -100,8 +100,9 @@ fn put_lists(out: &mut Vec<u8>, item: &FullItem) -> Result<(), OutOfMemory>
     put_accesses(out, item.access.as_slice())
 }
 
-/// Writes an item. The reserved string is none, and the reserved numbers are 0.
-fn put_item(out: &mut Vec<u8>, item: &FullItem) -> Result<(), OutOfMemory>
+/// Writes an item of the area at the end (GNOME keyring file format). The reserved string is none, and the
+/// reserved numbers are 0.
+pub fn put_item(out: &mut Vec<u8>, item: &FullItem) -> Result<(), OutOfMemory>
     requires { IsShortItem item.now }
     ensures { OnOk result (out.new.items ≡ out.old.items ++ item_text item.now) }
 {
@@ -133,16 +134,18 @@ fn put_padding(out: &mut Vec<u8>, len: usize) -> Result<(), OutOfMemory>
     Ok(())
 }
 
-/// The items, and the padding behind them, behind 16 bytes for the check.
-fn body_of(alloc: Global, items: &[FullItem]) -> Result<Vec<u8>, OutOfMemory>
-    requires { AllByRecursion IsShortItem items.now }
-    ensures { IfOk result (λ v. v.items ≡ zeros 16 ++ body_text items.now) }
+/// Ends an area: the fewest zero bytes of padding go behind the items, which stand behind 16 bytes for the
+/// check, and the MD5 of all behind these goes into them.
+pub fn close_area(area: &mut Vec<u8>) -> Result<(), OutOfMemory>
+    requires { 16 ≤ length area.old.items }
+    ensures { OnOk result (area.new.items ≡ checked (padded (drop 16 area.old.items))) }
 {
-    let mut out = Vec::from_slice(alloc, &[0; 16])?;
-    put_items(&mut out, items)?;
-    let len = out.len().saturating_sub(16);
-    put_padding(&mut out, len)?;
-    Ok(out)
+    let len = area.len() - 16;
+    put_padding(area, len)?;
+    let (check, body) = area.split_at_mut(16);
+    let digest = Md5::digest(&*body);
+    check.copy_from_slice(&digest);
+    Ok(())
 }
 
 /// The canonical text of an area before it is encrypted (GNOME keyring file format): the MD5 of what
@@ -151,9 +154,8 @@ pub fn write_area(alloc: Global, items: &[FullItem]) -> Result<Vec<u8>, OutOfMem
     requires { AllByRecursion IsShortItem items.now }
     ensures { IfOk result (λ v. v.items ≡ area_text items.now) }
 {
-    let mut out = body_of(alloc, items)?;
-    let (check, body) = out.split_at_mut(16);
-    let digest = Md5::digest(&*body);
-    check.copy_from_slice(&digest);
+    let mut out = Vec::from_slice(alloc, &[0; 16])?;
+    put_items(&mut out, items)?;
+    close_area(&mut out)?;
     Ok(out)
 }

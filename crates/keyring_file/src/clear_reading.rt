@@ -64,7 +64,8 @@ fn so_many_pairs_at(
 ) -> Result<(Vec<HashedPair>, &[u8]), ReadRefused<FieldFault>>
     ensures { Gives (λ x. (x.0.items, x.1.now)) result (reading.so_many_pairs_at count bytes.now) }
 {
-    let mut pairs = Vec::new(alloc);
+    // No more than the first element would take: a number that is merely claimed reserves nothing.
+    let mut pairs = Vec::with_capacity(alloc, if count < 4 { count as usize } else { 4 })?;
     let mut names = BTreeSet::new(alloc);
     let mut rest = bytes;
     for _ in 0..count {

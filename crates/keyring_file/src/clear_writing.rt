@@ -105,8 +105,8 @@ fn put_limits(out: &mut Vec<u8>, clear: &Clear) -> Result<(), OutOfMemory>
     put_reserved(out)
 }
 
-/// Writes the clear part up to the number of items.
-fn put_front(out: &mut Vec<u8>, clear: &Clear) -> Result<(), OutOfMemory>
+/// Writes the clear part up to the number of items at the end (GNOME keyring file format).
+pub fn put_front(out: &mut Vec<u8>, clear: &Clear) -> Result<(), OutOfMemory>
     requires { IsShort clear.now.name }
     ensures { OnOk result (out.new.items ≡ out.old.items ++ front_text clear.now) }
 {

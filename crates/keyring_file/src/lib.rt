@@ -16,10 +16,10 @@ mod tests;
 
 pub use area::{Access, FullItem};
 pub use area_reading::read_area;
-pub use area_writing::write_area;
+pub use area_writing::{close_area, put_item, write_area};
 pub use clear::{Clear, ClearItem};
 pub use clear_reading::read_clear;
-pub use clear_writing::write_clear;
+pub use clear_writing::{put_front, write_clear};
 pub use fault::{AreaFault, ClearFault};
 pub use laws::{
     a_canonical_area_is_spelled_so, a_canonical_clear_part_is_spelled_so,

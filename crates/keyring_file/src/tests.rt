@@ -3,8 +3,9 @@ ghost use Rattle.keyring_file.specs.Short.{IsShortClear};
 
 use super::*;
 use keyring_text::ReadRefused;
-use kr_base::Text;
+use kr_base::{AttrValue, Attributes, HashedValue, Text};
 use kr_items::Items;
+use md5::{Digest, Md5};
 use std::alloc::Global;
 use std::test::Fail;
 
@@ -48,72 +49,119 @@ fn each_part_of_a_file_is_short_and_a_longer_one_trails(rt: HostRuntime) -> Resu
     Ok(())
 }
 
+// A place in the file of no items, the byte that is put there, and the fault; none is told as nothing.
+const BYTES: &str = "\
+0|0|Magic
+15|0|Magic
+16|1|Version
+17|1|
+17|2|Version
+18|1|Version
+19|1|Version
+23|254|Short
+24|255|BadText
+24|0|BadText
+29|255|
+45|255|
+48|1|
+52|255|
+53|1|TooManyIterations
+54|15|
+54|16|TooManyIterations
+57|255|
+65|9|
+80|9|
+88|17|AreaLength
+88|0|AreaLength
+88|32|Short
+";
+
 #[test]
 fn one_changed_byte_is_its_fault(rt: HostRuntime) -> Result<(), Fail> {
     let alloc = rt.alloc();
-    let cases = [
-        (0, 0, Some(ClearFault::Magic)),
-        (15, 0, Some(ClearFault::Magic)),
-        (16, 1, Some(ClearFault::Version)),
-        (17, 1, None),
-        (17, 2, Some(ClearFault::Version)),
-        (19, 1, Some(ClearFault::Version)),
-        (23, 254, Some(ClearFault::Short)),
-        (24, 255, Some(ClearFault::BadText)),
-        (54, 15, None),
-        (54, 16, Some(ClearFault::TooManyIterations)),
-        (88, 17, Some(ClearFault::AreaLength)),
-        (88, 0, Some(ClearFault::AreaLength)),
-        (88, 32, Some(ClearFault::Short)),
-    ];
-    for (place, value, want) in cases {
+    for row in BYTES.lines() {
+        let (place, rest) = row.split_once('|').ok_or("row")?;
+        let (value, want) = rest.split_once('|').ok_or("row")?;
         let mut file = file_of(alloc, 0, b"\0\0\0\0")?;
+        let place: usize = place.parse().ok().ok_or("row")?;
         if let Some(byte) = file.get_mut(place) {
-            *byte = value;
+            *byte = value.parse().ok().ok_or("row")?;
         }
-        assert_eq!(rt; fault_of(alloc, &file)?, want, "at {place}");
+        let told = match fault_of(alloc, &file)? {
+            Some(fault) => format!(in alloc; "{fault}")?,
+            None => String::new(alloc),
+        };
+        assert_eq!(rt; told.as_str(), want, "at {row}");
     }
     Ok(())
 }
 
+// The version's minor number, the items of the clear part in hex, and what is read of them, or the fault. A
+// program in Python wrote the bytes.
+const CLEAR: &str = "\
+0|00000000|
+0|00000001000000010000000000000001000000047573657200000000000000203930303135303938336364323466623064363936336637643238653137663732|1 0 [user=3930303135303938336364323466623064363936336637643238653137663732;] text/plain~
+0|0000000300000007000000020000000200000004706f7274000000011bc635a4000000016100000000ffffffff00000000ffffffff00000001000000000000000000000002ff00ffffffff0100000100000000|7 2 [port=#465974692;a=;] text/plain~0 4294967295 [=ff00;] text/plain~4294967295 16777217 [] text/plain~
+1|0000000100000001000000000000000000000009746578742f68746d6c|1 0 [] text/html~
+1|00000002000000020000000000000000ffffffff00000001000000000000000000000000|2 0 [] ~1 0 [] ~
+0|00000002000000010000000000000000000000010000000000000000|DuplicateId
+0|0000000200000001000000000000000000000001|DuplicateId
+0|0000000100000001000000000000000200000001610000000100000007000000016100000002|DuplicateName
+0|000000010000000100000000000000030000000162000000010000000700000001610000000100000007000000016200000002|DuplicateName
+0|00000001000000010000000000000001000000016100000002|BadKind
+0|0000000100000001000000000000000100000001ff00000002|BadText
+0|0000000100000001000000000000000100000002610000000000000000203930303135303938336364323466623064363936336637643238653137663732|BadText
+1|0000000100000001000000000000000000000001c3|BadText
+0|ffffffff000000010000000000000000|Short
+0|000000010000000100000000ffffffff|Short
+0|00000001000000010000000000000001fffffffe|Short
+";
+
+fn clear_item_told(alloc: Global, item: &ClearItem) -> Result<String, Fail> {
+    let id = item.id;
+    let kind = item.kind;
+    let mut told = format!(in alloc; "{id} {kind} [")?;
+    for pair in item.hashed.as_slice() {
+        let name = pair.name.as_str();
+        let part = match &pair.value {
+            HashedValue::Text(hash) => {
+                let digits = hex::encode(alloc, hash.as_slice())?;
+                format!(in alloc; "{name}={digits};")?
+            }
+            HashedValue::Number(number) => format!(in alloc; "{name}=#{number};")?,
+        };
+        told.push_str(part.as_str())?;
+    }
+    let content = item.content.as_str();
+    let last = format!(in alloc; "] {content}~")?;
+    told.push_str(last.as_str())?;
+    Ok(told)
+}
+
+fn clear_told(alloc: Global, file: &[u8]) -> Result<String, Fail> {
+    match read_clear(alloc, file) {
+        Ok((clear, _place)) => {
+            let mut told = String::new(alloc);
+            for item in clear.items.as_slice() {
+                told.push_str(clear_item_told(alloc, item)?.as_str())?;
+            }
+            Ok(told)
+        }
+        Err(ReadRefused::Fault(fault)) => Ok(format!(in alloc; "{fault}")?),
+        Err(ReadRefused::OutOfMemory) => Err("memory")?,
+    }
+}
+
 #[test]
-fn items_have_their_faults(rt: HostRuntime) -> Result<(), Fail> {
+fn items_of_the_clear_part_are_read_or_refused(rt: HostRuntime) -> Result<(), Fail> {
     let alloc = rt.alloc();
-    let cases: [(u8, &[u8], Option<ClearFault>); 6] = [
-        (
-            1,
-            b"\0\0\0\x01\0\0\0\x01\0\0\0\0\0\0\0\0\0\0\0\x09text/html",
-            None,
-        ),
-        (
-            0,
-            b"\0\0\0\x02\0\0\0\x01\0\0\0\0\0\0\0\0\0\0\0\x02\0\0\0\0\0\0\0\0",
-            None,
-        ),
-        (
-            0,
-            b"\0\0\0\x02\0\0\0\x01\0\0\0\0\0\0\0\0\0\0\0\x01\0\0\0\0\0\0\0\0",
-            Some(ClearFault::DuplicateId),
-        ),
-        (
-            0,
-            b"\0\0\0\x01\0\0\0\x01\0\0\0\0\0\0\0\x01\0\0\0\x01a\0\0\0\x02",
-            Some(ClearFault::BadKind),
-        ),
-        (
-            0,
-            b"\0\0\0\x01\0\0\0\x01\0\0\0\0\0\0\0\x02\0\0\0\x01a\0\0\0\x01\0\0\0\x07\0\0\0\x01a\0\0\0\x02",
-            Some(ClearFault::DuplicateName),
-        ),
-        (
-            1,
-            b"\0\0\0\x01\0\0\0\x01\0\0\0\0\0\0\0\0\0\0\0\x01\xff",
-            Some(ClearFault::BadText),
-        ),
-    ];
-    for (minor, items, want) in cases {
-        let file = file_of(alloc, minor, items)?;
-        assert_eq!(rt; fault_of(alloc, &file)?, want, "at {items:?}");
+    for row in CLEAR.lines() {
+        let (minor, rest) = row.split_once('|').ok_or("row")?;
+        let (digits, want) = rest.split_once('|').ok_or("row")?;
+        let minor: u8 = minor.parse().ok().ok_or("row")?;
+        let items = hex::decode(alloc, digits)?;
+        let file = file_of(alloc, minor, &items)?;
+        assert_eq!(rt; clear_told(alloc, &file)?.as_str(), want, "at {row}");
     }
     Ok(())
 }
@@ -182,5 +230,94 @@ fn an_area_of_one_item_is_read_and_checked(rt: HostRuntime) -> Result<(), Fail> 
             b"\xd4\x1d\x8c\xd9\x8f\0\xb2\x04\xe9\x80\x09\x98\xec\xf8\x42"
         )
     );
+    Ok(())
+}
+
+// How many items the clear part tells, what follows the check of an area in hex, and what is read of it, or the
+// fault. A program in Python wrote the bytes.
+const AREAS: &str = "\
+0||
+0|010203|
+1|0000000161000000016200000000000000000000000000000000ffffffff00000000000000000000000000000000000000000000000000000000000000000000|'a' 62 0 0 [] []~
+1|ffffffffffffffff0000010000000000ffffffffffffffffffffffff000000000000000000000000000000000000000000000000ffffffffffffff|''  1099511627776 18446744073709551615 [] []~
+1|00000002c3a40000000200ff0000000000000005000000000000000600000002ff00000102030405060708090a0b0c0d0e0f0000000300000004757365720000000000000003616e6e00000004706f727400000001000003e100000005656d70747900000000ffffffff00000002000000070000000945766f6c7574696f6e000000122f7573722f62696e2f65766f6c7574696f6e00000001780000000980000001ffffffff00000000ffffffff00000000|'ä' 00ff 5 6 [empty=;port=#993;user=ann;] [7,Evolution,/usr/bin/evolution;2147483649,,;]~
+2|0000000161000000016200000000000000000000000000000000ffffffff00000000000000000000000000000000000000000000000000000001630000000000000000000000010000000000000002ffffffff00000000000000000000000000000000000000010000000000000000000000017600000000|'a' 62 0 0 [] []~'c'  1 2 [=v;] []~
+2|0000000161000000016200000000000000000000000000000000ffffffff000000000000000000000000000000000000000000000000|Short
+1|0000000161000000016200000000000000000000000000000000ffffffff0000000000000000000000000000000000000000000000|Short
+1|fffffffeffffffff000000000000000000000000000000000000000000000000|Short
+1|0000000161000000016200000000000000000000000000000000ffffffff00000000000000000000000000000000ffffffff|Short
+1|00000001ff000000016200000000000000000000000000000000ffffffff000000000000000000000000000000000000000000000000|BadText
+1|000000026100000000016200000000000000000000000000000000ffffffff000000000000000000000000000000000000000000000000|BadText
+1|0000000161000000016200000000000000000000000000000000ffffffff0000000000000000000000000000000000000001000000016e00000000000000018000000000|BadText
+1|0000000161000000016200000000000000000000000000000000ffffffff0000000000000000000000000000000000000000000000010000000100000002c08000000000ffffffff00000000|BadText
+1|0000000161000000016200000000000000000000000000000000ffffffff00000000000000000000000000000000000000000000000100000001000000000000000100ffffffff00000000|BadText
+1|0000000161000000016200000000000000000000000000000000ffffffff0000000000000000000000000000000000000001000000016e0000000200000000|BadKind
+1|0000000161000000016200000000000000000000000000000000ffffffff0000000000000000000000000000000000000002000000016e000000000000000178000000016e0000000200000000|DuplicateName
+";
+
+fn attributes_told(alloc: Global, attributes: &Attributes) -> Result<String, Fail> {
+    let mut told = String::new(alloc);
+    for (name, value) in attributes.as_slice() {
+        let name = name.as_str();
+        let part = match value {
+            AttrValue::Text(text) => {
+                let text = text.as_str();
+                format!(in alloc; "{name}={text};")?
+            }
+            AttrValue::Number(number) => format!(in alloc; "{name}=#{number};")?,
+        };
+        told.push_str(part.as_str())?;
+    }
+    Ok(told)
+}
+
+fn item_told(alloc: Global, item: &FullItem) -> Result<String, Fail> {
+    let label = item.label.as_str();
+    let secret = hex::encode(alloc, item.value.as_slice())?;
+    let created = item.created;
+    let modified = item.modified;
+    let attributes = attributes_told(alloc, &item.attributes)?;
+    let mut told = format!(in alloc; "'{label}' {secret} {created} {modified} [{attributes}] [")?;
+    for entry in item.access.as_slice() {
+        let allowed = entry.allowed;
+        let display = entry.display.as_str();
+        let path = entry.path.as_str();
+        let part = format!(in alloc; "{allowed},{display},{path};")?;
+        told.push_str(part.as_str())?;
+    }
+    told.push_str("]~")?;
+    Ok(told)
+}
+
+fn area_told(alloc: Global, area: &[u8], count: usize) -> Result<String, Fail> {
+    match read_area(alloc, area, count) {
+        Ok(items) => {
+            let mut told = String::new(alloc);
+            for item in &items {
+                told.push_str(item_told(alloc, item)?.as_str())?;
+            }
+            Ok(told)
+        }
+        Err(ReadRefused::Fault(fault)) => Ok(format!(in alloc; "{fault}")?),
+        Err(ReadRefused::OutOfMemory) => Err("memory")?,
+    }
+}
+
+#[test]
+fn items_of_the_area_are_read_or_refused(rt: HostRuntime) -> Result<(), Fail> {
+    let alloc = rt.alloc();
+    for row in AREAS.lines() {
+        let (count, rest) = row.split_once('|').ok_or("row")?;
+        let (digits, want) = rest.split_once('|').ok_or("row")?;
+        let count: usize = count.parse().ok().ok_or("row")?;
+        let body = hex::decode(alloc, digits)?;
+        let mut area = Vec::from_slice(alloc, Md5::digest(body.as_slice()).as_slice())?;
+        area.extend_from_slice(body.as_slice())?;
+        assert_eq!(rt;
+            area_told(alloc, area.as_slice(), count)?.as_str(),
+            want,
+            "at {row}"
+        );
+    }
     Ok(())
 }

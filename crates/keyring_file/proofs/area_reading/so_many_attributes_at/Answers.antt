@@ -19,7 +19,7 @@ pub loop-init : goal.loop-init
 unfolding so_many_attributes_at
 loop-init c =
     let begins = keyed-begins text_at is_name DuplicateName attribute_at name_of attribute-keeps c.args.count c.args.bytes.now in
-    rw (c.new-pairs.ensures.items, c.new-names.ensures.empty) (record { so_far = begins; agree = λ q. refl })
+    rw (c.in_ok-pairs.ensures.items, c.new-names.ensures.empty) (record { so_far = begins; agree = λ q. refl })
 
 pub loop-preserved : goal.loop-preserved
 loop-preserved c =
@@ -33,7 +33,7 @@ loop-preserved c =
 
 pub returns-in_err-pair : goal.returns-in_err-pair
 returns-in_err-pair c =
-    let p = err_from_is_err_and c.from_residual.result c.from_residual.ensures.1 in
+    let p = err_from_is_err_and c.from_residual-in_err-pair.result c.from_residual-in_err-pair.ensures.1 in
     let stood = stood_in is_name (λ k. k.now) c.loop.names.keys in
     let fails = keyed-ends text_at is_name DuplicateName attribute_at name_of attribute-keeps c.in_err-pair.field-0.0 c.loop.pairs.items c.args.count c.loop.counter c.loop.rest.now stood (so_many_attributes_at c.args.count c.args.bytes.now) c.loop-test.true
     c.loop.invariant.agree c.in_err-pair.ensures.read c.loop.invariant.so_far in
