@@ -1,0 +1,12 @@
+pub mod ArrangeLemmas
+pub mod OrderLemmas
+pub mod RoomLemmas
+pub mod SealLemmas
+pub mod ShapeLemmas
+pub mod KnownLemmas
+pub mod CanonicalLemmas
+pub mod FileLemmas
+pub mod WholeLemmas
+pub mod ShortLemmas
+pub mod RowLemmas
+pub mod SealedLemmas

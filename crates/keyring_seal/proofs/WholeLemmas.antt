@@ -1,0 +1,35 @@
+-- Opening, and what a file is a file of.
+use Rattle.std.proofs.Common.{◌≡◌, ℕ, List, length, Result, Ok, Err, refl, subst}
+use Rattle.std.specs.Prelude.{IfOk}
+use Rattle.key_derivation.specs.Kdf.{Inputs}
+use Rattle.keyring_file.specs.AreaText.{AreaText}
+use Rattle.keyring_file.specs.Clear.{ClearPart}
+use Rattle.keyring_file.specs.ClearText.{ClearText}
+use Rattle.keyring_file.specs.Reading.{area_read, clear_read}
+use Rattle.keyring_file.specs.declared.area.FullItem.{FullItem}
+use Rattle.keyring_seal.specs.declared.content.Content.{Content}
+use Rattle.keyring_seal.specs.Arranged.{IsSealable}
+use Rattle.keyring_seal.specs.Whole.{IsFileOf, clear_area, opened}
+
+-- what both texts are texts of is opened
+pub opened_again : ((file area : List ℕ) (clear : ClearPart) → ClearText file clear area → clear_read file ≡ Ok (clear, area)) → ((area : List ℕ) (items : List FullItem) → AreaText area items → area_read (length items) area ≡ Ok items)
+    → (file : List ℕ) (key : Inputs) (content : Content) → IsFileOf file key content → opened file key ≡ Ok content
+unfolding opened
+opened_again clear_again area_again file key content is =
+    let items : area_read (length content.clear.items) (clear_area key is.area) ≡ Ok content.items = subst (λ (n : ℕ). area_read n (clear_area key is.area) ≡ Ok content.items) is.counted (area_again (clear_area key is.area) content.items is.items) in
+    rw (clear_again file is.area content.clear is.clear, items) refl
+
+-- what a file is a file of can be sealed
+pub sealable : (file : List ℕ) (key : Inputs) (content : Content) → IsFileOf file key content → IsSealable content
+sealable file key content is =
+    let behind_version = is.clear.text.is_first.is_second.is_second in
+    record {
+      counted = is.counted;
+      distinct = behind_version.is_second.is_second.distinct;
+      iterations = behind_version.is_first.is_second.is_second.is_second.is_second.is_second.few;
+    }
+
+-- what holds of what was answered, by what is known of it
+pub then_holds : {X E : Type 0} (P Q : X → Type 0) (r : Result X E) → ((x : X) → P x → Q x) → IfOk r P → IfOk r Q
+then_holds P Q (Ok x) step h = step x h
+then_holds P Q (Err e) step h = tt

@@ -1,0 +1,8 @@
+use Rattle.std.proofs.Common.{◌≡◌, ◌++◌, take}
+use Rattle.std.specs.List.{flat_map}
+use Rattle.attribute_hash.specs.Hash.{pair_hash}
+use Rattle.keyring_file.specs.Canonical.{pair_text}
+use Rattle.keyring_seal.proofs.writing.put_hashes.Given as goal
+
+abbrev pub invariant-loop-pair : goal.invariant-loop-pair
+invariant-loop-pair l = l.out.items ≡ l.fn.out.items ++ flat_map (λ pair. pair_text (pair_hash pair)) (take l.pair-index l.pairs)

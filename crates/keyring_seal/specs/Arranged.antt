@@ -1,0 +1,57 @@
+-- A content as it is sealed: its items by rising number, with the hashes of their attributes.
+use Rattle.std.specs.Prelude.{◌≡◌, ℕ, ◌≤◌, List, ◌∷◌, ◌++◌, length, map, nat_eq}
+use Rattle.std.specs.List.{zip, IsDistinct}
+use Rattle.attribute_hash.specs.Hash.{hashes}
+use Rattle.keyring_file.specs.ClearText.{most_iterations}
+use Rattle.keyring_file.specs.declared.area.FullItem.{FullItem}
+use Rattle.keyring_file.specs.declared.clear.ClearItem.{ClearItem}
+use Rattle.keyring_seal.specs.declared.content.Content.{Content}
+use Rattle.keyring_seal.specs.Order.{by_number}
+
+-- an item as both parts of a file tell it
+abbrev pub Row : Type 0
+Row = ClearItem × FullItem
+
+-- the items of a content, each as both parts tell it
+abbrev pub rows : Content → List Row
+rows content = zip content.clear.items content.items
+
+-- the number of an item
+abbrev pub row_number : Row → ℕ
+row_number row = row.0.id.0
+
+-- an item with the hashes of its own attributes
+abbrev pub hashed_row : Row → Row
+hashed_row row = (record row.0 { hashed = hashes row.1.attributes }, row.1)
+
+-- the items by rising number, with the hashes of their own attributes
+abbrev pub arranged_rows : Content → List Row
+arranged_rows content = map hashed_row (by_number row_number (rows content))
+
+-- the content with these items
+abbrev pub with_rows : Content → List Row → Content
+with_rows content these = record {
+  clear = record content.clear { items = map (λ row. row.0) these };
+  items = map (λ row. row.1) these;
+}
+
+-- the content as it is sealed
+abbrev pub arranged : Content → Content
+arranged content = with_rows content (arranged_rows content)
+
+-- what can be sealed
+pub record IsSealable (content : Content) : Type 0 where
+  pub counted : length content.items ≡ length content.clear.items
+  pub distinct : IsDistinct nat_eq (map (λ item. item.id.0) content.clear.items)
+  pub iterations : content.clear.iterations ≤ most_iterations
+
+-- the contents are equal, but for the value of one item, which is as long in both
+pub record DiffersInOneValue (one two : Content) : Type 0 where
+  pub clear : two.clear ≡ one.clear
+  pub before : List FullItem
+  pub item : FullItem
+  pub after : List FullItem
+  pub value : List ℕ
+  pub first : one.items ≡ before ++ item ∷ after
+  pub second : two.items ≡ before ++ record item { value = value } ∷ after
+  pub as_long : length value ≡ length item.value

@@ -1,0 +1,33 @@
+-- How many bytes a content takes as a file, and the room for them.
+use Rattle.std.specs.Prelude.{◌≡◌, ℕ, ◌+◌, ◌<◌, ◌≤◌, List, length, Option, Some, None}
+use Rattle.std.specs.List.{flat_map}
+use Rattle.keyring_file.specs.Canonical.{clear_item_text, front_text, item_text, padding}
+use Rattle.keyring_seal.specs.declared.content.Content.{Content}
+use Rattle.keyring_seal.specs.Arranged.{Row, hashed_row, rows}
+
+-- so many bytes leave of the room what is answered, and none is answered where there isn't that much
+abbrev pub Takes : ℕ → ℕ → Option ℕ → Type 0
+Takes room bytes None = room < bytes
+Takes room bytes (Some left) = left + bytes ≡ room
+
+-- an item in the clear part, with the hashes of its attributes
+abbrev pub row_text : ℕ → Row → List ℕ
+row_text minor row = clear_item_text minor (hashed_row row).0
+
+-- the bytes of the items in the area
+abbrev pub items_measure : Content → ℕ
+items_measure content = length (flat_map item_text content.items)
+
+-- The bytes of the whole file: the front and two numbers, the items in the clear part, the items in the area, and its check and padding.
+-- They don't depend on the order of the items.
+abbrev pub measure : Content → ℕ
+measure content =
+    (length (front_text content.clear) + 8)
+    + length (flat_map (row_text content.clear.minor) (rows content))
+    + items_measure content
+    + (16 + padding (items_measure content))
+
+-- the bytes of the area, and those of the whole file where they are within the room; none where they aren't
+abbrev pub AreSizes : Content → ℕ → Option (ℕ × ℕ) → Type 0
+AreSizes content room None = room < measure content
+AreSizes content room (Some (area, whole)) = (area ≡ items_measure content + (16 + padding (items_measure content))) × (whole ≡ measure content) × (measure content ≤ room)

@@ -1,0 +1,66 @@
+-- Whole keyring files under a key.
+use Rattle.std.specs.Prelude.{◌≡◌, ℕ, List, ◌++◌, length, Result, Ok, Err}
+use Rattle.aes_cbc.specs.Cbc.{encrypted, decrypted}
+use Rattle.key_derivation.specs.Kdf.{Inputs, key_of, vector_of}
+use Rattle.keyring_text.specs.Reading.{◌>>=◌}
+use Rattle.keyring_file.specs.AreaText.{AreaText}
+use Rattle.keyring_file.specs.Canonical.{area_text, clear_text}
+use Rattle.keyring_file.specs.Clear.{ClearPart}
+use Rattle.keyring_file.specs.ClearText.{ClearText}
+use Rattle.keyring_file.specs.Reading.{area_read, clear_read}
+use Rattle.keyring_file.specs.declared.fault.AreaFault.{AreaFault}
+use Rattle.keyring_file.specs.declared.fault.ClearFault.{ClearFault}
+use Rattle.keyring_seal.specs.declared.content.Content.{Content}
+use Rattle.keyring_seal.specs.declared.opening.OpenFault.{OpenFault}
+use Rattle.keyring_seal.specs.declared.opening.OpenFault.TheVariants as fault
+use Rattle.keyring_seal.specs.Arranged.{arranged}
+
+-- an encrypted area, decrypted under a key
+abbrev pub clear_area : Inputs → List ℕ → List ℕ
+clear_area key area = decrypted (key_of key) (vector_of key) area
+
+-- an area, encrypted under a key
+abbrev pub sealed_area : Inputs → List ℕ → List ℕ
+sealed_area key area = encrypted (key_of key) (vector_of key) area
+
+-- the file is one of this content: the clear part and the area, once it is decrypted, are the texts of both halves
+pub record IsFileOf (file : List ℕ) (key : Inputs) (content : Content) : Type 0 where
+  pub area : List ℕ
+  pub clear : ClearText file content.clear area
+  pub items : AreaText (clear_area key area) content.items
+  pub counted : length content.items ≡ length content.clear.items
+
+-- the clear part, or its fault
+abbrev pub in_clear_part : {A : Type 0} → Result A ClearFault → Result A OpenFault
+in_clear_part (Ok x) = Ok x
+in_clear_part (Err e) = Err (fault.Clear e)
+
+-- the items, or the fault of the area
+abbrev pub in_area_part : {A : Type 0} → Result A AreaFault → Result A OpenFault
+in_area_part (Ok x) = Ok x
+in_area_part (Err e) = Err (fault.Area e)
+
+-- what opening a file under a key gives: its content, or the first fault
+unfoldable pub opened : List ℕ → Inputs → Result Content OpenFault
+opened file key = do
+  part ← in_clear_part (clear_read file)
+  items ← in_area_part (area_read (length part.0.items) (clear_area key part.1))
+  Ok (record { clear = part.0; items = items })
+
+-- the one file that a content is sealed to
+unfoldable pub sealed : Content → Inputs → List ℕ
+sealed content key =
+    let area = area_text (arranged content).items in
+    clear_text (arranged content).clear (length area) ++ sealed_area key area
+
+-- how many bytes a file may have
+abbrev pub most_bytes : ℕ
+most_bytes = 67108864
+
+-- the two files have one clear part
+pub record HaveOneClearPart (one two : List ℕ) : Type 0 where
+  pub clear : ClearPart
+  pub first : List ℕ
+  pub second : List ℕ
+  pub is_first : ClearText one clear first
+  pub is_second : ClearText two clear second

@@ -1,0 +1,24 @@
+//! Whole keyring files (GNOME keyring file format) under a key that was derived from a password: a file
+//! is opened to its content, or to the one fault that comes first, and a content is sealed to the one
+//! canonical file. Callers may rely on these: opening is a function of the bytes and the key, what was
+//! sealed opens to the same content with its items by rising number and the hashes of their attributes,
+//! and a file that would be too large is refused before anything is built.
+#![tactic(auto)]
+
+mod content;
+#[cfg(test)]
+mod files;
+mod known;
+mod laws;
+mod opening;
+mod order;
+mod room;
+mod sealing;
+#[cfg(test)]
+mod tests;
+mod writing;
+
+pub use content::Content;
+pub use laws::{a_file_of_a_content_opens_to_it, same_shape};
+pub use opening::{OpenFault, open_file as open};
+pub use sealing::{SealRefused, seal};

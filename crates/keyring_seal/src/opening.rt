@@ -1,0 +1,97 @@
+ghost use Rattle.std.specs.Prelude.{◌≡◌, ◌%◌, length, IfOk, Ok};
+ghost use Rattle.keyring_text.specs.Fields.{IsBytes};
+ghost use Rattle.keyring_text.specs.Reading.{Gives};
+ghost use Rattle.keyring_seal.specs.Arranged.{IsSealable};
+ghost use Rattle.keyring_seal.specs.Whole.{IsFileOf, clear_area, opened};
+ghost use Rattle.keyring_seal.specs.declared.content.Content.{Content as Whole};
+
+use crate::content::Content;
+use crate::laws::a_file_of_a_content_opens_to_it;
+use aes_cbc::Key;
+use key_derivation::Derived;
+use keyring_file::{
+    AreaFault, ClearFault, a_file_that_is_read_is_spelled_so, an_area_that_is_read_is_spelled_so,
+    read_area, read_clear,
+};
+use keyring_text::ReadRefused;
+use kr_base::OutOfMemory;
+use kr_items::Items;
+use std::alloc::Global;
+
+/// What is wrong with a file under a key: the first fault from the left.
+#[derive(Clone, Copy, Debug, Drop, PartialEq, Eq)]
+pub enum OpenFault {
+    /// The clear part, or the length of the area, isn't as it should be.
+    Clear(ClearFault),
+    /// The decrypted area isn't as it should be. A wrong key shows as `CheckDiffers`.
+    Area(AreaFault),
+}
+
+/// What the type of bytes keeps: that they are bytes. The call does nothing.
+fn known_bytes(_bytes: &[u8])
+    ensures { IsBytes _bytes.now }
+{}
+
+/// The blocks, decrypted under the key in a copy.
+fn decrypted_copy(alloc: Global, blocks: &[u8], key: &Derived) -> Result<Vec<u8>, OutOfMemory>
+    requires { length blocks.now % 16 ≡ 0 }
+    ensures { IfOk result (λ area. area.items ≡ clear_area key.now blocks.now) }
+{
+    let mut area = Vec::from_slice(alloc, blocks)?;
+    let cipher = Key::new(key.key());
+    cipher.decrypt_in_place(key.vector(), area.as_mut_slice());
+    Ok(area)
+}
+
+/// The content of a whole file under a key.
+#[tactic(auto, unfolding(crate::specs::Whole::opened))]
+fn content_of(alloc: Global, file: &[u8], key: &Derived) -> Result<Content, ReadRefused<OpenFault>>
+    ensures exact { Gives (λ content. content) result (opened file.now key.now) }
+    ensures found { IfOk result (IsFileOf file.now key.now) }
+{
+    a_file_that_is_read_is_spelled_so();
+    an_area_that_is_read_is_spelled_so();
+    let (clear, place) = match read_clear(alloc, file) {
+        Ok(found) => found,
+        Err(ReadRefused::Fault(fault)) => {
+            return Err(ReadRefused::Fault(OpenFault::Clear(fault)));
+        }
+        Err(ReadRefused::OutOfMemory) => return Err(ReadRefused::OutOfMemory),
+    };
+    let (_, hidden) = file.split_at(place);
+    let area = decrypted_copy(alloc, hidden, key)?;
+    known_bytes(area.as_slice());
+    let count = clear.items.len();
+    match read_area(alloc, area.as_slice(), count) {
+        Ok(items) => Ok(Content {
+            clear,
+            items: Items::new(items),
+        }),
+        Err(ReadRefused::Fault(fault)) => Err(ReadRefused::Fault(OpenFault::Area(fault))),
+        Err(ReadRefused::OutOfMemory) => Err(ReadRefused::OutOfMemory),
+    }
+}
+
+/// The content of a whole file under a key (GNOME keyring file format).
+///
+/// A file is refused with the first fault from the left: those of the clear part and of the length of
+/// the area come first, then `CheckDiffers`, which is what a wrong key gives, then the other faults of
+/// the area. The area is decrypted in one copy, beside the file and the content.
+pub fn open_file(
+    alloc: Global,
+    file: &[u8],
+    key: &Derived,
+) -> Result<Content, ReadRefused<OpenFault>>
+    // What is opened is what the file is a file of.
+    ensures found { IfOk result (IsFileOf file.now key.now) }
+    // What the file is a file of is opened, unless memory runs out.
+    ensures only { (content : Whole) → IsFileOf file.now key.now content
+        → Gives (λ opened. opened) result (Ok content) }
+    // It can be sealed again.
+    ensures sealable { IfOk result IsSealable }
+    // Which fault it is.
+    ensures exact { Gives (λ content. content) result (opened file.now key.now) }
+{
+    a_file_of_a_content_opens_to_it();
+    content_of(alloc, file, key)
+}

@@ -1,0 +1,169 @@
+// The items of a content are written as they are lent, in the order that the caller gives, each with the
+// hashes of its own attributes. Nothing is copied but into the file.
+
+ghost use Rattle.std.specs.Prelude.{◌≡◌, ◌<◌, ◌^◌, ◌++◌, length, map, IfOk, OnOk};
+ghost use Rattle.std.specs.List.{AllByRecursion, flat_map};
+ghost use Rattle.attribute_hash.specs.Hash.{hashes, pair_hash, value_hash};
+ghost use Rattle.keyring_file.specs.Canonical.{checked, clear_item_text, clear_text, hashed_text, item_text, list_text, padded, pair_text};
+ghost use Rattle.keyring_file.specs.Short.{IsShort, IsShortClearItem, IsShortHashed, IsShortItem, IsShortList, IsShortPair};
+ghost use Rattle.keyring_seal.specs.Arranged.{hashed_row};
+ghost use Rattle.keyring_seal.specs.Room.{row_text};
+
+use attribute_hash::{number_hash, text_hash};
+use keyring_file::{Clear, ClearItem, FullItem, close_area, put_front, put_item};
+use keyring_text::{put_number, put_string};
+use kr_base::{AttrValue, Attributes, OutOfMemory, Text};
+use std::alloc::Global;
+
+/// Writes the hash of a value with its kind.
+fn put_hash(out: &mut Vec<u8>, value: &AttrValue) -> Result<(), OutOfMemory>
+    requires { IsShortHashed (value_hash value.now) }
+    ensures { OnOk result (out.new.items ≡ out.old.items ++ hashed_text (value_hash value.now)) }
+{
+    match value {
+        AttrValue::Text(text) => {
+            put_number(out, 0)?;
+            put_string(out, &text_hash(text.as_str()))
+        }
+        AttrValue::Number(number) => {
+            put_number(out, 1)?;
+            put_number(out, number_hash(*number))
+        }
+    }
+}
+
+/// Writes an attribute's name and the hash of its value.
+fn put_hashed(out: &mut Vec<u8>, pair: &(Text, AttrValue)) -> Result<(), OutOfMemory>
+    requires { IsShortPair (pair_hash pair.now) }
+    ensures { OnOk result (out.new.items ≡ out.old.items ++ pair_text (pair_hash pair.now)) }
+{
+    put_string(out, pair.0.as_bytes())?;
+    put_hash(out, &pair.1)
+}
+
+/// Writes the names and hashes of attributes, without their number.
+fn put_hashes(out: &mut Vec<u8>, pairs: &[(Text, AttrValue)]) -> Result<(), OutOfMemory>
+    requires { AllByRecursion (λ pair. IsShortPair (pair_hash pair)) pairs.now }
+    ensures { OnOk result (out.new.items ≡ out.old.items
+        ++ flat_map (λ pair. pair_text (pair_hash pair)) pairs.now) }
+{
+    for pair in pairs {
+        put_hashed(out, pair)?;
+    }
+    Ok(())
+}
+
+/// Writes the number of the attributes, and their names and hashes.
+fn put_hash_list(out: &mut Vec<u8>, attributes: &Attributes) -> Result<(), OutOfMemory>
+    requires { IsShortList IsShortPair (hashes attributes.now) }
+    ensures { OnOk result (out.new.items ≡ out.old.items
+        ++ list_text pair_text (hashes attributes.now)) }
+{
+    put_number(out, attributes.len() as u32)?;
+    put_hashes(out, attributes.as_slice())
+}
+
+/// Writes an item of the clear part, with the hashes of its attributes.
+fn put_row(
+    out: &mut Vec<u8>,
+    minor: u8,
+    clear_item: &ClearItem,
+    item: &FullItem,
+) -> Result<(), OutOfMemory>
+    requires { IsShortClearItem (hashed_row (clear_item.now, item.now)).0 }
+    ensures { OnOk result (out.new.items ≡ out.old.items
+        ++ row_text minor (clear_item.now, item.now)) }
+{
+    put_number(out, clear_item.id.0)?;
+    put_number(out, clear_item.kind)?;
+    put_hash_list(out, &item.attributes)?;
+    if minor == 0 {
+        return Ok(());
+    }
+    put_string(out, clear_item.content.as_bytes())
+}
+
+/// Writes the items of the clear part, without their number.
+fn put_rows(
+    out: &mut Vec<u8>,
+    minor: u8,
+    rows: &[(&ClearItem, &FullItem)],
+) -> Result<(), OutOfMemory>
+    requires { AllByRecursion
+        (λ row. IsShortClearItem (hashed_row (row.0.now, row.1.now)).0) rows.now }
+    ensures { OnOk result (out.new.items ≡ out.old.items
+        ++ flat_map (λ row. row_text minor (row.0.now, row.1.now)) rows.now) }
+{
+    for row in rows {
+        put_row(out, minor, row.0, row.1)?;
+    }
+    Ok(())
+}
+
+/// Writes the number of the items, and the items of the clear part.
+fn put_row_list(
+    out: &mut Vec<u8>,
+    minor: u8,
+    rows: &[(&ClearItem, &FullItem)],
+) -> Result<(), OutOfMemory>
+    requires few { length rows.now < 2 ^ 32 }
+    requires short { AllByRecursion
+        (λ row. IsShortClearItem (hashed_row (row.0.now, row.1.now)).0) rows.now }
+    ensures { OnOk result (out.new.items ≡ out.old.items ++ list_text (clear_item_text minor)
+        (map (λ row. (hashed_row (row.0.now, row.1.now)).0) rows.now)) }
+{
+    put_number(out, rows.len() as u32)?;
+    put_rows(out, minor, rows)
+}
+
+/// Writes the items of the area.
+fn put_items(out: &mut Vec<u8>, rows: &[(&ClearItem, &FullItem)]) -> Result<(), OutOfMemory>
+    requires { AllByRecursion (λ row. IsShortItem row.1.now) rows.now }
+    ensures { OnOk result (out.new.items ≡ out.old.items
+        ++ flat_map (λ row. item_text row.1.now) rows.now) }
+{
+    for row in rows {
+        put_item(out, row.1)?;
+    }
+    Ok(())
+}
+
+/// The area of the items before it is encrypted, in room for so many bytes.
+pub fn area_of(
+    alloc: Global,
+    room: usize,
+    rows: &[(&ClearItem, &FullItem)],
+) -> Result<Vec<u8>, OutOfMemory>
+    requires { AllByRecursion (λ row. IsShortItem row.1.now) rows.now }
+    ensures { IfOk result (λ area. area.items
+        ≡ checked (padded (flat_map (λ row. item_text row.1.now) rows.now))) }
+{
+    let mut area = Vec::with_capacity(alloc, room)?;
+    area.extend_from_slice(&[0; 16])?;
+    put_items(&mut area, rows)?;
+    close_area(&mut area)?;
+    Ok(area)
+}
+
+/// The clear part with these items and the length of the area, in room for so many bytes.
+pub fn clear_of(
+    alloc: Global,
+    room: usize,
+    clear: &Clear,
+    rows: &[(&ClearItem, &FullItem)],
+    area_length: u32,
+) -> Result<Vec<u8>, OutOfMemory>
+    requires name { IsShort clear.now.name }
+    requires few { length rows.now < 2 ^ 32 }
+    requires short { AllByRecursion
+        (λ row. IsShortClearItem (hashed_row (row.0.now, row.1.now)).0) rows.now }
+    ensures { IfOk result (λ file. file.items ≡ clear_text (record clear.now {
+      items = map (λ row. (hashed_row (row.0.now, row.1.now)).0) rows.now;
+    }) area_length) }
+{
+    let mut file = Vec::with_capacity(alloc, room)?;
+    put_front(&mut file, clear)?;
+    put_row_list(&mut file, clear.minor, rows)?;
+    put_number(&mut file, area_length)?;
+    Ok(file)
+}
