@@ -1,0 +1,3 @@
+mod HandshakeLemmas
+mod LineLemmas
+mod StreamLemmas

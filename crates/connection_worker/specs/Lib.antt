@@ -1,0 +1,4 @@
+pub mod Handshakes
+pub mod Lines
+pub mod Salts
+pub mod Streams

@@ -1,0 +1,133 @@
+// The handshake over a source and a sink.
+ghost use Rattle.std.specs.Prelude.{◌≡◌, ◌≤◌, ◌<◌, ℕ, IfOk, OnErr, IsErrOf, None, List, drop, length, vec_len};
+ghost use Rattle.connection_worker.specs.Streams.{input_of, output_of};
+ghost use Rattle.connection_worker.specs.Handshakes.{Shakes, ShakesOn, ReadsMore, most_bytes};
+
+use crate::ending::End;
+use crate::lines::{Turn, answer_lines};
+use dbus_auth::{Auth, AuthFault, State};
+use dbus_framing::Framer;
+use kr_outside::{Failed, Sink, Source};
+use std::alloc::AllocGlobal;
+use std::sync::Wait;
+
+/// How many bytes are read at a time, at most.
+const PIECE: usize = 65_536;
+
+/// How many bytes a message that comes in may have.
+const MOST: u32 = 1_048_576;
+
+// Reads a piece, and puts it behind the bytes that are held.
+fn read_more<I: Source>(input: &mut I, piece: &mut [u8], held: &mut Vec<u8>) -> Result<(), End>
+    requires { 0 < length piece.old }
+    ensures { ReadsMore held.old.items held.new.items
+        (input_of I.left I.faults I.is_steady input.old)
+        (input_of I.left I.faults I.is_steady input.new) result }
+{
+    match input.read(&mut *piece) {
+        Err(Failed) => Err(End::ReadFault),
+        Ok(0) => Err(End::AuthRefused(AuthFault::EndedEarly)),
+        Ok(count) => match held.extend_from_slice(&piece[..count]) {
+            Ok(()) => Ok(()),
+            Err(_) => Err(End::Memory),
+        },
+    }
+}
+
+// Lets go of the first bytes.
+fn remove_front(bytes: &mut Vec<u8>, count: usize)
+    requires { count ≤ vec_len bytes.old }
+    ensures { bytes.new.items ≡ drop count bytes.old.items }
+{
+    let len = bytes.len();
+    bytes.as_mut_slice().copy_within(count..len, 0);
+    bytes.truncate(len - count);
+}
+
+// A framer that was fed what stands behind these first bytes.
+fn framer_behind(bytes: &Vec<u8>, count: usize) -> Result<Framer, End>
+    requires { count ≤ vec_len bytes.now }
+    ensures fed { IfOk result (λ framer.
+        framer ≡ record { most = most_bytes; rest = drop count bytes.now.items; broken = None }) }
+    ensures memory { OnErr result (IsErrOf result End.Memory) }
+{
+    let mut framer = Framer::new(*bytes.allocator(), MOST);
+    let (_, rest) = bytes.as_slice().split_at(count);
+    match framer.feed(rest) {
+        Ok(()) => Ok(framer),
+        Err(_) => Err(End::Memory),
+    }
+}
+
+// The handshake behind its first byte; the bytes that are held begin a line.
+fn shake<R: Wait, I: Source, O: Sink>(
+    rt: &R,
+    auth: Auth,
+    held: Vec<u8>,
+    input: &mut I,
+    output: &mut O,
+    piece: &mut [u8],
+) -> Result<Framer, End>
+    requires { 0 < length piece.old }
+    ensures { ShakesOn auth held.items
+        (record {
+          input = input_of I.left I.faults I.is_steady input.old;
+          output = output_of O.written O.faults O.is_steady output.old;
+        })
+        (record {
+          input = input_of I.left I.faults I.is_steady input.new;
+          output = output_of O.written O.faults O.is_steady output.new;
+        }) result }
+{
+    let mut auth = auth;
+    let mut held = held;
+    for _ in rt.forever() {
+        match answer_lines(&mut auth, output, held.as_slice()) {
+            Ok(Turn::Waits(size)) => remove_front(&mut held, size),
+            Ok(Turn::Begins(size)) => return framer_behind(&held, size),
+            Ok(Turn::Refused(fault)) => return Err(End::AuthRefused(fault)),
+            Err(Failed) => return Err(End::WriteFault),
+        }
+        if let Err(end) = read_more(input, &mut *piece, &mut held) {
+            return Err(end);
+        }
+    }
+    unreachable!()
+}
+
+/// The server's half of the handshake: reads lines, by 65,536 bytes at a time at most, and writes the
+/// answer of each before the next one is looked at. What was read behind BEGIN is in the framer.
+///
+/// Refused with `AuthRefused` where the bytes show a fault, or where the input ended before BEGIN;
+/// with `ReadFault` and `WriteFault` where a stream failed; and with `Memory`.
+pub fn handshake<R: AllocGlobal + Wait, I: Source, O: Sink>(
+    rt: &R,
+    auth: Auth,
+    input: &mut I,
+    output: &mut O,
+) -> Result<Framer, End>
+    requires { auth.state ≡ State.WaitingForAuth }
+    ensures { Shakes auth.uid auth.guid
+        (record {
+          input = input_of I.left I.faults I.is_steady input.old;
+          output = output_of O.written O.faults O.is_steady output.old;
+        })
+        (record {
+          input = input_of I.left I.faults I.is_steady input.new;
+          output = output_of O.written O.faults O.is_steady output.new;
+        }) result }
+{
+    let alloc = rt.alloc();
+    let Ok(mut piece) = vec![in alloc; 0; PIECE] else {
+        return Err(End::Memory);
+    };
+    let mut held = Vec::new(alloc);
+    if let Err(end) = read_more(input, &mut piece, &mut held) {
+        return Err(end);
+    }
+    if held[0] != 0 {
+        return Err(End::AuthRefused(AuthFault::NoZero));
+    }
+    remove_front(&mut held, 1);
+    shake(rt, auth, held, input, output, &mut piece)
+}

@@ -1,0 +1,159 @@
+-- What a service records, as a desk over it tells it.
+use Rattle.std.proofs.Common.{◌≡◌, ℕ, ◌+◌, ◌<◌, ◌≤◌, Bool, true, false, List, [], ◌∷◌, Option, Some, None, Result, Ok, Err, IfOk, refl, ap, ◌∙◌, sym, arith, inl, inr}
+use Rattle.std.proofs.lemmas.List.{length_push}
+use Rattle.std.proofs.lemmas.Bool.{or_right}
+use Rattle.kr_base.specs.declared.ids.ConnId.{ConnId}
+use Rattle.service_machine.specs.declared.rows.ConnRow.{ConnRow}
+use Rattle.service_machine.specs.declared.rows.DeskRow.{DeskRow}
+use Rattle.service_machine.specs.declared.event.Event.{Event}
+use Rattle.service_machine.specs.declared.event.Event.TheVariants as event
+use Rattle.service_machine.specs.declared.event.Output.{Output}
+use Rattle.service_machine.specs.declared.event.Output.TheVariants as output
+use Rattle.service_machine.specs.declared.event.Incoming.TheVariants as incoming
+use Rattle.service_machine.specs.Connections.{is_row, has, desk_of}
+use Rattle.service_machine.specs.Step.{step, output_of, Fits}
+use Rattle.secret_calls.specs.declared.call.Request.{Request}
+use Rattle.service_machine.specs.Machine.{Records}
+use Rattle.service_history.specs.declared.service.EventRefused.{EventRefused}
+use Rattle.service_history.specs.declared.service.EventRefused.TheVariants as refused
+use Rattle.service_history.specs.History.{History, total, is_due, cut_where_due, with_event, IsRecorded, given_for, taken_by, left_by, gone_by}
+use Rattle.service_desk.specs.Places.{Place, Looks, Extends}
+use Rattle.service_desk.specs.Views.{IsView, with_others}
+use Rattle.service_desk.specs.Calls.{Arrives, Leaves, Goes, Takes}
+use Rattle.service_desk.proofs.ViewLemmas.{view-others, view-own}
+
+-- where the desk of a connection over a service with this history stands
+abbrev pub spot : ConnId → History → Place
+spot conn history = record {
+  told = record { conn = conn; state = history.state; count = total history; is_alone = true; is_steady = true; is_waiting = false };
+  has_seen = λ view. IsView history.state view;
+}
+
+-- a connection of which something is told is there
+pub has-told : (conn : ConnId) (rows : List ConnRow) (desk : DeskRow) → Some desk ≡ desk_of conn rows → has conn rows ≡ true
+has-told conn [] desk told = cc
+has-told conn (row ∷ rows) desk told =
+    let pass : (b : Bool) → is_row conn row ≡ b → has conn (row ∷ rows) ≡ true =
+    elim [
+      | true ↦ λ is. rw is refl
+      | false ↦ λ is. or_right (is_row conn row) (has conn rows) (has-told conn rows desk (rw is at told))
+    ] in
+    pass (is_row conn row) refl
+
+-- one of which nothing is told isn't
+pub has-none : (conn : ConnId) (rows : List ConnRow) → None ≡ desk_of conn rows → has conn rows ≡ false
+has-none conn [] told = refl
+has-none conn (row ∷ rows) told =
+    let pass : (b : Bool) → is_row conn row ≡ b → has conn (row ∷ rows) ≡ false =
+    elim [
+      | true ↦ λ is. let h : None ≡ Some _ = rw is at told in cc
+      | false ↦ λ is. rw is (has-none conn rows (rw is at told))
+    ] in
+    pass (is_row conn row) refl
+
+-- nothing was recorded
+pub looks : (conn : ConnId) (old : History) → Looks (spot conn old) (spot conn old)
+looks conn old = record {
+  between = [];
+  alone = λ _. refl;
+  legal = tt;
+  state = refl;
+  count = omega arith;
+  same = record { conn = refl; alone = refl; steady = refl; waiting = refl };
+  views = λ view is. view-others old.state view [] is tt;
+}
+
+-- one event was recorded
+pub extends : (conn : ConnId) (old new : History) (event : Event) (answer : Output) → Fits old.state event → answer ≡ output_of old.state event
+    → new.state ≡ step old.state event → total new ≡ total old + 1 → Extends (spot conn old) (spot conn new) event answer
+extends conn old new event answer fits answers state counted = record {
+  between = [];
+  alone = λ _. refl;
+  legal = tt;
+  at = old.state;
+  reached = refl;
+  fits = fits;
+  answers = answers;
+  state = state;
+  count = omega (arith, counted);
+  same = record { conn = refl; alone = refl; steady = refl; waiting = refl };
+  views = λ view is. rw state (view-own old.state (with_others [] view) event (view-others old.state view [] is tt) fits);
+}
+
+pub total-with : (event : Event) (old : History) → total (with_event event old) ≡ total old + 1
+total-with event old = rw (length_push old.events event) (omega arith)
+
+-- and that is the whole history with one event more
+pub extends-with : (conn : ConnId) (old : History) (event : Event) → Fits old.state event → Extends (spot conn old) (spot conn (with_event event old)) event (output_of old.state event)
+extends-with conn old event fits = extends conn old (with_event event old) event (output_of old.state event) fits refl refl (total-with event old)
+
+-- a cut changes neither the state nor the number of all events
+pub state-cut : (old : History) → (cut_where_due old).state ≡ old.state
+state-cut old =
+    let pass : (b : Bool) → is_due old ≡ b → (cut_where_due old).state ≡ old.state =
+    elim [ true ↦ λ is. rw is refl | false ↦ λ is. rw is refl ] in
+    pass (is_due old) refl
+
+pub total-cut : (old : History) → total (cut_where_due old) ≡ total old
+total-cut old =
+    let pass : (b : Bool) → is_due old ≡ b → total (cut_where_due old) ≡ total old =
+    elim [ true ↦ λ is. rw is (omega arith) | false ↦ λ is. rw is refl ] in
+    pass (is_due old) refl
+
+pub arrives : (conn : ConnId) (old new : History) (came : Event) (event : Event) (answer : Output) → event ≡ came
+    → Fits old.state event → answer ≡ output_of old.state event → new ≡ with_event event (cut_where_due old) → output_of old.state came ≡ output.Arrived
+    → total old < 18446744073709000000 → Arrives (spot conn old) (spot conn new) came
+arrives conn old new came event answer is fits answers appends arrived left =
+    let counted : total new ≡ total old + 1 = ap total appends ∙ total-with event (cut_where_due old) ∙ ap (λ n. n + 1) (total-cut old) in
+    record {
+      recorded = extends conn old new came output.Arrived (rw (← is) fits) (sym arrived)
+          (ap (λ (h : History). h.state) appends ∙ ap (λ s. step s event) (state-cut old) ∙ ap (step old.state) is) counted;
+      counted = omega (arith, counted, left);
+    }
+
+pub takes-some : (conn : ConnId) (old : History) (waits overrun leaving : Bool)
+    → Some (record { waits = waits; overrun = overrun; leaving = leaving }) ≡ desk_of conn old.state.connections
+    → Takes (spot conn old) (spot conn (taken_by conn (Some (record { waits = waits; overrun = overrun; leaving = leaving })) old))
+    (given_for conn old.state (Some (record { waits = waits; overrun = overrun; leaving = leaving })))
+unfolding extends-with extends
+takes-some conn old true overrun leaving told = extends-with conn old (event.Take conn) (rw (← told) refl)
+takes-some conn old false true true told = (looks conn old, (true, sym told))
+takes-some conn old false true false told = (looks conn old, (false, sym told))
+takes-some conn old false false true told = (extends-with conn old (event.Gone conn) (has-told conn old.state.connections _ told), sym told)
+takes-some conn old false false false told = (looks conn old, sym told, refl)
+
+pub takes : (conn : ConnId) (old : History) (desk : Option DeskRow) → desk ≡ desk_of conn old.state.connections
+    → Takes (spot conn old) (spot conn (taken_by conn desk old)) (given_for conn old.state desk)
+takes conn old None told = (looks conn old, has-none conn old.state.connections told)
+takes conn old (Some desk) told = takes-some conn old desk.waits desk.overrun desk.leaving told
+
+pub leaves-some : (conn : ConnId) (old : History) (waits overrun leaving : Bool)
+    → Some (record { waits = waits; overrun = overrun; leaving = leaving }) ≡ desk_of conn old.state.connections
+    → Leaves (spot conn old) (spot conn (left_by conn (Some (record { waits = waits; overrun = overrun; leaving = leaving })) old))
+leaves-some conn old waits overrun true told = inr (looks conn old, inr (waits, overrun, sym told))
+leaves-some conn old waits overrun false told = inl (extends-with conn old (event.Leave conn) (rw (← told) refl))
+
+pub leaves : (conn : ConnId) (old : History) (desk : Option DeskRow) → desk ≡ desk_of conn old.state.connections → Leaves (spot conn old) (spot conn (left_by conn desk old))
+leaves conn old None told = inr (looks conn old, inl (has-none conn old.state.connections told))
+leaves conn old (Some desk) told = leaves-some conn old desk.waits desk.overrun desk.leaving told
+
+pub goes : (conn : ConnId) (old : History) (desk : Option DeskRow) → desk ≡ desk_of conn old.state.connections → Goes (spot conn old) (spot conn (gone_by conn desk old))
+goes conn old None told = inr (looks conn old, has-none conn old.state.connections told)
+goes conn old (Some desk) told = inl (extends-with conn old (event.Gone conn) (has-told conn old.state.connections desk told))
+
+-- a request is recorded as itself
+pub request-is : (conn : ConnId) (request : Request) (now : ℕ) (salt : List ℕ) (recorded : Event) → Records (incoming.Arrive conn request now salt) recorded
+    → recorded ≡ event.Arrive conn request now salt
+request-is conn request now salt (event.Arrive conn' request' now' salt') records = λ i. event.Arrive (records.0 i) (records.1 i) (records.2 i) (records.3 i)
+request-is conn request now salt _ records = absurd records
+
+-- what the service says of a request that it answered
+pub arrives-recorded : (conn : ConnId) (old new : History) (request : Request) (now : ℕ) (salt : List ℕ) (result : Result Output EventRefused) (answer : Output)
+    → result ≡ Ok answer → IfOk result (λ answer. IsRecorded old (incoming.Arrive conn request now salt) answer new)
+    → ((result ≡ Err refused.EventsSpent → ⊥) → 18446744073709000000 ≤ total old → ⊥)
+    → Arrives (spot conn old) (spot conn new) (event.Arrive conn request now salt)
+arrives-recorded conn old new request now salt result answer is recorded left =
+    let r : IsRecorded old (incoming.Arrive conn request now salt) answer new = rw is at recorded in
+    let not_spent : 18446744073709000000 ≤ total old → ⊥ = left (λ (spent : result ≡ Err refused.EventsSpent). let h : Ok answer ≡ Err refused.EventsSpent = sym is ∙ spent in cc) in
+    arrives conn old new (event.Arrive conn request now salt) r.event answer (request-is conn request now salt r.event r.records) r.fits r.answers r.appends refl
+    (omega (arith, not_spent))

@@ -1,0 +1,6 @@
+use Rattle.std.proofs.Common.{refl}
+use Rattle.lone_desk.proofs.DeskLemmas.{goes}
+use Rattle.lone_desk.proofs.lone.LoneDeskWriteDesk.gone.Goals as goal
+
+pub returns : goal.returns
+returns c = rw c.gone.ensures.recorded (goes c.args.self.now.conn c.args.self.now.service _ refl)

@@ -1,0 +1,6 @@
+use Rattle.std.proofs.Common.{refl}
+use Rattle.lone_desk.proofs.DeskLemmas.{takes}
+use Rattle.lone_desk.proofs.lone.LoneDeskWriteDesk.take.Goals as goal
+
+pub returns : goal.returns
+returns c = rw (c.take.ensures.given, c.take.ensures.recorded) (takes c.args.self.now.conn c.args.self.now.service _ refl)

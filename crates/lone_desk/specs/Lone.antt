@@ -1,0 +1,22 @@
+-- The desk over a service of one thread, as contracts see it.
+use Rattle.std.specs.Prelude.{true, false}
+use Rattle.service_history.specs.History.{total}
+use Rattle.service_desk.specs.Places.{Told}
+use Rattle.service_desk.specs.Views.{View, IsView}
+use Rattle.lone_desk.specs.declared.lone.LoneDesk.{LoneDesk}
+
+-- what it tells: the service's state, and how many events it has recorded; nobody else records any, no device is used, and
+-- a call that takes doesn't wait
+abbrev pub told : LoneDesk → Told
+told desk = record {
+  conn = desk.conn;
+  state = desk.service.state;
+  count = total desk.service;
+  is_alone = true;
+  is_steady = true;
+  is_waiting = false;
+}
+
+-- it may have seen any events that lead to the service's state
+abbrev pub has_seen : LoneDesk → View → Type 0
+has_seen desk view = IsView desk.service.state view

@@ -1,0 +1,99 @@
+ghost use Rattle.std.specs.Prelude.{◌≡◌, ◌≤◌, ◌+◌, IfOk, IsErrOf};
+ghost use Rattle.service_machine.specs.Step.{step, IsCrowded, Fits};
+ghost use Rattle.service_history.specs.History.{total, IsSpent};
+ghost use Rattle.service_desk.specs.Views.{IsView};
+ghost use Rattle.service_desk.specs.Places.{place, Looks, Extends};
+ghost use Rattle.service_desk.specs.Calls.{Arrives, IsRefusal, Leaves, Takes, Goes};
+
+use kr_base::ConnId;
+use secret_calls::{Refused, Request, Taken};
+use service_desk::{Desk, JoinRefused, ReadDesk, WriteDesk};
+use service_history::{EventRefused, Service};
+use service_machine::{Event, Incoming, Output};
+
+/// A connection's desk over a service that is its own.
+#[derive(Drop)]
+pub struct LoneDesk {
+    service: Service,
+    conn: ConnId,
+}
+
+impl LoneDesk {
+    /// A connection joins the service, and gets its desk.
+    ///
+    /// Refused with `EventsSpent` where all events of the run are 18,446,744,073,709,000,000 or more,
+    /// then with `TooManyConnections` where 256 connections are there or no number is left;
+    /// `OutOfMemory` may come in place of any.
+    pub fn join(service: Service) -> Result<LoneDesk, JoinRefused>
+        ensures joined { IfOk result (λ desk.
+            desk.service.state ≡ step service.state (Event.Connect desk.conn)) }
+        ensures fits { IfOk result (λ desk. Fits service.state (Event.Connect desk.conn)) }
+        ensures count { IfOk result (λ desk. total desk.service ≡ total service + 1) }
+        ensures spent { IsErrOf result JoinRefused.EventsSpent → IsSpent service }
+        ensures crowded { IsErrOf result JoinRefused.TooManyConnections
+            → IsCrowded service.state }
+    {
+        let mut service = service;
+        match service.event(Incoming::Connect) {
+            Ok(Output::Joined(conn)) => Ok(LoneDesk { service, conn }),
+            Ok(_) => unreachable!(),
+            Err(EventRefused::EventsSpent) => Err(JoinRefused::EventsSpent),
+            Err(EventRefused::NoConnection) => unreachable!(),
+            Err(EventRefused::TooManyConnections) => Err(JoinRefused::TooManyConnections),
+            Err(EventRefused::OutOfMemory) => Err(JoinRefused::OutOfMemory),
+        }
+    }
+
+    /// The service, as it stands. It takes no memory.
+    pub fn into_service(self) -> Service
+        ensures { result ≡ self.service }
+    {
+        self.service
+    }
+}
+
+impl Desk for LoneDesk {
+    ghost use Rattle.lone_desk.specs.Lone.{told, has_seen};
+
+    ghost told = { told };
+
+    ghost has_seen = { has_seen };
+
+    ghost views_lead = { λ desk view seen. seen };
+
+    fn conn(&self) -> ConnId {
+        self.conn
+    }
+}
+
+impl ReadDesk for LoneDesk {
+    fn arrive(&mut self, request: Request, now: u64, salt: [u8; 8]) -> Result<(), Refused> {
+        let event = Incoming::Arrive {
+            conn: self.conn,
+            request,
+            now,
+            salt,
+        };
+        match self.service.event(event) {
+            Ok(_) => Ok(()),
+            Err(EventRefused::EventsSpent) => Err(Refused::EventsSpent),
+            Err(EventRefused::NoConnection) => Err(Refused::Gone),
+            Err(EventRefused::TooManyConnections) => unreachable!(),
+            Err(EventRefused::OutOfMemory) => Err(Refused::OutOfMemory),
+        }
+    }
+
+    fn leave(&mut self) {
+        self.service.leave(self.conn);
+    }
+}
+
+impl WriteDesk for LoneDesk {
+    fn take(&mut self) -> Taken {
+        self.service.take(self.conn)
+    }
+
+    fn gone(&mut self) {
+        self.service.gone(self.conn);
+    }
+}

@@ -1,0 +1,65 @@
+-- Where a desk stands in the service's history, and how one call of it goes on from there.
+use Rattle.std.specs.Prelude.{◌≡◌, ℕ, ◌+◌, Bool, IsTrue, List, [], length}
+use Rattle.kr_base.specs.declared.ids.ConnId.{ConnId}
+use Rattle.service_machine.specs.declared.rows.Rows.{Rows}
+use Rattle.service_machine.specs.declared.event.Event.{Event}
+use Rattle.service_machine.specs.declared.event.Output.{Output}
+use Rattle.service_machine.specs.Step.{step, output_of, Fits}
+use Rattle.service_machine.specs.Replay.{replay, Legal}
+use Rattle.service_desk.specs.Views.{View, with_others, with_own}
+
+-- what a desk tells of itself, and of the service as far as it has seen it
+pub record Told : Type 0 where
+  -- the connection whose desk it is
+  pub conn : ConnId
+  -- the service's state
+  pub state : Rows
+  -- how many events the run has had up to that state
+  pub count : ℕ
+  -- no event but those of its own calls comes into the history
+  pub is_alone : Bool
+  -- an event that one of its calls records has no fault of a device
+  pub is_steady : Bool
+  -- a call that takes waits until there is something to tell
+  pub is_waiting : Bool
+
+-- where a desk stands: what it tells, and the views of the history that it may have
+pub record Place : Type 1 where
+  pub told : Told
+  pub has_seen : View → Type 0
+
+-- the place of a desk, by the meanings of its type
+abbrev pub place : {D : Type 0} → (D → Told) → (D → View → Type 0) → D → Place
+place told has_seen desk = record { told = told desk; has_seen = has_seen desk }
+
+-- the desk is the same one, and behaves as before
+pub record IsSame (old new : Told) : Type 0 where
+  pub conn : new.conn ≡ old.conn
+  pub alone : new.is_alone ≡ old.is_alone
+  pub steady : new.is_steady ≡ old.is_steady
+  pub waiting : new.is_waiting ≡ old.is_waiting
+
+-- The desk saw events of others, and recorded none of its own.
+pub record Looks (old new : Place) : Type 0 where
+  pub between : List Event
+  pub alone : IsTrue old.told.is_alone → between ≡ []
+  pub legal : Legal old.told.state between
+  pub state : new.told.state ≡ replay old.told.state between
+  pub count : new.told.count ≡ old.told.count + length between
+  pub same : IsSame old.told new.told
+  pub views : (view : View) → old.has_seen view → new.has_seen (with_others between view)
+
+-- The desk saw events of others, and behind them recorded this event of its own, which is answered as the step from the
+-- state at its place answers it.
+pub record Extends (old new : Place) (event : Event) (answer : Output) : Type 0 where
+  pub between : List Event
+  pub alone : IsTrue old.told.is_alone → between ≡ []
+  pub legal : Legal old.told.state between
+  pub at : Rows
+  pub reached : at ≡ replay old.told.state between
+  pub fits : Fits at event
+  pub answers : answer ≡ output_of at event
+  pub state : new.told.state ≡ step at event
+  pub count : new.told.count ≡ old.told.count + length between + 1
+  pub same : IsSame old.told new.told
+  pub views : (view : View) → old.has_seen view → new.has_seen (with_own event (with_others between view))

@@ -1,0 +1,24 @@
+ghost use Rattle.std.specs.Prelude.{◌≡◌};
+ghost use Rattle.service_desk.specs.Views.{View, IsView};
+ghost use Rattle.service_desk.specs.Places.{Told};
+
+use kr_base::ConnId;
+
+/// Where a connection meets the service.
+pub trait Desk {
+    /// What the desk tells: its connection, the service as far as the desk has seen it, and how the
+    /// desk behaves.
+    ghost told: { Self → Told };
+
+    /// The views of the service's history that the desk may have. It is a relation, since a desk need
+    /// not keep what it has seen.
+    ghost has_seen: { Self → View → Type 0 };
+
+    /// The connection whose desk it is. It takes no memory.
+    fn conn(&self) -> ConnId
+        ensures { result ≡ (told self.now).conn };
+
+    /// The events of a view are legal from its start, and lead to the state that the desk tells.
+    ghost views_lead: { (desk : Self) (view : View) → has_seen desk view
+        → IsView (told desk).state view };
+}
