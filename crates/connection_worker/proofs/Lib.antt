@@ -1,3 +1,12 @@
+mod AnswerLemmas
+mod CallLemmas
 mod HandshakeLemmas
 mod LineLemmas
+mod MessageLemmas
+mod RecordLemmas
+mod SendingLemmas
+mod ServeLemmas
+mod ServingLemmas
+mod SingleLemmas
+mod SizeLemmas
 mod StreamLemmas

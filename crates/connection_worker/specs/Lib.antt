@@ -1,4 +1,12 @@
+pub mod Answering
+pub mod Arrivals
 pub mod Handshakes
 pub mod Lines
+pub mod OneThread
 pub mod Salts
+pub mod Sending
+pub mod Serving
+pub mod ServingOn
+pub mod Single
 pub mod Streams
+pub mod Written

@@ -1,16 +1,22 @@
-//! What is done for one connection, over any source and any sink. Today it is the handshake, and the
-//! salts of the connection's requests. Callers may rely on these: what is written is what the handshake's
-//! definition answers to what was read, however that was cut; each end has its cause; and what stands
-//! behind BEGIN is handed on whole.
+//! What is done for one connection, over any source and any sink: the handshake, and behind it each call
+//! with its reply, on one thread. Callers may rely on these: what is written is what the definitions of
+//! the handshake and of the service give for what was read, however that was cut; the service's events
+//! are those of the requests in order, each with its moment and its salt; each end has its cause; and
+//! what was recorded was answered, but where the sink failed or memory ran out.
 #![tactic(auto)]
 
 mod ending;
 mod lines;
 mod opening;
+mod outs;
 mod salts;
+mod serials;
+mod serving;
+mod single;
 #[cfg(test)]
 mod tests;
 
 pub use ending::End;
 pub use opening::handshake;
 pub use salts::Salts;
+pub use single::one_thread;

@@ -1,7 +1,9 @@
-use super::{End, Salts, handshake};
+use super::{End, Salts, handshake, one_thread};
 use dbus_auth::{Auth, AuthFault};
 use kr_base::ConnId;
-use kr_memory::{MemorySink, MemorySource};
+use kr_memory::{ListedClock, MemorySink, MemorySource};
+use lone_desk::LoneDesk;
+use service_history::Service;
 use std::alloc::{AllocError, AllocGlobal, Global};
 use std::sync::Wait;
 use std::test::Fail;
@@ -161,6 +163,56 @@ fn salts_are_words_of_the_connections_stream(rt: HostRuntime) -> Result<(), Fail
             let salt = hex::encode(rt.alloc(), salts.next().as_slice())?;
             assert_eq!(rt; salt.as_str(), wanted, "{case}");
         }
+    }
+    Ok(())
+}
+
+// OpenSession with `plain`, serial 1, little-endian.
+const OPEN_SESSION: &str = "\
+6c01000115000000010000007000000001016f00180000002f6f72672f667265656465736b746f702f73656372\
+6574730000000000000000020173001e0000006f72672e667265656465736b746f702e5365637265742e536572\
+766963650000030173000b0000004f70656e53657373696f6e0000000000080167000273760005000000706c61\
+696e000173000000000000000000";
+
+// Its reply as the first output, with session 1.
+const SESSION: &str = "\
+6c02010134000000010000001000000005017500010000000801670002766f0001730000000000000000000023\
+0000002f6f72672f667265656465736b746f702f736563726574732f73657373696f6e2f733100";
+
+#[test]
+fn one_call_is_answered_on_one_thread(rt: HostRuntime) -> Result<(), Fail> {
+    let alloc = rt.alloc();
+    for is_cut in [false, true] {
+        let mut input = bytes_of(alloc, "^AUTH EXTERNAL~DATA~NEGOTIATE_UNIX_FD~BEGIN~")?;
+        let message = hex::decode(alloc, OPEN_SESSION).ok().ok_or("hex")?;
+        input.extend_from_slice(message.as_slice())?;
+        let mut wanted = answers_of(alloc, "DATA,OK,ERROR")?;
+        let reply = hex::decode(alloc, SESSION).ok().ok_or("hex")?;
+        wanted.extend_from_slice(reply.as_slice())?;
+        let mut pieces = Vec::new(alloc);
+        if is_cut {
+            for _ in 0..input.len() {
+                pieces.push(1usize)?;
+            }
+        }
+        let mut source = MemorySource::new(input, pieces, Vec::new(alloc));
+        let mut sink = MemorySink::new(alloc, Vec::new(alloc), Vec::new(alloc));
+        let mut desk = LoneDesk::join(Service::open(alloc))?;
+        let mut clock = ListedClock::new(Vec::new(alloc));
+        let mut salts = Salts::new([0; 32], ConnId(1));
+        let auth = Auth::new(1000, GUID);
+        let end = one_thread(
+            &rt,
+            auth,
+            &mut source,
+            &mut sink,
+            &mut desk,
+            &mut clock,
+            &mut salts,
+        );
+        assert_eq!(rt; end, End::Done, "cut: {is_cut}");
+        assert_eq!(rt; sink.bytes(), wanted.as_slice(), "cut: {is_cut}");
+        assert_eq!(rt; desk.into_service().events().len(), 4);
     }
     Ok(())
 }

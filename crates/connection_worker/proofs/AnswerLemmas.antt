@@ -1,0 +1,167 @@
+-- The answer to a call is short, so it waits behind the call, and nothing is lost.
+use Rattle.std.proofs.Common.{◌≡◌, ℕ, ◌+◌, ◌-◌, ◌%◌, ◌<◌, ◌≤◌, Bool, true, false, ◌||◌, nat_le, cond, min, List, [], ◌∷◌, ◌++◌, length, codes, decimal, Result, Ok, Err, refl, sym, ◌∙◌, ap, arith}
+use Rattle.std.proofs.lemmas.Bool.{leb-false, le-leb, lt-ltb}
+use Rattle.std.proofs.lemmas.Fmt.{length-decimal-le}
+use Rattle.kr_base.specs.declared.ids.ConnId.{ConnId}
+use Rattle.kr_base.specs.declared.ids.SessionId.{SessionId}
+use Rattle.secret_calls.specs.declared.call.Call.{Call}
+use Rattle.secret_calls.specs.declared.call.Call.TheVariants as call
+use Rattle.secret_calls.specs.declared.call.CallFault.{CallFault}
+use Rattle.secret_calls.specs.declared.call.Request.{Request}
+use Rattle.secret_calls.specs.declared.out.Body.{Body}
+use Rattle.secret_calls.specs.declared.out.Body.TheVariants as body
+use Rattle.secret_calls.specs.declared.out.ErrorName.{ErrorName}
+use Rattle.secret_calls.specs.declared.out.ErrorName.TheVariants as name
+use Rattle.secret_calls.specs.declared.out.Out.{Out}
+use Rattle.secret_calls.specs.declared.out.Out.TheVariants as out
+use Rattle.secret_calls.specs.Calls.{error_of}
+use Rattle.secret_calls.specs.Message.{uint32, string, field, fields_of, error, error_name, reply_serial, message}
+use Rattle.secret_calls.specs.Outs.{spelled, spelled_body, error_text, most_waiting}
+use Rattle.connection_worker.proofs.SizeLemmas.{message-length, name_field-length, two_fields-length, reply_field-length, empty_return-length, session_return-length, session_body-length}
+use Rattle.service_machine.specs.declared.rows.Rows.{Rows}
+use Rattle.service_machine.specs.declared.rows.ConnRow.{ConnRow}
+use Rattle.service_machine.specs.Connections.{is_row, size_of, size_waiting, with_out, changed, emptied, waiting_for, Sent, delivered}
+use Rattle.service_machine.specs.Plan.{Questions, Plan, Change, Open_session, Close_session, refused, answered}
+use Rattle.service_machine.specs.SessionCalls.{is_plain}
+use Rattle.service_machine.specs.Step.{asked, sessions_of, plan_of, planned, performed, performed_all, message_of, replies, step}
+use Rattle.service_machine.specs.declared.event.Event.TheVariants as event
+use Rattle.service_machine.specs.Replay.{replay}
+use Rattle.service_desk.specs.Places.{Told}
+use Rattle.session_table.specs.Sessions.{is_full, rows_of}
+use Rattle.connection_worker.specs.Single.{Asked, arrival, taking}
+use Rattle.connection_worker.specs.Serving.{IsOwed, owed, HasGiven}
+use Rattle.connection_worker.proofs.ServingLemmas.{same}
+
+-- an error's name is short
+name-short : (name : ErrorName) → length (error_text name) ≤ 100
+name-short name.NotSupported = omega arith
+name-short name.UnknownObject = omega arith
+name-short name.UnknownInterface = omega arith
+name-short name.UnknownMethod = omega arith
+name-short name.InvalidArgs = omega arith
+name-short name.LimitsExceeded = omega arith
+name-short name.NoSession = omega arith
+
+error-short : (to : ℕ) (name : ErrorName) → size_of (out.Error to name) ≤ most_waiting
+unfolding size_of
+error-short to name =
+    let first : List ℕ = field error_name (codes "s") (string (error_text name)) in
+    let second : List ℕ = field reply_serial (codes "u") (uint32 to) in
+    omega (arith, message-length error 1 (fields_of (first ∷ second ∷ [])) [], two_fields-length first second, name_field-length (error_text name), reply_field-length to, name-short name)
+
+empty-short : (to : ℕ) → size_of (out.Return to body.Empty) ≤ most_waiting
+unfolding size_of
+empty-short to = omega (arith, empty_return-length to 1)
+
+session-short : (to : ℕ) (session : SessionId) → session.0 < 18446744073709551615 → size_of (out.Return to (body.Session session)) ≤ most_waiting
+unfolding size_of
+session-short to session small =
+    omega (arith, session_return-length to 1 session, session_body-length session, length-decimal-le 20 session.0 (omega arith) (omega (arith, small)) (omega (arith, small)))
+
+-- where no limit of sessions is reached, the next number is one of 64 bits
+number-left : (many : Bool) (next : ℕ) → (many || nat_le 18446744073709551615 next) ≡ false → next < 18446744073709551615
+number-left true next none = cc
+number-left false next none = leb-false 18446744073709551615 next none
+
+opened-short : (to : ℕ) (plain : Bool) (q : Questions) → (q.is_full ≡ false → q.next_session < 18446744073709551615)
+    → size_of (message_of to (cond plain (cond q.is_full (refused name.LimitsExceeded) (answered (body.Session (record { 0 = q.next_session })) (Open_session ∷ []))) (refused name.NotSupported)).answer) ≤ most_waiting
+opened-short to false q left = error-short to name.NotSupported
+opened-short to true q left =
+    let pass : (b : Bool) → q.is_full ≡ b
+    → size_of (message_of to (cond q.is_full (refused name.LimitsExceeded) (answered (body.Session (record { 0 = q.next_session })) (Open_session ∷ []))).answer) ≤ most_waiting =
+    elim [
+      | true ↦ λ is. rw is (error-short to name.LimitsExceeded)
+      | false ↦ λ is. rw is (session-short to (record { 0 = q.next_session }) (left is))
+    ] in
+    pass q.is_full refl
+
+closed-short : (to : ℕ) (session : SessionId) (q : Questions)
+    → size_of (message_of to (cond (q.owns session) (answered body.Empty (Close_session session ∷ [])) (refused name.NoSession)).answer) ≤ most_waiting
+closed-short to session q =
+    let pass : (b : Bool) → q.owns session ≡ b → size_of (message_of to (cond (q.owns session) (answered body.Empty (Close_session session ∷ [])) (refused name.NoSession)).answer) ≤ most_waiting =
+    elim [
+      | true ↦ λ is. rw is (empty-short to)
+      | false ↦ λ is. rw is (error-short to name.NoSession)
+    ] in
+    pass (q.owns session) refl
+
+-- the answer to any call
+call-short : (conn : ConnId) (state : Rows) (to : ℕ) (call : Result Call CallFault) → size_of (message_of to (plan_of call (asked conn state)).answer) ≤ most_waiting
+call-short conn state to (Err fault) = error-short to (error_of fault)
+call-short conn state to (Ok call.Ping) = empty-short to
+call-short conn state to (Ok (call.OpenSession algorithm)) =
+    opened-short to (is_plain algorithm) (asked conn state)
+    (λ left. number-left (nat_le 64 (length (rows_of conn state.sessions))) state.next_session left)
+call-short conn state to (Ok (call.CloseSession session)) = closed-short to session (asked conn state)
+
+-- ---- what waits behind a request
+
+-- no call changes the connections
+pub performed-connections : (conn : ConnId) (changes : List Change) (state : Rows) → (performed_all conn changes state).connections ≡ state.connections
+performed-connections conn [] state = refl
+performed-connections conn (Open_session ∷ changes) state = performed-connections conn changes (performed conn Open_session state)
+performed-connections conn (Close_session session ∷ changes) state = performed-connections conn changes (performed conn (Close_session session) state)
+
+-- the row of a connection to which this is owed
+abbrev pub row_with : ConnId → List Out → ℕ → ConnRow
+row_with conn outs taken = record { conn = conn; waiting = outs; overrun = false; leaving = false; taken = taken }
+
+-- one short output is delivered
+delivered-one : (conn : ConnId) (out : Out) (taken : ℕ) → size_of out ≤ most_waiting
+    → delivered (record { to = conn; out = out } ∷ []) (row_with conn [] taken ∷ []) ≡ row_with conn (out ∷ []) taken ∷ []
+delivered-one conn out taken short = rw (same conn.0, le-leb (0 + size_of out) most_waiting (omega (arith, short))) refl
+
+-- what is delivered for a request
+abbrev pub waiting_behind : Bool → Out → List Out
+waiting_behind wanted out = cond wanted (out ∷ []) []
+
+delivered-reply : (wanted : Bool) (conn : ConnId) (out : Out) (taken : ℕ) → size_of out ≤ most_waiting
+    → delivered (cond wanted (record { to = conn; out = out } ∷ []) []) (row_with conn [] taken ∷ []) ≡ row_with conn (waiting_behind wanted out) taken ∷ []
+delivered-reply true conn out taken short = delivered-one conn out taken short
+delivered-reply false conn out taken short = refl
+
+-- what is owed to the only connection is what waits in its row
+pub owed-is : (told : Told) (outs : List Out) → IsOwed told outs → owed told ≡ outs
+owed-is told outs is = rw is.only (rw (same told.conn.0) refl)
+
+pub owed-all : (told : Told) (outs : List Out) → IsOwed told outs → IsOwed told (owed told)
+owed-all told outs is = rw (owed-is told outs is) is
+
+-- behind a request no output is lost
+pub arrived-owed : (told new : Told) (a : Asked) → IsOwed told [] → new.conn ≡ told.conn → new.state ≡ step told.state (arrival told.conn a) → IsOwed new (owed new)
+arrived-owed told new a is conn state =
+    let request = a.request in
+    let plan = planned told.conn request told.state in
+    let out = message_of request.serial plan.answer in
+    let rows : (performed_all told.conn plan.changes told.state).connections ≡ row_with told.conn [] is.taken ∷ [] =
+    performed-connections told.conn plan.changes told.state ∙ is.only in
+    let behind : new.state.connections ≡ row_with told.conn (waiting_behind request.wants_reply out) is.taken ∷ [] =
+    ap (λ (s : Rows). s.connections) state
+    ∙ ap (λ (r : List ConnRow). delivered (replies told.conn request plan) r) rows
+    ∙ delivered-reply request.wants_reply told.conn out is.taken (call-short told.conn told.state request.serial request.call) in
+    owed-all new (waiting_behind request.wants_reply out) (record {
+      taken = is.taken;
+      only = behind ∙ ap (λ c. row_with c (waiting_behind request.wants_reply out) is.taken ∷ []) (sym conn);
+    })
+
+-- behind what was given nothing is owed
+given-idle-by : (mid new : Told) (outs : List Out) → IsOwed mid outs → HasGiven mid new → IsOwed new []
+given-idle-by mid new [] is so =
+    let none : taking mid.conn mid.state ≡ [] = rw is.only (rw (same mid.conn.0) refl) in
+    let state : new.state ≡ mid.state = so.state ∙ ap (replay mid.state) none in
+    record { taken = is.taken; only = ap (λ (s : Rows). s.connections) state ∙ is.only ∙ ap (λ c. row_with c [] is.taken ∷ []) (sym so.same.conn) }
+given-idle-by mid new (out ∷ outs) is so =
+    let some : taking mid.conn mid.state ≡ event.Take mid.conn ∷ [] =
+    rw is.only (rw (same mid.conn.0) (ap (λ b. cond b (event.Take mid.conn ∷ []) []) (lt-ltb 0 (length (out ∷ outs)) (omega arith)))) in
+    let state : new.state ≡ step mid.state (event.Take mid.conn) = so.state ∙ ap (replay mid.state) some in
+    let rows : new.state.connections ≡ changed mid.conn emptied (row_with mid.conn (out ∷ outs) is.taken ∷ []) =
+    ap (λ (s : Rows). s.connections) state ∙ ap (changed mid.conn emptied) is.only in
+    let row : changed mid.conn emptied (row_with mid.conn (out ∷ outs) is.taken ∷ []) ≡ row_with mid.conn [] (min (is.taken + length (out ∷ outs)) 18446744073709551615) ∷ [] =
+    rw (same mid.conn.0) refl in
+    record {
+      taken = min (is.taken + length (out ∷ outs)) 18446744073709551615;
+      only = rows ∙ row ∙ ap (λ c. row_with c [] (min (is.taken + length (out ∷ outs)) 18446744073709551615) ∷ []) (sym so.same.conn);
+    }
+
+pub given-idle : (mid new : Told) → IsOwed mid (owed mid) → HasGiven mid new → IsOwed new []
+given-idle mid new is so = given-idle-by mid new (owed mid) is so

@@ -1,0 +1,205 @@
+-- The calls among the messages of a framer, one after the other.
+use Rattle.std.proofs.Common.{◌≡◌, ℕ, ◌+◌, ◌≤◌, ◌==◌, Bool, true, false, cond, List, [], ◌∷◌, ◌++◌, length, map, filter, Result, Ok, Err, refl, sym, ◌∙◌, ap, arith, subst, append-nil, length-append}
+use Rattle.std.proofs.lemmas.Bool.Decides.{nat_tests}
+use Rattle.std.proofs.lemmas.List.{map-append}
+use Rattle.std.proofs.lemmas.List.Elements.{filter-append}
+use Rattle.kr_outside.specs.Faults.{Rose}
+use Rattle.secret_calls.specs.declared.call.Request.{Request}
+use Rattle.secret_calls.specs.declared.out.Out.{Out}
+use Rattle.service_machine.specs.declared.rows.Rows.{Rows}
+use Rattle.service_machine.specs.Replay.{replay}
+use Rattle.dbus_framing.specs.declared.violation.Violation.{Violation}
+use Rattle.dbus_framing.specs.Framers.{Framing}
+use Rattle.dbus_framing.specs.Messages.{Parts}
+use Rattle.dbus_framing.specs.Streams.{Cut, Stream, Breaks}
+use Rattle.dbus_framing.proofs.Cuts.{cut_none, cut_then, stream_then}
+use Rattle.call_wire.specs.CallOf.{CallOf}
+use Rattle.connection_worker.specs.declared.ending.End.{End}
+use Rattle.connection_worker.specs.declared.ending.End.TheVariants as end
+use Rattle.connection_worker.specs.Arrivals.{calls_in, AreRequests, FirstRequests}
+use Rattle.connection_worker.specs.Streams.{Output, Gave, GaveFront}
+use Rattle.connection_worker.specs.Sending.{AreBehind}
+use Rattle.connection_worker.specs.Single.{Asked, requests_of, turns}
+use Rattle.connection_worker.specs.Written.{given_by, spelled_behind, written}
+use Rattle.connection_worker.specs.Serving.{World, IsOwed, Recorded, EndsEarly}
+use Rattle.connection_worker.specs.Answering.{IsOne, Answered, Broke, AnswersCall, AnswersMessage, Going, AnswersEarly, AnswersAll}
+use Rattle.connection_worker.proofs.HandshakeLemmas.{rose-later}
+use Rattle.connection_worker.proofs.RecordLemmas.{recorded-none, recorded-more, turns-append, given_by-append}
+use Rattle.connection_worker.proofs.SendingLemmas.{spelled_behind-append}
+use Rattle.connection_worker.proofs.StreamLemmas.{Gave-none, Gave-trans, GaveFront-whole, GaveFront-behind}
+
+-- ---- requests that were answered one after the other
+
+-- what requests give, one behind the other
+pub given-more : (old mid : World) (asked more : List Asked) → Recorded old mid asked []
+    → given_by old.told.conn old.told.state (turns old.told.conn old.told.state (asked ++ more))
+    ≡ given_by old.told.conn old.told.state (turns old.told.conn old.told.state asked) ++ given_by mid.told.conn mid.told.state (turns mid.told.conn mid.told.state more)
+given-more old mid asked more so =
+    let conn = old.told.conn in
+    let first = turns conn old.told.state asked in
+    ap (given_by conn old.told.state) (turns-append conn old.told.state asked more) ∙ given_by-append conn old.told.state first (turns conn (replay old.told.state first) more)
+    ∙ ap (λ s. given_by conn old.told.state first ++ given_by conn s (turns conn s more)) (sym so.state)
+    ∙ ap (λ c. given_by conn old.told.state first ++ given_by c mid.told.state (turns c mid.told.state more)) (sym so.same.conn)
+
+pub answered-none : (w : World) (serials : ℕ) (o : Output) → IsOwed w.told [] → Answered w w serials serials o o []
+answered-none w serials o idle = record {
+  recorded = recorded-none w;
+  idle = idle;
+  wrote = λ taken are. (Gave-none o, omega (arith, are));
+}
+
+pub answered-more : (old mid new : World) (serials next behind : ℕ) (from o to : Output) (asked more : List Asked)
+    → Answered old mid serials next from o asked → Answered mid new next behind o to more → Answered old new serials behind from to (asked ++ more)
+answered-more old mid new serials next behind from o to asked more p q =
+    let one = given_by old.told.conn old.told.state (turns old.told.conn old.told.state asked) in
+    let two = given_by mid.told.conn mid.told.state (turns mid.told.conn mid.told.state more) in
+    let e = given-more old mid asked more p.recorded in
+    record {
+      recorded = recorded-more old mid new asked more [] p.recorded q.recorded;
+      idle = q.idle;
+      wrote = λ taken are.
+          let first = p.wrote taken are in
+          let second = q.wrote (taken + length one) first.1 in (
+            rw (e, spelled_behind-append taken one two) (Gave-trans from o to (spelled_behind taken one) (spelled_behind (taken + length one) two) first.0 second.0),
+            rw (e, length-append one two) (omega (arith, second.1)),
+          );
+    }
+
+-- an early end behind what was written
+ends-behind : (why : End) (count : ℕ) (from o to : Output) (x y : List ℕ) → Gave from o x → EndsEarly why count o to y → EndsEarly why count from to (x ++ y)
+ends-behind end.EventsSpent count from o to x y gave ends = (ends.0, Gave-trans from o to x y gave ends.1)
+ends-behind end.WriteFault count from o to x y gave ends = (rose-later from.faults o.faults to.faults gave.later ends.0, GaveFront-behind from o to x y gave ends.1)
+ends-behind end.Memory count from o to x y gave ends = GaveFront-behind from o to x y gave ends
+ends-behind _ count from o to x y gave ends = absurd ends
+
+pub broke-more : (old mid new : World) (serials next : ℕ) (from o to : Output) (asked more : List Asked) (why : End)
+    → Answered old mid serials next from o asked → Broke mid new next o to more why → Broke old new serials from to (asked ++ more) why
+broke-more old mid new serials next from o to asked more why p q =
+    let one = given_by old.told.conn old.told.state (turns old.told.conn old.told.state asked) in
+    let two = given_by mid.told.conn mid.told.state (turns mid.told.conn mid.told.state more) in
+    let e = given-more old mid asked more p.recorded in
+    record {
+      early = q.early;
+      refused = q.refused;
+      recorded = recorded-more old mid new asked more q.refused p.recorded q.recorded;
+      idle = q.idle;
+      wrote = λ taken are.
+          let first = p.wrote taken are in
+          rw (e, spelled_behind-append taken one two)
+          (ends-behind why new.told.count from o to (spelled_behind taken one) (spelled_behind (taken + length one) two) first.0 (q.wrote (taken + length one) first.1));
+    }
+
+pub broke-memory : (old new : World) (serials behind : ℕ) (from to : Output) (asked : List Asked) → Answered old new serials behind from to asked → Broke old new serials from to asked end.Memory
+broke-memory old new serials behind from to asked p = record {
+  early = tt;
+  refused = [];
+  recorded = p.recorded;
+  idle = p.idle;
+  wrote = λ taken are. GaveFront-whole from to (written old.told.conn taken old.told.state (turns old.told.conn old.told.state asked)) (p.wrote taken are).0;
+}
+
+-- ---- messages
+
+pub are-append : (one : List Parts) (asked : List Request) (two : List Parts) (more : List Request) → AreRequests one asked → AreRequests two more → AreRequests (one ++ two) (asked ++ more)
+are-append [] [] two more are then = then
+are-append (parts ∷ one) (request ∷ asked) two more are then = (are.0, are-append one asked two more are.1 then)
+are-append [] (request ∷ asked) two more are then = absurd are
+are-append (parts ∷ one) [] two more are then = absurd are
+
+-- ---- one message
+
+-- it isn't a call
+pub answers-other : (parts : Parts) (w : World) (serials : ℕ) (o : Output) → IsOwed w.told [] → (parts.kind == 1) ≡ false → AnswersMessage parts w w serials serials o o (Ok tt)
+answers-other parts w serials o idle isnt = ([], rw isnt tt, answered-none w serials o idle)
+
+-- it is
+pub answers-call : (parts : Parts) (old new : World) (serials behind : ℕ) (from to : Output) (result : Result Unit End) → (parts.kind == 1) ≡ true
+    → AnswersCall parts old new serials behind from to result → AnswersMessage parts old new serials behind from to result
+answers-call parts old new serials behind from to (Ok done) is answers = (answers.0 ∷ [], rw is (answers.1, tt), answers.2)
+answers-call parts old new serials behind from to (Err why) is answers = (answers.0, is, answers.1, answers.2)
+
+pub going-none : (most : ℕ) (bytes : List ℕ) (w : World) (serials : ℕ) (o : Output) → IsOwed w.told [] → Going most bytes bytes w w serials serials o o
+going-none most bytes w serials o idle = record { asked = []; messages = []; cut = cut_none most bytes; are = tt; answered = answered-none w serials o idle }
+
+-- one more message was served
+pub going-on : (most : ℕ) (bytes rest left : List ℕ) (old mid new : World) (serials next behind : ℕ) (from o to : Output) (parts : Parts)
+    → Going most bytes rest old mid serials next from o → Cut most rest (parts ∷ []) left → AnswersMessage parts mid new next behind o to (Ok tt)
+    → Going most bytes left old new serials behind from to
+going-on most bytes rest left old mid new serials next behind from o to parts so cut answers = record {
+  asked = so.asked ++ answers.0;
+  messages = so.messages ++ parts ∷ [];
+  cut = cut_then most bytes rest left so.messages (parts ∷ []) so.cut cut;
+  are =
+      rw (filter-append (λ (p : Parts). p.kind == 1) so.messages (parts ∷ []), map-append (λ (b : Asked). b.request) so.asked answers.0)
+      (are-append (calls_in so.messages) (requests_of so.asked) (calls_in (parts ∷ [])) (requests_of answers.0) so.are answers.1);
+  answered = answered-more old mid new serials next behind from o to so.asked answers.0 so.answered answers.2;
+}
+
+-- the requests so far are the first of the bytes
+pub first-so : (most : ℕ) (bytes rest : List ℕ) (old mid : World) (serials next : ℕ) (from o : Output) → (so : Going most bytes rest old mid serials next from o) → FirstRequests most bytes (requests_of so.asked)
+first-so most bytes rest old mid serials next from o so = record {
+  messages = so.messages;
+  rest = rest;
+  cut = so.cut;
+  more = [];
+  are = rw (append-nil (requests_of so.asked)) so.are;
+}
+
+-- a call at which the serving ended early
+pub broke-call : (most : ℕ) (bytes rest left : List ℕ) (old mid new : World) (serials next : ℕ) (from o to : Output) (parts : Parts) (asked : List Asked) (why : End)
+    → (so : Going most bytes rest old mid serials next from o) → Cut most rest (parts ∷ []) left → (parts.kind == 1) ≡ true → IsOne parts asked → Broke mid new next o to asked why
+    → FirstRequests most bytes (requests_of (so.asked ++ asked)) × Broke old new serials from to (so.asked ++ asked) why
+broke-call most bytes rest left old mid new serials next from o to parts [] why so cut is one broke = (
+  let e : so.asked ++ [] ≡ so.asked = append-nil so.asked in rw e (first-so most bytes rest old mid serials next from o so),
+  broke-more old mid new serials next from o to so.asked [] why so.answered broke,
+)
+broke-call most bytes rest left old mid new serials next from o to parts (a ∷ []) why so cut is one broke = (
+  record {
+    messages = so.messages ++ parts ∷ [];
+    rest = left;
+    cut = cut_then most bytes rest left so.messages (parts ∷ []) so.cut cut;
+    more = [];
+    are =
+        rw (append-nil (requests_of (so.asked ++ a ∷ [])), filter-append (λ (p : Parts). p.kind == 1) so.messages (parts ∷ []), map-append (λ (b : Asked). b.request) so.asked (a ∷ []))
+        (are-append (calls_in so.messages) (requests_of so.asked) (calls_in (parts ∷ [])) (a.request ∷ []) so.are (rw is (one, tt)));
+  },
+  broke-more old mid new serials next from o to so.asked (a ∷ []) why so.answered broke,
+)
+broke-call most bytes rest left old mid new serials next from o to parts (a ∷ b ∷ more) why so cut is one broke = absurd one
+
+-- the stream of all the bytes
+pub all-stream : (most : ℕ) (bytes rest left : List ℕ) (messages : List Parts) → Cut most bytes messages rest → Stream most rest [] left → Stream most bytes messages left
+all-stream most bytes rest left messages cut stream =
+    let e : messages ++ [] ≡ messages = append-nil messages in
+    rw (sym e) (stream_then most bytes rest left messages [] cut stream)
+
+-- no further message stands whole
+pub going-last : (most : ℕ) (bytes rest left : List ℕ) (old mid : World) (serials next : ℕ) (from o : Output) → (so : Going most bytes rest old mid serials next from o)
+    → Stream most rest [] left → (going : Going most bytes left old mid serials next from o) × Stream most bytes going.messages left
+going-last most bytes rest left old mid serials next from o so stream =
+    let whole = all-stream most bytes rest left so.messages so.cut stream in
+    (record { asked = so.asked; messages = so.messages; cut = whole.cut; are = so.are; answered = so.answered }, whole)
+
+-- a message at which the serving ended early
+pub broke-message : (most : ℕ) (bytes rest left : List ℕ) (old mid new : World) (serials next behind : ℕ) (from o to : Output) (parts : Parts) (why : End) (has : Framing)
+    → has.most ≡ most → has.rest ≡ bytes → Going most bytes rest old mid serials next from o → Cut most rest (parts ∷ []) left → AnswersMessage parts mid new next behind o to (Err why)
+    → AnswersEarly has old new serials from to why
+broke-message most bytes rest left old mid new serials next behind from o to parts why has is_most is_bytes so cut answers =
+    let both = broke-call most bytes rest left old mid new serials next from o to parts answers.0 why so cut answers.1 answers.2 answers.3 in
+    (so.asked ++ answers.0, rw (is_most, is_bytes) both.0, both.1)
+
+-- an early end is one of these
+pub early : (has remaining : Framing) (old new : World) (serials behind : ℕ) (from to : Output) (why : End) → AnswersEarly has old new serials from to why
+    → AnswersAll has remaining old new serials behind from to (Err why)
+early has remaining old new serials behind from to end.EventsSpent so = so
+early has remaining old new serials behind from to end.WriteFault so = so
+early has remaining old new serials behind from to end.Memory so = so
+early has remaining old new serials behind from to (end.Violation cause) so = absurd so.2.early
+early has remaining old new serials behind from to _ so = so
+
+-- a number that is 1, and one that isn't
+pub is-one : (n : ℕ) → n ≡ 1 → (n == 1) ≡ true
+is-one n is = rw is refl
+
+pub is-not : (n : ℕ) → (n ≡ 1 → ⊥) → (n == 1) ≡ false
+is-not n isnt = grind (arith, nat_tests, isnt)

@@ -1,0 +1,41 @@
+use Rattle.std.proofs.Common.{refl}
+use Rattle.service_desk.specs.Places.{place}
+use Rattle.connection_worker.proofs.ServingLemmas.{has-arrived, has-asked, spent-before}
+use Rattle.connection_worker.proofs.serving.ask.Goals as goal
+
+-- the request was recorded
+pub returns-in-Ok : goal.returns-in-Ok
+returns-in-Ok g c =
+    let desk = g.D.Desk in
+    let old = place desk.told desk.has_seen c.args.desk.now in
+    let new = place desk.told desk.has_seen c.arrive.new.self in (
+      record { request = c.args.request; now = c.now-now.result; salt = c.next.result },
+      refl,
+      has-arrived old new _ _ _ c.next.new.self _ c.requires.alone c.in-Ok.ensures.recorded c.now-now.ensures.first c.next.ensures.salt
+          (λ i. record { key = c.next.ensures.key i; stream = c.next.ensures.stream i; place = c.next.ensures.place i }),
+    )
+
+-- all events that can be counted were
+pub returns-in-Err-EventsSpent : goal.returns-in-Err-EventsSpent
+returns-in-Err-EventsSpent g c =
+    let desk = g.D.Desk in
+    let old = place desk.told desk.has_seen c.args.desk.now in
+    let new = place desk.told desk.has_seen c.arrive.new.self in (
+      record { request = c.args.request; now = c.now-now.result; salt = c.next.result },
+      refl,
+      has-asked old new _ _ _ c.next.new.self _ c.requires.alone c.in-Err-EventsSpent.ensures.looked c.now-now.ensures.first c.next.ensures.salt
+          (λ i. record { key = c.next.ensures.key i; stream = c.next.ensures.stream i; place = c.next.ensures.place i }),
+      spent-before old new c.requires.alone c.in-Err-EventsSpent.ensures.looked (rw c.in-Err-EventsSpent.field-0-is at c.in-Err-EventsSpent.ensures.cause),
+    )
+
+-- there was no memory for it
+pub returns-in-Err-OutOfMemory : goal.returns-in-Err-OutOfMemory
+returns-in-Err-OutOfMemory g c =
+    let desk = g.D.Desk in
+    let old = place desk.told desk.has_seen c.args.desk.now in
+    let new = place desk.told desk.has_seen c.arrive.new.self in (
+      record { request = c.args.request; now = c.now-now.result; salt = c.next.result },
+      refl,
+      has-asked old new _ _ _ c.next.new.self _ c.requires.alone c.in-Err-OutOfMemory.ensures.looked c.now-now.ensures.first c.next.ensures.salt
+          (λ i. record { key = c.next.ensures.key i; stream = c.next.ensures.stream i; place = c.next.ensures.place i }),
+    )

@@ -1,0 +1,1 @@
+use Rattle.connection_worker.proofs.serving.give.Goals as goal

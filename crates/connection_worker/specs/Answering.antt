@@ -1,0 +1,78 @@
+-- One method call that is served, and those of a framer.
+use Rattle.std.specs.Prelude.{◌≡◌, ℕ, ◌+◌, ◌==◌, true, List, [], ◌∷◌, ◌++◌, length, Result, Ok, Err}
+use Rattle.dbus_framing.specs.Framers.{Framing}
+use Rattle.dbus_framing.specs.Messages.{Parts}
+use Rattle.dbus_framing.specs.Streams.{Cut, Stream, Breaks}
+use Rattle.call_wire.specs.CallOf.{CallOf}
+use Rattle.connection_worker.specs.declared.ending.End.{End}
+use Rattle.connection_worker.specs.declared.ending.End.TheVariants as end
+use Rattle.connection_worker.specs.Arrivals.{calls_in, AreRequests, FirstRequests}
+use Rattle.connection_worker.specs.Sending.{AreBehind}
+use Rattle.connection_worker.specs.Serving.{World, IsOwed, Recorded, EndsEarly}
+use Rattle.connection_worker.specs.Single.{Asked, requests_of, turns}
+use Rattle.connection_worker.specs.Streams.{Output, Gave}
+use Rattle.connection_worker.specs.Written.{given_by, written}
+
+-- the request of this message, or none
+abbrev pub IsOne : Parts → List Asked → Type 0
+IsOne parts [] = Unit {0}
+IsOne parts (asked ∷ []) = CallOf parts asked.request
+IsOne parts (asked ∷ other ∷ more) = ⊥
+
+-- These requests were recorded, and all that they gave was written.
+pub record Answered (old new : World) (serials behind : ℕ) (from to : Output) (asked : List Asked) : Type 0 where
+  pub recorded : Recorded old new asked []
+  pub idle : IsOwed new.told []
+  pub wrote : (taken : ℕ) → AreBehind taken serials
+      → Gave from to (written old.told.conn taken old.told.state (turns old.told.conn old.told.state asked))
+      × AreBehind (taken + length (given_by old.told.conn old.told.state (turns old.told.conn old.told.state asked))) behind
+
+-- the ends at which requests that stand whole may be left
+abbrev pub IsEarly : End → Type 0
+IsEarly end.EventsSpent = Unit {0}
+IsEarly end.WriteFault = Unit {0}
+IsEarly end.Memory = Unit {0}
+IsEarly _ = ⊥
+
+-- These requests were recorded, and then the serving ended early.
+pub record Broke (old new : World) (serials : ℕ) (from to : Output) (asked : List Asked) (why : End) : Type 0 where
+  pub early : IsEarly why
+  pub refused : List Asked
+  pub recorded : Recorded old new asked refused
+  pub idle : IsOwed new.told []
+  pub wrote : (taken : ℕ) → AreBehind taken serials
+      → EndsEarly why new.told.count from to (written old.told.conn taken old.told.state (turns old.told.conn old.told.state asked))
+
+-- the call was answered, or the serving ended early
+abbrev pub AnswersCall : Parts → World → World → ℕ → ℕ → Output → Output → Result Unit End → Type 0
+AnswersCall parts old new serials behind from to (Ok done) = (asked : Asked) × CallOf parts asked.request × Answered old new serials behind from to (asked ∷ [])
+AnswersCall parts old new serials behind from to (Err why) = (asked : List Asked) × IsOne parts asked × Broke old new serials from to asked why
+
+-- a message was served, which gives the requests of the calls in it; or the serving ended early at a call
+abbrev pub AnswersMessage : Parts → World → World → ℕ → ℕ → Output → Output → Result Unit End → Type 0
+AnswersMessage parts old new serials behind from to (Ok done) =
+    (asked : List Asked) × AreRequests (calls_in (parts ∷ [])) (requests_of asked) × Answered old new serials behind from to asked
+AnswersMessage parts old new serials behind from to (Err why) =
+    (asked : List Asked) × ((parts.kind == 1) ≡ true) × IsOne parts asked × Broke old new serials from to asked why
+
+-- So far: a front of the bytes is messages, whose requests were recorded and answered; this rest is left.
+pub record Going (most : ℕ) (bytes rest : List ℕ) (old new : World) (serials behind : ℕ) (from to : Output) : Type 0 where
+  pub asked : List Asked
+  pub messages : List Parts
+  pub cut : Cut most bytes messages rest
+  pub are : AreRequests (calls_in messages) (requests_of asked)
+  pub answered : Answered old new serials behind from to asked
+
+-- the serving ended early, behind the first requests
+abbrev pub AnswersEarly : Framing → World → World → ℕ → Output → Output → End → Type 0
+AnswersEarly has old new serials from to why =
+    (asked : List Asked) × FirstRequests has.most has.rest (requests_of asked) × Broke old new serials from to asked why
+
+-- The messages that stand whole were served, and no more stands whole; or behind them a violation shows; or the serving ended
+-- early.
+abbrev pub AnswersAll : Framing → Framing → World → World → ℕ → ℕ → Output → Output → Result Unit End → Type 0
+AnswersAll has left old new serials behind from to (Ok done) =
+    (going : Going has.most has.rest left.rest old new serials behind from to) × Stream has.most has.rest going.messages left.rest × (left.most ≡ has.most)
+AnswersAll has left old new serials behind from to (Err (end.Violation cause)) =
+    (going : Going has.most has.rest left.rest old new serials behind from to) × Stream has.most has.rest going.messages left.rest × Breaks has.most left.rest cause
+AnswersAll has left old new serials behind from to (Err why) = AnswersEarly has old new serials from to why

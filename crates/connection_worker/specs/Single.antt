@@ -1,0 +1,45 @@
+-- The events of one connection whose requests are served on one thread.
+use Rattle.std.specs.Prelude.{ℕ, Bool, nat_lt, if◌then◌else◌, List, [], ◌∷◌, ◌++◌, length, map}
+use Rattle.kr_base.specs.declared.ids.ConnId.{ConnId}
+use Rattle.secret_calls.specs.declared.call.Request.{Request}
+use Rattle.service_machine.specs.declared.rows.Rows.{Rows}
+use Rattle.service_machine.specs.declared.event.Event.{Event}
+use Rattle.service_machine.specs.declared.event.Event.TheVariants as event
+use Rattle.service_machine.specs.Connections.{waiting_for}
+use Rattle.service_machine.specs.Step.{step}
+use Rattle.service_machine.specs.Replay.{replay}
+
+-- a request as it is recorded: with the moment at which it came, and its salt
+pub record Asked : Type 0 where
+  pub request : Request
+  pub now : ℕ
+  pub salt : List ℕ
+
+-- the requests alone
+abbrev pub requests_of : List Asked → List Request
+requests_of asked = map (λ (a : Asked). a.request) asked
+
+-- the event of a request
+abbrev pub arrival : ConnId → Asked → Event
+arrival conn asked = event.Arrive conn asked.request asked.now asked.salt
+
+-- whether something waits for the connection
+abbrev pub is_owed : ConnId → Rows → Bool
+is_owed conn state = nat_lt 0 (length (waiting_for conn state.connections))
+
+-- what waits for the connection is taken, where anything does
+abbrev pub taking : ConnId → Rows → List Event
+taking conn state = if is_owed conn state then event.Take conn ∷ [] else []
+
+-- a request arrives, and then what waits is taken
+abbrev pub turn : ConnId → Rows → Asked → List Event
+turn conn state asked = arrival conn asked ∷ taking conn (step state (arrival conn asked))
+
+-- requests one after the other
+abbrev pub turns : ConnId → Rows → List Asked → List Event
+turns conn state [] = []
+turns conn state (asked ∷ more) = turn conn state asked ++ turns conn (replay state (turn conn state asked)) more
+
+-- all events of the connection behind its Connect: its requests, and at last it is gone
+abbrev pub single : ConnId → Rows → List Asked → List Event
+single conn state asked = turns conn state asked ++ event.Gone conn ∷ []

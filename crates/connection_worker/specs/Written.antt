@@ -1,0 +1,36 @@
+-- What is written of the outputs that a connection takes.
+use Rattle.std.specs.Prelude.{ℕ, ◌+◌, ◌%◌, ◌==◌, if◌then◌else◌, List, [], ◌∷◌, ◌++◌}
+use Rattle.kr_base.specs.declared.ids.ConnId.{ConnId}
+use Rattle.secret_calls.specs.declared.out.Out.{Out}
+use Rattle.secret_calls.specs.Outs.{spelled}
+use Rattle.service_machine.specs.declared.rows.Rows.{Rows}
+use Rattle.service_machine.specs.declared.event.Event.{Event}
+use Rattle.service_machine.specs.declared.event.Event.TheVariants as event
+use Rattle.service_machine.specs.Connections.{waiting_for}
+use Rattle.service_machine.specs.Step.{step}
+
+-- what an event gives to the connection
+abbrev pub given : ConnId → Rows → Event → List Out
+given conn state (event.Take other) = if other.0 == conn.0 then waiting_for conn state.connections else []
+given conn state (event.Connect other) = []
+given conn state (event.Arrive other request now salt) = []
+given conn state (event.Leave other) = []
+given conn state (event.Gone other) = []
+
+-- what events give to it, in order
+abbrev pub given_by : ConnId → Rows → List Event → List Out
+given_by conn state [] = []
+given_by conn state (event ∷ events) = given conn state event ++ given_by conn (step state event) events
+
+-- the serial of an output behind so many: 1, 2 and so on up to the last number, then 1 again
+abbrev pub serial_behind : ℕ → ℕ
+serial_behind taken = taken % 4294967295 + 1
+
+-- outputs as they are written, behind so many
+abbrev pub spelled_behind : ℕ → List Out → List ℕ
+spelled_behind taken [] = []
+spelled_behind taken (out ∷ outs) = spelled out (serial_behind taken) ++ spelled_behind (taken + 1) outs
+
+-- all that is written of what events give to the connection, whose outputs before were so many
+abbrev pub written : ConnId → ℕ → Rows → List Event → List ℕ
+written conn taken state events = spelled_behind taken (given_by conn state events)

@@ -1,0 +1,243 @@
+// Requests that are served on one thread.
+ghost use Rattle.std.specs.Prelude.{◌≡◌, ◌<◌, IsTrue, [], length};
+ghost use Rattle.connection_worker.specs.Serving.{world, owed, IsOwed, Asks, Gives};
+ghost use Rattle.connection_worker.specs.Answering.{AnswersCall, AnswersMessage, AnswersAll};
+ghost use Rattle.connection_worker.specs.Streams.{input_of, output_of};
+ghost use Rattle.connection_worker.specs.ServingOn.{FeedsMore, ServesOn};
+ghost use Rattle.dbus_framing.specs.Messages.{parts_of};
+
+use crate::ending::End;
+use crate::outs::send;
+use crate::salts::Salts;
+use crate::serials::Serials;
+use call_wire::call_of;
+use dbus_framing::{FrameRefused, Framer, Violation};
+use dbus_types::Message;
+use kr_outside::{Clock, Failed, Sink, Source};
+use secret_calls::{Refused, Request, Taken};
+use service_desk::{ReadDesk, WriteDesk};
+use std::alloc::{AllocGlobal, Global};
+use std::sync::Wait;
+
+/// How many bytes are read at a time, at most.
+const PIECE: usize = 65_536;
+
+// Asks the clock, takes a salt, and has the request recorded.
+fn ask<D: ReadDesk, C: Clock>(
+    request: Request,
+    desk: &mut D,
+    clock: &mut C,
+    salts: &mut Salts,
+) -> Result<(), End>
+    requires alone { IsTrue (D.told desk.old).is_alone }
+    requires idle { IsOwed (D.told desk.old) [] }
+    ensures { Asks request (world D.told C.coming desk.old clock.old salts.old)
+        (world D.told C.coming desk.new clock.new salts.new) result }
+{
+    let now = clock.now();
+    match desk.arrive(request, now, salts.next()) {
+        Ok(()) => Ok(()),
+        Err(Refused::EventsSpent) => Err(End::EventsSpent),
+        Err(Refused::Gone) => Err(End::OtherEnded),
+        Err(Refused::OutOfMemory) => Err(End::Memory),
+    }
+}
+
+// Takes what is owed, and writes it.
+fn give<O: Sink, D: WriteDesk>(
+    alloc: Global,
+    output: &mut O,
+    desk: &mut D,
+    serials: &mut Serials,
+) -> Result<(), End>
+    requires alone { IsTrue (D.told desk.old).is_alone }
+    requires owed { IsOwed (D.told desk.old) (owed (D.told desk.old)) }
+    ensures { Gives (D.told desk.old) (D.told desk.new) serials.old serials.new
+        (output_of O.written O.faults O.is_steady output.old)
+        (output_of O.written O.faults O.is_steady output.new) result }
+{
+    match desk.take() {
+        Taken::Outs(outs) => send(alloc, outs.as_slice(), serials, output),
+        Taken::Empty => Ok(()),
+        Taken::Overrun => Err(End::Overrun),
+        Taken::Closed | Taken::Missing => Err(End::OtherEnded),
+    }
+}
+
+// Serves one method call.
+fn answer_call<O: Sink, D: ReadDesk + WriteDesk, C: Clock>(
+    alloc: Global,
+    message: &Message,
+    output: &mut O,
+    desk: &mut D,
+    clock: &mut C,
+    salts: &mut Salts,
+    serials: &mut Serials,
+) -> Result<(), End>
+    requires call { message.now.kind ≡ 1 }
+    requires alone { IsTrue (D.told desk.old).is_alone }
+    requires idle { IsOwed (D.told desk.old) [] }
+    ensures { AnswersCall (parts_of message.now)
+        (world D.told C.coming desk.old clock.old salts.old)
+        (world D.told C.coming desk.new clock.new salts.new)
+        serials.old serials.new
+        (output_of O.written O.faults O.is_steady output.old)
+        (output_of O.written O.faults O.is_steady output.new) result }
+{
+    let Ok(request) = call_of(alloc, message) else {
+        return Err(End::Memory);
+    };
+    if let Err(end) = ask(request, desk, clock, salts) {
+        return Err(end);
+    }
+    give(alloc, output, desk, serials)
+}
+
+// Serves one message: a method call is answered, and any other message needs nothing.
+fn answer_message<O: Sink, D: ReadDesk + WriteDesk, C: Clock>(
+    alloc: Global,
+    message: &Message,
+    output: &mut O,
+    desk: &mut D,
+    clock: &mut C,
+    salts: &mut Salts,
+    serials: &mut Serials,
+) -> Result<(), End>
+    requires alone { IsTrue (D.told desk.old).is_alone }
+    requires idle { IsOwed (D.told desk.old) [] }
+    ensures { AnswersMessage (parts_of message.now)
+        (world D.told C.coming desk.old clock.old salts.old)
+        (world D.told C.coming desk.new clock.new salts.new)
+        serials.old serials.new
+        (output_of O.written O.faults O.is_steady output.old)
+        (output_of O.written O.faults O.is_steady output.new) result }
+{
+    if message.kind != 1 {
+        return Ok(());
+    }
+    answer_call(alloc, message, output, desk, clock, salts, serials)
+}
+
+// Serves the calls among the messages that stand whole.
+fn answer_messages<R: AllocGlobal + Wait, O: Sink, D: ReadDesk + WriteDesk, C: Clock>(
+    rt: &R,
+    framer: &mut Framer,
+    output: &mut O,
+    desk: &mut D,
+    clock: &mut C,
+    salts: &mut Salts,
+    serials: &mut Serials,
+) -> Result<(), End>
+    requires alone { IsTrue (D.told desk.old).is_alone }
+    requires idle { IsOwed (D.told desk.old) [] }
+    ensures { AnswersAll framer.old framer.new
+        (world D.told C.coming desk.old clock.old salts.old)
+        (world D.told C.coming desk.new clock.new salts.new)
+        serials.old serials.new
+        (output_of O.written O.faults O.is_steady output.old)
+        (output_of O.written O.faults O.is_steady output.new) result }
+{
+    for _ in rt.forever() {
+        let message = match framer.next() {
+            Ok(Some(message)) => message,
+            Ok(None) => return Ok(()),
+            Err(FrameRefused::Violation(cause)) => return Err(End::Violation(cause)),
+            Err(FrameRefused::OutOfMemory) => return Err(End::Memory),
+        };
+        let alloc = rt.alloc();
+        if let Err(end) = answer_message(alloc, &message, output, desk, clock, salts, serials) {
+            return Err(end);
+        }
+    }
+    unreachable!()
+}
+
+// Reads a piece and feeds it.
+fn feed_more<I: Source>(input: &mut I, piece: &mut [u8], framer: &mut Framer) -> Result<(), End>
+    requires { 0 < length piece.old }
+    ensures { FeedsMore framer.old framer.new
+        (input_of I.left I.faults I.is_steady input.old)
+        (input_of I.left I.faults I.is_steady input.new) result }
+{
+    match input.read(&mut *piece) {
+        Err(Failed) => Err(End::ReadFault),
+        Ok(0) => {
+            if framer.rest() == 0 {
+                Err(End::Done)
+            } else {
+                Err(End::Violation(Violation::EndInside))
+            }
+        }
+        Ok(count) => match framer.feed(&piece[..count]) {
+            Ok(()) => Ok(()),
+            Err(_) => Err(End::Memory),
+        },
+    }
+}
+
+// The same, with room for a piece.
+fn serve_by<R: AllocGlobal + Wait, I: Source, O: Sink, D: ReadDesk + WriteDesk, C: Clock>(
+    rt: &R,
+    framer: Framer,
+    input: &mut I,
+    output: &mut O,
+    desk: &mut D,
+    clock: &mut C,
+    salts: &mut Salts,
+    piece: &mut [u8],
+) -> End
+    requires alone { IsTrue (D.told desk.old).is_alone }
+    requires idle { IsOwed (D.told desk.old) [] }
+    requires room { 0 < length piece.old }
+    ensures { ServesOn framer
+        (input_of I.left I.faults I.is_steady input.old)
+        (input_of I.left I.faults I.is_steady input.new)
+        (world D.told C.coming desk.old clock.old salts.old)
+        (world D.told C.coming desk.new clock.new salts.new)
+        (output_of O.written O.faults O.is_steady output.old)
+        (output_of O.written O.faults O.is_steady output.new) result }
+{
+    let mut framer = framer;
+    let mut serials = Serials::new();
+    for _ in rt.forever() {
+        let answered = answer_messages(rt, &mut framer, output, desk, clock, salts, &mut serials);
+        if let Err(end) = answered {
+            return end;
+        }
+        if let Err(end) = feed_more(input, &mut *piece, &mut framer) {
+            return end;
+        }
+    }
+    unreachable!()
+}
+
+/// Serves the calls that stand in the framer and those that come, by 65,536 bytes at a time at most,
+/// each with its reply before the next one is looked at.
+///
+/// Ends with `Done` where the input ended between two messages, with `Violation` where it ended inside
+/// one or shows a violation, with `ReadFault` and `WriteFault` where a stream failed, with
+/// `EventsSpent`, and with `Memory`.
+pub fn serve<R: AllocGlobal + Wait, I: Source, O: Sink, D: ReadDesk + WriteDesk, C: Clock>(
+    rt: &R,
+    framer: Framer,
+    input: &mut I,
+    output: &mut O,
+    desk: &mut D,
+    clock: &mut C,
+    salts: &mut Salts,
+) -> End
+    requires alone { IsTrue (D.told desk.old).is_alone }
+    requires idle { IsOwed (D.told desk.old) [] }
+    ensures { ServesOn framer
+        (input_of I.left I.faults I.is_steady input.old)
+        (input_of I.left I.faults I.is_steady input.new)
+        (world D.told C.coming desk.old clock.old salts.old)
+        (world D.told C.coming desk.new clock.new salts.new)
+        (output_of O.written O.faults O.is_steady output.old)
+        (output_of O.written O.faults O.is_steady output.new) result }
+{
+    let Ok(mut piece) = vec![in rt.alloc(); 0; PIECE] else {
+        return End::Memory;
+    };
+    serve_by(rt, framer, input, output, desk, clock, salts, &mut piece)
+}

@@ -1,0 +1,53 @@
+// One connection on one thread.
+ghost use Rattle.std.specs.Prelude.{◌≡◌, IsTrue, []};
+ghost use Rattle.connection_worker.specs.OneThread.{IsServed};
+ghost use Rattle.connection_worker.specs.Serving.{world, IsOwed};
+ghost use Rattle.connection_worker.specs.Streams.{input_of, output_of};
+
+use crate::ending::End;
+use crate::opening::handshake;
+use crate::salts::Salts;
+use crate::serving::serve;
+use dbus_auth::{Auth, State};
+use kr_outside::{Clock, Sink, Source};
+use service_desk::{ReadDesk, WriteDesk};
+use std::alloc::AllocGlobal;
+use std::sync::Wait;
+
+/// Serves one connection to its end: the handshake, then each call with its reply, and at last the
+/// connection is gone. The clock is asked once for each call, and so are the salts.
+///
+/// Ends with `Done` where the input ended between two messages; with `AuthRefused`, `Violation`,
+/// `ReadFault` or `WriteFault` for what the bytes or the streams show; with `EventsSpent`; and with
+/// `Memory`. All that was recorded is answered before, but after `WriteFault` and `Memory`.
+pub fn one_thread<R: AllocGlobal + Wait, I: Source, O: Sink, D: ReadDesk + WriteDesk, C: Clock>(
+    rt: &R,
+    auth: Auth,
+    input: &mut I,
+    output: &mut O,
+    desk: &mut D,
+    clock: &mut C,
+    salts: &mut Salts,
+) -> End
+    requires fresh { auth.state ≡ State.WaitingForAuth }
+    requires alone { IsTrue (D.told desk.old).is_alone }
+    requires idle { IsOwed (D.told desk.old) [] }
+    ensures { IsServed auth.uid auth.guid
+        (input_of I.left I.faults I.is_steady input.old)
+        (input_of I.left I.faults I.is_steady input.new)
+        (output_of O.written O.faults O.is_steady output.old)
+        (output_of O.written O.faults O.is_steady output.new)
+        (world D.told C.coming desk.old clock.old salts.old)
+        (world D.told C.coming desk.new clock.new salts.new) result }
+{
+    let framer = match handshake(rt, auth, input, output) {
+        Ok(framer) => framer,
+        Err(end) => {
+            desk.gone();
+            return end;
+        }
+    };
+    let end = serve(rt, framer, input, output, desk, clock, salts);
+    desk.gone();
+    end
+}
