@@ -1,4 +1,5 @@
 ghost use Rattle.std.specs.Prelude.{◌≡◌, ◌≢◌, ◌+◌, ◌≤◌, ◌<◌, ◌⊎◌, ◌↔◌, IsTrue, None, Some, length, IfOk, OnOk, OnErr, IsErrOf};
+ghost use Rattle.std.specs.Option.{option_map};
 ghost use Rattle.kr_outside.specs.Faults.{HasCause, KeepsSteady};
 ghost use Rattle.kr_outside.specs.Moments.{LeavesOnly};
 ghost use Rattle.kr_outside.specs.RenameDisk.{Only, FitsIn};
@@ -80,6 +81,13 @@ impl<S: Slot> FileCell<S> {
         ensures { result ≡ longest_of self.now.file }
     {
         self.file.longest()
+    }
+
+    /// The bytes of the known image, or of the older of the two; None for no file.
+    pub fn image(&self) -> Option<&[u8]>
+        ensures { option_map (λ bytes. bytes.now) result ≡ old_image self.now.file }
+    {
+        self.file.image()
     }
 
     /// The slot alone. What is known of its file is lost.

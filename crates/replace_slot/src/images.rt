@@ -1,4 +1,5 @@
 ghost use Rattle.std.specs.Prelude.{◌≡◌, ◌<◌, ◌↔◌, IsTrue, length};
+ghost use Rattle.std.specs.Option.{option_map};
 ghost use Rattle.kr_outside.specs.RenameDisk.{FitsIn};
 ghost use Rattle.replace_slot.specs.Cell.{Known, Doubt, IsKnown, image_of, old_image, length_of, longest_of};
 ghost use Rattle.replace_slot.specs.Found.{Gave, found_file, IsFound, Shows};
@@ -54,6 +55,16 @@ impl Images {
         match &self.newer {
             None => length(&self.image),
             Some(newer) => length(&self.image).max(length(newer)),
+        }
+    }
+
+    /// The bytes of the known image, or of the older of the two; None for no file.
+    pub fn image(&self) -> Option<&[u8]>
+        ensures { option_map (λ bytes. bytes.now) result ≡ old_image self.now }
+    {
+        match &self.image {
+            Some(bytes) => Some(bytes.as_slice()),
+            None => None,
         }
     }
 

@@ -1,0 +1,9 @@
+use Rattle.std.proofs.Common.{IsTrue, subst, sym, ◌∙◌}
+use Rattle.folder_store.proofs.WalkLemmas.{listed_settled}
+use Rattle.folder_store.proofs.loading.settled_names.Goals as goal
+
+pub returns-in_ok-in_order-in-Ok-clause-listed : goal.returns-in_ok-in_order-in-Ok-clause-listed
+returns-in_ok-in_order-in-Ok-clause-listed g c honest name =
+    let as_new : IsTrue (g.F.Folder.is_honest c.sync.new.self) = subst (λ b. IsTrue b) (sym c.sync.ensures.honest) honest in
+    listed_settled _ _ (g.F.Folder.images c.names.new.self) _ _ (c.sync.ensures.made ∙ c.requires.fresh)
+    (c.in-Ok.ensures.listed as_new) (c.names.ensures.stays as_new).same c.in_ok-in_order-in-Ok.ensures.same name

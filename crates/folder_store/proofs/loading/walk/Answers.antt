@@ -1,0 +1,76 @@
+use Rattle.std.proofs.Common.{◌≡◌, ◌+◌, ◌∷◌, ◌++◌, [], IsTrue, Contains, suc, take, get_or, refl, sym, subst, ap, ◌∙◌, arith}
+use Rattle.std.proofs.lemmas.List.{take_all}
+use Rattle.std.proofs.Math.Seq.{take-suc}
+use Rattle.kr_outside.specs.RenameDisk.{Image, Only}
+use Rattle.folder_store.specs.Ring.{AreLikeFolder}
+use Rattle.folder_store.specs.Walk.{Walk, Visits, plain}
+use Rattle.folder_store.proofs.WalkLemmas.{Walk-none, Walk-more, not_before}
+use Rattle.folder_store.proofs.loading.walk.Goals as goal
+
+pub visit-requires : goal.visit-requires
+visit-requires g c = record {
+  settled = λ honest.
+      let folder = g.F.Folder in
+      let mid = c.loop-name.folder in
+      let name = c.as_str.result.now in
+      let here : get_or c.args.names.now c.loop-name.name-index name ≡ name =
+      subst (λ r. get_or c.args.names.now c.loop-name.name-index r ≡ r) (sym c.as_str.ensures.value) (sym c.name-item.is) in
+      let walk = c.loop-name.invariant.0 in
+      let is : IsTrue (folder.is_honest c.args.folder.now) = subst (λ b. IsTrue b) c.loop-name.invariant.2 honest in
+      let off : ¬ (Contains (folder.made mid) name) =
+      λ has. not_before c.args.names.now c.loop-name.name-index name c.requires.sorted c.loop-name-test.true here (walk.slots name has).0 in
+      (off, subst (λ (i : Image). Only i (folder.may_leave mid name)) (sym (walk.same is name off)) (walk.settled is name off));
+}
+
+pub loop-name-init : goal.loop-name-init
+loop-name-init g c =
+    let folder = g.F.Folder in
+    let slot = g.F.Cell.Slot in (
+      subst (λ o. Walk c.args.limits.now (folder.is_honest c.args.folder.now) folder.images folder.may_leave folder.made c.args.folder.now c.args.folder.now [] (plain o))
+          (sym c.new-opening.ensures)
+          (Walk-none c.args.limits.now (folder.is_honest c.args.folder.now) folder.images folder.may_leave folder.made c.args.folder.now c.requires.fresh c.requires.settled),
+      subst (λ o. AreLikeFolder slot.is_honest slot.is_steady (folder.is_honest c.args.folder.now) (folder.is_steady c.args.folder.now) o.rings) (sym c.new-opening.ensures) tt,
+      refl,
+      refl,
+      refl,
+    )
+
+-- one name more
+pub loop-name-preserved : goal.loop-name-preserved
+loop-name-preserved g c =
+    let folder = g.F.Folder in
+    let slot = g.F.Cell.Slot in
+    let names = c.args.names.now in
+    let index = c.loop-name.name-index in
+    let old = c.args.folder.now in
+    let mid = c.loop-name.folder in
+    let new = c.visit.new.folder in
+    let name = c.as_str.result.now in
+    let here : get_or names index name ≡ name = subst (λ r. get_or names index r ≡ r) (sym c.as_str.ensures.value) (sym c.name-item.is) in
+    let up : index + 1 ≡ suc index = omega arith in
+    let longer : take (index + 1) names ≡ take index names ++ name ∷ [] =
+    ap (λ n. take n names) up ∙ take-suc names index name c.loop-name-test.true ∙ ap (λ n. take index names ++ n ∷ []) here in
+    let as_honest = c.loop-name.invariant.2 in
+    let as_steady = c.loop-name.invariant.3 in (
+      subst (λ l. Walk c.args.limits.now (folder.is_honest old) folder.images folder.may_leave folder.made old new l (plain c.visit.new.opening)) (sym longer)
+          (Walk-more c.args.limits.now (folder.is_honest old) folder.images folder.may_leave folder.made old mid new (take index names) name c.loop-name.opening c.visit.new.opening
+          c.loop-name.invariant.0
+          (λ is. c.requires.listed is name (index, c.loop-name-test.true, here))
+          (not_before names index name c.requires.sorted c.loop-name-test.true here)
+          (subst (λ b. Visits c.args.limits.now b (folder.images mid name) name (folder.made mid) (folder.made new) c.loop-name.opening c.visit.new.opening) as_honest c.in_ok-visit.ensures.visited)
+          (λ is. c.in_ok-visit.ensures.stays (subst (λ b. IsTrue b) (sym as_honest) is))),
+      subst (λ b. AreLikeFolder slot.is_honest slot.is_steady (folder.is_honest old) b c.visit.new.opening.rings) as_steady
+          (subst (λ b. AreLikeFolder slot.is_honest slot.is_steady b (folder.is_steady mid) c.visit.new.opening.rings) as_honest
+          (c.in_ok-visit.ensures.slots
+          (subst (λ b. AreLikeFolder slot.is_honest slot.is_steady b (folder.is_steady mid) c.loop-name.opening.rings) (sym as_honest)
+          (subst (λ b. AreLikeFolder slot.is_honest slot.is_steady (folder.is_honest old) b c.loop-name.opening.rings) (sym as_steady) c.loop-name.invariant.1)))),
+      c.in_ok-visit.ensures.honest ∙ as_honest,
+      c.in_ok-visit.ensures.steady ∙ as_steady,
+      c.in_ok-visit.ensures.count ∙ c.loop-name.invariant.4,
+    )
+
+pub returns-clause-walked : goal.returns-clause-walked
+returns-clause-walked g c =
+    let folder = g.F.Folder in
+    subst (λ l. Walk c.args.limits.now (folder.is_honest c.args.folder.now) folder.images folder.may_leave folder.made c.args.folder.now c.loop-name.folder l (plain c.loop-name.opening))
+    (take_all c.loop-name.name-index c.args.names.now c.loop-name-test.false) c.loop-name.invariant.0

@@ -1,0 +1,79 @@
+use Rattle.std.proofs.Common.{◌≡◌, ◌∷◌, [], ◌++◌, ◌+◌, ◌<◌, ◌^◌, Some, length, drop, refl, sym, ap, subst, ◌∙◌}
+use Rattle.std.proofs.lemmas.Result.{on_ok_weaker}
+use Rattle.keyring_file.specs.ClearText.{ClearText}
+use Rattle.replace_slot.specs.Cell.{Known}
+use Rattle.folder_store.specs.Opened.{Takes, left_alone, listed, Fits, items_in, bytes_in}
+use Rattle.folder_store.specs.Ring.{ShowsClear, AreLikeFolder, IsLikeFolder, rows_of, bytes_of}
+use Rattle.folder_store.specs.Walk.{plain}
+use Rattle.folder_store.proofs.OpeningLemmas.{all_push, both, row_known, plain_lists, one_clear, no_both, left_out}
+use Rattle.folder_store.proofs.opening.Opening.take.Goals as goal
+
+-- the limits don't let the file be listed, by whatever clear part it reads as
+pub returns-then-not-fits-clause-taken : goal.returns-then-not-fits-clause-taken
+returns-then-not-fits-clause-taken g c name named =
+    let text : c.deref.result.now ≡ c.args.image.items = c.deref.ensures.value in
+    let text-2 : c.deref-in-Ok.result.now ≡ c.args.image.items = c.deref-in-Ok.ensures.value in
+    on_ok_weaker c.leave.result
+    (λ left. subst (Takes c.args.limits.now name c.args.image.items (plain c.args.self.now)) (sym left)
+    (left_alone c.args.stem named
+    (left_out c.args.limits.now (rows_of c.args.self.now.rings) c.args.image.items c.in-Ok.clear
+    (λ other area is. one_clear _ (other, area) _ refl (c.in-Ok.ensures.only other area (subst (λ t. ClearText t other area) (sym text) is)))
+    (λ fits. let wrong = c.if-not-fits.ensures.fits.1 (subst (λ t. Fits c.args.limits.now (rows_of c.args.self.now.rings) c.in-Ok.clear t) (sym text-2) fits) in cc))))
+    c.leave.ensures.left
+
+pub new-requires : goal.new-requires
+new-requires g c =
+    let text : c.deref.result.now ≡ c.args.image.items = c.deref.ensures.value in
+    subst (λ f. ShowsClear f c.in-Ok.clear) (sym (ap (λ cell. cell.file) c.known-cell.ensures)) (
+      drop c.in-Ok.field-0-1 c.deref.result.now,
+      subst (λ t. ClearText t c.in-Ok.clear (drop c.in-Ok.field-0-1 c.deref.result.now)) text c.in-Ok.ensures.found,
+    )
+
+pub list-requires-clause-items : goal.list-requires-clause-items
+list-requires-clause-items g c =
+    subst (λ r. items_in (rows_of c.args.self.now.rings) + length r.clear.items < 2 ^ 64) (sym c.new.ensures) (c.if-not-fits.ensures.items refl)
+
+pub list-requires-clause-bytes : goal.list-requires-clause-bytes
+list-requires-clause-bytes g c =
+    let file : c.new.result.cell.file ≡ Known (Some c.args.image.items) = ap (λ r. r.cell.file) c.new.ensures ∙ ap (λ r. r.file) c.known-cell.ensures in
+    let text-2 : c.deref-in-Ok.result.now ≡ c.args.image.items = c.deref-in-Ok.ensures.value in
+    subst (λ f. bytes_in (rows_of c.args.self.now.rings) + length (bytes_of f) < 2 ^ 64) (sym file)
+    (subst (λ t. bytes_in (rows_of c.args.self.now.rings) + length t < 2 ^ 64) text-2 (c.if-not-fits.ensures.bytes refl))
+
+pub returns-in_ok-used-in-Ok-clause-taken : goal.returns-in_ok-used-in-Ok-clause-taken
+returns-in_ok-used-in-Ok-clause-taken g c name named =
+    let text : c.deref.result.now ≡ c.args.image.items = c.deref.ensures.value in
+    let text-2 : c.deref-in-Ok.result.now ≡ c.args.image.items = c.deref-in-Ok.ensures.value in
+    let row = row_known c.new.result c.known-cell.result c.args.slot c.args.stem c.args.image.items c.in-Ok.clear c.new.ensures c.known-cell.ensures in
+    let fits : Fits c.args.limits.now (rows_of c.args.self.now.rings) c.in-Ok.clear c.args.image.items =
+    subst (λ t. Fits c.args.limits.now (rows_of c.args.self.now.rings) c.in-Ok.clear t) text-2 (c.if-not-fits.ensures.fits.0 refl) in
+    both c.list.result
+    (λ rings used. subst (Takes c.args.limits.now name c.args.image.items (plain c.args.self.now))
+    (sym (plain_lists c.args.self.now c.list.new.self c.new.result c.args.stem c.args.image.items c.in-Ok.clear rings
+    (used ∙ ap (λ s. c.args.self.now.used ++ s ∷ []) c.in_ok-used-in-Ok.ensures) row))
+    (listed c.args.stem c.in-Ok.clear named (
+      drop c.in-Ok.field-0-1 c.deref.result.now,
+      subst (λ t. ClearText t c.in-Ok.clear (drop c.in-Ok.field-0-1 c.deref.result.now)) text c.in-Ok.ensures.found,
+    )
+    fits))
+    c.list.ensures.rings c.list.ensures.used
+
+pub returns-in_ok-used-in-Ok-clause-slots : goal.returns-in_ok-used-in-Ok-clause-slots
+returns-in_ok-used-in-Ok-clause-slots g c honest steady like all =
+    let slot : c.new.result.cell.slot ≡ c.args.slot = ap (λ r. r.cell.slot) c.new.ensures ∙ ap (λ r. r.slot) c.known-cell.ensures in
+    on_ok_weaker c.list.result
+    (λ rings. subst (λ l. AreLikeFolder g.S.Slot.is_honest g.S.Slot.is_steady honest steady l) (sym rings)
+    (all_push (λ ring. IsLikeFolder g.S.Slot.is_honest g.S.Slot.is_steady honest steady ring.cell.slot) c.args.self.now.rings c.new.result all
+    (subst (λ s. IsLikeFolder g.S.Slot.is_honest g.S.Slot.is_steady honest steady s) (sym slot) like)))
+    c.list.ensures.rings
+
+-- no clear part has this text
+pub returns-in-Err-Fault-clause-taken : goal.returns-in-Err-Fault-clause-taken
+returns-in-Err-Fault-clause-taken g c name named =
+    let text : c.deref.result.now ≡ c.args.image.items = c.deref.ensures.value in
+    on_ok_weaker c.leave-in-Err-Fault.result
+    (λ left. subst (Takes c.args.limits.now name c.args.image.items (plain c.args.self.now)) (sym left)
+    (left_alone c.args.stem named
+    (λ other reads fits. no_both (other, reads.0) c.in-Err-Fault.field-0-0
+    (rw c.in-Err-Fault.field-0-is at (c.in-Err-Fault.ensures.only other reads.0 (subst (λ t. ClearText t other reads.0) (sym text) reads.1))))))
+    c.leave-in-Err-Fault.ensures.left

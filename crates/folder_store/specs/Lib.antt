@@ -1,0 +1,6 @@
+pub mod Limits
+pub mod Loads
+pub mod Names
+pub mod Opened
+pub mod Ring
+pub mod Walk

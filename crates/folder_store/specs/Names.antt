@@ -1,0 +1,17 @@
+-- The names of a folder (docs/KEYRING_FILES.md, "A folder").
+use Rattle.std.specs.Prelude.{◌≡◌, ℕ, List, ◌++◌, codes}
+use Rattle.kr_base.specs.Stem.{IsStem}
+
+-- how the name of a keyring file ends
+unfoldable pub ending : List ℕ
+ending = codes ".keyring"
+
+-- the name of the file of the aliases
+unfoldable pub aliases : List ℕ
+aliases = codes "aliases"
+
+-- the name is that of the keyring file of this stem: a left-over temporary file, a name with no stem and
+-- one with a stem that is too long are none
+pub record IsRingName (name stem : List ℕ) : Type 0 where
+  pub is_stem : IsStem stem
+  pub spelled : name ≡ stem ++ ending

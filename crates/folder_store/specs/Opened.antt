@@ -1,0 +1,81 @@
+-- What a start finds in a folder (docs/KEYRING_FILES.md, "A folder").
+use Rattle.std.specs.Prelude.{◌≡◌, ℕ, ◌+◌, ◌<◌, ◌≤◌, List, [], ◌∷◌, ◌++◌, length, None, Some}
+use Rattle.kr_base.specs.Attributes.{IsInOrder, value_at}
+use Rattle.kr_outside.specs.RenameDisk.{Image}
+use Rattle.keyring_file.specs.Clear.{ClearPart}
+use Rattle.keyring_file.specs.ClearText.{ClearText}
+use Rattle.alias_text.specs.Pairs.{AliasesOf}
+use Rattle.folder_store.specs.declared.limits.Limits.{Limits}
+use Rattle.folder_store.specs.Names.{aliases, IsRingName}
+
+-- a collection that is listed: its stem, the clear part of its file, and the file
+pub record RingRow : Type 0 where
+  pub stem : List ℕ
+  pub clear : ClearPart
+  pub image : List ℕ
+
+-- the items of so many collections together
+abbrev pub items_in : List RingRow → ℕ
+items_in [] = 0
+items_in (ring ∷ rings) = length ring.clear.items + items_in rings
+
+-- the bytes of their files together
+abbrev pub bytes_in : List RingRow → ℕ
+bytes_in [] = 0
+bytes_in (ring ∷ rings) = length ring.image + bytes_in rings
+
+-- what stands open after some files: the collections that are listed, and the stems that are used
+pub record Opening : Type 0 where
+  pub rings : List RingRow
+  pub used : List (List ℕ)
+
+-- the file is a keyring file with this clear part, whatever its encrypted area is
+abbrev pub ReadsAs : List ℕ → ClearPart → Type 0
+ReadsAs image clear = (area : List ℕ) × ClearText image clear area
+
+-- the limits let this file be listed behind these
+pub record Fits (limits : Limits) (rings : List RingRow) (clear : ClearPart) (image : List ℕ) : Type 0 where
+  pub one_file : length image ≤ limits.one_file
+  pub collections : length rings < limits.collections
+  pub items : items_in rings + length clear.items ≤ limits.items
+  pub all_files : bytes_in rings + length image ≤ limits.all_files
+
+-- the file is left alone, and its stem is used
+abbrev pub leaves_alone : List ℕ → Opening → Opening
+leaves_alone stem opening = record opening { used = opening.used ++ stem ∷ [] }
+
+-- the file is listed
+abbrev pub lists : List ℕ → ClearPart → List ℕ → Opening → Opening
+lists stem clear image opening = record {
+  rings = opening.rings ++ (record { stem = stem; clear = clear; image = image }) ∷ [];
+  used = opening.used ++ stem ∷ [];
+}
+
+-- What one more file makes of what stands open: one of another name changes nothing; a keyring file is
+-- listed where it is one and the limits let it be, and else left alone.
+pub data Takes (limits : Limits) (name image : List ℕ) (opening : Opening) : Opening → Type 0 where
+  other : ((stem : List ℕ) → ¬ (IsRingName name stem)) → Takes limits name image opening opening
+  left_alone : (stem : List ℕ) → IsRingName name stem
+      → ((clear : ClearPart) → ReadsAs image clear → ¬ (Fits limits opening.rings clear image))
+      → Takes limits name image opening (leaves_alone stem opening)
+  listed : (stem : List ℕ) (clear : ClearPart) → IsRingName name stem → ReadsAs image clear
+      → Fits limits opening.rings clear image → Takes limits name image opening (lists stem clear image opening)
+
+-- what stands open after these files, each a name and its bytes
+pub data Opens (limits : Limits) : List (List ℕ × List ℕ) → Opening → Type 0 where
+  none : Opens limits [] (record { rings = []; used = [] })
+  more : (files : List (List ℕ × List ℕ)) (opening next : Opening) (name image : List ℕ) → Opens limits files opening
+      → Takes limits name image opening next → Opens limits (files ++ (name, image) ∷ []) next
+
+-- the aliases that the image of their file gives: no file gives none
+abbrev pub GivesAliases : Image → List (List ℕ × List ℕ) → Type 0
+GivesAliases None pairs = pairs ≡ []
+GivesAliases (Some bytes) pairs = AliasesOf bytes pairs
+
+-- what a start makes of the images by name: it takes the files in byte order of their names
+pub record Opened (limits : Limits) (images : List ℕ → Image) (opening : Opening) (pairs : List (List ℕ × List ℕ)) : Type 0 where
+  pub files : List (List ℕ × List ℕ)
+  pub ordered : IsInOrder files
+  pub all : (name : List ℕ) → images name ≡ value_at name files
+  pub opens : Opens limits files opening
+  pub aliases : GivesAliases (images aliases) pairs

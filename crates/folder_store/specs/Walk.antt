@@ -1,0 +1,49 @@
+-- What is known on the way over the names of a folder.
+use Rattle.std.specs.Prelude.{◌≡◌, ℕ, ◌<◌, Bool, IsTrue, List, ◌∷◌, length, Contains, Option, None, Some, IsSome, Vec}
+use Rattle.std.specs.List.{AllByRecursion}
+use Rattle.std.specs.Map.{keys_of}
+use Rattle.std.specs.declared.alloc.Global.{Global}
+use Rattle.kr_outside.specs.RenameDisk.{Image, Only}
+use Rattle.folder_store.specs.declared.limits.Limits.{Limits}
+use Rattle.folder_store.specs.Names.{IsRingName}
+use Rattle.folder_store.specs.Opened.{Opening, Opens, Takes}
+use Rattle.folder_store.specs.Ring.{RingState, rows_of}
+
+-- a read of what a slot gives, of at most so many bytes: it gave the file, or there is none of so few
+abbrev pub ReadsWithin : ℕ → Image → Option (Vec ℕ Global) → Type 0
+ReadsWithin room seen None = (bytes : List ℕ) → seen ≡ Some bytes → room < length bytes
+ReadsWithin room seen (Some bytes) = seen ≡ Some bytes.items
+
+-- the collections that are listed so far, with their cells, and the stems that are used
+pub record OpeningState (S : Type 0) : Type 0 where
+  pub rings : List (RingState S)
+  pub used : List (List ℕ)
+
+-- the same without the slots
+abbrev pub plain : {S : Type 0} → OpeningState S → Opening
+plain opening = record { rings = rows_of opening.rings; used = opening.used }
+
+-- a slot of this name, whose stem is used, was made, or none
+pub data MakesAtMost (name : List ℕ) (used made : List (List ℕ)) : List (List ℕ) → Type 0 where
+  none : MakesAtMost name used made made
+  one : (stem : List ℕ) → IsRingName name stem → Contains used stem → MakesAtMost name used made (name ∷ made)
+
+-- one more file was taken: of an honest folder the one that was there
+pub record Visits {S : Type 0} (limits : Limits) (honest : Bool) (seen : Image) (name : List ℕ) (made_old made_new : List (List ℕ)) (old new : OpeningState S) : Type 0 where
+  pub image : List ℕ
+  pub takes : Takes limits name image (plain old) (plain new)
+  pub told : IsTrue honest → IsSome seen → seen ≡ Some image
+  pub made : MakesAtMost name new.used made_old made_new
+
+-- after these names, over a folder of which no slot was made before
+pub record Walk {F : Type 0} (limits : Limits) (honest : Bool) (images : F → List ℕ → Image) (may_leave : F → List ℕ → Image → Type 0) (made : F → List (List ℕ)) (old new : F) (names : List (List ℕ)) (opening : Opening) : Type 0 where
+  pub files : List (List ℕ × List ℕ)
+  pub keys : keys_of files ≡ names
+  pub opens : Opens limits files opening
+  -- of an honest folder these are its files
+  pub told : IsTrue honest → AllByRecursion (λ file. images old file.0 ≡ Some file.1) files
+  -- slots were made of names whose stems are used by now
+  pub slots : (name : List ℕ) → Contains (made new) name → Contains names name × ((stem : List ℕ) × IsRingName name stem × Contains opening.used stem)
+  -- every other name is as it was
+  pub same : IsTrue honest → (name : List ℕ) → ¬ (Contains (made new) name) → images new name ≡ images old name
+  pub settled : IsTrue honest → (name : List ℕ) → ¬ (Contains (made new) name) → Only (images old name) (may_leave new name)

@@ -1,0 +1,72 @@
+ghost use Rattle.std.specs.Prelude.{◌≡◌, IsTrue, IfOk};
+ghost use Rattle.kr_outside.specs.RenameDisk.{Only};
+ghost use Rattle.replace_slot.specs.Cell.{Known, image_of};
+ghost use Rattle.folder_store.specs.Ring.{ShowsAliases};
+
+use alias_text::read_aliases;
+use kr_base::{OutOfMemory, Stem, Text};
+use kr_outside::Slot;
+use replace_slot::FileCell;
+use std::alloc::Global;
+use std::marker::Model;
+
+/// The file of the aliases: its cell, and the aliases, each with the stem that it stands for, in byte
+/// order of their names. The file is known, and the aliases are those that its image gives; no file
+/// gives none.
+#[derive(Drop)]
+pub struct AliasFile<S: Slot> {
+    cell: FileCell<S>,
+    pairs: Vec<(Text, Stem)>,
+}
+
+impl<S: Slot> Model for AliasFile<S> {
+    ghost use Rattle.folder_store.specs.Ring.{AliasState, ShowsAliases};
+
+    ghost Value = { AliasState S };
+
+    ghost view = { λ a. record { cell = a.cell; pairs = a.pairs.items } };
+
+    ghost invariant = { λ a. ShowsAliases a.cell.file a.pairs.items };
+}
+
+impl<S: Slot> AliasFile<S> {
+    /// The aliases of a file that is known to have this image, or to be none.
+    pub fn read(alloc: Global, slot: S, image: Option<Vec<u8>>) -> Result<AliasFile<S>, OutOfMemory>
+        requires { IsTrue (S.is_honest slot) → Only (image_of image) (S.may_leave slot) }
+        ensures { IfOk result (λ file.
+            file.cell ≡ record { slot = slot; file = Known (image_of image) }) }
+    {
+        let pairs = pairs_of(alloc, &image)?;
+        Ok(AliasFile {
+            cell: FileCell::known(slot, image),
+            pairs,
+        })
+    }
+
+    /// The aliases, lent in order.
+    pub fn pairs(&self) -> &[(Text, Stem)]
+        ensures value { result.now ≡ self.now.pairs }
+        ensures shown { ShowsAliases self.now.cell.file self.now.pairs }
+    {
+        &self.pairs
+    }
+
+    /// The two parts. It takes no memory.
+    pub fn into_parts(self) -> (FileCell<S>, Vec<(Text, Stem)>)
+        ensures cell { result.0 ≡ self.cell }
+        ensures pairs { result.1.items ≡ self.pairs }
+        ensures shown { ShowsAliases self.cell.file self.pairs }
+    {
+        (self.cell, self.pairs)
+    }
+}
+
+// The aliases that an image gives.
+fn pairs_of(alloc: Global, image: &Option<Vec<u8>>) -> Result<Vec<(Text, Stem)>, OutOfMemory>
+    ensures { IfOk result (λ pairs. ShowsAliases (Known (image_of image.now)) pairs.items) }
+{
+    match image {
+        Some(bytes) => read_aliases(alloc, bytes),
+        None => Ok(Vec::new(alloc)),
+    }
+}

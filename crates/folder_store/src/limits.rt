@@ -1,0 +1,21 @@
+/// How much of a folder is listed.
+#[derive(Clone, Copy, Debug, PartialEq, Eq)]
+pub struct Limits {
+    /// The bytes of one keyring file.
+    pub one_file: usize,
+    /// How many collections.
+    pub collections: usize,
+    /// How many items, in all collections together.
+    pub items: usize,
+    /// The bytes of all keyring files together.
+    pub all_files: usize,
+}
+
+/// The limits of `load`: 67,108,864 bytes in one keyring file, 1,024 collections, 100,000 items in all and
+/// 268,435,456 bytes in all keyring files.
+pub const MOST: Limits = Limits {
+    one_file: 67_108_864,
+    collections: 1_024,
+    items: 100_000,
+    all_files: 268_435_456,
+};

@@ -1,0 +1,238 @@
+ghost use Rattle.std.specs.Prelude.{◌≡◌, ◌≤◌, ◌⊎◌, ◌↔◌, ◌∷◌, ℕ, List, [], IsTrue, Contains, IsSome, IfOk, OnOk, IsErrOf};
+ghost use Rattle.std.specs.Cmp.Lexicographic.{slice_cmp};
+ghost use Rattle.std.specs.List.Sorted.{IsStrictlySortedBy};
+ghost use Rattle.std.specs.Ordering.{nat_cmp};
+ghost use Rattle.kr_outside.specs.Faults.{KeepsSteady, Rose};
+ghost use Rattle.kr_outside.specs.Folder.{IsSettled, Stays};
+ghost use Rattle.kr_outside.specs.RenameDisk.{Only};
+ghost use Rattle.replace_slot.specs.Cell.{Known};
+ghost use Rattle.folder_store.specs.Limits.{the_limits};
+ghost use Rattle.folder_store.specs.Loads.{Loads};
+ghost use Rattle.folder_store.specs.Names.{aliases, IsRingName};
+ghost use Rattle.folder_store.specs.Ring.{HasFailedSlot, HasLoadCause, IsLikeFolder, AreLikeFolder, ShowsAliases};
+ghost use Rattle.folder_store.specs.Walk.{Visits, Walk, plain};
+
+use crate::alias_file::AliasFile;
+use crate::limits::{Limits, MOST};
+use crate::names::{in_order, stem_of_name};
+use crate::opening::Opening;
+use crate::reading::{read_settled, read_within};
+use crate::refused::LoadRefused;
+use crate::ring::Ring;
+use kr_base::{Stem, Text};
+use kr_outside::{Folder, OutsideRefused, Slot};
+use std::alloc::Global;
+
+/// What a start finds in a folder.
+#[derive(Drop)]
+pub struct Loaded<S: Slot> {
+    /// The collections that are listed, in byte order of the names of their files.
+    pub rings: Vec<Ring<S>>,
+    /// The stems of all keyring files' names, in that order, also of those that were left alone.
+    pub used: Vec<Stem>,
+    /// The file of the aliases.
+    pub aliases: AliasFile<S>,
+}
+
+/// Loads a folder of which no slot was made yet: settles it, and then each keyring file and the file of
+/// the aliases, and reads each once. No file is changed, made or removed.
+///
+/// Refused with `Folder` only where a count of the folder or of a slot rose, and with `OutOfMemory`.
+pub fn load<F: Folder>(alloc: Global, folder: &mut F) -> Result<Loaded<F::Cell>, LoadRefused>
+    requires fresh { F.made folder.old ≡ [] }
+    ensures loaded { IfOk result (Loads the_limits (F.is_honest folder.old) (F.is_steady folder.old)
+        F.images F.may_leave F.made F.Cell.is_honest F.Cell.is_steady folder.old folder.new) }
+
+    ensures honest { F.is_honest folder.new ≡ F.is_honest folder.old }
+    ensures steady { KeepsSteady (F.is_steady folder.old) (F.is_steady folder.new)
+        (F.faults folder.old) (F.faults folder.new) }
+    ensures later { F.faults folder.old ≤ F.faults folder.new }
+    ensures cause { IsErrOf result LoadRefused.Folder
+        → Rose (F.faults folder.old) (F.faults folder.new)
+        ⊎ HasFailedSlot F.Cell.faults F.Cell.is_steady (F.is_steady folder.old) }
+    ensures never { IsTrue (F.is_steady folder.old) → ¬ (IsErrOf result LoadRefused.Folder) }
+{
+    load_within(alloc, folder, &MOST)
+}
+
+/// The same with other limits.
+pub fn load_within<F: Folder>(
+    alloc: Global,
+    folder: &mut F,
+    limits: &Limits,
+) -> Result<Loaded<F::Cell>, LoadRefused>
+    requires fresh { F.made folder.old ≡ [] }
+    ensures loaded { IfOk result (Loads limits.now (F.is_honest folder.old) (F.is_steady folder.old)
+        F.images F.may_leave F.made F.Cell.is_honest F.Cell.is_steady folder.old folder.new) }
+
+    ensures honest { F.is_honest folder.new ≡ F.is_honest folder.old }
+    ensures steady { KeepsSteady (F.is_steady folder.old) (F.is_steady folder.new)
+        (F.faults folder.old) (F.faults folder.new) }
+    ensures later { F.faults folder.old ≤ F.faults folder.new }
+    ensures cause { IsErrOf result LoadRefused.Folder
+        → Rose (F.faults folder.old) (F.faults folder.new)
+        ⊎ HasFailedSlot F.Cell.faults F.Cell.is_steady (F.is_steady folder.old) }
+{
+    let names = settled_names(alloc, folder)?;
+    let opening = walk(alloc, folder, limits, &names)?;
+    let aliases = load_aliases(alloc, folder)?;
+    let (rings, used) = opening.into_parts();
+    Ok(Loaded {
+        rings,
+        used,
+        aliases,
+    })
+}
+
+// Settles the folder, and gives its names in byte order. The folder is settled first, so that a crash
+// leaves no file of a name that isn't among them.
+fn settled_names<F: Folder>(alloc: Global, folder: &mut F) -> Result<Vec<Text>, LoadRefused>
+    requires fresh { F.made folder.old ≡ [] }
+    ensures sorted { IfOk result (λ names. IsStrictlySortedBy (slice_cmp nat_cmp) names.items) }
+    ensures listed { IsTrue (F.is_honest folder.old) → IfOk result (λ names. (name : List ℕ)
+        → Contains names.items name ↔ IsSome (F.images folder.new name)) }
+    ensures settled { IsTrue (F.is_honest folder.old)
+        → OnOk result (IsSettled [] (F.images folder.new) (F.may_leave folder.new)) }
+
+    ensures same { IsTrue (F.is_honest folder.old) → (name : List ℕ)
+        → F.images folder.new name ≡ F.images folder.old name }
+    ensures made { F.made folder.new ≡ [] }
+    ensures honest { F.is_honest folder.new ≡ F.is_honest folder.old }
+    ensures cause { HasLoadCause (F.faults folder.old) (F.faults folder.new) result }
+    ensures steady { KeepsSteady (F.is_steady folder.old) (F.is_steady folder.new)
+        (F.faults folder.old) (F.faults folder.new) }
+{
+    if folder.sync().is_err() {
+        return Err(LoadRefused::Folder);
+    }
+    match folder.names() {
+        Ok(names) => Ok(in_order(alloc, names)?),
+        Err(OutsideRefused::Failed) => Err(LoadRefused::Folder),
+        Err(OutsideRefused::OutOfMemory) => Err(LoadRefused::OutOfMemory),
+    }
+}
+
+// Takes the keyring files among these names, one behind the other.
+fn walk<F: Folder>(
+    alloc: Global,
+    folder: &mut F,
+    limits: &Limits,
+    names: &[Text],
+) -> Result<Opening<F::Cell>, LoadRefused>
+    requires fresh { F.made folder.old ≡ [] }
+    requires sorted { IsStrictlySortedBy (slice_cmp nat_cmp) names.now }
+    requires listed { IsTrue (F.is_honest folder.old) → (name : List ℕ)
+        → Contains names.now name → IsSome (F.images folder.old name) }
+    requires settled { IsTrue (F.is_honest folder.old)
+        → IsSettled [] (F.images folder.old) (F.may_leave folder.old) }
+    ensures walked { IfOk result (λ opening. Walk limits.now (F.is_honest folder.old)
+        F.images F.may_leave F.made folder.old folder.new names.now (plain opening)) }
+    ensures slots { IfOk result (λ opening. AreLikeFolder F.Cell.is_honest F.Cell.is_steady
+        (F.is_honest folder.old) (F.is_steady folder.old) opening.rings) }
+
+    ensures honest { F.is_honest folder.new ≡ F.is_honest folder.old }
+    ensures count { F.faults folder.new ≡ F.faults folder.old }
+    ensures steady { F.is_steady folder.new ≡ F.is_steady folder.old }
+    ensures cause { IsErrOf result LoadRefused.Folder
+        → HasFailedSlot F.Cell.faults F.Cell.is_steady (F.is_steady folder.old) }
+{
+    let mut opening = Opening::new(alloc);
+    for name in names {
+        visit(alloc, folder, limits, name.as_str(), &mut opening)?;
+    }
+    Ok(opening)
+}
+
+// Takes the file of this name, if it is a keyring file's name.
+fn visit<F: Folder>(
+    alloc: Global,
+    folder: &mut F,
+    limits: &Limits,
+    name: &str,
+    opening: &mut Opening<F::Cell>,
+) -> Result<(), LoadRefused>
+    requires settled { IsTrue (F.is_honest folder.old) → ¬ (Contains (F.made folder.old) name.now)
+        × Only (F.images folder.old name.now) (F.may_leave folder.old name.now) }
+    ensures visited { OnOk result (Visits limits.now (F.is_honest folder.old)
+        (F.images folder.old name.now) name.now (F.made folder.old) (F.made folder.new)
+        opening.old opening.new) }
+    ensures stays { IsTrue (F.is_honest folder.old)
+        → Stays F.images F.may_leave (F.made folder.new) folder.old folder.new }
+    ensures slots { AreLikeFolder F.Cell.is_honest F.Cell.is_steady
+        (F.is_honest folder.old) (F.is_steady folder.old) opening.old.rings
+        → OnOk result (AreLikeFolder F.Cell.is_honest F.Cell.is_steady
+        (F.is_honest folder.old) (F.is_steady folder.old) opening.new.rings) }
+
+    ensures honest { F.is_honest folder.new ≡ F.is_honest folder.old }
+    ensures count { F.faults folder.new ≡ F.faults folder.old }
+    ensures steady { F.is_steady folder.new ≡ F.is_steady folder.old }
+    ensures cause { IsErrOf result LoadRefused.Folder
+        → HasFailedSlot F.Cell.faults F.Cell.is_steady (F.is_steady folder.old) }
+{
+    match stem_of_name(alloc, name)? {
+        Some(stem) => take_file(alloc, folder, limits, name, stem, opening),
+        None => Ok(()),
+    }
+}
+
+// Takes the keyring file of this name and stem. Where no further file can be listed it isn't read.
+fn take_file<F: Folder>(
+    alloc: Global,
+    folder: &mut F,
+    limits: &Limits,
+    name: &str,
+    stem: Stem,
+    opening: &mut Opening<F::Cell>,
+) -> Result<(), LoadRefused>
+    requires named { IsRingName name.now stem }
+    requires settled { IsTrue (F.is_honest folder.old) → ¬ (Contains (F.made folder.old) name.now)
+        × Only (F.images folder.old name.now) (F.may_leave folder.old name.now) }
+    ensures visited { OnOk result (Visits limits.now (F.is_honest folder.old)
+        (F.images folder.old name.now) name.now (F.made folder.old) (F.made folder.new)
+        opening.old opening.new) }
+    ensures stays { IsTrue (F.is_honest folder.old)
+        → Stays F.images F.may_leave (F.made folder.new) folder.old folder.new }
+    ensures slots { AreLikeFolder F.Cell.is_honest F.Cell.is_steady
+        (F.is_honest folder.old) (F.is_steady folder.old) opening.old.rings
+        → OnOk result (AreLikeFolder F.Cell.is_honest F.Cell.is_steady
+        (F.is_honest folder.old) (F.is_steady folder.old) opening.new.rings) }
+
+    ensures honest { F.is_honest folder.new ≡ F.is_honest folder.old }
+    ensures count { F.faults folder.new ≡ F.faults folder.old }
+    ensures steady { F.is_steady folder.new ≡ F.is_steady folder.old }
+    ensures cause { IsErrOf result LoadRefused.Folder
+        → HasFailedSlot F.Cell.faults F.Cell.is_steady (F.is_steady folder.old) }
+{
+    let Some(room) = opening.room(limits) else {
+        return opening.leave(stem);
+    };
+    let mut slot = folder.slot(name)?;
+    match read_within(alloc, &mut slot, room)? {
+        Some(image) => opening.take(alloc, limits, stem, slot, image),
+        None => opening.leave(stem),
+    }
+}
+
+// Reads the file of the aliases, whatever its size: its image must be known, since it will be replaced.
+fn load_aliases<F: Folder>(alloc: Global, folder: &mut F) -> Result<AliasFile<F::Cell>, LoadRefused>
+    requires settled { IsTrue (F.is_honest folder.old) → ¬ (Contains (F.made folder.old) aliases)
+        × Only (F.images folder.old aliases) (F.may_leave folder.old aliases) }
+    ensures image { IsTrue (F.is_honest folder.old) → IfOk result (λ file.
+        file.cell.file ≡ Known (F.images folder.old aliases)) }
+    ensures shown { IfOk result (λ file. ShowsAliases file.cell.file file.pairs) }
+    ensures slot { IfOk result (λ file. IsLikeFolder F.Cell.is_honest F.Cell.is_steady
+        (F.is_honest folder.old) (F.is_steady folder.old) file.cell.slot) }
+    ensures made { OnOk result (F.made folder.new ≡ aliases ∷ F.made folder.old) }
+    ensures stays { IsTrue (F.is_honest folder.old)
+        → Stays F.images F.may_leave (F.made folder.new) folder.old folder.new }
+
+    ensures honest { F.is_honest folder.new ≡ F.is_honest folder.old }
+    ensures count { F.faults folder.new ≡ F.faults folder.old }
+    ensures steady { F.is_steady folder.new ≡ F.is_steady folder.old }
+    ensures cause { IsErrOf result LoadRefused.Folder
+        → HasFailedSlot F.Cell.faults F.Cell.is_steady (F.is_steady folder.old) }
+{
+    let mut slot = folder.slot("aliases")?;
+    let image = read_settled(alloc, &mut slot)?;
+    Ok(AliasFile::read(alloc, slot, image)?)
+}

@@ -1,0 +1,162 @@
+// What stands open on the way over the names of a folder.
+ghost use Rattle.std.specs.Prelude.{◌≡◌, ◌<◌, ◌≤◌, ◌↔◌, ◌+◌, ◌^◌, ◌++◌, ◌∷◌, [], Bool, IsTrue, Some, IfOk, IfErr, IfSome, IsNone, OnOk, length, List, ℕ};
+ghost use Rattle.kr_outside.specs.RenameDisk.{Only};
+ghost use Rattle.keyring_file.specs.Clear.{ClearPart};
+ghost use Rattle.folder_store.specs.Names.{IsRingName};
+ghost use Rattle.folder_store.specs.Opened.{Fits, Takes, items_in, bytes_in, leaves_alone};
+ghost use Rattle.folder_store.specs.Ring.{IsLikeFolder, AreLikeFolder, rows_of, bytes_of};
+ghost use Rattle.folder_store.specs.Walk.{plain};
+
+use crate::limits::Limits;
+use crate::refused::LoadRefused;
+use crate::ring::Ring;
+use keyring_file::{Clear, read_clear};
+use keyring_text::ReadRefused;
+use kr_base::Stem;
+use kr_outside::Slot;
+use replace_slot::FileCell;
+use std::alloc::Global;
+use std::marker::Model;
+
+/// The collections that are listed so far, and the stems that are used, both in the order of the names.
+#[derive(Drop)]
+pub struct Opening<S: Slot> {
+    rings: Vec<Ring<S>>,
+    used: Vec<Stem>,
+    items: usize,
+    bytes: usize,
+}
+
+impl<S: Slot> Model for Opening<S> {
+    ghost use Rattle.std.specs.Prelude.{◌≡◌};
+    ghost use Rattle.folder_store.specs.Opened.{items_in, bytes_in};
+    ghost use Rattle.folder_store.specs.Ring.{rows_of};
+    ghost use Rattle.folder_store.specs.Walk.{OpeningState};
+
+    ghost Value = { OpeningState S };
+
+    ghost view = { λ o. record { rings = o.rings.items; used = o.used.items } };
+
+    ghost invariant = { λ o. (o.items ≡ items_in (rows_of o.rings.items))
+        × (o.bytes ≡ bytes_in (rows_of o.rings.items)) };
+}
+
+impl<S: Slot> Opening<S> {
+    /// Nothing stands open.
+    pub fn new(alloc: Global) -> Opening<S>
+        ensures { result ≡ record { rings = []; used = [] } }
+    {
+        Opening {
+            rings: Vec::new(alloc),
+            used: Vec::new(alloc),
+            items: 0,
+            bytes: 0,
+        }
+    }
+
+    /// The collections and the used stems.
+    pub fn into_parts(self) -> (Vec<Ring<S>>, Vec<Stem>)
+        ensures rings { result.0.items ≡ self.rings }
+        ensures used { result.1.items ≡ self.used }
+    {
+        (self.rings, self.used)
+    }
+
+    /// The most bytes that a further file may have; None where no further file can be listed.
+    pub fn room(&self, limits: &Limits) -> Option<usize>
+        ensures some { IfSome result (λ room. (clear : ClearPart) (image : List ℕ)
+            → Fits limits.now (rows_of self.now.rings) clear image → length image ≤ room) }
+        ensures none { IsNone result → (clear : ClearPart) (image : List ℕ)
+            → ¬ (Fits limits.now (rows_of self.now.rings) clear image) }
+    {
+        if self.rings.len() >= limits.collections {
+            return None;
+        }
+        let left = limits.all_files.saturating_sub(self.bytes);
+        Some(left.min(limits.one_file))
+    }
+
+    // Whether the limits let a file of this clear part and so many bytes be listed.
+    fn fits(&self, limits: &Limits, clear: &Clear, image: &[u8]) -> bool
+        ensures fits { IsTrue result
+            ↔ Fits limits.now (rows_of self.now.rings) clear.now image.now }
+        ensures items { IsTrue result
+            → items_in (rows_of self.now.rings) + length clear.now.items < 2 ^ 64 }
+        ensures bytes { IsTrue result
+            → bytes_in (rows_of self.now.rings) + length image.now < 2 ^ 64 }
+    {
+        self.rings.len() < limits.collections
+            && image.len() <= limits.one_file
+            && has_room(self.items, clear.items.len(), limits.items)
+            && has_room(self.bytes, image.len(), limits.all_files)
+    }
+
+    /// Leaves a file alone: its stem is used.
+    pub fn leave(&mut self, stem: Stem) -> Result<(), LoadRefused>
+        ensures left { OnOk result (plain self.new ≡ leaves_alone stem (plain self.old)) }
+        ensures rings { self.new.rings ≡ self.old.rings }
+        ensures memory { IfErr result (λ refused. refused ≡ LoadRefused.OutOfMemory) }
+    {
+        self.used.push(stem)?;
+        Ok(())
+    }
+
+    // Lists a collection, whose stem is this one too.
+    fn list(&mut self, stem: Stem, ring: Ring<S>) -> Result<(), LoadRefused>
+        requires items { items_in (rows_of self.old.rings) + length ring.clear.items < 2 ^ 64 }
+        requires bytes { bytes_in (rows_of self.old.rings) + length (bytes_of ring.cell.file)
+            < 2 ^ 64 }
+        ensures rings { OnOk result (self.new.rings ≡ self.old.rings ++ ring ∷ []) }
+        ensures used { OnOk result (self.new.used ≡ self.old.used ++ stem ∷ []) }
+        ensures memory { IfErr result (λ refused. refused ≡ LoadRefused.OutOfMemory) }
+    {
+        let clear = ring.clear().items.len();
+        let bytes = ring.image().len();
+        self.used.push(stem)?;
+        self.rings.push(ring)?;
+        self.items += clear;
+        self.bytes += bytes;
+        Ok(())
+    }
+
+    /// Takes one more keyring file: lists it where it is one and the limits let it be, and else leaves
+    /// it alone.
+    pub fn take(
+        &mut self,
+        alloc: Global,
+        limits: &Limits,
+        stem: Stem,
+        slot: S,
+        image: Vec<u8>,
+    ) -> Result<(), LoadRefused>
+        requires { IsTrue (S.is_honest slot) → Only (Some image.items) (S.may_leave slot) }
+        ensures taken { (name : List ℕ) → IsRingName name stem → OnOk result
+            (Takes limits.now name image.items (plain self.old) (plain self.new)) }
+        ensures used { OnOk result (self.new.used ≡ self.old.used ++ stem ∷ []) }
+        ensures slots { (honest steady : Bool)
+            → IsLikeFolder S.is_honest S.is_steady honest steady slot
+            → AreLikeFolder S.is_honest S.is_steady honest steady self.old.rings
+            → OnOk result (AreLikeFolder S.is_honest S.is_steady honest steady self.new.rings) }
+        ensures memory { IfErr result (λ refused. refused ≡ LoadRefused.OutOfMemory) }
+    {
+        match read_clear(alloc, &image) {
+            Ok((clear, _)) => {
+                if !self.fits(limits, &clear, &image) {
+                    return self.leave(stem);
+                }
+                let used = stem.copy()?;
+                let cell = FileCell::known(slot, Some(image));
+                self.list(used, Ring::new(stem, cell, clear))
+            }
+            Err(ReadRefused::OutOfMemory) => Err(LoadRefused::OutOfMemory),
+            Err(ReadRefused::Fault(_)) => self.leave(stem),
+        }
+    }
+}
+
+// Whether so many more are within the limit.
+fn has_room(so_far: usize, more: usize, limit: usize) -> bool
+    ensures { IsTrue result ↔ (so_far + more ≤ limit) }
+{
+    more <= limit && so_far <= limit - more
+}

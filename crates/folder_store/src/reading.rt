@@ -1,0 +1,114 @@
+// One file is settled, measured and read.
+ghost use Rattle.std.specs.Prelude.{◌≡◌, ◌⊎◌, IsTrue, Some, IfOk, OnOk};
+ghost use Rattle.kr_outside.specs.Faults.{HasCause, KeepsSteady};
+ghost use Rattle.kr_outside.specs.RenameDisk.{Only, LeavesAnyBytes, LeavesNoMore, size_of};
+ghost use Rattle.replace_slot.specs.Cell.{image_of};
+ghost use Rattle.folder_store.specs.Ring.{HasLoadCause};
+ghost use Rattle.folder_store.specs.Walk.{ReadsWithin};
+
+use crate::refused::LoadRefused;
+use kr_outside::{Failed, Seen, Slot};
+use std::alloc::Global;
+
+/// Puts on the disk what the name stands for, and says how many bytes the file has; None where there is
+/// no file.
+pub fn settled_size<S: Slot>(slot: &mut S) -> Result<Option<u64>, Failed>
+    ensures answer { IsTrue (S.is_honest slot.old)
+        → IfOk result (λ size. size ≡ size_of (S.seen slot.new)) }
+    ensures settled { IsTrue (S.is_honest slot.old)
+        → OnOk result (LeavesAnyBytes (S.may_leave slot.old)
+        ⊎ Only (S.seen slot.new) (S.may_leave slot.new)) }
+
+    ensures same { IsTrue (S.is_honest slot.old) → S.seen slot.new ≡ S.seen slot.old }
+    ensures crash { IsTrue (S.is_honest slot.old)
+        → LeavesNoMore (S.may_leave slot.old) (S.may_leave slot.new) }
+    ensures honest { S.is_honest slot.new ≡ S.is_honest slot.old }
+    ensures cause { HasCause (S.faults slot.old) (S.faults slot.new) result }
+    ensures steady { KeepsSteady (S.is_steady slot.old) (S.is_steady slot.new)
+        (S.faults slot.old) (S.faults slot.new) }
+{
+    slot.sync_folder()?;
+    slot.size()
+}
+
+/// Reads a file of so many bytes, with one buffer of that size; None where the slot doesn't give so
+/// many, which an honest one never does.
+pub fn read_sized<S: Slot>(
+    alloc: Global,
+    slot: &mut S,
+    size: u64,
+) -> Result<Option<Vec<u8>>, LoadRefused>
+    requires { IsTrue (S.is_honest slot.old) → size_of (S.seen slot.old) ≡ Some size }
+    ensures read { IsTrue (S.is_honest slot.old)
+        → IfOk result (λ found. image_of found ≡ S.seen slot.new) }
+
+    ensures same { IsTrue (S.is_honest slot.old) → S.seen slot.new ≡ S.seen slot.old }
+    ensures crash { IsTrue (S.is_honest slot.old)
+        → LeavesNoMore (S.may_leave slot.old) (S.may_leave slot.new) }
+    ensures honest { S.is_honest slot.new ≡ S.is_honest slot.old }
+    ensures cause { HasLoadCause (S.faults slot.old) (S.faults slot.new) result }
+    ensures steady { KeepsSteady (S.is_steady slot.old) (S.is_steady slot.new)
+        (S.faults slot.old) (S.faults slot.new) }
+{
+    let mut bytes = Vec::new(alloc);
+    bytes.resize(size as usize, 0)?;
+    match slot.read(&mut bytes) {
+        Ok(Seen::Whole(count)) => {
+            bytes.truncate(count);
+            Ok(Some(bytes))
+        }
+        Ok(Seen::Missing | Seen::Longer) => Ok(None),
+        Err(_) => Err(LoadRefused::Folder),
+    }
+}
+
+/// Settles and reads a file of at most so many bytes; None where there is no such file.
+pub fn read_within<S: Slot>(
+    alloc: Global,
+    slot: &mut S,
+    room: usize,
+) -> Result<Option<Vec<u8>>, LoadRefused>
+    ensures read { IsTrue (S.is_honest slot.old)
+        → IfOk result (ReadsWithin room (S.seen slot.new)) }
+    ensures settled { IsTrue (S.is_honest slot.old)
+        → OnOk result (LeavesAnyBytes (S.may_leave slot.old)
+        ⊎ Only (S.seen slot.new) (S.may_leave slot.new)) }
+
+    ensures same { IsTrue (S.is_honest slot.old) → S.seen slot.new ≡ S.seen slot.old }
+    ensures honest { S.is_honest slot.new ≡ S.is_honest slot.old }
+    ensures cause { HasLoadCause (S.faults slot.old) (S.faults slot.new) result }
+    ensures steady { KeepsSteady (S.is_steady slot.old) (S.is_steady slot.new)
+        (S.faults slot.old) (S.faults slot.new) }
+{
+    match settled_size(slot) {
+        Ok(Some(size)) => {
+            if size > room as u64 {
+                return Ok(None);
+            }
+            read_sized(alloc, slot, size)
+        }
+        Ok(None) => Ok(None),
+        Err(_) => Err(LoadRefused::Folder),
+    }
+}
+
+/// Settles and reads a file of whatever size; None where there is no file.
+pub fn read_settled<S: Slot>(alloc: Global, slot: &mut S) -> Result<Option<Vec<u8>>, LoadRefused>
+    ensures read { IsTrue (S.is_honest slot.old)
+        → IfOk result (λ found. image_of found ≡ S.seen slot.new) }
+    ensures settled { IsTrue (S.is_honest slot.old)
+        → OnOk result (LeavesAnyBytes (S.may_leave slot.old)
+        ⊎ Only (S.seen slot.new) (S.may_leave slot.new)) }
+
+    ensures same { IsTrue (S.is_honest slot.old) → S.seen slot.new ≡ S.seen slot.old }
+    ensures honest { S.is_honest slot.new ≡ S.is_honest slot.old }
+    ensures cause { HasLoadCause (S.faults slot.old) (S.faults slot.new) result }
+    ensures steady { KeepsSteady (S.is_steady slot.old) (S.is_steady slot.new)
+        (S.faults slot.old) (S.faults slot.new) }
+{
+    match settled_size(slot) {
+        Ok(Some(size)) => read_sized(alloc, slot, size),
+        Ok(None) => Ok(None),
+        Err(_) => Err(LoadRefused::Folder),
+    }
+}
