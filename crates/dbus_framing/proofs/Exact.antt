@@ -1,5 +1,5 @@
 -- Each answer comes wherever it may, since there is one stream.
-use Rattle.std.proofs.Common.{◌≡◌, ℕ, ◌+◌, List, [], ◌∷◌, ◌++◌, drop, Option, Some, None, Result, Ok, Err, sym, ap, subst, ◌∙◌}
+use Rattle.std.proofs.Common.{◌≡◌, ℕ, ◌+◌, List, [], ◌∷◌, drop, Option, Some, None, Result, Ok, Err, sym, subst}
 use Rattle.dbus_types.specs.declared.message.Message.{Message}
 use Rattle.dbus_framing.specs.declared.violation.Violation.{Violation}
 use Rattle.dbus_framing.specs.declared.violation.FrameRefused.{FrameRefused}
@@ -8,7 +8,7 @@ use Rattle.dbus_framing.specs.declared.progress.Progress.{Progress}
 use Rattle.dbus_framing.specs.declared.framer.Look.TheVariants as looks
 use Rattle.dbus_framing.specs.Messages.{Parts, parts_of}
 use Rattle.dbus_framing.specs.Streams.{Cut, Stream, Breaks, BreaksNone}
-use Rattle.dbus_framing.specs.Framers.{Framing, Refused, Waits, Stops, IsExact}
+use Rattle.dbus_framing.specs.Framers.{Framing, Refused, IsExact}
 use Rattle.dbus_framing.proofs.Cuts.{answers_begin, breaks_one, one_stream}
 use Rattle.dbus_framing.proofs.Fronts.{framing, Behind}
 

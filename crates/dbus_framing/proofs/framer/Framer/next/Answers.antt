@@ -2,7 +2,7 @@
 use Rattle.std.proofs.Common.{ap, ◌∙◌, drop}
 use Rattle.dbus_framing.specs.Framers.{Framing}
 use Rattle.dbus_framing.proofs.Fronts.{behind_found, kept_broken, refused_again, refused_now, waits_now, not_broken, unbroken}
-use Rattle.dbus_framing.proofs.Exact.{exact_none, exact_refused, exact_whole, exact_memory}
+use Rattle.dbus_framing.proofs.Exact.{exact_none, exact_refused, exact_whole}
 use Rattle.dbus_framing.proofs.framer.Framer.next.Goals as goal
 
 pub returns-in-Broken-clause-refused : goal.returns-in-Broken-clause-refused
