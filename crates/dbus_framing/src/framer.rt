@@ -1,4 +1,4 @@
-ghost use Rattle.std.specs.Prelude.{◌≡◌, ◌≤◌, ◌<◌, ℕ, List, [], ◌∷◌, ◌++◌, length, drop, take, vec_len, None, Some, Ok, Err, IfOk, IfErr, IfSome, IfNone, OnOk, OnErr};
+ghost use Rattle.std.specs.Prelude.{◌≡◌, ◌+◌, ◌≤◌, ◌<◌, ℕ, List, [], ◌∷◌, ◌++◌, length, drop, take, vec_len, None, Some, Ok, Err, IfOk, IfErr, IfSome, IfNone, OnOk, OnErr};
 ghost use Rattle.dbus_framing.specs.declared.violation.Violation.{Violation};
 ghost use Rattle.dbus_framing.specs.declared.violation.FrameRefused.TheVariants as refused;
 ghost use Rattle.dbus_framing.specs.Messages.{parts_of, head_of};
@@ -149,11 +149,11 @@ fn let_go(bytes: &mut Vec<u8>, taken: usize)
 }
 
 // Lets go of the bytes that messages took where moving the others costs no more than they did, and
-// answers where the others stand then.
+// answers where the others stand then. So what is still there is at most as much as the others.
 fn make_room(bytes: &mut Vec<u8>, taken: usize) -> usize
     requires { taken ≤ vec_len bytes.old }
     ensures rest { drop result bytes.new.items ≡ drop taken bytes.old.items }
-    ensures within { result ≤ vec_len bytes.new }
+    ensures few { result + result ≤ vec_len bytes.new }
 {
     if taken < bytes.len() - taken {
         return taken;
