@@ -3,3 +3,4 @@ pub mod Readings
 pub mod Cuts
 pub mod Fronts
 pub mod Exact
+pub mod Ends

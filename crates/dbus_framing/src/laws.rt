@@ -2,6 +2,7 @@
 // that does nothing.
 ghost use Rattle.std.specs.Prelude.{◌≡◌, ℕ, ◌++◌, List, []};
 ghost use Rattle.dbus_framing.specs.declared.violation.Violation.{Violation};
+ghost use Rattle.dbus_framing.specs.declared.violation.Violation.TheVariants as violation;
 ghost use Rattle.dbus_framing.specs.Messages.{Parts, IsMessage};
 ghost use Rattle.dbus_framing.specs.Streams.{Cut, Stream, BeginsNone, Breaks, Turn, Went, fed_in, answered_in};
 
@@ -66,4 +67,9 @@ pub fn violations_stay()
         → Breaks most bytes cause → Breaks most bytes other → cause ≡ other }
     ensures no_message { (most : ℕ) (bytes : List ℕ) (cause : Violation)
         → Breaks most bytes cause → BeginsNone most bytes }
+{}
+
+/// `EndInside` is no violation that bytes show, so a framer never answers it.
+pub fn no_bytes_end_inside()
+    ensures { (most : ℕ) (bytes : List ℕ) → Breaks most bytes violation.EndInside → ⊥ }
 {}

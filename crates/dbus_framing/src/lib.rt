@@ -22,7 +22,7 @@ pub use framer::Framer;
 pub use laws::{
     a_message_has_one_meaning, a_spelling_begins_no_other, answers_add_up,
     answers_begin_the_stream, answers_begin_the_stream_of_any_pieces, bytes_are_one_stream,
-    violations_stay,
+    no_bytes_end_inside, violations_stay,
 };
 pub use names::{is_interface_name, is_member_name};
 pub use violation::{FrameRefused, Violation};
