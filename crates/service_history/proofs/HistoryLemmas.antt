@@ -1,5 +1,5 @@
 -- One more event of a history, a cut, and what a settling event does to the room.
-use Rattle.std.proofs.Common.{◌≡◌, ℕ, ◌+◌, ◌*◌, ◌<◌, ◌≤◌, min, Bool, Some, true, false, List, [], ◌∷◌, ◌++◌, length, refl, ap, ◌∙◌, sym, arith}
+use Rattle.std.proofs.Common.{◌≡◌, ℕ, ◌+◌, ◌≤◌, min, Bool, Some, true, false, List, [], ◌∷◌, ◌++◌, refl, ap, ◌∙◌, sym, arith}
 use Rattle.std.proofs.lemmas.List.{length_push}
 use Rattle.std.proofs.lemmas.List.Sums.{sum_by_push}
 use Rattle.service_machine.specs.declared.rows.Rows.{Rows}
@@ -14,7 +14,7 @@ use Rattle.service_machine.specs.Connections.{left, emptied, is_row, has, desk_o
 use Rattle.std.proofs.lemmas.Bool.{or_right}
 use Rattle.service_machine.specs.Machine.{Records}
 use Rattle.service_machine.specs.Step.{step, Fits}
-use Rattle.service_machine.specs.Replay.{replay, Legal, cost, cost_of}
+use Rattle.service_machine.specs.Replay.{cost, cost_of}
 use Rattle.service_machine.specs.Sound.{IsSound}
 use Rattle.service_machine.proofs.ReplayLemmas.{replay-append, Legal-append}
 use Rattle.service_machine.proofs.SoundLemmas.{sound-step, sound-replay}

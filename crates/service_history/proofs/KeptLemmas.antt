@@ -1,5 +1,5 @@
 -- What a service keeps, behind one more event, behind a reservation, and at a cut.
-use Rattle.std.proofs.Common.{◌≡◌, ℕ, ◌+◌, ◌<◌, ◌≤◌, min, List, [], ◌∷◌, ◌++◌, length, Vec, vec_len, vec_capacity, refl, ap, ◌∙◌, sym, arith}
+use Rattle.std.proofs.Common.{◌≡◌, ℕ, ◌+◌, ◌≤◌, min, [], ◌∷◌, ◌++◌, length, Vec, vec_len, vec_capacity, ap, ◌∙◌, sym, arith}
 use Rattle.std.specs.declared.alloc.Global.{Global}
 use Rattle.service_machine.specs.declared.event.Event.{Event}
 use Rattle.service_machine.specs.declared.machine.Machine.{Machine}
@@ -7,7 +7,7 @@ use Rattle.service_machine.specs.declared.rows.Rows.{Rows}
 use Rattle.service_machine.specs.Rows.{rows_of}
 use Rattle.service_machine.specs.Step.{step, Fits}
 use Rattle.service_machine.specs.Replay.{cost, cost_of}
-use Rattle.service_history.specs.History.{History, IsHistory, total, cut, with_event}
+use Rattle.service_history.specs.History.{total, cut, with_event}
 use Rattle.service_history.specs.Inside.{history_of, IsKept}
 use Rattle.service_history.specs.Room.{room}
 use Rattle.service_history.proofs.RoomLemmas.{room-few}

@@ -1,7 +1,6 @@
 -- The room for events that are sure to come: it is as much as three for each connection, and one less behind each of
 -- them.
-use Rattle.std.proofs.Common.{◌≡◌, ℕ, ◌+◌, ◌*◌, ◌≤◌, Bool, true, false, not, cond, nat_lt, List, [], ◌∷◌, length, map, filter, sum_by, IfSome, IsSomeAnd, refl, arith}
-use Rattle.std.proofs.lemmas.Bool.Decides.{nat_tests}
+use Rattle.std.proofs.Common.{◌≡◌, ◌+◌, ◌*◌, ◌≤◌, Bool, true, false, cond, List, [], ◌∷◌, length, IsSomeAnd, refl, arith}
 use Rattle.kr_base.specs.declared.ids.ConnId.{ConnId}
 use Rattle.service_machine.specs.declared.rows.ConnRow.{ConnRow}
 use Rattle.service_machine.specs.declared.rows.DeskRow.{DeskRow}

@@ -1,6 +1,5 @@
 -- Pairs in order: one that is put at its place, one that is taken away, and those of one owner.
-use Rattle.std.proofs.Common.{◌≡◌, ℕ, ◌+◌, ◌^◌, ◌<◌, ◌≤◌, ◌==◌, ◌&&◌, Bool, true, false, not, nat_le, nat_lt, List, [], ◌∷◌, ◌++◌, length, filter, map, refl, ap, ◌∙◌, sym, arith, rules, inl, inr, Ordering, Less, Equal, Greater}
-use Rattle.std.specs.Ordering.{nat_cmp, is_eq, is_le, is_lt}
+use Rattle.std.proofs.Common.{◌≡◌, ℕ, ◌^◌, ◌<◌, ◌≤◌, ◌==◌, Bool, true, false, not, nat_le, nat_lt, List, [], ◌∷◌, ◌++◌, length, filter, refl, ap, ◌∙◌, arith, inl, inr, Less, Greater}
 use Rattle.std.specs.List.{AllByRecursion, list_any}
 use Rattle.std.specs.List.Sorted.{IsStrictlySortedBy}
 use Rattle.std.specs.BTreeSet.{insert_key}

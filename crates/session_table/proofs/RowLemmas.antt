@@ -1,9 +1,9 @@
 -- The rows that pairs stand for: a filter of rows is the rows of a filter of pairs.
-use Rattle.std.proofs.Common.{◌≡◌, ℕ, Bool, true, false, ◌&&◌, ◌==◌, nat_le, nat_lt, not, List, [], ◌∷◌, ◌++◌, length, filter, map, refl, ap, ◌∙◌, sym, arith}
+use Rattle.std.proofs.Common.{◌≡◌, ℕ, Bool, true, false, nat_le, nat_lt, List, [], ◌∷◌, ◌++◌, length, filter, map, refl, ap, ◌∙◌, sym}
 use Rattle.std.specs.List.{list_any}
 use Rattle.std.proofs.lemmas.List.{map-append, length-map}
 use Rattle.session_table.specs.declared.row.SessionRow.{SessionRow}
-use Rattle.session_table.specs.Keys.{row_of, is_pair}
+use Rattle.session_table.specs.Keys.{row_of}
 
 -- a filter of rows
 pub filter-rows : (p : SessionRow → Bool) (keys : List (ℕ × ℕ)) → map row_of (filter (λ key. p (row_of key)) keys) ≡ filter p (map row_of keys)

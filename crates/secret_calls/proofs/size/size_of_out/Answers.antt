@@ -1,4 +1,4 @@
-use Rattle.std.proofs.Common.{◌+◌, sym, ◌∙◌, ap}
+use Rattle.std.proofs.Common.{sym}
 use Rattle.secret_calls.proofs.SizeLemmas.{empty_return-length, session_return-length}
 use Rattle.secret_calls.proofs.size.size_of_out.Goals as goal
 

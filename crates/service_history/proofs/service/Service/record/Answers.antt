@@ -1,7 +1,6 @@
 use Rattle.std.proofs.Common.{◌≡◌, ◌+◌, ◌<◌, ◌∷◌, ◌++◌, [], length, vec_len, ◌∙◌, ap, min, arith}
 use Rattle.service_machine.specs.Rows.{rows_of}
 use Rattle.service_history.specs.Inside.{history_of}
-use Rattle.service_history.specs.History.{total}
 use Rattle.service_history.proofs.HistoryLemmas.{history-sound, room-behind}
 use Rattle.service_history.proofs.KeptLemmas.{kept_push, kept_reserved}
 use Rattle.service_history.proofs.service.Service.record.Goals as goal

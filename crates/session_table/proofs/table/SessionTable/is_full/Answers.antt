@@ -1,4 +1,4 @@
-use Rattle.std.proofs.Common.{◌≡◌, ap, nat_le, ◌==◌, arith, false, length, ◌||◌}
+use Rattle.std.proofs.Common.{◌==◌, arith}
 use Rattle.std.proofs.lemmas.Bool.Decides.{nat_tests}
 use Rattle.session_table.proofs.RowLemmas.{length-filter_rows}
 use Rattle.session_table.proofs.table.SessionTable.is_full.Goals as goal
