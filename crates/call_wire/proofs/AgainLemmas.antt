@@ -25,7 +25,7 @@ use Rattle.secret_calls.specs.Outs.{error_text, session_path, spelled_body, spel
 use Rattle.call_wire.specs.Said.{values_said, said, FitsOut, IsSendable}
 use Rattle.call_wire.proofs.PlainLemmas.{plain_text, plain_literal, path_plain, path_is}
 use Rattle.call_wire.proofs.SentLemmas.{nested, nested_is, Parted, is_message, serial_is}
-use Rattle.call_wire.proofs.WritingLemmas.{session_body-length}
+use Rattle.secret_calls.proofs.SizeLemmas.{session_body-length}
 use Rattle.call_wire.proofs.SaidLemmas.{reply_field, return_array, return_header, return_full, return_array_spelled, return_are, session_types, session_fields, session_array, session_header, session_full, session_array_spelled, session_are, error_fields, error_array, error_header, error_full, error_array_spelled, error_are}
 
 -- ---- how long the parts are

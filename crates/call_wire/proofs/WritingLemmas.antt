@@ -1,41 +1,13 @@
 -- What is written piece by piece is a message.
 use Rattle.std.proofs.Common.{◌≡◌, ℕ, ◌+◌, ◌-◌, ◌%◌, ◌<◌, ◌≤◌, List, [], ◌∷◌, ◌++◌, length, codes, decimal, replicate, Result, OnOk, Ok, Err, refl, ap, ◌∙◌, sym, arith, length-append}
-use Rattle.std.proofs.lemmas.List.{append_assoc, append-nil, length-replicate}
+use Rattle.std.proofs.lemmas.List.{append_assoc, append-nil}
 use Rattle.kr_base.specs.declared.ids.SessionId.{SessionId}
 use Rattle.secret_calls.specs.declared.out.Body.TheVariants as body
 use Rattle.secret_calls.specs.declared.out.Out.TheVariants as out
 use Rattle.secret_calls.specs.declared.out.ErrorName.{ErrorName}
 use Rattle.secret_calls.specs.Message.{uint32, padding, string, field, fields_of, method_return, error, error_name, reply_serial, message}
 use Rattle.secret_calls.specs.Outs.{empty_variant, session_path, spelled_body, spelled, error_text}
-
--- UINT32 has four bytes
-uint32-length : (n : ℕ) → length (uint32 n) ≡ 4
-unfolding uint32
-uint32-length n = refl
-
-string-length : (text : List ℕ) → length (string text) ≡ 5 + length text
-string-length text = simp (length-append, uint32-length) (omega arith)
-
-reply_field-length : (to : ℕ) → length (field reply_serial (codes "u") (uint32 to)) ≡ 8
-reply_field-length to = simp (length-append, uint32-length)
-
-name_field-length : (name : List ℕ) → length (field error_name (codes "s") (string name)) ≡ 9 + length name
-name_field-length name = omega (arith, string-length name)
-
-two_fields-length : (f g : List ℕ) → length (fields_of (f ∷ g ∷ [])) ≡ length f + (8 - length f % 8) % 8 + length g
-two_fields-length f g =
-    length-append (f ++ padding 8 (length f)) g
-    ∙ ap (λ n. n + length g) (length-append f (padding 8 (length f)) ∙ ap (λ n. length f + n) (length-replicate ((8 - length f % 8) % 8) 0))
-
-empty_variant-length : length empty_variant ≡ 9
-empty_variant-length = simp (length-append, uint32-length)
-
-pub session_body-length : (session : SessionId) → length (spelled_body (body.Session session)) ≡ 51 + length (decimal session.0)
-session_body-length session =
-    let path : length (session_path session.0) ≡ 34 + length (decimal session.0) = length-append (codes "/org/freedesktop/secrets/session/s") (decimal session.0) in
-    let front : length (empty_variant ++ padding 4 (length empty_variant)) ≡ 12 = length-append empty_variant (padding 4 (length empty_variant)) ∙ rw empty_variant-length refl in
-    length-append (empty_variant ++ padding 4 (length empty_variant)) (string (session_path session.0))
-    ∙ omega (arith, front, string-length (session_path session.0), path)
+use Rattle.secret_calls.proofs.SizeLemmas.{name_field-length, reply_field-length, two_fields-length, session_body-length}
 
 -- the same lists, put together otherwise
 regroup : (a b c d : List ℕ) → ((a ++ b) ++ c) ++ d ≡ a ++ ((b ++ c) ++ d)

@@ -17,7 +17,7 @@ use Rattle.secret_calls.specs.declared.out.Out.TheVariants as out
 use Rattle.secret_calls.specs.Calls.{error_of}
 use Rattle.secret_calls.specs.Message.{uint32, string, field, fields_of, error, error_name, reply_serial, message}
 use Rattle.secret_calls.specs.Outs.{spelled, spelled_body, error_text, most_waiting}
-use Rattle.connection_worker.proofs.SizeLemmas.{message-length, name_field-length, two_fields-length, reply_field-length, empty_return-length, session_return-length, session_body-length}
+use Rattle.secret_calls.proofs.SizeLemmas.{message-length, name_field-length, two_fields-length, reply_field-length, empty_return-length, session_return-length, session_body-length}
 use Rattle.service_machine.specs.declared.rows.Rows.{Rows}
 use Rattle.service_machine.specs.declared.rows.ConnRow.{ConnRow}
 use Rattle.service_machine.specs.Connections.{is_row, size_of, size_waiting, with_out, changed, emptied, waiting_for, Sent, delivered}

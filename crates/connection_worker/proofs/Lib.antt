@@ -8,5 +8,4 @@ mod SendingLemmas
 mod ServeLemmas
 mod ServingLemmas
 mod SingleLemmas
-mod SizeLemmas
 mod StreamLemmas

@@ -1,1 +1,1 @@
-mod SizeLemmas
+pub mod SizeLemmas
