@@ -1,10 +1,14 @@
-ghost use Rattle.std.specs.Prelude.{◌≡◌, [], IfOk, OnOk};
+ghost use Rattle.std.specs.Prelude.{◌≡◌, [], IfOk, OnOk, true, false};
+ghost use Rattle.std.proofs.Common.{rules};
+ghost use Rattle.kr_memory_disk.specs.Files.{image_in};
 
 use super::*;
 use crate::loading::load_within;
-use kr_base::{Bytes, Text};
-use kr_memory_disk::{MemoryFolder, MemorySlot, SlotCall, SlotPlan};
-use kr_outside::Slot;
+use kr_base::{Bytes, OutOfMemory, Text};
+use kr_memory_disk::{
+    Files, MemoryFolder, MemorySlot, SlotCall, SlotPlan, SteadyFolder, SteadySlot,
+};
+use kr_outside::{Failed, Folder, OutsideRefused, Slot};
 use std::alloc::Global;
 use std::test::Fail;
 
@@ -255,5 +259,65 @@ fn each_file_is_settled_and_read_once(rt: HostRuntime) -> Result<(), Fail> {
     let (cell, _) = loaded.aliases.into_parts();
     let calls = calls_of(alloc, &cell.into_slot())?;
     assert_eq!(rt; calls.as_slice(), b"ys".as_slice());
+    Ok(())
+}
+
+// A folder that gives no names before it was synced. It isn't honest: one that is gives the same names.
+#[derive(Drop)]
+struct LateFolder {
+    alloc: Global,
+    folder: SteadyFolder,
+    is_synced: bool,
+}
+
+impl Folder for LateFolder {
+    type Cell = SteadySlot;
+
+    ghost images = { λ f name. image_in f.folder.files name };
+
+    ghost may_leave = { λ _ _ _. Unit {0} };
+
+    ghost made = { λ f. f.folder.made };
+
+    ghost faults = { λ _. 0 };
+
+    ghost is_honest = { λ _. false };
+
+    ghost is_steady = { λ _. true };
+
+    ghost steady_below = { Prim.search rules };
+
+    fn sync(&mut self) -> Result<(), Failed> {
+        self.is_synced = true;
+        Ok(())
+    }
+
+    fn names(&mut self) -> Result<Vec<Text>, OutsideRefused> {
+        if self.is_synced {
+            self.folder.names()
+        } else {
+            Ok(Vec::new(self.alloc))
+        }
+    }
+
+    fn slot(&mut self, name: &str) -> Result<SteadySlot, OutOfMemory> {
+        self.folder.slot(name)
+    }
+}
+
+#[test]
+fn the_names_are_read_behind_the_sync(rt: HostRuntime) -> Result<(), Fail> {
+    let alloc = rt.alloc();
+    let mut files = Files::new(alloc);
+    let bytes = Bytes::new(keyring(alloc, "A", 0)?);
+    files.set(text_of(alloc, "a.keyring")?, Some(bytes))?;
+    let folder = SteadyFolder::new(alloc, files, 0);
+    let mut folder = LateFolder {
+        alloc,
+        folder,
+        is_synced: false,
+    };
+    let loaded = load(alloc, &mut folder)?;
+    assert_eq!(rt; told(alloc, &loaded)?.as_str(), "a:A:101 / a /");
     Ok(())
 }

@@ -1,8 +1,7 @@
 -- Files by their names: one is taken out, one is added, and which names there are.
-use Rattle.std.proofs.Common.{◌≡◌, ◌⊎◌, ⊎_elim, inl, inr, ◌↔◌, ℕ, ◌<◌, List, [], ◌∷◌, ◌++◌, Bool, true, false, cond, not, nat_eq, Option, None, Some, IsSome, refl, sym, ◌∙◌, ap, subst, arith}
-use Rattle.std.specs.List.{filter, Contains, IsDistinct, AllByRecursion}
+use Rattle.std.proofs.Common.{◌≡◌, ⊎_elim, ℕ, ◌<◌, List, [], ◌∷◌, ◌++◌, Bool, true, false, cond, not, nat_eq, None, Some, IsSome, refl, sym, ◌∙◌, ap, subst, arith}
+use Rattle.std.specs.List.{filter, Contains, AllByRecursion}
 use Rattle.std.specs.Cmp.Lexicographic.{pointwise}
-use Rattle.std.specs.Cmp.{IsEquivalence}
 use Rattle.std.specs.Cmp.Lexicographic.{nat_list_eq_equiv}
 use Rattle.std.proofs.lemmas.Map.Keys.{IsDistinct-head, IsDistinct-tail, IsDistinct-cons}
 use Rattle.std.proofs.lemmas.Map.Made.{IsDistinct-from_count}

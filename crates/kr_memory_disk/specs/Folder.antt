@@ -1,12 +1,12 @@
 -- A folder in memory, and what a crash makes of it.
-use Rattle.std.specs.Prelude.{◌≡◌, ◌⊎◌, ℕ, nat_eq, List, [], ◌∷◌, cond}
+use Rattle.std.specs.Prelude.{◌≡◌, ◌⊎◌, ◌/◌, ℕ, nat_eq, List, [], ◌∷◌, cond}
 use Rattle.std.specs.Cmp.Lexicographic.{pointwise}
 use Rattle.kr_outside.specs.RenameDisk.{Image}
 use Rattle.kr_memory_disk.specs.declared.files.MemoryFile.{MemoryFile}
 use Rattle.kr_memory_disk.specs.declared.folder.SlotPlan.{SlotPlan}
 use Rattle.kr_memory_disk.specs.Files.{image_in}
-use Rattle.kr_memory_disk.specs.Plan.{PlannedCalls}
-use Rattle.kr_memory_disk.specs.Slot.{SlotState, slot_may_leave}
+use Rattle.kr_memory_disk.specs.Plan.{PlannedCalls, FailsNow, after_success, after_failure}
+use Rattle.kr_memory_disk.specs.Slot.{SlotState, slot_may_leave, slot_left, slot_count_left}
 
 -- a folder: its files, the plans of slots to come, the names of which slots were made, the newest
 -- first, and the plan of its own calls
@@ -15,6 +15,15 @@ pub record FolderState : Type 0 where
   pub plans : List SlotPlan
   pub made : List (List ℕ)
   pub calls : PlannedCalls
+
+-- the call that came wasn't to fail, and is counted
+abbrev pub HasPassed : FolderState → FolderState → Type 0
+HasPassed old new =
+    ¬ (FailsNow old.calls) × (new ≡ record old { calls = after_success old.calls })
+
+-- the call that came was to fail, and is counted with its fault
+abbrev pub HasFailed : FolderState → FolderState → Type 0
+HasFailed old new = FailsNow old.calls × (new ≡ record old { calls = after_failure old.calls })
 
 -- which calls of the slot of a name are to fail, by the first plan of that name
 abbrev pub failing_of : List SlotPlan → List ℕ → List ℕ
@@ -38,6 +47,23 @@ abbrev pub SlotLeaves : List (List ℕ × SlotState) → List ℕ → Image → 
 SlotLeaves [] name image = ⊥
 SlotLeaves (slot ∷ slots) name image =
     ((slot.0 ≡ name) × slot_may_leave slot.1 image) ⊎ SlotLeaves slots name image
+
+-- the images by name, with another one of this name
+abbrev pub with_image : (List ℕ → Image) → List ℕ → Image → List ℕ → Image
+with_image images name image other = cond (pointwise nat_eq name other) image (images other)
+
+-- the images by name behind a crash: of each slot in turn the number picks one for its name, and
+-- what is left of the number, divided by how many there were, picks those of the slots behind it
+abbrev pub images_picked : (List ℕ → Image) → List (List ℕ × SlotState) → ℕ → List ℕ → Image
+images_picked images [] choice = images
+images_picked images (slot ∷ slots) choice =
+    images_picked (with_image images slot.0 (slot_left slot.1 choice)) slots
+    (choice / slot_count_left slot.1)
+
+-- each name stands for the image that the number picks
+abbrev pub IsPicked : List MemoryFile → List (List ℕ × SlotState) → ℕ → List MemoryFile → Type 0
+IsPicked before slots choice after =
+    (name : List ℕ) → image_in after name ≡ images_picked (image_in before) slots choice name
 
 -- files before a crash and behind it: each name stands for what the crash may leave of its slot, and
 -- a name of which no slot is given for what it stood for

@@ -1,5 +1,5 @@
 -- Hosts in memory.
-use Rattle.std.specs.Prelude.{◌≡◌, ℕ, nat_eq, List, [], Option, None, Some, cond, IfSome}
+use Rattle.std.specs.Prelude.{◌≡◌, ℕ, nat_eq, List, [], Option, None, cond, IfSome}
 use Rattle.std.specs.Option.{option_map}
 use Rattle.std.specs.Cmp.Lexicographic.{pointwise}
 use Rattle.kr_outside.specs.RenameDisk.{Image}

@@ -1,5 +1,5 @@
 -- The rename disk in memory: what a record of calls made of a name.
-use Rattle.std.specs.Prelude.{◌≡◌, ℕ, ◌≤◌, ◌⊎◌, List, [], ◌∷◌, ◌++◌, length, take, fold, Contains, None, Some, IsSome, Result, Ok, Err}
+use Rattle.std.specs.Prelude.{◌≡◌, ℕ, ◌≤◌, ◌%◌, ◌⊎◌, List, [], ◌∷◌, ◌++◌, length, map, reverse, get_or, take, fold, Contains, None, Some, IsSome, Result, Ok, Err}
 use Rattle.kr_outside.specs.declared.source.Failed as refused
 use Rattle.kr_memory.specs.Plan.{next_count}
 use Rattle.kr_outside.specs.RenameDisk.{Image, Temporary, Unknown, Unsynced, Synced, synced}
@@ -87,6 +87,15 @@ disk_at image calls = fold (λ disk call. disk_after call.call call.end disk) (f
 abbrev pub DiskLeaves : Disk → Image → Type 0
 DiskLeaves disk left = LeavesOneOf (disk.name ∷ disk.others) left
 
+-- an image that a crash may leave for each thing that counts as having stood, in the order in which
+-- they came to count, and what the name stands for last; of a file that wasn't synced its bytes
+abbrev pub images_left : Disk → List Image
+images_left disk = reverse (map image_stood (disk.name ∷ disk.others))
+
+-- the one of them that a number picks: behind the last one it begins again with the first
+abbrev pub image_picked : Disk → ℕ → Image
+image_picked disk choice = get_or (images_left disk) (choice % length (images_left disk)) None
+
 -- a slot that fails as planned: the image that it began with, the record of its calls, the numbers of
 -- the calls that are to fail, those of them which the disk does all the same, and the count of faults
 pub record SlotState : Type 0 where
@@ -111,6 +120,14 @@ slot_temporary slot = (disk_of slot).temporary
 -- what a crash now may leave
 abbrev pub slot_may_leave : SlotState → Image → Type 0
 slot_may_leave slot left = DiskLeaves (disk_of slot) left
+
+-- how many images a crash now leaves one of, for a number to pick
+abbrev pub slot_count_left : SlotState → ℕ
+slot_count_left slot = length (images_left (disk_of slot))
+
+-- the image that this number picks
+abbrev pub slot_left : SlotState → ℕ → Image
+slot_left slot choice = image_picked (disk_of slot) choice
 
 -- its clock: how many calls were recorded
 abbrev pub slot_moment : SlotState → ℕ

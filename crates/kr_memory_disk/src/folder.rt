@@ -1,8 +1,9 @@
-ghost use Rattle.std.specs.Prelude.{◌≡◌, ◌++◌, ◌∷◌, [], ℕ, List, IfOk, IfErr, OnOk, OnErr, IfSome, IsNone, None, Some, true, false};
+ghost use Rattle.std.specs.Prelude.{◌≡◌, ◌++◌, ◌∷◌, [], ℕ, List, IfOk, IfErr, OnOk, OnErr, IsErrOf, IfSome, IsNone, None, Some, true, false};
 ghost use Rattle.std.proofs.Common.{rules};
-ghost use Rattle.kr_outside.specs.Folder.{Lists};
+ghost use Rattle.kr_outside.specs.Faults.{HasCause};
+ghost use Rattle.kr_outside.specs.Folder.{Lists, HasOutsideCause};
 ghost use Rattle.kr_memory_disk.specs.Files.{image_in};
-ghost use Rattle.kr_memory_disk.specs.Folder.{IsCrashed, failing_of, done_of};
+ghost use Rattle.kr_memory_disk.specs.Folder.{IsPicked, IsCrashed, HasPassed, HasFailed, failing_of, done_of};
 ghost use Rattle.kr_memory_disk.specs.Plan.{calls_at_start};
 
 use crate::files::Files;
@@ -106,8 +107,9 @@ impl MemoryFolder {
 
     /// The folder behind a crash of the machine. Each name whose slot is given back stands for an image
     /// that the crash may leave of it, and every other name for what it stood for. The number picks
-    /// the images: each is picked by `left` of its slot, and where the numbers go up from 0, each
-    /// combination of images comes.
+    /// the images: the first slot's is the one that `left` of it picks, and the number divided by how
+    /// many there were (`count_left`) picks those of the slots behind it. So each combination of
+    /// images comes, as the numbers go up from 0.
     ///
     /// Refused where no memory was left.
     pub fn crash(
@@ -115,6 +117,8 @@ impl MemoryFolder {
         slots: Vec<(Text, MemorySlot)>,
         choice: u64,
     ) -> Result<MemoryFolder, OutOfMemory>
+        ensures picked { IfOk result (λ folder.
+            IsPicked self.files slots.items choice folder.files) }
         ensures left { IfOk result (λ folder. IsCrashed self.files slots.items folder.files) }
         ensures fresh { IfOk result (λ folder. folder ≡ record {
           files = folder.files;
@@ -137,13 +141,14 @@ impl MemoryFolder {
 
 // The files behind a crash.
 fn crashed(files: Files, slots: Vec<(Text, MemorySlot)>, choice: u64) -> Result<Files, OutOfMemory>
-    ensures { IfOk result (λ after. IsCrashed files slots.items after) }
+    ensures picked { IfOk result (λ after. IsPicked files slots.items choice after) }
+    ensures left { IfOk result (λ after. IsCrashed files slots.items after) }
 {
     let mut files = files;
     let mut choice = choice;
     for (name, slot) in slots {
         let image = slot.left(choice)?;
-        choice /= slot.calls().len() as u64 + 1;
+        choice /= slot.count_left()? as u64;
         files.set(name, image)?;
     }
     Ok(files)
@@ -186,11 +191,23 @@ impl Folder for MemoryFolder {
 
     ghost steady_below = { Prim.search rules };
 
-    fn sync(&mut self) -> Result<(), Failed> {
+    fn sync(&mut self) -> Result<(), Failed>
+        ensures done { OnOk result (HasPassed self.old self.new) }
+        ensures failed { OnErr result (HasFailed self.old self.new) }
+        ensures cause { HasCause self.old.calls.faults self.new.calls.faults result }
+    {
         self.calls.call()
     }
 
-    fn names(&mut self) -> Result<Vec<Text>, OutsideRefused> {
+    fn names(&mut self) -> Result<Vec<Text>, OutsideRefused>
+        ensures listed { IfOk result (λ names.
+            Lists self.old.made (λ name. image_in self.old.files name) names.items) }
+        ensures done { OnOk result (HasPassed self.old self.new) }
+        ensures failed { IsErrOf result OutsideRefused.Failed → HasFailed self.old self.new }
+        ensures memory { IsErrOf result OutsideRefused.OutOfMemory
+            → HasPassed self.old self.new }
+        ensures cause { HasOutsideCause self.old.calls.faults self.new.calls.faults result }
+    {
         if self.calls.call().is_err() {
             return Err(OutsideRefused::Failed);
         }

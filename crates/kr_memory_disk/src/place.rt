@@ -41,8 +41,8 @@ pub fn standing_of(calls: &[CallRecord]) -> Standing
     standing
 }
 
-// Where they stand after the call of this number.
-fn after(record: &CallRecord, number: usize, standing: Standing) -> Standing
+/// Where they stand after the call of this number.
+pub fn after(record: &CallRecord, number: usize, standing: Standing) -> Standing
     ensures { result ≡ standing_after record.now.call record.now.end number standing }
 {
     let Standing { name, temporary } = standing;

@@ -3,10 +3,11 @@ ghost use Rattle.std.proofs.Common.{rules};
 ghost use Rattle.kr_outside.specs.Faults.{Rose, HasCause};
 ghost use Rattle.kr_outside.specs.RenameDisk.{FitsIn, Reads};
 ghost use Rattle.kr_memory.specs.Plan.{next_count};
-ghost use Rattle.kr_memory_disk.specs.Slot.{IsPlanned, IsNoted, slot_seen, slot_temporary, slot_may_leave, slot_moment, slot_left_since};
+ghost use Rattle.kr_memory_disk.specs.Slot.{IsPlanned, IsNoted, slot_seen, slot_temporary, slot_may_leave, slot_count_left, slot_left, slot_moment, slot_left_since};
 ghost use Rattle.kr_memory_disk.specs.SlotLaws.{leaves_seen, counts_moment, only_moment};
 
-use crate::left::{image_left, stood};
+use crate::left::{place_left, places_left, stood};
+use crate::place::image_at;
 use kr_base::{Bytes, OutOfMemory};
 use kr_outside::{Failed, Seen, Slot};
 use std::alloc::Global;
@@ -114,12 +115,27 @@ impl MemorySlot {
         self.calls.truncate(calls);
     }
 
-    /// A copy of an image that a crash now may leave, picked by a number: what the name stood for
-    /// after so many calls, or what it stands for now where the folder was synced since.
-    pub fn left(&self, choice: u64) -> Result<Option<Bytes>, OutOfMemory>
-        ensures { IfOk result (λ image. slot_may_leave self.now image) }
+    /// How many images a crash now leaves one of: what the name stands for, and what else counts as
+    /// having stood since the folder was synced.
+    ///
+    /// Refused where no memory was left.
+    pub fn count_left(&self) -> Result<usize, OutOfMemory>
+        ensures { IfOk result (λ count. count ≡ slot_count_left self.now) }
     {
-        match image_left(&self.image, &self.calls, choice) {
+        Ok(places_left(self.alloc, &self.calls)?.len())
+    }
+
+    /// A copy of an image that a crash now may leave, picked by a number: these images stand in the
+    /// order in which they came to count, with what the name stands for last, and the numbers go
+    /// through them from 0, again and again. Of a file that wasn't synced it is with all its bytes.
+    ///
+    /// Refused where no memory was left.
+    pub fn left(&self, choice: u64) -> Result<Option<Bytes>, OutOfMemory>
+        ensures picked { IfOk result (λ image. image ≡ slot_left self.now choice) }
+        ensures may { IfOk result (λ image. slot_may_leave self.now image) }
+    {
+        let place = place_left(self.alloc, &self.calls, choice)?;
+        match image_at(&self.image, &self.calls, place) {
             None => Ok(None),
             Some(bytes) => Ok(Some(Bytes::from_slice(self.alloc, bytes)?)),
         }

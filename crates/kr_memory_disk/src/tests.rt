@@ -80,17 +80,18 @@ fn replace<S: Slot>(slot: &mut S) {
     }
 }
 
-// The folder of `a` and `b` behind a crash, where both were replaced as far as the plans let them, and
-// this number picks the images: what `a`, `b` and `c` stand for, with . for no file.
+// The folder of `a` and `b` behind a crash, where both were replaced as far as their plan, which is the
+// same, lets them, and this number picks the images: what `a`, `b` and `c` stand for, with . for no
+// file.
 fn left_by_crash(alloc: Global, failing: &[u64], choice: u64) -> Result<Vec<u8>, Fail> {
     let mut folder = folder_of(alloc, &["a", "b"], &[])?;
-    folder.plan(SlotPlan {
-        name: name_of(alloc, "a")?,
-        failing: failing.to_vec(alloc)?,
-        done: Vec::new(alloc),
-    })?;
     let mut slots = Vec::new(alloc);
     for name in ["a", "b"] {
+        folder.plan(SlotPlan {
+            name: name_of(alloc, name)?,
+            failing: failing.to_vec(alloc)?,
+            done: Vec::new(alloc),
+        })?;
         let mut slot = folder.slot(name)?;
         replace(&mut slot);
         slots.push((name_of(alloc, name)?, slot))?;
@@ -105,15 +106,21 @@ fn left_by_crash(alloc: Global, failing: &[u64], choice: u64) -> Result<Vec<u8>,
 
 #[test]
 fn a_crash_leaves_each_combination_of_images(rt: HostRuntime) -> Result<(), Fail> {
-    // The calls of a's slot that fail, the number, what is left. Where no sync of the folder came behind
-    // the rename of `a`, both images may be left of it; of `b` only the new one.
-    let cases: [(&[u64], u64, &[u8]); 6] = [
+    // The calls that fail, the number, what is left. Where no sync of the folder came behind the rename,
+    // both images may be left; so they may where the rename failed, and what the name stands for then
+    // comes last.
+    let cases: [(&[u64], u64, &[u8]); 11] = [
         (&[], 0, b"!!."),
         (&[], 7, b"!!."),
-        (&[3], 0, b"a!."),
+        (&[3], 0, b"ab."),
+        (&[3], 1, b"!b."),
+        (&[3], 2, b"a!."),
         (&[3], 3, b"!!."),
-        (&[3], 5, b"a!."),
-        (&[0], 9, b"a!."),
+        (&[3], 4, b"ab."),
+        (&[2], 0, b"!!."),
+        (&[2], 1, b"a!."),
+        (&[2], u64::MAX, b"ab."),
+        (&[0], 9, b"ab."),
     ];
     let alloc = rt.alloc();
     for (failing, choice, want) in cases {

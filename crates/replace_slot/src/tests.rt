@@ -158,12 +158,13 @@ fn left_behind_each(alloc: Global, mut slot: MemorySlot) -> Result<Vec<u8>, Allo
 fn a_crash_leaves_the_old_image_then_either_then_the_new(rt: HostRuntime) -> Result<(), Fail> {
     // The calls that fail, those of them done all the same, and what a crash leaves behind all calls,
     // then behind one fewer, down to none: before the rename the old image, from it on the old or the
-    // new, and behind a sync of the folder the new. A rename that failed and did nothing leaves the old.
+    // new, and behind a sync of the folder the new. Of a rename that failed and did nothing the new one
+    // counts as having stood.
     let cases: [(&[u64], &[u64], &[u8]); 6] = [
         (&[], &[], b"n|on|o|o|o|"),
         (&[0], &[], b"o|o|"),
         (&[1], &[], b"o|o|o|"),
-        (&[2], &[], b"o|o|o|o|"),
+        (&[2], &[], b"no|o|o|o|"),
         (&[2], &[2], b"on|o|o|o|"),
         (&[3], &[], b"on|on|o|o|o|"),
     ];
@@ -182,7 +183,7 @@ fn a_crash_leaves_the_old_image_then_either_then_no_file(rt: HostRuntime) -> Res
     // The same of a removal.
     let cases: [(&[u64], &[u64], &[u8]); 4] = [
         (&[], &[], b".|o.|o|"),
-        (&[0], &[], b"o|o|"),
+        (&[0], &[], b".o|o|"),
         (&[0], &[0], b"o.|o|"),
         (&[1], &[], b"o.|o.|o|"),
     ];

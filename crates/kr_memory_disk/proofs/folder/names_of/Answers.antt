@@ -1,4 +1,4 @@
-use Rattle.std.proofs.Common.{◌≡◌, ap, sym, subst, List, ℕ}
+use Rattle.std.proofs.Common.{sym, subst, List, ℕ}
 use Rattle.kr_outside.specs.Folder.{Lists}
 use Rattle.kr_memory_disk.specs.Files.{image_in}
 use Rattle.kr_memory_disk.proofs.FileLemmas.{lists_names}

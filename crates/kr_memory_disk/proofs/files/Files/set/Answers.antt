@@ -1,4 +1,4 @@
-use Rattle.std.proofs.Common.{◌≡◌, ◌++◌, ◌∷◌, [], ◌∙◌, List, ℕ, not, nat_eq, sym, subst, ap, None, Some}
+use Rattle.std.proofs.Common.{◌≡◌, ◌++◌, ◌∷◌, [], ◌∙◌, List, ℕ, not, nat_eq, sym, subst, ap}
 use Rattle.std.specs.List.{filter}
 use Rattle.std.specs.Cmp.Lexicographic.{pointwise}
 use Rattle.kr_memory_disk.specs.declared.files.MemoryFile.{MemoryFile}

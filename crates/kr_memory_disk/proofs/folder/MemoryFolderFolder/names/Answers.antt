@@ -6,6 +6,6 @@ use Rattle.kr_memory_disk.proofs.folder.MemoryFolderFolder.names.Goals as goal
 
 -- the names are those of the folder's files
 pub returns-clause-listed : goal.returns-clause-listed
-returns-clause-listed c _ =
+returns-clause-listed c =
     subst (λ (s : FolderState). IfOk c.names_of.result (λ names. Lists c.args.self.now.made (λ name. image_in s.files name) names.items))
     c.self.view_is (c.names_of.ensures.listed c.args.self.now.made)
