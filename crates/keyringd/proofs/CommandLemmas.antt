@@ -41,3 +41,7 @@ pub one_user : (words : List (List ℕ)) (u v : ℕ) → IsStdio words u → IsS
 one_user words u v s t =
     let users : s.user ≡ t.user = ap (λ l. get_or l 2 []) (sym s.three ∙ t.three) in
     decimal_injective u v (omega (arith, s.number.fits)) (omega (arith, t.number.fits)) (sym s.number.digits ∙ users ∙ t.number.digits)
+
+-- the second word of a command is its folder
+pub second_word : (words : List (List ℕ)) (folder : List ℕ) (uid : ℕ) → folder ≡ get_or words 1 folder → (s : IsStdio words uid) → s.folder ≡ folder
+second_word words folder uid is s = ap (λ l. get_or l 1 folder) (sym s.three) ∙ sym is

@@ -4,7 +4,7 @@ use Rattle.std.specs.Io.KnownBytes.{Consumes, IsAtEnd}
 use Rattle.kr_outside.specs.Faults.{Rose, StandsStill}
 use Rattle.keyringd.specs.Conversation.{IsInput, AnInput, Streams, EndsFor, Conversed}
 use Rattle.keyringd.specs.declared.status.Status.{Status}
-use Rattle.keyringd.specs.declared.status.Status.TheVariants.{Done, Usage, ReadFault, WriteFault, Memory, NotBuilt}
+use Rattle.keyringd.specs.declared.status.Status.TheVariants.{Done, Usage, ReadFault, WriteFault, FolderFault, Memory, NotBuilt}
 
 -- a count that stands still didn't rise
 still : (old new : ℕ) → StandsStill old new → Rose old new → ⊥
@@ -31,6 +31,7 @@ complete uid serial plain seed bytes old new status c form told input output = b
     by_end Usage ends = absurd ends
     by_end ReadFault ends = absurd (still old.input_faults new.input_faults input ends.2)
     by_end WriteFault ends = absurd (still old.output_faults new.output_faults output ends.1)
+    by_end FolderFault ends = absurd ends
     by_end Memory ends = inr refl
     by_end NotBuilt ends =
         let front = front_of old.left new.left c.read bytes told c.consumed in
@@ -40,3 +41,7 @@ complete uid serial plain seed bytes old new status c form told input output = b
               let none : front.0 ≡ [] = at_end new.left front.0 front.2 ended.0 in
               ended.1 c.read [] (sym (append-nil c.read)) (subst (AnInput uid) (front.1 ∙ ap (λ l. c.read ++ l) none ∙ append-nil c.read) (serial, plain, form))
         ])
+
+-- no conversation ends as faulty words do
+pub never_usage : (uid : ℕ) (seed : List ℕ) (old new : Streams) (status : Status) → Conversed uid seed old new status → status ≡ Usage → ⊥
+never_usage uid seed old new status c is = subst (λ s. EndsFor uid seed c.read c.put old new s) is c.ends

@@ -6,7 +6,7 @@ use Rattle.keyringd.specs.Authentication.{greeting, begin, ok}
 use Rattle.keyringd.specs.OpenSession.{IsCall, reply}
 use Rattle.keyringd.specs.Reading.{IsOff, IsBegun, LacksWhole}
 use Rattle.keyringd.specs.declared.status.Status.{Status}
-use Rattle.keyringd.specs.declared.status.Status.TheVariants.{Done, Usage, ReadFault, WriteFault, Memory, NotBuilt}
+use Rattle.keyringd.specs.declared.status.Status.TheVariants.{Done, Usage, ReadFault, WriteFault, FolderFault, Memory, NotBuilt}
 
 -- the bytes are the handshake of this user and then a call, which has this serial and asks for this algorithm
 pub record IsInput (uid serial : ℕ) (plain : Bool) (bytes : List ℕ) : Type 0 where
@@ -59,6 +59,7 @@ EndsFor uid seed read put old new Done = IsOwed uid seed read put × AnInput uid
 EndsFor uid seed read put old new Usage = ⊥
 EndsFor uid seed read put old new ReadFault = IsOwed uid seed read put × IsBegun (AnInput uid) read × Rose old.input_faults new.input_faults
 EndsFor uid seed read put old new WriteFault = IsFrontOfOwed uid seed read put × Rose old.output_faults new.output_faults
+EndsFor uid seed read put old new FolderFault = ⊥
 EndsFor uid seed read put old new Memory = IsFrontOfOwed uid seed read put
 EndsFor uid seed read put old new NotBuilt =
     IsOwed uid seed read put × (IsOff (AnInput uid) read ⊎ (IsAtEnd new.left × LacksWhole (AnInput uid) read))

@@ -13,6 +13,8 @@ pub enum Status {
     ReadFault,
     /// The output failed.
     WriteFault,
+    /// The folder couldn't be opened, or what it has couldn't be read.
+    FolderFault,
     /// There was no memory.
     Memory,
     /// The input is of a form that is not built: it can't go on to one, or it ended before one stood
@@ -32,6 +34,7 @@ impl Status {
             Status::Usage => 2,
             Status::ReadFault => 3,
             Status::WriteFault => 4,
+            Status::FolderFault => 5,
             Status::Memory => 9,
             Status::NotBuilt => 12,
         }
@@ -48,6 +51,7 @@ impl Status {
             ),
             Status::ReadFault => Some("input failed"),
             Status::WriteFault => Some("output failed"),
+            Status::FolderFault => Some("folder failed"),
             Status::Memory => Some("out of memory"),
             Status::NotBuilt => Some("input of a form that is not built"),
         }

@@ -1,7 +1,8 @@
 // The top call over streams in memory: the rows of the one conversation, and each way in which it ends early.
 use super::*;
-use kr_base::Text;
-use kr_memory::{MemorySink, MemorySource, SteadySink, SteadySource};
+use kr_base::{Bytes, Text};
+use kr_memory::{ListedClock, MemorySink, MemorySource, SteadySink, SteadySource};
+use kr_memory_disk::{Files, MemoryFolder, MemoryHost, SteadyHost};
 use kr_outside::{Sink, Source};
 use std::alloc::Global;
 use std::process::Abort;
@@ -60,14 +61,22 @@ fn texts_of(alloc: Global, words: &[&str]) -> Result<Vec<Text>, Fail> {
     Ok(texts)
 }
 
+// A host whose folders are empty.
+fn empty_host(alloc: Global) -> SteadyHost {
+    let clock = ListedClock::new(Vec::new(alloc));
+    SteadyHost::new(alloc, Files::new(alloc), 0, clock)
+}
+
 // Runs `stdio . 1000` under the zero seed.
 fn stdio<R: AllocGlobal, I: Source, O: Sink>(
     rt: &R,
     input: &mut I,
     output: &mut O,
 ) -> Result<Status, Fail> {
-    let words = texts_of(rt.alloc(), &["stdio", ".", "1000"])?;
-    Ok(run(rt, words.as_slice(), input, output, [0; 32]))
+    let alloc = rt.alloc();
+    let words = texts_of(alloc, &["stdio", ".", "1000"])?;
+    let mut host = empty_host(alloc);
+    Ok(run(rt, words.as_slice(), input, output, &mut host, [0; 32]))
 }
 
 // How the run of this input ends, in pieces of these lengths, and what it writes.
@@ -259,7 +268,15 @@ fn ends<R: Abort + AllocGlobal>(rt: &R, words: &[&str], want: Status) -> Result<
     let texts = texts_of(alloc, words)?;
     let mut source = SteadySource::new(Vec::new(alloc), Vec::new(alloc));
     let mut sink = SteadySink::new(alloc, 0, Vec::new(alloc))?;
-    let status = run(rt, texts.as_slice(), &mut source, &mut sink, [0; 32]);
+    let mut host = empty_host(alloc);
+    let status = run(
+        rt,
+        texts.as_slice(),
+        &mut source,
+        &mut sink,
+        &mut host,
+        [0; 32],
+    );
     assert_eq!(rt; status, want, "at {words:?}");
     Ok(())
 }
@@ -277,4 +294,42 @@ fn three_plain_words_are_a_command(rt: HostRuntime) -> Result<(), Fail> {
     ends(&rt, &["stdio", ".", "01000"], Status::Usage)?;
     ends(&rt, &["stdio", ".", "+1000"], Status::Usage)?;
     ends(&rt, &["stdio", ".", "4294967296"], Status::Usage)
+}
+
+// How the run of `stdio FOLDER 1000` ends over an empty input, on a host whose folder is `.`, with a keyring
+// file that isn't one; these calls of the host and of the folder fail, counted from 0.
+fn opens<R: AllocGlobal>(
+    rt: &R,
+    folder: &str,
+    host_fails: &[u64],
+    folder_fails: &[u64],
+) -> Result<Status, Fail> {
+    let alloc = rt.alloc();
+    let words = texts_of(alloc, &["stdio", folder, "1000"])?;
+    let path = Text::from_str(alloc, ".")?.ok_or("a zero byte")?;
+    let name = Text::from_str(alloc, "x.keyring")?.ok_or("a zero byte")?;
+    let mut files = MemoryFolder::new(alloc, folder_fails.to_vec(alloc)?);
+    files.set(name, Some(Bytes::from_slice(alloc, b"abc")?))?;
+    let clock = ListedClock::new(Vec::new(alloc));
+    let mut host = MemoryHost::new(alloc, path, files, clock, host_fails.to_vec(alloc)?);
+    let mut source = SteadySource::new(Vec::new(alloc), Vec::new(alloc));
+    let mut sink = SteadySink::new(alloc, 0, Vec::new(alloc))?;
+    Ok(run(
+        rt,
+        words.as_slice(),
+        &mut source,
+        &mut sink,
+        &mut host,
+        [0; 32],
+    ))
+}
+
+#[test]
+fn a_folder_that_fails_ends_the_run(rt: HostRuntime) -> Result<(), Fail> {
+    assert_eq!(rt; opens(&rt, ".", &[], &[])?, Status::NotBuilt);
+    assert_eq!(rt; opens(&rt, "there", &[], &[])?, Status::FolderFault);
+    assert_eq!(rt; opens(&rt, ".", &[0], &[])?, Status::FolderFault);
+    assert_eq!(rt; opens(&rt, ".", &[], &[0])?, Status::FolderFault);
+    assert_eq!(rt; opens(&rt, ".", &[], &[1])?, Status::FolderFault);
+    Ok(())
 }
