@@ -1,6 +1,8 @@
 // The folder of the program.
-ghost use Rattle.std.specs.Prelude.{◌≡◌, ◌≤◌, ◌⊎◌, IsTrue, IsErrOf};
+ghost use Rattle.std.specs.Prelude.{◌≡◌, ◌≤◌, ◌⊎◌, IsTrue, IsErrOf, OnOk, ℕ, List};
 ghost use Rattle.kr_outside.specs.Faults.{KeepsSteady, Rose};
+ghost use Rattle.kr_outside.specs.RenameDisk.{Image};
+ghost use Rattle.keyringd.specs.Folder.{IsOpened};
 
 use folder_store::{LoadRefused, Loaded, load};
 use kr_outside::{Folder, Host, OutsideRefused};
@@ -24,8 +26,12 @@ pub fn open_folder<H: Host>(
     host: &mut H,
     path: &str,
 ) -> Result<Held<H::Dir>, LoadRefused>
+    ensures opened { (images : List ℕ → Image) → IsTrue (H.is_honest host.old)
+        → H.told host.old path.now ≡ Some images → OnOk result (IsOpened images) }
+
     ensures cause { IsErrOf result LoadRefused.Folder
         → Rose (H.faults host.old) (H.faults host.new) ⊎ ¬ (IsTrue (H.is_steady host.old)) }
+    ensures coming { H.coming host.new ≡ H.coming host.old }
     ensures later { H.faults host.old ≤ H.faults host.new }
     ensures honest { H.is_honest host.new ≡ H.is_honest host.old }
     ensures steady { KeepsSteady (H.is_steady host.old) (H.is_steady host.new)
