@@ -3,7 +3,7 @@ use Rattle.std.proofs.Common.{◌≡◌, ℕ, IsTrue, List, [], ◌∷◌, lengt
 use Rattle.std.specs.Prelude.{codes, decimal, MatchOption}
 use Rattle.std.specs.Str.Parse.{ParsesUnsigned}
 use Rattle.std.proofs.lemmas.Fmt.{parse-decimal, decimal_injective}
-use Rattle.keyringd.specs.Command.{is_plain, IsNumber, IsStdio, IsNoCommand}
+use Rattle.keyringd.specs.Command.{is_plain, IsNumber, IsStdio, IsStdioIn, IsNoCommand}
 
 -- a number that the text spells is read
 pub number_read : {E : Type 0} (text : List ℕ) (r : Result ℕ E) (n : ℕ) → ParsesUnsigned 32 10 text r → IsNumber n text → r ≡ Ok n
@@ -41,3 +41,11 @@ pub one_user : (words : List (List ℕ)) (u v : ℕ) → IsStdio words u → IsS
 one_user words u v s t =
     let users : s.user ≡ t.user = ap (λ l. get_or l 2 []) (sym s.three ∙ t.three) in
     decimal_injective u v (omega (arith, s.number.fits)) (omega (arith, t.number.fits)) (sym s.number.digits ∙ users ∙ t.number.digits)
+
+-- the second word of a command is its folder
+pub second_word : (words : List (List ℕ)) (folder : List ℕ) (uid : ℕ) → folder ≡ get_or words 1 folder → (s : IsStdio words uid) → s.folder ≡ folder
+second_word words folder uid is s = ap (λ l. get_or l 1 folder) (sym s.three) ∙ sym is
+
+-- the words name one folder
+pub one_folder : (words : List (List ℕ)) (folder other : List ℕ) (u v : ℕ) → IsStdioIn words folder u → IsStdioIn words other v → folder ≡ other
+one_folder words folder other u v s t = sym s.named ∙ ap (λ l. get_or l 1 []) (sym s.is.three ∙ t.is.three) ∙ t.named

@@ -20,6 +20,11 @@ pub record IsStdio (words : List (List ℕ)) (uid : ℕ) : Type 0 where
   pub plain : IsTrue (is_plain folder)
   pub number : IsNumber uid user
 
+-- the same, in this folder
+pub record IsStdioIn (words : List (List ℕ)) (folder : List ℕ) (uid : ℕ) : Type 0 where
+  pub is : IsStdio words uid
+  pub named : is.folder ≡ folder
+
 -- the words are no command
 abbrev pub IsNoCommand : List (List ℕ) → Type 0
 IsNoCommand words = (uid : ℕ) → IsStdio words uid → ⊥

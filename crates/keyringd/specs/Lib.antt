@@ -1,8 +1,8 @@
-pub mod Authentication
+pub mod Causes
 pub mod Command
-pub mod Conversation
-pub mod Expected
-pub mod Message
-pub mod OpenSession
-pub mod Reading
+pub mod Events
+pub mod Folder
+pub mod ServerNumber
+pub mod Serves
 pub mod Status
+pub mod WholeInput

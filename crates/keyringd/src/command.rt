@@ -1,6 +1,6 @@
 // The words of the command line.
 ghost use Rattle.std.specs.Prelude.{◌≡◌, ℕ, MatchOption};
-ghost use Rattle.keyringd.specs.Command.{is_plain, IsNumber, IsStdio, IsNoCommand};
+ghost use Rattle.keyringd.specs.Command.{is_plain, IsNumber, IsStdio, IsStdioIn, IsNoCommand};
 
 use itoa::Buffer;
 use kr_base::Text;
@@ -29,9 +29,9 @@ fn number_of(text: &str) -> Option<u32>
     }
 }
 
-/// The user whom the command `stdio DIR UID` lets in, by these words behind the program's name.
-/// None where the words are no command.
-pub fn stdio_user(words: &[Text]) -> Option<u32>
+// The user whom the command `stdio DIR UID` lets in, by these words behind the program's name.
+// None where the words are no command.
+fn stdio_user(words: &[Text]) -> Option<u32>
     ensures { MatchOption result (IsNoCommand words.now) (IsStdio words.now) }
 {
     let [command, folder, user] = words else {
@@ -41,5 +41,20 @@ pub fn stdio_user(words: &[Text]) -> Option<u32>
         number_of(user.as_str())
     } else {
         None
+    }
+}
+
+/// The folder of the command `stdio DIR UID`, and the user whom it lets in, by these words behind the
+/// program's name. None where the words are no command.
+pub fn stdio_words(words: &[Text]) -> Option<(&str, u32)>
+    ensures { MatchOption result (IsNoCommand words.now)
+        (λ command. IsStdioIn words.now command.0.now command.1) }
+{
+    let [_, folder, _] = words else {
+        return None;
+    };
+    match stdio_user(words) {
+        Some(uid) => Some((folder.as_str(), uid)),
+        None => None,
     }
 }

@@ -1,20 +1,18 @@
 //! keyringd, the program: it keeps passwords and other secrets for mail clients, browsers and scripts,
-//! and serves them by the Secret Service API (draft 0.2) over D-Bus messages. Today it answers one
-//! handshake and one call of OpenSession on its standard streams.
+//! and serves them by the Secret Service API (draft 0.2) over D-Bus messages. Today it opens and loads its
+//! folder, and serves one client on its standard streams: the handshake, and the calls Ping, OpenSession
+//! and Close.
 //!
-//! All that it does is a function of its words, its streams and a seed, `program::run`, whose contract
-//! says what is written to what was read and why the run ended. `main` only makes the real streams and
-//! tells how the run ended.
+//! All that it does is a function of its words, its streams, its host and a seed, `program::run`, whose
+//! contract says what is written to what was read and why the run ended. `main` only makes the real
+//! streams and tells how the run ended.
 #![tactic(auto)]
 
 mod command;
-mod conversation;
-mod handshake;
-mod input;
-mod laws;
-mod open_session;
+mod connection;
+mod folder;
 mod program;
-mod replies;
+mod server_number;
 mod status;
 #[cfg(test)]
 mod tests;
@@ -22,7 +20,7 @@ mod tests;
 use crate::program::run;
 use crate::status::Status;
 use kr_base::Text;
-use real_edges::{ReaderSource, WriterSink};
+use real_edges::{ReaderSource, RealHost, WriterSink};
 use std::env;
 use std::io::ErrorKind;
 use std::process::ExitCode;
@@ -57,13 +55,21 @@ fn main(rt: HostRuntime) -> ExitCode {
         Ok(words) => {
             let mut input = ReaderSource::new(rt.stdin());
             let mut output = WriterSink::new(rt.stdout());
-            run(&rt, words.as_slice(), &mut input, &mut output, [0; 32])
+            let mut host = RealHost::new(rt);
+            run(
+                &rt,
+                words.as_slice(),
+                &mut input,
+                &mut output,
+                &mut host,
+                [0; 32],
+            )
         }
         Err(status) => status,
     };
-    if let Some(text) = status.text() {
+    if status != Status::Done {
         // There is nobody to tell where standard error fails too.
-        let _ = eprintln!(rt; "keyringd: {text}");
+        let _ = eprintln!(rt; "keyringd: {status}");
     }
     ExitCode::from(status.number())
 }

@@ -1,47 +1,81 @@
 // The top call: from the words and the streams to the end.
-ghost use Rattle.std.specs.Prelude.{◌≡◌, ◌⊎◌, ◌↔◌, ℕ, Bool, List};
-ghost use Rattle.kr_outside.specs.Faults.{StandsStill};
-ghost use Rattle.keyringd.specs.Command.{IsStdio, IsNoCommand};
-ghost use Rattle.keyringd.specs.Conversation.{Conversed, IsInput, streams};
+ghost use Rattle.std.specs.Prelude.{◌≡◌, ◌≤◌, ◌⊎◌, ◌↔◌, ℕ, IsTrue, List};
+ghost use Rattle.kr_outside.specs.Faults.{KeepsSteady, Rose, StandsStill};
+ghost use Rattle.kr_outside.specs.RenameDisk.{Image};
+ghost use Rattle.connection_worker.specs.Streams.{input_of, output_of};
+ghost use Rattle.keyringd.specs.Command.{IsStdio, IsStdioIn, IsNoCommand};
+ghost use Rattle.keyringd.specs.Folder.{IsOpened, HadFolder};
+ghost use Rattle.keyringd.specs.Serves.{Serves};
+ghost use Rattle.keyringd.specs.WholeInput.{IsWholeInput};
 
-use crate::command::stdio_user;
-use crate::conversation::converse;
+use crate::command::stdio_words;
+use crate::connection::serve_client;
+use crate::folder::open_folder;
 use crate::status::Status;
+use folder_store::LoadRefused;
 use kr_base::Text;
-use kr_outside::{Sink, Source};
+use kr_outside::{Host, Sink, Source};
+use std::alloc::AllocGlobal;
+use std::sync::Wait;
 
 /// Runs the command of these words, which stand behind the program's name, over the input and the
-/// output. The seed determines all that is random: the server's number.
+/// output, on this host. The seed determines all that is random: the server's number and the salts.
 ///
-/// `stdio DIR UID` answers one handshake of the user UID and one call of OpenSession (Secret Service
-/// API draft 0.2, interface Service). The folder isn't opened yet.
-pub fn run<R: AllocGlobal, I: Source, O: Sink>(
+/// `stdio DIR UID` opens and loads the folder DIR, holds it to the end, and serves the client of the user
+/// UID: the handshake, and each call with its reply. The clock is asked once for each call.
+pub fn run<R: AllocGlobal + Wait, I: Source, O: Sink, H: Host>(
     rt: &R,
     words: &[Text],
     input: &mut I,
     output: &mut O,
+    host: &mut H,
     seed: [u8; 32],
 ) -> Status
-    // The words are looked at first, and where they are no command nothing is read or written.
+    // The words are looked at first, and the folder comes next: until it is open nothing is read or
+    // written.
     ensures usage { (result ≡ Status.Usage) ↔ IsNoCommand words.now }
-    ensures untouched { result ≡ Status.Usage
+    ensures untouched { (result ≡ Status.Usage) ⊎ (result ≡ Status.FolderFault)
         → (input.new ≡ input.old) × (output.new ≡ output.old) }
 
-    // What was read, what was written to it, and why the run ended so.
-    ensures conversed { (uid : ℕ) → IsStdio words.now uid → Conversed uid seed
-        (streams I.left I.faults I.is_steady O.written O.faults O.is_steady input.old output.old)
-        (streams I.left I.faults I.is_steady O.written O.faults O.is_steady input.new output.new)
-        result }
+    // The folder is at fault only where the host's count rose, or what the host gave may fail. Else
+    // it is the folder of the words that was loaded.
+    ensures folder_fault { result ≡ Status.FolderFault
+        → Rose (H.faults host.old) (H.faults host.new) ⊎ ¬ (IsTrue (H.is_steady host.old)) }
+    ensures opened { (folder : List ℕ) (uid : ℕ) (images : List ℕ → Image)
+        → IsStdioIn words.now folder uid → IsTrue (H.is_honest host.old)
+        → H.told host.old folder ≡ Some images → HadFolder result → IsOpened images }
+    ensures host_later { H.faults host.old ≤ H.faults host.new }
+    ensures host_steady { KeepsSteady (H.is_steady host.old) (H.is_steady host.new)
+        (H.faults host.old) (H.faults host.new) }
 
-    // Over streams that didn't fail, an input of the form that is built is answered to its end.
-    ensures complete { (uid serial : ℕ) (plain : Bool) (bytes : List ℕ) → IsStdio words.now uid
-        → IsInput uid serial plain bytes → I.left input.old ≡ Some bytes
+    // What was read, recorded and written, and why the run ended so.
+    ensures served { (uid : ℕ) → IsStdio words.now uid → (result ≡ Status.FolderFault)
+        ⊎ Serves uid seed (H.coming host.old)
+        (input_of I.left I.faults I.is_steady input.old)
+        (input_of I.left I.faults I.is_steady input.new)
+        (output_of O.written O.faults O.is_steady output.old)
+        (output_of O.written O.faults O.is_steady output.new) result }
+
+    // Over a host that never fails and streams that didn't, an open handshake and a stream of messages
+    // behind it are answered to their end.
+    ensures complete { (uid : ℕ) (bytes : List ℕ) → IsStdio words.now uid
+        → IsWholeInput uid seed bytes → I.left input.old ≡ Some bytes
+        → IsTrue (H.is_steady host.old)
         → StandsStill (I.faults input.old) (I.faults input.new)
         → StandsStill (O.faults output.old) (O.faults output.new)
         → (result ≡ Status.Done) ⊎ (result ≡ Status.Memory) }
 {
-    match stdio_user(words) {
-        Some(uid) => converse(rt.alloc(), uid, seed, input, output),
-        None => Status::Usage,
+    let Some((folder, uid)) = stdio_words(words) else {
+        return Status::Usage;
+    };
+    match open_folder(rt.alloc(), host, folder) {
+        Ok(held) => {
+            let mut clock = host.clock();
+            let status = serve_client(rt, uid, seed, input, output, &mut clock);
+            drop(held);
+            status
+        }
+        Err(LoadRefused::Folder) => Status::FolderFault,
+        Err(LoadRefused::OutOfMemory) => Status::Memory,
     }
 }

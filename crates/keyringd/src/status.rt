@@ -1,11 +1,16 @@
 // How the program ends.
 ghost use Rattle.std.specs.Prelude.{◌≡◌};
-ghost use Rattle.std.specs.Option.{option_copied};
+ghost use Rattle.keyringd.specs.Status.{IsOnlyEnd, status_of};
 
-/// How the program ended.
+use connection_worker::End;
+use dbus_auth::AuthFault;
+use dbus_framing::Violation;
+use std::fmt;
+
+/// How the program ended. It prints as what is told of it on standard error.
 #[derive(Clone, Copy, Debug, PartialEq, Eq)]
 pub enum Status {
-    /// The input was read to its end, and is one of the form that is built.
+    /// The input was read to its end and answered.
     Done,
     /// The words are no command.
     Usage,
@@ -13,15 +18,37 @@ pub enum Status {
     ReadFault,
     /// The output failed.
     WriteFault,
+    /// The folder couldn't be opened, or what it has couldn't be read.
+    FolderFault,
+    /// What came in is no stream of messages.
+    Violation(Violation),
+    /// The handshake was refused.
+    AuthRefused(AuthFault),
     /// There was no memory.
     Memory,
-    /// The input is of a form that is not built: it can't go on to one, or it ended before one stood
-    /// whole.
-    NotBuilt,
+    /// The service has recorded all the events that it can count.
+    EventsSpent,
 }
 
 impl Status {
-    ghost use Rattle.keyringd.specs.Status.{number_of, text_of};
+    ghost use Rattle.keyringd.specs.Status.{number_of};
+
+    /// The status of a run whose connection, the only one of its service, ended so.
+    pub fn of_end(end: End) -> Status
+        requires { IsOnlyEnd end }
+        ensures { result ≡ status_of end }
+    {
+        match end {
+            End::Done => Status::Done,
+            End::Violation(cause) => Status::Violation(cause),
+            End::AuthRefused(why) => Status::AuthRefused(why),
+            End::ReadFault => Status::ReadFault,
+            End::WriteFault => Status::WriteFault,
+            End::EventsSpent => Status::EventsSpent,
+            End::Memory => Status::Memory,
+            End::OtherEnded | End::Overrun => unreachable!(),
+        }
+    }
 
     /// The number with which the process ends.
     pub fn number(self) -> u8
@@ -32,24 +59,29 @@ impl Status {
             Status::Usage => 2,
             Status::ReadFault => 3,
             Status::WriteFault => 4,
+            Status::FolderFault => 5,
+            Status::Violation(_) => 7,
+            Status::AuthRefused(_) => 8,
             Status::Memory => 9,
-            Status::NotBuilt => 12,
+            Status::EventsSpent => 11,
         }
     }
+}
 
-    /// What is told on standard error behind `keyringd: `. Nothing is told where all went well.
-    pub fn text(self) -> Option<&'static str>
-        ensures { option_copied result ≡ text_of self }
-    {
+impl fmt::Display for Status {
+    fn fmt<W: fmt::Write>(&self, f: &mut fmt::Formatter<W>) -> fmt::Result {
         match self {
-            Status::Done => None,
-            Status::Usage => Some(
+            Status::Done => f.write_str("done"),
+            Status::Usage => f.write_str(
                 "usage: keyringd stdio DIR UID | serve DIR SOCKET --uid U [--connections N] | load N SEED",
             ),
-            Status::ReadFault => Some("input failed"),
-            Status::WriteFault => Some("output failed"),
-            Status::Memory => Some("out of memory"),
-            Status::NotBuilt => Some("input of a form that is not built"),
+            Status::ReadFault => f.write_str("input failed"),
+            Status::WriteFault => f.write_str("output failed"),
+            Status::FolderFault => f.write_str("folder failed"),
+            Status::Violation(cause) => write!(f, "bad message: {cause}"),
+            Status::AuthRefused(why) => write!(f, "handshake refused: {why}"),
+            Status::Memory => f.write_str("out of memory"),
+            Status::EventsSpent => f.write_str("events spent"),
         }
     }
 }

@@ -1,0 +1,28 @@
+-- One run over the standard streams: what was read, recorded and written, and why it ended.
+use Rattle.std.specs.Prelude.{ℕ, List, Option}
+use Rattle.dbus_auth.specs.Handshake.{Run, handshake}
+use Rattle.service_machine.specs.Step.{opened_rows}
+use Rattle.service_machine.specs.Replay.{Legal}
+use Rattle.connection_worker.specs.Single.{Asked}
+use Rattle.connection_worker.specs.Streams.{Input, Output, Took}
+use Rattle.keyringd.specs.Causes.{HasCause, HasWritten}
+use Rattle.keyringd.specs.Events.{events_of, text_of, HaveMoments, HaveSalts}
+use Rattle.keyringd.specs.ServerNumber.{guid}
+use Rattle.keyringd.specs.declared.status.Status.{Status}
+
+-- the run of the handshake with this user, under this seed, over the bytes read
+abbrev pub shaken : ℕ → List ℕ → List ℕ → Run
+shaken uid seed read = handshake uid (guid seed) read
+
+-- The run of the user's client under this seed, with a clock that gives these moments: these bytes were read, and these
+-- requests of them recorded, each with a moment and a salt; their events are legal from the service's start, and what these
+-- put out was written behind the handshake's answers.
+pub record Serves (uid : ℕ) (seed : List ℕ) (coming : Option (ℕ → ℕ)) (from to : Input) (sink behind : Output) (status : Status) : Type 0 where
+  pub read : List ℕ
+  pub took : Took from to read
+  pub asked : List Asked
+  pub legal : Legal opened_rows (events_of asked)
+  pub moments : HaveMoments coming asked
+  pub salts : HaveSalts seed asked
+  pub cause : HasCause status (shaken uid seed read) asked from to sink behind
+  pub wrote : HasWritten status sink behind (text_of (shaken uid seed read) asked)
