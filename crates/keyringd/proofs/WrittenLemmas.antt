@@ -1,10 +1,8 @@
 -- What is written is determined by what was read.
-use Rattle.std.proofs.Common.{◌≡◌, ℕ, Bool, List, [], ◌∷◌, ◌++◌, map, if◌then◌else◌, refl, sym, ◌∙◌, ap, subst, append_assoc, append-nil}
+use Rattle.std.proofs.Common.{◌≡◌, ℕ, List, [], ◌∷◌, ◌++◌, if◌then◌else◌, refl, sym, ◌∙◌, ap, subst, append_assoc, append-nil}
 use Rattle.std.specs.List.{concat}
-use Rattle.secret_calls.specs.declared.call.Call.{Call}
-use Rattle.secret_calls.specs.declared.call.CallFault.{CallFault}
 use Rattle.secret_calls.specs.declared.call.Request.{Request}
-use Rattle.dbus_auth.specs.Handshake.{Run, opened}
+use Rattle.dbus_auth.specs.Handshake.{Run}
 use Rattle.dbus_framing.specs.Messages.{Parts}
 use Rattle.dbus_framing.specs.Streams.{Stream}
 use Rattle.dbus_framing.proofs.Cuts.{one_stream}
@@ -17,9 +15,9 @@ use Rattle.service_machine.specs.Replay.{replay}
 use Rattle.connection_worker.specs.Arrivals.{calls_in, AreRequests}
 use Rattle.connection_worker.specs.Handshakes.{most_bytes}
 use Rattle.connection_worker.specs.OneThread.{AllServed}
-use Rattle.connection_worker.specs.Single.{Asked, requests_of, arrival, taking, turn, turns}
+use Rattle.connection_worker.specs.Single.{Asked, requests_of, arrival, taking, turns}
 use Rattle.connection_worker.specs.Written.{given, given_by, spelled_behind}
-use Rattle.keyringd.specs.Events.{the_connection, joined, events_until, events_of, text_of}
+use Rattle.keyringd.specs.Events.{the_connection, joined, events_of, text_of}
 
 -- each message is one request
 abbrev pub OneCall : Type 0
