@@ -1,18 +1,18 @@
 -- Over streams that didn't fail, a whole input is answered to its end.
-use Rattle.std.proofs.Common.{◌≡◌, ◌≢◌, ℕ, ◌+◌, ◌<◌, ◌≤◌, ◌⊎◌, inl, inr, List, [], ◌∷◌, ◌++◌, length, Option, Some, None, refl, sym, ◌∙◌, ap, arith, subst, append-nil, length-append}
+use Rattle.std.proofs.Common.{◌≡◌, ◌≢◌, ℕ, ◌+◌, ◌≤◌, ◌⊎◌, inl, inr, List, [], ◌∷◌, ◌++◌, length, Option, Some, None, refl, sym, ◌∙◌, ap, arith, subst, append-nil, length-append}
 use Rattle.std.specs.Io.KnownBytes.{Consumes, IsAtEnd}
 use Rattle.kr_outside.specs.Faults.{Rose, StandsStill}
 use Rattle.dbus_auth.specs.declared.auth.AuthFault.{AuthFault}
 use Rattle.dbus_auth.specs.declared.auth.AuthFault.TheVariants as fault
 use Rattle.dbus_auth.specs.Conversation.{continued}
-use Rattle.dbus_auth.specs.Handshake.{End, waiting, refused, opened, Run, silent}
+use Rattle.dbus_auth.specs.Handshake.{End, waiting, refused, opened, Run}
 use Rattle.dbus_auth.proofs.HandshakeLemmas.{handshake-nothing, handshake-append}
 use Rattle.dbus_framing.specs.declared.violation.Violation.{Violation}
 use Rattle.dbus_framing.specs.declared.violation.Violation.TheVariants as violation
 use Rattle.dbus_framing.specs.Messages.{Parts}
 use Rattle.dbus_framing.specs.Streams.{Stream, Breaks, early, late}
 use Rattle.dbus_framing.proofs.Cuts.{cut_none, cut_more, breaks_stay, breaks_none, one_stream, stream_then}
-use Rattle.connection_worker.specs.Arrivals.{AllRequests, FirstRequests}
+use Rattle.connection_worker.specs.Arrivals.{FirstRequests}
 use Rattle.connection_worker.specs.Handshakes.{most_bytes, Awaits, IsRefusedFor}
 use Rattle.connection_worker.specs.OneThread.{AllServed, FirstServed}
 use Rattle.connection_worker.specs.Single.{Asked, requests_of}

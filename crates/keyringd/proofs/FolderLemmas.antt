@@ -1,5 +1,5 @@
 -- What was loaded of a folder is what a start makes of the images that the host told.
-use Rattle.std.proofs.Common.{◌≡◌, ℕ, List, Option, Some, None, refl, sym, ◌∙◌, ap, subst}
+use Rattle.std.proofs.Common.{◌≡◌, ℕ, List, Option, Some, None, sym, ◌∙◌, ap, subst}
 use Rattle.kr_outside.specs.Folder.{AreTold}
 use Rattle.kr_outside.specs.RenameDisk.{Image}
 use Rattle.folder_store.specs.Limits.{the_limits}

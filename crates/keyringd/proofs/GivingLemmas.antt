@@ -1,5 +1,5 @@
 -- What a clock and a generator of salts gave one after the other, by places.
-use Rattle.std.proofs.Common.{◌≡◌, ℕ, ◌+◌, ◌*◌, ◌%◌, ◌^◌, List, [], ◌∷◌, ◌++◌, map, Option, Some, None, refl, sym, ◌∙◌, ap, arith}
+use Rattle.std.proofs.Common.{◌≡◌, ℕ, ◌+◌, ◌*◌, ◌%◌, ◌^◌, List, [], ◌∷◌, ◌++◌, map, Option, Some, None, refl, ◌∙◌, ap, arith}
 use Rattle.rand_chacha.specs.ChaCha.{key_of}
 use Rattle.kr_outside.specs.Clock.{GivesFirst}
 use Rattle.connection_worker.specs.Salts.{Salting, words_at, salt_of}

@@ -4,3 +4,4 @@ pub mod EndLemmas
 pub mod FolderLemmas
 pub mod GivingLemmas
 pub mod ServeLemmas
+pub mod WrittenLemmas

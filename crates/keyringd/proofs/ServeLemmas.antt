@@ -1,5 +1,5 @@
 -- From what one thread served to a run over the standard streams.
-use Rattle.std.proofs.Common.{◌≡◌, ℕ, ◌+◌, ◌<◌, ◌≤◌, ◌⊎◌, inl, inr, IsTrue, true, false, List, [], ◌∷◌, ◌++◌, length, map, Option, Some, None, refl, sym, ◌∙◌, ap, arith, subst, rules}
+use Rattle.std.proofs.Common.{◌≡◌, ℕ, ◌+◌, inl, inr, true, false, List, [], ◌∷◌, ◌++◌, length, map, Option, Some, None, refl, sym, ◌∙◌, ap, arith, subst}
 use Rattle.std.specs.List.{concat}
 use Rattle.std.proofs.KnownBytes.{Appends-nil, Consumes-nil}
 use Rattle.rand_chacha.specs.ChaCha.{key_of}
@@ -11,7 +11,7 @@ use Rattle.dbus_framing.specs.declared.violation.Violation.TheVariants as violat
 use Rattle.service_machine.specs.declared.rows.Rows.{Rows}
 use Rattle.service_machine.specs.declared.event.Event.TheVariants as event
 use Rattle.service_machine.specs.Connections.{has}
-use Rattle.service_machine.specs.Step.{opened_rows, step, Fits}
+use Rattle.service_machine.specs.Step.{opened_rows, Fits}
 use Rattle.service_machine.specs.Replay.{Legal}
 use Rattle.service_desk.specs.Places.{Told}
 use Rattle.connection_worker.specs.declared.ending.End.{End}
@@ -21,10 +21,10 @@ use Rattle.connection_worker.specs.OneThread.{OneThreadEnds, IsServed}
 use Rattle.connection_worker.specs.Serving.{World, IsOwed, GivesSalts}
 use Rattle.connection_worker.specs.ServingOn.{IsViolatedBy}
 use Rattle.connection_worker.specs.Single.{Asked, turns, single}
-use Rattle.connection_worker.specs.Streams.{Input, Output, Took, Gave, GaveFront}
+use Rattle.connection_worker.specs.Streams.{Input, Output}
 use Rattle.connection_worker.specs.Written.{written}
 use Rattle.keyringd.specs.Causes.{IsViolated, HasCause, HasWritten}
-use Rattle.keyringd.specs.Events.{the_connection, joined, events_until, events_of, text_of, HaveMoments}
+use Rattle.keyringd.specs.Events.{the_connection, joined, events_until, text_of, HaveMoments}
 use Rattle.keyringd.specs.ServerNumber.{guid}
 use Rattle.keyringd.specs.Serves.{Serves, shaken}
 use Rattle.keyringd.specs.Status.{IsOnlyEnd, status_of}

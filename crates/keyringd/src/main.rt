@@ -11,6 +11,7 @@
 mod command;
 mod connection;
 mod folder;
+mod laws;
 mod program;
 mod server_number;
 mod status;

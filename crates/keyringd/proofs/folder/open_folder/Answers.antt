@@ -1,5 +1,4 @@
 use Rattle.std.proofs.Common.{◌∙◌}
-use Rattle.folder_store.specs.Loads.{opening_of}
 use Rattle.keyringd.proofs.FolderLemmas.{is-opened}
 use Rattle.keyringd.proofs.folder.open_folder.Goals as goal
 

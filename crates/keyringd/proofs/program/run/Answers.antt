@@ -1,6 +1,5 @@
-use Rattle.std.proofs.Common.{inr, sym, ◌∙◌, subst}
+use Rattle.std.proofs.Common.{inr, sym, ◌∙◌}
 use Rattle.connection_worker.specs.Streams.{input_of, output_of}
-use Rattle.keyringd.specs.Serves.{Serves}
 use Rattle.keyringd.proofs.CommandLemmas.{one_user, one_folder}
 use Rattle.keyringd.proofs.CompleteLemmas.{complete, never-usage}
 use Rattle.keyringd.proofs.ServeLemmas.{serves-none}
