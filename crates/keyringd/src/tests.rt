@@ -456,22 +456,27 @@ fn memory_host(
     Ok(MemoryHost::new(alloc, path, folder, clock, host_fails.to_vec(alloc)?))
 }
 
+// How the run ends on such a host.
+fn opens_in_memory<R: AllocGlobal + Wait>(
+    rt: &R,
+    folder: &str,
+    host_fails: &[u64],
+    folder_fails: &[u64],
+) -> Result<Status, Fail> {
+    let mut host = memory_host(rt.alloc(), host_fails, folder_fails)?;
+    opens(rt, folder, &mut host)
+}
+
 #[test]
 fn a_folder_that_fails_ends_the_run(rt: HostRuntime) -> Result<(), Fail> {
-    let alloc = rt.alloc();
-    let mut host = memory_host(alloc, &[], &[])?;
-    assert_eq!(rt; opens(&rt, "there", &mut host)?, Status::FolderFault);
-    assert_eq!(rt; opens(&rt, ".", &mut host)?, Status::Done);
-    let mut host = memory_host(alloc, &[0], &[])?;
-    assert_eq!(rt; opens(&rt, ".", &mut host)?, Status::FolderFault);
-    for call in 0..2u64 {
-        let mut host = memory_host(alloc, &[], &[call])?;
-        assert_eq!(rt;
-            opens(&rt, ".", &mut host)?,
-            Status::FolderFault,
-            "at {call}"
-        );
-    }
+    assert_eq!(rt; opens_in_memory(&rt, ".", &[], &[])?, Status::Done);
+    assert_eq!(rt;
+        opens_in_memory(&rt, "there", &[], &[])?,
+        Status::FolderFault
+    );
+    assert_eq!(rt; opens_in_memory(&rt, ".", &[0], &[])?, Status::FolderFault);
+    assert_eq!(rt; opens_in_memory(&rt, ".", &[], &[0])?, Status::FolderFault);
+    assert_eq!(rt; opens_in_memory(&rt, ".", &[], &[1])?, Status::FolderFault);
     Ok(())
 }
 
