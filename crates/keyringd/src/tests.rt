@@ -315,7 +315,9 @@ fn a_mebibyte_is_a_call_and_one_byte_more_is_too_large(rt: HostRuntime) -> Resul
         wanted.as_slice(),
     )?;
     let mut input = bytes_of(alloc, "HELLO")?;
-    input.extend_from_slice(&long_call(alloc, 1)?.as_slice()[..16])?;
+    let mut front = long_call(alloc, 1)?;
+    front.truncate(16);
+    input.extend_from_slice(front.as_slice())?;
     let wanted = bytes_of(alloc, "OK")?;
     let told = "bad message: TooLarge";
     answers(
