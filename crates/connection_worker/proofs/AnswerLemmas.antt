@@ -127,18 +127,23 @@ owed-is told outs is = rw is.only (rw (same told.conn.0) refl)
 pub owed-all : (told : Told) (outs : List Out) → IsOwed told outs → IsOwed told (owed told)
 owed-all told outs is = rw (owed-is told outs is) is
 
+-- what waits behind a request is its reply
+pub arrived-rows : (conn : ConnId) (state : Rows) (a : Asked) (taken : ℕ) → state.connections ≡ row_with conn [] taken ∷ []
+    → (step state (arrival conn a)).connections ≡ row_with conn (waiting_behind a.request.wants_reply (message_of a.request.serial (planned conn a.request state).answer)) taken ∷ []
+arrived-rows conn state a taken only =
+    let request = a.request in
+    let plan = planned conn request state in
+    ap (λ (r : List ConnRow). delivered (replies conn request plan) r) (performed-connections conn plan.changes state ∙ only)
+    ∙ delivered-reply request.wants_reply conn (message_of request.serial plan.answer) taken (call-short conn state request.serial request.call)
+
 -- behind a request no output is lost
 pub arrived-owed : (told new : Told) (a : Asked) → IsOwed told [] → new.conn ≡ told.conn → new.state ≡ step told.state (arrival told.conn a) → IsOwed new (owed new)
 arrived-owed told new a is conn state =
     let request = a.request in
     let plan = planned told.conn request told.state in
     let out = message_of request.serial plan.answer in
-    let rows : (performed_all told.conn plan.changes told.state).connections ≡ row_with told.conn [] is.taken ∷ [] =
-    performed-connections told.conn plan.changes told.state ∙ is.only in
     let behind : new.state.connections ≡ row_with told.conn (waiting_behind request.wants_reply out) is.taken ∷ [] =
-    ap (λ (s : Rows). s.connections) state
-    ∙ ap (λ (r : List ConnRow). delivered (replies told.conn request plan) r) rows
-    ∙ delivered-reply request.wants_reply told.conn out is.taken (call-short told.conn told.state request.serial request.call) in
+    ap (λ (s : Rows). s.connections) state ∙ arrived-rows told.conn told.state a is.taken is.only in
     owed-all new (waiting_behind request.wants_reply out) (record {
       taken = is.taken;
       only = behind ∙ ap (λ c. row_with c (waiting_behind request.wants_reply out) is.taken ∷ []) (sym conn);

@@ -4,6 +4,7 @@ mod HandshakeLemmas
 mod LineLemmas
 mod MessageLemmas
 mod RecordLemmas
+mod ReplyLemmas
 mod SendingLemmas
 mod ServeLemmas
 mod ServingLemmas

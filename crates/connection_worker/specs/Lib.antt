@@ -3,6 +3,7 @@ pub mod Arrivals
 pub mod Handshakes
 pub mod Lines
 pub mod OneThread
+pub mod Replies
 pub mod Salts
 pub mod Sending
 pub mod Serving

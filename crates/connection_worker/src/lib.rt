@@ -6,6 +6,7 @@
 #![tactic(auto)]
 
 mod ending;
+mod laws;
 mod lines;
 mod opening;
 mod outs;
@@ -17,6 +18,7 @@ mod single;
 mod tests;
 
 pub use ending::End;
+pub use laws::each_request_is_answered_at_once;
 pub use opening::handshake;
 pub use salts::Salts;
 pub use single::one_thread;

@@ -14,12 +14,17 @@ use service_desk::{ReadDesk, WriteDesk};
 use std::alloc::AllocGlobal;
 use std::sync::Wait;
 
-/// Serves one connection to its end: the handshake, then each call with its reply, and at last the
-/// connection is gone. The clock is asked once for each call, and so are the salts.
+/// Serves one connection to its end (D-Bus Specification, "Authentication Protocol" and "Message
+/// Format"): the handshake, then each call with its reply, before the next one is looked at, and at
+/// last the connection is gone. The clock is asked once for each call, and so are the salts.
 ///
-/// Ends with `Done` where the input ended between two messages; with `AuthRefused`, `Violation`,
-/// `ReadFault` or `WriteFault` for what the bytes or the streams show; with `EventsSpent`; and with
-/// `Memory`. All that was recorded is answered before, but after `WriteFault` and `Memory`.
+/// Ends with `AuthRefused` where the bytes show a fault of the handshake, or the input ended before
+/// BEGIN (`EndedEarly`); with `Done` where the input ended between two messages; with `Violation`
+/// where the bytes behind BEGIN break a rule of messages, or the input ended inside one
+/// (`EndInside`); with `ReadFault` and `WriteFault` only where the count of the source, of the sink,
+/// rose; with `EventsSpent` where all events of the run are 18,446,744,073,709,000,000 or more; and
+/// with `Memory`. It never ends with `OtherEnded` or `Overrun`. All that was recorded is answered
+/// before, but after `WriteFault` and `Memory`.
 pub fn one_thread<R: AllocGlobal + Wait, I: Source, O: Sink, D: ReadDesk + WriteDesk, C: Clock>(
     rt: &R,
     auth: Auth,

@@ -1,0 +1,17 @@
+// What the definitions of one thread say together. Each law is the contract of a function that does
+// nothing.
+ghost use Rattle.std.specs.Prelude.{◌≡◌, List, []};
+ghost use Rattle.service_desk.specs.Places.{Told};
+ghost use Rattle.connection_worker.specs.Replies.{replies_to};
+ghost use Rattle.connection_worker.specs.Serving.{IsOwed};
+ghost use Rattle.connection_worker.specs.Single.{Asked, single};
+ghost use Rattle.connection_worker.specs.Written.{given_by};
+
+/// What the only connection is given is the reply to each request that wants one, in the order of the
+/// requests, and nothing else: each is the one that the request's row of the table of calls gives in
+/// the state behind the requests before it.
+pub fn each_request_is_answered_at_once()
+    ensures { (told : Told) (asked : List Asked) → IsOwed told []
+        → given_by told.conn told.state (single told.conn told.state asked)
+        ≡ replies_to told.conn told.state asked }
+{}
