@@ -63,6 +63,19 @@ fn copies(alloc: Global, pairs: &[(Text, AttrValue)]) -> Result<Vec<(Text, AttrV
     Ok(copied)
 }
 
+/// Whether each name stands before the next one in byte order.
+fn is_in_order(pairs: &[(Text, AttrValue)]) -> bool
+    ensures { IsTrue result → IsInOrder pairs.now }
+{
+    for i in 0..pairs.len().saturating_sub(1) {
+        let order = pairs[i].0.cmp(&pairs[i + 1].0);
+        if !order.is_lt() {
+            return false;
+        }
+    }
+    true
+}
+
 impl Attributes {
     /// No attributes. It takes no memory.
     pub fn new(alloc: Global) -> Attributes
@@ -73,13 +86,17 @@ impl Attributes {
         }
     }
 
-    /// The attributes that the pairs are, in whatever order. Of equal names the later pair counts.
+    /// The attributes that the pairs are, in whatever order. Of equal names the later pair counts. Pairs
+    /// that stand in byte order of names take no memory.
     pub fn from_values(
         alloc: Global,
         pairs: Vec<(Text, AttrValue)>,
     ) -> Result<Attributes, OutOfMemory>
         ensures { IfOk result (λ made. Gathers pairs.items made) }
     {
+        if is_in_order(pairs.as_slice()) {
+            return Ok(Attributes { pairs });
+        }
         let gathered: BTreeMap<Text, AttrValue> = pairs.into_iter().collect(alloc)?;
         Ok(Attributes {
             pairs: gathered.into_iter().collect(alloc)?,
