@@ -1,3 +1,4 @@
 pub mod Text
 pub mod Stem
 pub mod Attributes
+pub mod Held

@@ -48,11 +48,24 @@ fn a_text_is_made_and_read(rt: HostRuntime) -> Result<(), Fail> {
     for (text, len) in [("", 0), ("plain", 5), ("\u{e9}t\u{e9}", 5)] {
         let made = Text::new(String::from_str(alloc, text)?).ok_or("a zero byte")?;
         assert_eq!(rt; made.len(), len, "at {text}");
-        assert_eq!(rt; made.copy()?, text_of(alloc, text)?, "at {text}");
-        assert_eq!(rt; made.into_string().as_str(), text);
+        assert_eq!(rt; made.copy()?, text_of(alloc, text)?.copy()?, "at {text}");
+        assert_eq!(rt; made.as_str(), text);
     }
     assert!(rt; Text::new(String::from_str(alloc, "a\0b")?).is_none());
     assert!(rt; Text::from_str(alloc, "\0")?.is_none());
+    Ok(())
+}
+
+// A text of 24 bytes lies in the value itself, and one of 25 in memory of its own.
+#[test]
+fn a_text_is_the_same_wherever_it_lies(rt: HostRuntime) -> Result<(), Fail> {
+    let alloc = rt.alloc();
+    let short = text_of(alloc, "org.freedesktop.Secrets.")?;
+    assert_eq!(rt; short.copy()?.as_str(), "org.freedesktop.Secrets.");
+    let long = text_of(alloc, "org.freedesktop.Secrets.x")?;
+    assert_eq!(rt; long.copy()?.as_str(), "org.freedesktop.Secrets.x");
+    assert!(rt; short < long);
+    assert!(rt; short != long);
     Ok(())
 }
 

@@ -6,28 +6,40 @@ ghost use Rattle.std.specs.Cmp.{partial_equiv_from_equiv};
 ghost use Rattle.std.specs.Cmp.Lexicographic.{pointwise, slice_cmp, nat_list_eq_equiv, nat_list_cmp_total, texts_ties, texts_po};
 ghost use Rattle.std.specs.Cmp.Rules.{hashing};
 ghost use Rattle.std.proofs.Common.{rules};
+ghost use Rattle.kr_base.specs.Held.{held_bytes};
 ghost use Rattle.kr_base.specs.Text.{HasZero, IsText};
 
 use crate::OutOfMemory;
+use arrayvec::ArrayString;
 use std::alloc::Global;
 use std::cmp::Ordering;
 use std::fmt;
 use std::hash::{Hash, Hasher};
 use std::marker::Model;
 
+/// Where the bytes of a text lie. Most names, labels and content types are short, and a keyring file holds
+/// tens of thousands of them.
+#[derive(Drop)]
+enum Held {
+    /// In the value itself: at most 24 bytes.
+    Short(ArrayString<24>),
+    /// In memory of their own.
+    Long(String),
+}
+
 /// A text: UTF-8 without a zero byte (D-Bus Specification, "Type System"). A contract sees the list
 /// of its bytes.
 #[derive(Drop)]
 pub struct Text {
-    text: String,
+    held: Held,
 }
 
 impl Model for Text {
     ghost Value = { List ℕ };
 
-    ghost view = { λ t. string_bytes t.text };
+    ghost view = { λ t. held_bytes t.held };
 
-    ghost invariant = { λ t. IsText (string_bytes t.text) };
+    ghost invariant = { λ t. IsText (held_bytes t.held) };
 }
 
 impl Text {
@@ -42,10 +54,12 @@ impl Text {
         if text.as_str().as_bytes().contains(&0) {
             return None;
         }
-        Some(Text { text })
+        Some(Text {
+            held: Held::Long(text),
+        })
     }
 
-    /// A copy of a string as a text.
+    /// A copy of a string as a text. It takes no memory where the string has at most 24 bytes.
     ///
     /// None where a zero byte stands in the string; no memory is taken then.
     pub fn from_str(alloc: Global, text: &str) -> Result<Option<Text>, OutOfMemory>
@@ -55,9 +69,11 @@ impl Text {
         if text.as_bytes().contains(&0) {
             return Ok(None);
         }
-        Ok(Some(Text {
-            text: String::from_str(alloc, text)?,
-        }))
+        let held = match ArrayString::from(text) {
+            Ok(short) => Held::Short(short),
+            Err(_) => Held::Long(String::from_str(alloc, text)?),
+        };
+        Ok(Some(Text { held }))
     }
 
     /// The text that the bytes are. It takes no memory.
@@ -78,7 +94,10 @@ impl Text {
         ensures value { result.now ≡ self.now }
         ensures text { IsText self.now }
     {
-        self.text.as_str()
+        match &self.held {
+            Held::Short(text) => text.as_str(),
+            Held::Long(text) => text.as_str(),
+        }
     }
 
     /// The bytes of the text, lent.
@@ -86,38 +105,33 @@ impl Text {
         ensures value { result.now ≡ self.now }
         ensures text { IsText self.now }
     {
-        self.text.as_bytes()
-    }
-
-    /// The text as a string. It takes no memory.
-    pub fn into_string(self) -> String
-        ensures value { string_bytes result ≡ self }
-        ensures text { IsText self }
-    {
-        self.text
+        self.as_str().as_bytes()
     }
 
     /// How many bytes the text has.
     pub fn len(&self) -> usize
         ensures { result ≡ length self.now }
     {
-        self.text.len()
+        self.as_str().len()
     }
 
     /// Whether the text has no byte.
     pub fn is_empty(&self) -> bool
         ensures { IsTrue result ↔ (self.now ≡ []) }
     {
-        self.text.is_empty()
+        self.as_str().is_empty()
     }
 
-    /// A second value of the same text, on the allocator of this one.
+    /// A second value of the same text, on the allocator of this one. It takes no memory where the text
+    /// lies in the value itself.
     pub fn copy(&self) -> Result<Text, OutOfMemory>
         ensures { IfOk result (λ copied. copied ≡ self.now) }
     {
-        Ok(Text {
-            text: self.text.clone()?,
-        })
+        let held = match &self.held {
+            Held::Short(text) => Held::Short(*text),
+            Held::Long(text) => Held::Long(text.clone()?),
+        };
+        Ok(Text { held })
     }
 }
 
