@@ -1,31 +1,11 @@
 // Whether the types of a body are those of a signature.
 ghost use Rattle.std.specs.Prelude.{◌≡◌, [], ◌∷◌, option_copied};
 ghost use Rattle.std.specs.Str.{bytes_eq};
-ghost use Rattle.dbus_types.specs.Types.{code_of, text_of, texts_of};
+ghost use Rattle.dbus_types.specs.Types.{text_of, texts_of};
 ghost use Rattle.dbus_types.specs.Views.{type_of, types_of};
 ghost use Rattle.call_wire.specs.Fronts.{behind};
 
 use dbus_types::{BasicType, CompleteType};
-
-fn code(basic: BasicType) -> u8
-    ensures { result ≡ code_of basic }
-{
-    match basic {
-        BasicType::Byte => b'y',
-        BasicType::Boolean => b'b',
-        BasicType::Int16 => b'n',
-        BasicType::Uint16 => b'q',
-        BasicType::Int32 => b'i',
-        BasicType::Uint32 => b'u',
-        BasicType::Int64 => b'x',
-        BasicType::Uint64 => b't',
-        BasicType::Double => b'd',
-        BasicType::UnixFd => b'h',
-        BasicType::String => b's',
-        BasicType::ObjectPath => b'o',
-        BasicType::Signature => b'g',
-    }
-}
 
 // What stands behind this code.
 fn behind_code(text: &[u8], code: u8) -> Option<&[u8]>
@@ -43,7 +23,7 @@ fn behind_type<'a>(text: &'a [u8], complete_type: &CompleteType) -> Option<&'a [
     ensures { option_copied result ≡ behind (text_of (type_of complete_type.now)) text.now }
 {
     match complete_type {
-        CompleteType::Basic(basic) => behind_code(text, code(*basic)),
+        CompleteType::Basic(basic) => behind_code(text, basic.code()),
         CompleteType::Variant => behind_code(text, b'v'),
         CompleteType::Array(element) => {
             let rest = behind_code(text, b'a')?;
@@ -56,7 +36,7 @@ fn behind_type<'a>(text: &'a [u8], complete_type: &CompleteType) -> Option<&'a [
         }
         CompleteType::DictEntry(key, value) => {
             let rest = behind_code(text, b'{')?;
-            let rest = behind_code(rest, code(*key))?;
+            let rest = behind_code(rest, key.code())?;
             let rest = behind_type(rest, value)?;
             behind_code(rest, b'}')
         }

@@ -26,6 +26,8 @@ abbrev mutual
   EachFits depth t Vals.end = Unit {0}
   EachFits depth t (Vals.more v vs) = Fits depth t v × EachFits depth t vs
 
--- the values have a spelling, but for the length of their arrays
+-- Each value fits the type that it has, with at most 64 containers open at once: so it is spelled by the rules, but for the
+-- length of its arrays. That a signature lists the types is asked inside a variant alone (docs/DECISIONS.md, "What no
+-- signature lists can be written too").
 abbrev pub HaveSpelling : Vals → Type 0
 HaveSpelling vs = AllFit 64 (tys_of vs) vs

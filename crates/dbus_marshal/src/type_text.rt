@@ -1,5 +1,5 @@
 ghost use Rattle.std.specs.Prelude.{◌≡◌, ◌++◌, [], ◌∷◌, length, Some, None, OnOk};
-ghost use Rattle.dbus_types.specs.Types.{Ty, code_of, text_of, texts_of};
+ghost use Rattle.dbus_types.specs.Types.{Ty, text_of, texts_of};
 ghost use Rattle.dbus_types.specs.Values.{ty_of, tys_of};
 ghost use Rattle.dbus_types.specs.Views.{type_of, types_of};
 ghost use Rattle.dbus_types.specs.ValueViews.{value_of, values_of};
@@ -8,33 +8,13 @@ ghost use Rattle.dbus_marshal.specs.TypeTexts.{BasicIs};
 use crate::OutOfMemory;
 use dbus_types::{BasicType, CompleteType, Value};
 
-fn code(basic: BasicType) -> u8
-    ensures { result ≡ code_of basic }
-{
-    match basic {
-        BasicType::Byte => b'y',
-        BasicType::Boolean => b'b',
-        BasicType::Int16 => b'n',
-        BasicType::Uint16 => b'q',
-        BasicType::Int32 => b'i',
-        BasicType::Uint32 => b'u',
-        BasicType::Int64 => b'x',
-        BasicType::Uint64 => b't',
-        BasicType::Double => b'd',
-        BasicType::UnixFd => b'h',
-        BasicType::String => b's',
-        BasicType::ObjectPath => b'o',
-        BasicType::Signature => b'g',
-    }
-}
-
 /// Writes the text of a type (D-Bus Specification, "Type System").
 #[cycle(types)]
 pub fn write_type(out: &mut Vec<u8>, complete_type: &CompleteType) -> Result<(), OutOfMemory>
     ensures { OnOk result (out.new.items ≡ out.old.items ++ text_of (type_of complete_type.now)) }
 {
     match complete_type {
-        CompleteType::Basic(basic) => out.push(code(*basic))?,
+        CompleteType::Basic(basic) => out.push(basic.code())?,
         CompleteType::Variant => out.push(b'v')?,
         CompleteType::Array(element) => {
             out.push(b'a')?;
@@ -47,7 +27,7 @@ pub fn write_type(out: &mut Vec<u8>, complete_type: &CompleteType) -> Result<(),
         }
         CompleteType::DictEntry(key, value) => {
             out.push(b'{')?;
-            out.push(code(*key))?;
+            out.push(key.code())?;
             write_type(out, value)?;
             out.push(b'}')?;
         }
@@ -99,7 +79,7 @@ pub fn write_type_of(out: &mut Vec<u8>, value: &Value) -> Result<(), OutOfMemory
     ensures { OnOk result (out.new.items ≡ out.old.items ++ text_of (ty_of (value_of value.now))) }
 {
     if let Some(basic) = basic_of(value) {
-        out.push(code(basic))?;
+        out.push(basic.code())?;
         return Ok(());
     }
     match value {
@@ -120,7 +100,7 @@ pub fn write_type_of(out: &mut Vec<u8>, value: &Value) -> Result<(), OutOfMemory
                 return Ok(());
             };
             out.push(b'{')?;
-            out.push(code(key))?;
+            out.push(key.code())?;
             write_type_of(out, &entry.value)?;
             out.push(b'}')?;
         }

@@ -1,5 +1,5 @@
 ghost use Rattle.std.specs.Prelude.{◌≡◌, ◌++◌, [], ◌∷◌, IfOk};
-ghost use Rattle.dbus_types.specs.Types.{code_of, text_of, texts_of};
+ghost use Rattle.dbus_types.specs.Types.{text_of, texts_of};
 ghost use Rattle.dbus_types.specs.Values.{ty_of, tys_of};
 ghost use Rattle.dbus_types.specs.Views.{type_of, types_of};
 ghost use Rattle.dbus_types.specs.ValueViews.{value_of, values_of};
@@ -10,33 +10,13 @@ use crate::numbers::{copied, joined};
 use dbus_types::{BasicType, CompleteType, Value};
 use std::alloc::Global;
 
-fn code(basic: BasicType) -> u8
-    ensures { result ≡ code_of basic }
-{
-    match basic {
-        BasicType::Byte => b'y',
-        BasicType::Boolean => b'b',
-        BasicType::Int16 => b'n',
-        BasicType::Uint16 => b'q',
-        BasicType::Int32 => b'i',
-        BasicType::Uint32 => b'u',
-        BasicType::Int64 => b'x',
-        BasicType::Uint64 => b't',
-        BasicType::Double => b'd',
-        BasicType::UnixFd => b'h',
-        BasicType::String => b's',
-        BasicType::ObjectPath => b'o',
-        BasicType::Signature => b'g',
-    }
-}
-
 /// The text of a type (D-Bus Specification, "Type System").
 #[cycle(types)]
 pub fn text_of_type(alloc: Global, complete_type: &CompleteType) -> Result<Vec<u8>, OutOfMemory>
     ensures { IfOk result (λ made. made.items ≡ text_of (type_of complete_type.now)) }
 {
     match complete_type {
-        CompleteType::Basic(basic) => copied(alloc, &[code(*basic)]),
+        CompleteType::Basic(basic) => copied(alloc, &[basic.code()]),
         CompleteType::Variant => copied(alloc, b"v"),
         CompleteType::Array(element) => {
             let inner = text_of_type(alloc, element)?;
@@ -51,7 +31,7 @@ pub fn text_of_type(alloc: Global, complete_type: &CompleteType) -> Result<Vec<u
         CompleteType::DictEntry(key, value) => {
             let inner = text_of_type(alloc, value)?;
             let ended = joined(alloc, inner.as_slice(), b"}")?;
-            joined(alloc, &[b'{', code(*key)], ended.as_slice())
+            joined(alloc, &[b'{', key.code()], ended.as_slice())
         }
     }
 }
@@ -102,7 +82,7 @@ pub fn text_of_value_type(alloc: Global, value: &Value) -> Result<Vec<u8>, OutOf
     ensures { IfOk result (λ made. made.items ≡ text_of (ty_of (value_of value.now))) }
 {
     if let Some(basic) = basic_of(value) {
-        return copied(alloc, &[code(basic)]);
+        return copied(alloc, &[basic.code()]);
     }
     match value {
         Value::Variant(_) => copied(alloc, b"v"),
@@ -123,7 +103,7 @@ pub fn text_of_value_type(alloc: Global, value: &Value) -> Result<Vec<u8>, OutOf
             };
             let inner = text_of_value_type(alloc, &entry.value)?;
             let ended = joined(alloc, inner.as_slice(), b"}")?;
-            joined(alloc, &[b'{', code(key)], ended.as_slice())
+            joined(alloc, &[b'{', key.code()], ended.as_slice())
         }
         _ => unreachable!(),
     }

@@ -1,4 +1,5 @@
 ghost use Rattle.std.specs.Prelude.{◌≡◌, IfOk};
+ghost use Rattle.dbus_types.specs.Types.{code_of};
 ghost use Rattle.dbus_types.specs.Views.{type_of, types_of};
 
 use crate::OutOfMemory;
@@ -33,6 +34,29 @@ pub enum BasicType {
     ObjectPath,
     /// `g`, a signature.
     Signature,
+}
+
+impl BasicType {
+    /// The type code, an ASCII letter (D-Bus Specification, "Type System", "Summary of types").
+    pub fn code(self) -> u8
+        ensures { result ≡ code_of self }
+    {
+        match self {
+            BasicType::Byte => b'y',
+            BasicType::Boolean => b'b',
+            BasicType::Int16 => b'n',
+            BasicType::Uint16 => b'q',
+            BasicType::Int32 => b'i',
+            BasicType::Uint32 => b'u',
+            BasicType::Int64 => b'x',
+            BasicType::Uint64 => b't',
+            BasicType::Double => b'd',
+            BasicType::UnixFd => b'h',
+            BasicType::String => b's',
+            BasicType::ObjectPath => b'o',
+            BasicType::Signature => b'g',
+        }
+    }
 }
 
 /// A complete type (D-Bus Specification, "Type System").

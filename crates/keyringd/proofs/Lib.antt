@@ -1,6 +1,5 @@
 pub mod CommandLemmas
 pub mod CompleteLemmas
-pub mod EndLemmas
 pub mod FolderLemmas
 pub mod GivingLemmas
 pub mod ServeLemmas

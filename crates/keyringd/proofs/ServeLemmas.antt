@@ -8,6 +8,7 @@ use Rattle.kr_outside.proofs.FaultLemmas.{KeepsSteady-none}
 use Rattle.dbus_auth.specs.Handshake.{Run}
 use Rattle.dbus_framing.specs.declared.violation.Violation.{Violation}
 use Rattle.dbus_framing.specs.declared.violation.Violation.TheVariants as violation
+use Rattle.dbus_framing.specs.Streams.{Breaks}
 use Rattle.service_machine.specs.declared.rows.Rows.{Rows}
 use Rattle.service_machine.specs.declared.event.Event.TheVariants as event
 use Rattle.service_machine.specs.Connections.{has}
@@ -29,7 +30,6 @@ use Rattle.keyringd.specs.ServerNumber.{guid}
 use Rattle.keyringd.specs.Serves.{Serves, shaken}
 use Rattle.keyringd.specs.Status.{IsOnlyEnd, status_of}
 use Rattle.keyringd.specs.declared.status.Status.TheVariants as status
-use Rattle.keyringd.proofs.EndLemmas.{never_ends}
 use Rattle.keyringd.proofs.GivingLemmas.{have-moments, have-salts}
 
 -- ---- the start
@@ -68,39 +68,43 @@ only-end end.WriteFault run asked text count from to sink behind ends = tt
 only-end end.EventsSpent run asked text count from to sink behind ends = tt
 only-end end.Memory run asked text count from to sink behind ends = tt
 
+-- no bytes show that the input ended
+abbrev pub NeverEnds : Type 0
+NeverEnds = (most : ℕ) (bytes : List ℕ) → Breaks most bytes violation.EndInside → ⊥
+
 -- the violation, by its name
-violated : (cause : Violation) (to : Input) (rest : List ℕ) → IsViolatedBy most_bytes cause to rest → IsViolated cause to rest
-violated violation.EndInside to rest (inl breaks) = absurd (never_ends most_bytes rest breaks)
-violated violation.EndInside to rest (inr ended) = (ended.1, ended.2)
-violated violation.Endian to rest (inl breaks) = breaks
-violated violation.Endian to rest (inr ended) = let no : ⊥ = cc in absurd no
-violated violation.Version to rest (inl breaks) = breaks
-violated violation.Version to rest (inr ended) = let no : ⊥ = cc in absurd no
-violated violation.ZeroSerial to rest (inl breaks) = breaks
-violated violation.ZeroSerial to rest (inr ended) = let no : ⊥ = cc in absurd no
-violated violation.TooLarge to rest (inl breaks) = breaks
-violated violation.TooLarge to rest (inr ended) = let no : ⊥ = cc in absurd no
-violated violation.BadHeader to rest (inl breaks) = breaks
-violated violation.BadHeader to rest (inr ended) = let no : ⊥ = cc in absurd no
-violated violation.MissingField to rest (inl breaks) = breaks
-violated violation.MissingField to rest (inr ended) = let no : ⊥ = cc in absurd no
-violated violation.BadBody to rest (inl breaks) = breaks
-violated violation.BadBody to rest (inr ended) = let no : ⊥ = cc in absurd no
-violated violation.InvalidType to rest (inl breaks) = breaks
-violated violation.InvalidType to rest (inr ended) = let no : ⊥ = cc in absurd no
+violated : NeverEnds → (cause : Violation) (to : Input) (rest : List ℕ) → IsViolatedBy most_bytes cause to rest → IsViolated cause to rest
+violated never violation.EndInside to rest (inl breaks) = absurd (never most_bytes rest breaks)
+violated never violation.EndInside to rest (inr ended) = (ended.1, ended.2)
+violated never violation.Endian to rest (inl breaks) = breaks
+violated never violation.Endian to rest (inr ended) = let no : ⊥ = cc in absurd no
+violated never violation.Version to rest (inl breaks) = breaks
+violated never violation.Version to rest (inr ended) = let no : ⊥ = cc in absurd no
+violated never violation.ZeroSerial to rest (inl breaks) = breaks
+violated never violation.ZeroSerial to rest (inr ended) = let no : ⊥ = cc in absurd no
+violated never violation.TooLarge to rest (inl breaks) = breaks
+violated never violation.TooLarge to rest (inr ended) = let no : ⊥ = cc in absurd no
+violated never violation.BadHeader to rest (inl breaks) = breaks
+violated never violation.BadHeader to rest (inr ended) = let no : ⊥ = cc in absurd no
+violated never violation.MissingField to rest (inl breaks) = breaks
+violated never violation.MissingField to rest (inr ended) = let no : ⊥ = cc in absurd no
+violated never violation.BadBody to rest (inl breaks) = breaks
+violated never violation.BadBody to rest (inr ended) = let no : ⊥ = cc in absurd no
+violated never violation.InvalidType to rest (inl breaks) = breaks
+violated never violation.InvalidType to rest (inr ended) = let no : ⊥ = cc in absurd no
 
 -- the cause of the status, and what was written
-ends-so : (how : End) (run : Run) (asked : List Asked) (text : List ℕ) (count : ℕ) (from to : Input) (sink behind : Output) → count ≡ length (events_until asked)
+ends-so : NeverEnds → (how : End) (run : Run) (asked : List Asked) (text : List ℕ) (count : ℕ) (from to : Input) (sink behind : Output) → count ≡ length (events_until asked)
     → OneThreadEnds how run asked text count from to sink behind → HasCause (status_of how) run asked from to sink behind × HasWritten (status_of how) sink behind text
-ends-so end.Done run asked text count from to sink behind counted ends = ((ends.0, ends.1), ends.2)
-ends-so (end.Violation cause) run asked text count from to sink behind counted ends = ((ends.0.0, ends.0.1, violated cause to ends.0.0 ends.0.2), ends.1)
-ends-so (end.AuthRefused why) run asked text count from to sink behind counted ends = ((ends.0, ends.1), ends.2)
-ends-so end.ReadFault run asked text count from to sink behind counted ends = ((ends.0, ends.1), ends.2)
-ends-so end.WriteFault run asked text count from to sink behind counted ends = ((ends.0, ends.1), ends.2)
-ends-so end.EventsSpent run asked text count from to sink behind counted ends = ((omega (arith, counted, ends.0), ends.1), ends.2)
-ends-so end.Memory run asked text count from to sink behind counted ends = (ends.0, ends.1)
-ends-so end.OtherEnded run asked text count from to sink behind counted ends = absurd ends
-ends-so end.Overrun run asked text count from to sink behind counted ends = absurd ends
+ends-so never end.Done run asked text count from to sink behind counted ends = ((ends.0, ends.1), ends.2)
+ends-so never (end.Violation cause) run asked text count from to sink behind counted ends = ((ends.0.0, ends.0.1, violated never cause to ends.0.0 ends.0.2), ends.1)
+ends-so never (end.AuthRefused why) run asked text count from to sink behind counted ends = ((ends.0, ends.1), ends.2)
+ends-so never end.ReadFault run asked text count from to sink behind counted ends = ((ends.0, ends.1), ends.2)
+ends-so never end.WriteFault run asked text count from to sink behind counted ends = ((ends.0, ends.1), ends.2)
+ends-so never end.EventsSpent run asked text count from to sink behind counted ends = ((omega (arith, counted, ends.0), ends.1), ends.2)
+ends-so never end.Memory run asked text count from to sink behind counted ends = (ends.0, ends.1)
+ends-so never end.OtherEnded run asked text count from to sink behind counted ends = absurd ends
+ends-so never end.Overrun run asked text count from to sink behind counted ends = absurd ends
 
 -- ---- the whole
 
@@ -108,17 +112,17 @@ ends-so end.Overrun run asked text count from to sink behind counted ends = absu
 at-start : (conn : ConnId) (state : Rows) → conn ≡ the_connection → state ≡ joined → (P : ConnId → Rows → Type 0) → P conn state → P the_connection joined
 at-start conn state c s P p = subst (λ r. P the_connection r) s (subst (λ d. P d state) c p)
 
-pub serves : (uid : ℕ) (seed : List ℕ) (from to : Input) (sink behind : Output) (old new : World) (how : End)
+pub serves : NeverEnds → (uid : ℕ) (seed : List ℕ) (from to : Input) (sink behind : Output) (old new : World) (how : End)
     → old.told.conn ≡ the_connection → old.told.state ≡ joined → old.told.count ≡ 1 → old.salting ≡ record { key = key_of seed; stream = the_connection.0; place = 0 }
     → IsServed uid (guid seed) from to sink behind old new how → Serves uid seed old.coming from to sink behind (status_of how)
-serves uid seed from to sink behind old new how conn state count salting so =
+serves never uid seed from to sink behind old new how conn state count salting so =
     let run = shaken uid seed so.read in
     let text : concat run.answers ++ written old.told.conn 0 old.told.state (single old.told.conn old.told.state so.asked) ≡ text_of run so.asked =
     λ i. concat run.answers ++ written (conn i) 0 (state i) (single (conn i) (state i) so.asked) in
     let counted : old.told.count + length (turns old.told.conn old.told.state so.asked) ≡ length (events_until so.asked) =
     let same : length (turns old.told.conn old.told.state so.asked) ≡ length (turns the_connection joined so.asked) = λ i. length (turns (conn i) (state i) so.asked) in
     omega (arith, count, same) in
-    let ends = ends-so how run so.asked (concat run.answers ++ written old.told.conn 0 old.told.state (single old.told.conn old.told.state so.asked))
+    let ends = ends-so never how run so.asked (concat run.answers ++ written old.told.conn 0 old.told.state (single old.told.conn old.told.state so.asked))
     (old.told.count + length (turns old.told.conn old.told.state so.asked)) from to sink behind counted so.ends in
     record {
       read = so.read;

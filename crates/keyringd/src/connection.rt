@@ -6,6 +6,7 @@ use crate::server_number::guid_of;
 use crate::status::Status;
 use connection_worker::{Salts, one_thread};
 use dbus_auth::Auth;
+use dbus_framing::no_bytes_end_inside;
 use kr_outside::{Clock, Sink, Source};
 use lone_desk::LoneDesk;
 use service_desk::{Desk, JoinRefused};
@@ -29,6 +30,8 @@ pub fn serve_client<R: AllocGlobal + Wait, I: Source, O: Sink, C: Clock>(
         (output_of O.written O.faults O.is_steady output.old)
         (output_of O.written O.faults O.is_steady output.new) result }
 {
+    // So the violation `EndInside` tells that the input ended.
+    no_bytes_end_inside();
     let mut desk = match LoneDesk::join(Service::open(rt.alloc())) {
         Ok(desk) => desk,
         Err(JoinRefused::OutOfMemory) => return Status::Memory,

@@ -23,6 +23,12 @@ use std::sync::Wait;
 ///
 /// `stdio DIR UID` opens and loads the folder DIR, holds it to the end, and serves the client of the user
 /// UID: the handshake, and each call with its reply. The clock is asked once for each call.
+///
+/// Ends with `Usage` exactly where the words are no command; with `FolderFault` only where the
+/// host's count of faults rose, or what it gives may fail; with `Memory` where none is left before
+/// a byte is read; and else as `one_thread` of connection_worker says (`HasCause` has a row for
+/// each status). All that was put out is written by then, but only a front of it where the end is
+/// `WriteFault` or `Memory`.
 pub fn run<R: AllocGlobal + Wait, I: Source, O: Sink, H: Host>(
     rt: &R,
     words: &[Text],

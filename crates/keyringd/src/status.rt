@@ -10,23 +10,23 @@ use std::fmt;
 /// How the program ended. It prints as what is told of it on standard error.
 #[derive(Clone, Copy, Debug, PartialEq, Eq)]
 pub enum Status {
-    /// The input was read to its end and answered.
+    /// The input ended behind BEGIN with no part of a message left over, and all was answered.
     Done,
-    /// The words are no command.
+    /// The words are no command (docs/DECISIONS.md, "Words of the command line").
     Usage,
-    /// The input failed.
+    /// The input failed: its count of faults rose. All calls that came whole were answered.
     ReadFault,
-    /// The output failed.
+    /// The output failed: its count of faults rose. A front of what was put out is written.
     WriteFault,
-    /// The folder couldn't be opened, or what it has couldn't be read.
+    /// The folder couldn't be opened, or it or a file of it failed while it was loaded.
     FolderFault,
-    /// What came in is no stream of messages.
+    /// A message breaks a rule, or isn't whole at the end (D-Bus Specification, "Message Format").
     Violation(Violation),
-    /// The handshake was refused.
+    /// The handshake was refused, or ended early (D-Bus Specification, "Authentication Protocol").
     AuthRefused(AuthFault),
-    /// There was no memory.
+    /// No memory was left. A front of what was put out is written.
     Memory,
-    /// The service has recorded all the events that it can count.
+    /// The service has had all the events that it can count: 18,446,744,073,709,000,000 or more.
     EventsSpent,
 }
 

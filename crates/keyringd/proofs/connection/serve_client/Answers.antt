@@ -38,7 +38,7 @@ returns g c =
     let name = ap (λ (e : Exchange). e.guid) c.new-auth.ensures ∙ c.guid_of.ensures in
     let served = subst (λ u. IsServed u (guid c.args.seed) from to sink behind old new c.one_thread-end.result) uid
     (subst (λ n. IsServed c.new-auth.result.uid n from to sink behind old new c.one_thread-end.result) name c.one_thread-end.ensures) in
-    rw c.of_end.ensures (serves c.args.uid c.args.seed from to sink behind old new c.one_thread-end.result conn state count salting served)
+    rw c.of_end.ensures (serves c.no_bytes_end_inside.ensures c.args.uid c.args.seed from to sink behind old new c.one_thread-end.result conn state count salting served)
 
 -- there was no memory for the joining
 pub returns-in-Err-OutOfMemory : goal.returns-in-Err-OutOfMemory
