@@ -207,7 +207,8 @@ fn items_of(
 ) -> Result<Vec<FullItem>, ReadRefused<FieldFault>>
     ensures { Gives (λ x. x.items) result (reading.items_read count bytes.now) }
 {
-    let mut items = Vec::new(alloc);
+    // As many as are wanted, but no more than the bytes can hold.
+    let mut items = Vec::with_capacity(alloc, count.min(bytes.len() / 52))?;
     let mut rest = bytes;
     for _ in 0..count {
         let (item, after) = item_at(alloc, rest)?;

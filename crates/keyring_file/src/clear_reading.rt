@@ -1,4 +1,4 @@
-ghost use Rattle.std.specs.Prelude.{◌≡◌, ◌+◌, ◌*◌, ◌<◌, ◌≤◌, List, ℕ, length, take, drop, Ok, Err, IfOk, nat_eq};
+ghost use Rattle.std.specs.Prelude.{◌≡◌, ◌+◌, ◌*◌, ◌<◌, ◌≤◌, ◌++◌, ◌∷◌, List, [], ℕ, length, take, drop, Ok, Err, IfOk};
 ghost use Rattle.kr_base.specs.Attributes.{is_name};
 ghost use Rattle.keyring_text.specs.Reading.{Gives};
 ghost use Rattle.keyring_text.specs.Seen.{stood_in, AddsKey};
@@ -6,8 +6,10 @@ ghost use Rattle.keyring_file.specs.Reading as reading;
 ghost use Rattle.keyring_file.specs.declared.fault.ClearFault.TheVariants as clear_fault;
 ghost use Rattle.keyring_file.specs.Clear.{ClearPart, plain_content, pairs_in};
 ghost use Rattle.keyring_file.specs.ClearText.{ClearText};
+ghost use Rattle.keyring_file.specs.Numbers.{Keeps, has_number};
 ghost use Rattle.keyring_file.specs.Reading.{in_clear, part_and_area};
 
+use crate::numbers::{Numbers, is_new, no_numbers};
 use crate::{Clear, ClearFault, ClearItem};
 use keyring_text::{
     FieldFault, ReadRefused, name_at, number_at, span_at, string_at, text_at, time_at,
@@ -188,19 +190,21 @@ fn item_behind(
     }
 }
 
-/// An item whose number isn't among those that stood before, and the bytes behind it.
+/// An item whose number is none of those of the items before it, and the bytes behind it.
 fn new_item_at<'a>(
     alloc: Global,
     minor: u8,
-    ids: &mut BTreeSet<u32>,
+    numbers: &mut Numbers,
+    items: &[ClearItem],
     bytes: &'a [u8],
 ) -> Result<(ClearItem, &'a [u8]), ReadRefused<ClearFault>>
+    requires { Keeps items.now numbers.old }
     ensures read { Gives (λ x. (x.0, x.1.now)) result
-        (reading.new_item_at minor (stood_in nat_eq (λ k. k) ids.old.keys) bytes.now) }
-    ensures seen { IfOk result (λ x. AddsKey nat_eq (λ k. k) ids.old.keys ids.new.keys x.0.id.0) }
+        (reading.new_item_at minor (has_number items.now) bytes.now) }
+    ensures kept { IfOk result (λ x. Keeps (items.now ++ x.0 ∷ []) numbers.new) }
 {
     let (id, rest) = id_at(bytes)?;
-    if !ids.insert(id)? {
+    if !is_new(alloc, numbers, items, id)? {
         return Err(ReadRefused::Fault(ClearFault::DuplicateId));
     }
     let (item, rest) = item_behind(alloc, minor, id, rest)?;
@@ -217,11 +221,12 @@ fn so_many_items_at(
     ensures { Gives (λ x. (x.0.items, x.1.now)) result
         (reading.so_many_items_at minor count bytes.now) }
 {
-    let mut items = Vec::new(alloc);
-    let mut ids = BTreeSet::new(alloc);
+    // A number that is merely claimed reserves less than half of what the bytes take.
+    let mut items = Vec::with_capacity(alloc, (count as usize).min(bytes.len() / 128))?;
+    let mut numbers = no_numbers(alloc);
     let mut rest = bytes;
     for _ in 0..count {
-        let (item, after) = new_item_at(alloc, minor, &mut ids, rest)?;
+        let (item, after) = new_item_at(alloc, minor, &mut numbers, items.as_slice(), rest)?;
         items.push(item)?;
         rest = after;
     }
