@@ -8,7 +8,6 @@ use Rattle.std.specs.Ordering.{nat_cmp, is_eq, match_ordering, MatchOrdering}
 use Rattle.std.proofs.lemmas.Bool.{ne_eqb}
 use Rattle.std.proofs.lemmas.Cmp.{ranked}
 use Rattle.std.proofs.lemmas.List.{take_more}
-use Rattle.keyring_text.specs.Seen.{stood_in}
 use Rattle.keyring_text.proofs.Loops.{seen_after}
 use Rattle.keyring_text.proofs.SeenLemmas.{any-alike}
 use Rattle.keyring_file.specs.declared.clear.ClearItem.{ClearItem}

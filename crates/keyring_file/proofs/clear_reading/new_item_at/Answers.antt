@@ -1,4 +1,4 @@
-use Rattle.std.proofs.Common.{sym, ◌∙◌, refl}
+use Rattle.std.proofs.Common.{◌∙◌, refl}
 use Rattle.std.proofs.lemmas.Result.{err_from_is_err_and}
 use Rattle.keyring_text.proofs.SeenLemmas.{new-twice, new-rest}
 use Rattle.keyring_file.specs.declared.fault.ClearFault.TheVariants.{DuplicateId}

@@ -1,4 +1,4 @@
-use Rattle.std.proofs.Common.{◌≡◌, ℕ, ◌-◌, nat_eq, []}
+use Rattle.std.proofs.Common.{◌≡◌, ◌-◌, nat_eq, []}
 use Rattle.keyring_text.specs.Reading.{keyed_at}
 use Rattle.keyring_text.proofs.Loops.{with_front, seen_after}
 use Rattle.keyring_file.specs.declared.fault.ClearFault.TheVariants.{DuplicateId}
