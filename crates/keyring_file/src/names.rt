@@ -15,7 +15,7 @@ pub struct Names<'a> {
     many: BTreeSet<&'a [u8]>,
 }
 
-/// No names.
+/// What is kept of no names. It takes no memory.
 pub fn no_names<'a>(alloc: Global) -> Names<'a>
     ensures { (q : List ℕ) → has_name result q ≡ false }
 {
@@ -38,12 +38,13 @@ fn is_same(name: &[u8], other: &[u8]) -> bool
 fn is_in_row(names: &Names<'_>, name: &[u8]) -> bool
     ensures { result ≡ has_in_row names.now name.now }
 {
+    // The bound keeps within the row, whatever the count.
     names.few[..names.count.min(8)]
         .iter()
         .any(|kept| is_same(name, kept))
 }
 
-/// Whether the name is none of those that stood before. If so, it is kept with them.
+/// Whether the name is none of those that stood before. Where it is none, it is kept with them.
 pub fn is_new_name<'a>(names: &mut Names<'a>, name: &'a [u8]) -> Result<bool, OutOfMemory>
     ensures test { IfOk result (λ new. new ≡ not (has_name names.old name.now)) }
     ensures kept { IfOk result (λ new. new ≡ true → AddsName names.old names.new name.now) }
@@ -51,6 +52,7 @@ pub fn is_new_name<'a>(names: &mut Names<'a>, name: &'a [u8]) -> Result<bool, Ou
     if is_in_row(names, name) {
         return Ok(false);
     }
+    // The row is filled first: behind a name in the set none is put into it.
     if names.count < 8 && names.many.is_empty() {
         names.few[names.count] = name;
         names.count += 1;
