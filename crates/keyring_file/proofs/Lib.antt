@@ -1,4 +1,5 @@
 pub mod Keeps
+pub mod NumberLemmas
 pub mod Refusals
 pub mod ClearLaws
 pub mod FileLaws

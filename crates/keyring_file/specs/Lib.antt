@@ -3,6 +3,8 @@ pub mod ClearText
 pub mod AreaText
 pub mod Canonical
 pub mod Gathered
+pub mod Names
+pub mod Numbers
 pub mod Reading
 pub mod Short
 pub mod Sound

@@ -1,12 +1,12 @@
 ghost use Rattle.std.specs.Prelude.{◌≡◌, ◌*◌, ◌≤◌, List, ℕ, length, IsTrue, Ok, Err, IfOk};
-ghost use Rattle.kr_base.specs.Attributes.{is_name};
 ghost use Rattle.keyring_text.specs.Reading.{Gives};
-ghost use Rattle.keyring_text.specs.Seen.{stood_in, AddsKey};
 ghost use Rattle.keyring_file.specs.Reading as reading;
 ghost use Rattle.keyring_file.specs.declared.area.FullItem.{FullItem};
 ghost use Rattle.keyring_file.specs.AreaText.{AreaText};
+ghost use Rattle.keyring_file.specs.Names.{has_name, AddsName};
 ghost use Rattle.keyring_file.specs.Gathered.{gathered};
 
+use crate::names::{Names, is_new_name, no_names};
 use crate::{Access, AreaFault, FullItem};
 use keyring_text::{
     FieldFault, ReadRefused, name_at, number_at, slice_at, span_at, string_at, text_at, time_at,
@@ -15,7 +15,6 @@ use kr_base::{AttrValue, Attributes, OutOfMemory, Text};
 use kr_items::Items;
 use md5::{Digest, Md5};
 use std::alloc::Global;
-use std::collections::BTreeSet;
 
 /// A value with its kind, and the bytes behind it.
 #[tactic(auto, unfolding(crate::specs::Reading::value_at))]
@@ -39,16 +38,15 @@ fn value_at(alloc: Global, bytes: &[u8]) -> Result<(AttrValue, &[u8]), ReadRefus
 /// An attribute whose name isn't among those that stood before, and the bytes behind it.
 fn new_attribute_at<'a>(
     alloc: Global,
-    names: &mut BTreeSet<&'a [u8]>,
+    names: &mut Names<'a>,
     bytes: &'a [u8],
 ) -> Result<((Text, AttrValue), &'a [u8]), ReadRefused<FieldFault>>
     ensures read { Gives (λ x. (x.0, x.1.now)) result
-        (reading.new_attribute_at (stood_in is_name (λ k. k.now) names.old.keys) bytes.now) }
-    ensures seen { IfOk result (λ x. AddsKey is_name (λ k. k.now)
-        names.old.keys names.new.keys x.0.0) }
+        (reading.new_attribute_at (has_name names.old) bytes.now) }
+    ensures seen { IfOk result (λ x. AddsName names.old names.new x.0.0) }
 {
     let (name, spelled, rest) = name_at(alloc, bytes)?;
-    if !names.insert(spelled)? {
+    if !is_new_name(names, spelled)? {
         return Err(ReadRefused::Fault(FieldFault::DuplicateName));
     }
     let (value, rest) = value_at(alloc, rest)?;
@@ -66,7 +64,7 @@ fn so_many_attributes_at(
 {
     // No more than the first element would take: a number that is merely claimed reserves nothing.
     let mut pairs = Vec::with_capacity(alloc, if count < 4 { count as usize } else { 4 })?;
-    let mut names = BTreeSet::new(alloc);
+    let mut names = no_names(alloc);
     let mut rest = bytes;
     for _ in 0..count {
         let (pair, after) = new_attribute_at(alloc, &mut names, rest)?;
@@ -207,7 +205,8 @@ fn items_of(
 ) -> Result<Vec<FullItem>, ReadRefused<FieldFault>>
     ensures { Gives (λ x. x.items) result (reading.items_read count bytes.now) }
 {
-    let mut items = Vec::new(alloc);
+    // As many as are wanted, but no more than the bytes can hold.
+    let mut items = Vec::with_capacity(alloc, count.min(bytes.len() / 52))?;
     let mut rest = bytes;
     for _ in 0..count {
         let (item, after) = item_at(alloc, rest)?;

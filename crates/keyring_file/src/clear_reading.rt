@@ -1,13 +1,15 @@
-ghost use Rattle.std.specs.Prelude.{◌≡◌, ◌+◌, ◌*◌, ◌<◌, ◌≤◌, List, ℕ, length, take, drop, Ok, Err, IfOk, nat_eq};
-ghost use Rattle.kr_base.specs.Attributes.{is_name};
+ghost use Rattle.std.specs.Prelude.{◌≡◌, ◌+◌, ◌*◌, ◌<◌, ◌≤◌, ◌++◌, ◌∷◌, List, [], ℕ, length, take, drop, Ok, Err, IfOk};
 ghost use Rattle.keyring_text.specs.Reading.{Gives};
-ghost use Rattle.keyring_text.specs.Seen.{stood_in, AddsKey};
 ghost use Rattle.keyring_file.specs.Reading as reading;
 ghost use Rattle.keyring_file.specs.declared.fault.ClearFault.TheVariants as clear_fault;
 ghost use Rattle.keyring_file.specs.Clear.{ClearPart, plain_content, pairs_in};
 ghost use Rattle.keyring_file.specs.ClearText.{ClearText};
+ghost use Rattle.keyring_file.specs.Names.{has_name, AddsName};
+ghost use Rattle.keyring_file.specs.Numbers.{Keeps, has_number};
 ghost use Rattle.keyring_file.specs.Reading.{in_clear, part_and_area};
 
+use crate::names::{Names, is_new_name, no_names};
+use crate::numbers::{Numbers, is_new, no_numbers};
 use crate::{Clear, ClearFault, ClearItem};
 use keyring_text::{
     FieldFault, ReadRefused, name_at, number_at, span_at, string_at, text_at, time_at,
@@ -15,7 +17,6 @@ use keyring_text::{
 use kr_base::{HashedPair, HashedValue, ItemId, OutOfMemory, Text};
 use kr_items::Items;
 use std::alloc::Global;
-use std::collections::BTreeSet;
 
 /// A hashed value with its kind, and the bytes behind it.
 #[tactic(auto, unfolding(crate::specs::Reading::hashed_at))]
@@ -40,16 +41,15 @@ fn hashed_at(alloc: Global, bytes: &[u8]) -> Result<(HashedValue, &[u8]), ReadRe
 #[tactic(auto, unfolding(crate::specs::Reading::pair_at))]
 fn new_pair_at<'a>(
     alloc: Global,
-    names: &mut BTreeSet<&'a [u8]>,
+    names: &mut Names<'a>,
     bytes: &'a [u8],
 ) -> Result<(HashedPair, &'a [u8]), ReadRefused<FieldFault>>
     ensures read { Gives (λ x. (x.0, x.1.now)) result
-        (reading.new_pair_at (stood_in is_name (λ k. k.now) names.old.keys) bytes.now) }
-    ensures seen { IfOk result (λ x. AddsKey is_name (λ k. k.now)
-        names.old.keys names.new.keys x.0.name) }
+        (reading.new_pair_at (has_name names.old) bytes.now) }
+    ensures seen { IfOk result (λ x. AddsName names.old names.new x.0.name) }
 {
     let (name, spelled, rest) = name_at(alloc, bytes)?;
-    if !names.insert(spelled)? {
+    if !is_new_name(names, spelled)? {
         return Err(ReadRefused::Fault(FieldFault::DuplicateName));
     }
     let (value, rest) = hashed_at(alloc, rest)?;
@@ -66,7 +66,7 @@ fn so_many_pairs_at(
 {
     // No more than the first element would take: a number that is merely claimed reserves nothing.
     let mut pairs = Vec::with_capacity(alloc, if count < 4 { count as usize } else { 4 })?;
-    let mut names = BTreeSet::new(alloc);
+    let mut names = no_names(alloc);
     let mut rest = bytes;
     for _ in 0..count {
         let (pair, after) = new_pair_at(alloc, &mut names, rest)?;
@@ -188,19 +188,21 @@ fn item_behind(
     }
 }
 
-/// An item whose number isn't among those that stood before, and the bytes behind it.
+/// An item whose number is none of those of the items before it, and the bytes behind it.
 fn new_item_at<'a>(
     alloc: Global,
     minor: u8,
-    ids: &mut BTreeSet<u32>,
+    numbers: &mut Numbers,
+    items: &[ClearItem],
     bytes: &'a [u8],
 ) -> Result<(ClearItem, &'a [u8]), ReadRefused<ClearFault>>
+    requires { Keeps items.now numbers.old }
     ensures read { Gives (λ x. (x.0, x.1.now)) result
-        (reading.new_item_at minor (stood_in nat_eq (λ k. k) ids.old.keys) bytes.now) }
-    ensures seen { IfOk result (λ x. AddsKey nat_eq (λ k. k) ids.old.keys ids.new.keys x.0.id.0) }
+        (reading.new_item_at minor (has_number items.now) bytes.now) }
+    ensures kept { IfOk result (λ x. Keeps (items.now ++ x.0 ∷ []) numbers.new) }
 {
     let (id, rest) = id_at(bytes)?;
-    if !ids.insert(id)? {
+    if !is_new(alloc, numbers, items, id)? {
         return Err(ReadRefused::Fault(ClearFault::DuplicateId));
     }
     let (item, rest) = item_behind(alloc, minor, id, rest)?;
@@ -217,11 +219,13 @@ fn so_many_items_at(
     ensures { Gives (λ x. (x.0.items, x.1.now)) result
         (reading.so_many_items_at minor count bytes.now) }
 {
-    let mut items = Vec::new(alloc);
-    let mut ids = BTreeSet::new(alloc);
+    // As many as are claimed, but no more than the bytes can hold, 12 for an item here and 52 in the
+    // area: a number that is merely claimed reserves nothing.
+    let mut items = Vec::with_capacity(alloc, (count as usize).min(bytes.len() / 64))?;
+    let mut numbers = no_numbers(alloc);
     let mut rest = bytes;
     for _ in 0..count {
-        let (item, after) = new_item_at(alloc, minor, &mut ids, rest)?;
+        let (item, after) = new_item_at(alloc, minor, &mut numbers, items.as_slice(), rest)?;
         items.push(item)?;
         rest = after;
     }

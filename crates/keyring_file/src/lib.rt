@@ -11,6 +11,8 @@ mod clear_reading;
 mod clear_writing;
 mod fault;
 mod laws;
+mod names;
+mod numbers;
 #[cfg(test)]
 mod tests;
 

@@ -10,3 +10,4 @@ pub mod WholeLemmas
 pub mod ShortLemmas
 pub mod RowLemmas
 pub mod SealedLemmas
+pub mod RisingLemmas

@@ -1,5 +1,5 @@
 -- What a sealed file has in bytes.
-use Rattle.std.proofs.Common.{◌≡◌, ℕ, ◌+◌, ◌%◌, ◌≤◌, List, [], ◌∷◌, ◌++◌, length, map, refl, sym, ap, ◌∙◌, arith}
+use Rattle.std.proofs.Common.{◌<◌, ◌≡◌, ℕ, ◌+◌, ◌%◌, ◌≤◌, List, [], ◌∷◌, ◌++◌, length, map, refl, sym, ap, ◌∙◌, arith}
 use Rattle.std.specs.List.{flat_map, zip}
 use Rattle.std.specs.List.Sorted.{IsPermutation}
 use Rattle.std.proofs.lemmas.List.{length-append, length-replicate}
@@ -94,9 +94,6 @@ module _ (content : Content) (key : Inputs) (can : IsSealable content) where
       let padded = ap padding items in
       omega (arith, whole, same, area_long, items, behind, listed, list, told, last, padded)
 
-pub area_small : (content : Content) (can : IsSealable content) → measure content ≤ most_bytes → length (area_text (arranged content).items) ≤ most_bytes
-area_small content can within =
-    let area_long = length_area_text (arranged content).items in
-    let items = items_long content can in
-    let padded = ap padding items in
-    omega (arith, within, area_long, items, padded)
+-- what was measured within the bytes that a file may have isn't over them
+pub never_over : (content : Content) (key : Inputs) → IsSealable content → measure content ≤ most_bytes → most_bytes < length (sealed content key) → ⊥
+never_over content key can within over = let long = length-sealed content key can in omega (arith, within, over, long)

@@ -69,8 +69,8 @@ fn encrypted_area(
 /// attributes; salt, key and vector are the ones that are given.
 ///
 /// Refused with `TooLarge` exactly where the file would have more than 67,108,864 bytes; that is
-/// measured before anything is built. Beside the content, memory is taken for the file, for the encrypted
-/// area, and for the order of the items.
+/// measured before anything is built, so want of memory never comes in its place. Beside the content,
+/// memory is taken for the file, for the encrypted area, and for the order of the items.
 pub fn seal(alloc: Global, content: &Content, key: &Derived) -> Result<Vec<u8>, SealRefused>
     requires { IsSealable content.now }
     ensures sealed { IfOk result (λ file. file.items ≡ sealed content.now key.now) }
@@ -79,6 +79,8 @@ pub fn seal(alloc: Global, content: &Content, key: &Derived) -> Result<Vec<u8>, 
     ensures fits { OnOk result (length (sealed content.now key.now) ≤ most_bytes) }
     ensures too_large { IsErrOf result SealRefused.TooLarge
         → most_bytes < length (sealed content.now key.now) }
+    ensures measured { most_bytes < length (sealed content.now key.now)
+        → IsErrOf result SealRefused.TooLarge }
 {
     known(content);
     a_file_of_a_content_opens_to_it();

@@ -10,7 +10,7 @@ use Rattle.keyring_text.specs.declared.fault.ReadRefused.TheVariants as refused
 use Rattle.keyring_text.specs.Reading.{◌>>=◌, Fails, new_at}
 use Rattle.keyring_text.specs.Seen.{stood_in, AddsKey}
 
-or-swap : (a b c : Bool) → (a || (b || c)) ≡ (b || (a || c))
+pub or-swap : (a b c : Bool) → (a || (b || c)) ≡ (b || (a || c))
 or-swap true true c = refl
 or-swap true false c = refl
 or-swap false true c = refl

@@ -7,7 +7,7 @@ use Rattle.keyring_file.specs.Reading.{item_at, items_read}
 use Rattle.keyring_file.proofs.area_reading.items_of.Goals as goal
 
 pub loop-init : goal.loop-init
-loop-init c = rw c.new-items.ensures.items (all-begins item_at c.args.count c.args.bytes.now)
+loop-init c = rw c.in_ok-items.ensures.items (all-begins item_at c.args.count c.args.bytes.now)
 
 pub loop-preserved : goal.loop-preserved
 loop-preserved c =
@@ -17,7 +17,7 @@ loop-preserved c =
 pub returns-in_err-item : goal.returns-in_err-item
 unfolding items_read
 returns-in_err-item c =
-    let p = err_from_is_err_and c.from_residual.result c.from_residual.ensures.1 in
+    let p = err_from_is_err_and c.from_residual-in_err-item.result c.from_residual-in_err-item.ensures.1 in
     let fails = all-ends item_at c.in_err-item.field-0.0 c.loop.items.items c.args.count c.loop.counter c.loop.rest.now (all_at item_at c.args.count c.args.bytes.now) c.loop-test.true c.in_err-item.ensures c.loop.invariant in
     rw (p.1, p.2) (fails-bind _ _ _ fails)
 

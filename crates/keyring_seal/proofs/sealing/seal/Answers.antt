@@ -4,7 +4,7 @@ use Rattle.keyring_file.specs.Clear.{ClearPart}
 use Rattle.keyring_seal.specs.Arranged.{row_number, rows, arranged}
 use Rattle.keyring_seal.specs.Order.{by_number}
 use Rattle.keyring_seal.proofs.ArrangeLemmas.{see}
-use Rattle.keyring_seal.proofs.SealLemmas.{length-sealed}
+use Rattle.keyring_seal.proofs.SealLemmas.{length-sealed, never_over}
 use Rattle.keyring_seal.proofs.SealedLemmas.{lent_items, lent_clear_items, lent_few, sealed_told, is_file}
 use Rattle.keyring_seal.proofs.sealing.seal.Goals as goal
 
@@ -64,3 +64,18 @@ returns-clause-is_file = returns_is_file
 
 pub returns-clause-opens : goal.returns-clause-opens
 returns-clause-opens c = c.a_file_of_a_content_opens_to_it.ensures c.extend_from_slice.new.self.items c.args.key.now (arranged c.args.content.now) (returns_is_file c)
+
+pub returns-in_err-rows-clause-measured : goal.returns-in_err-rows-clause-measured
+returns-in_err-rows-clause-measured c = λ over. absurd (never_over c.args.content.now c.args.key.now c.requires c.in-Some.ensures.2 over)
+
+pub returns-in_err-area-clause-measured : goal.returns-in_err-area-clause-measured
+returns-in_err-area-clause-measured c = λ over. absurd (never_over c.args.content.now c.args.key.now c.requires c.in-Some.ensures.2 over)
+
+pub returns-in_err-file-clause-measured : goal.returns-in_err-file-clause-measured
+returns-in_err-file-clause-measured c = λ over. absurd (never_over c.args.content.now c.args.key.now c.requires c.in-Some.ensures.2 over)
+
+pub returns-in_err-extend_from_slice-clause-measured : goal.returns-in_err-extend_from_slice-clause-measured
+returns-in_err-extend_from_slice-clause-measured c = λ over. absurd (never_over c.args.content.now c.args.key.now c.requires c.in-Some.ensures.2 over)
+
+pub returns-clause-measured : goal.returns-clause-measured
+returns-clause-measured c = λ over. absurd (never_over c.args.content.now c.args.key.now c.requires c.in-Some.ensures.2 over)

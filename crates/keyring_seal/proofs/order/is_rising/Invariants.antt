@@ -1,0 +1,6 @@
+use Rattle.std.proofs.Common.{drop}
+use Rattle.keyring_seal.specs.Order.{IsRising}
+use Rattle.keyring_seal.proofs.order.is_rising.Given as goal
+
+abbrev pub invariant-loop-i : goal.invariant-loop-i
+invariant-loop-i l = IsRising (λ item. item.id.0) (drop l.i l.clear) → IsRising (λ item. item.id.0) l.clear
