@@ -2,23 +2,35 @@ ghost use Rattle.std.specs.Prelude.{◌≡◌, ℕ, ◌++◌, ◌↔◌, List, [
 ghost use Rattle.std.specs.Ordering.{nat_cmp};
 ghost use Rattle.std.specs.Cmp.{partial_equiv_from_equiv};
 ghost use Rattle.std.specs.Cmp.Lexicographic.{pointwise, slice_cmp, nat_list_eq_equiv, nat_list_cmp_total, texts_ties, texts_po};
+ghost use Rattle.kr_base.specs.Held.{held_bytes};
 
 use crate::OutOfMemory;
+use arrayvec::ArrayVec;
 use std::alloc::Global;
 use std::cmp::Ordering;
 use std::fmt;
 use std::marker::Model;
 
+/// Where bytes lie. Most passwords are short, and so is each hash in a keyring file.
+#[derive(Drop)]
+enum Held {
+    /// In the value itself: at most 32 bytes.
+    Short(ArrayVec<u8, 32>),
+    /// In memory of their own.
+    Long(Vec<u8>),
+}
+
 /// Bytes of any kind, which may be a secret or a password. A contract sees the list of them.
 #[derive(Drop)]
 pub struct Bytes {
-    bytes: Vec<u8>,
+    held: Held,
+    alloc: Global,
 }
 
 impl Model for Bytes {
     ghost Value = { List ℕ };
 
-    ghost view = { λ b. b.bytes.items };
+    ghost view = { λ b. held_bytes b.held };
 }
 
 impl Bytes {
@@ -26,51 +38,64 @@ impl Bytes {
     pub fn new(bytes: Vec<u8>) -> Bytes
         ensures { result ≡ bytes.items }
     {
-        Bytes { bytes }
+        Bytes {
+            alloc: *bytes.allocator(),
+            held: Held::Long(bytes),
+        }
     }
 
-    /// A copy of the bytes.
+    /// A copy of the bytes. It takes no memory where they are at most 32.
     pub fn from_slice(alloc: Global, bytes: &[u8]) -> Result<Bytes, OutOfMemory>
         ensures { IfOk result (λ made. made ≡ bytes.now) }
     {
-        Ok(Bytes {
-            bytes: Vec::from_slice(alloc, bytes)?,
-        })
+        let mut short = ArrayVec::new();
+        let held = match short.try_extend_from_slice(bytes) {
+            Ok(()) => Held::Short(short),
+            Err(_) => Held::Long(Vec::from_slice(alloc, bytes)?),
+        };
+        Ok(Bytes { held, alloc })
     }
 
     /// The bytes, lent.
     pub fn as_slice(&self) -> &[u8]
         ensures { result.now ≡ self.now }
     {
-        self.bytes.as_slice()
+        match &self.held {
+            Held::Short(bytes) => bytes.as_slice(),
+            Held::Long(bytes) => bytes.as_slice(),
+        }
     }
 
-    /// The bytes as a vector. It takes no memory.
-    pub fn into_vec(self) -> Vec<u8>
-        ensures { result.items ≡ self }
+    /// The bytes as a vector. It takes no memory where they lie in memory of their own.
+    pub fn into_vec(self) -> Result<Vec<u8>, OutOfMemory>
+        ensures { IfOk result (λ vec. vec.items ≡ self) }
     {
-        self.bytes
+        let Bytes { held, alloc } = self;
+        match held {
+            Held::Short(bytes) => Vec::from_slice(alloc, bytes.as_slice()),
+            Held::Long(bytes) => Ok(bytes),
+        }
     }
 
     /// How many bytes there are.
     pub fn len(&self) -> usize
         ensures { result ≡ length self.now }
     {
-        self.bytes.len()
+        self.as_slice().len()
     }
 
     /// Whether there is no byte.
     pub fn is_empty(&self) -> bool
         ensures { IsTrue result ↔ (self.now ≡ []) }
     {
-        self.bytes.is_empty()
+        self.as_slice().is_empty()
     }
 
     /// A second value of the same bytes, on the allocator of this one.
     pub fn copy(&self) -> Result<Bytes, OutOfMemory>
         ensures { IfOk result (λ copied. copied ≡ self.now) }
     {
-        Bytes::from_slice(*self.bytes.allocator(), self.as_slice())
+        Bytes::from_slice(self.alloc, self.as_slice())
     }
 }
 

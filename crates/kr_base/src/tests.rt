@@ -80,8 +80,21 @@ fn bytes_are_made_and_read(rt: HostRuntime) -> Result<(), Fail> {
             Bytes::from_slice(alloc, bytes)?,
             "at {bytes:?}"
         );
-        assert_eq!(rt; made.into_vec().as_slice(), bytes);
+        assert_eq!(rt; made.into_vec()?.as_slice(), bytes);
     }
+    Ok(())
+}
+
+// 32 bytes lie in the value itself, and 33 in memory of their own.
+#[test]
+fn bytes_are_the_same_wherever_they_lie(rt: HostRuntime) -> Result<(), Fail> {
+    let alloc = rt.alloc();
+    let short = Bytes::from_slice(alloc, &[7; 32])?;
+    assert_eq!(rt; short.copy()?.into_vec()?.as_slice(), [7; 32].as_slice());
+    let long = Bytes::from_slice(alloc, &[7; 33])?;
+    assert_eq!(rt; long.copy()?.into_vec()?.as_slice(), [7; 33].as_slice());
+    assert!(rt; short < long);
+    assert!(rt; short != long);
     Ok(())
 }
 

@@ -6,7 +6,7 @@ ghost use Rattle.std.specs.Cmp.{partial_equiv_from_equiv};
 ghost use Rattle.std.specs.Cmp.Lexicographic.{pointwise, slice_cmp, nat_list_eq_equiv, nat_list_cmp_total, texts_ties, texts_po};
 ghost use Rattle.std.specs.Cmp.Rules.{hashing};
 ghost use Rattle.std.proofs.Common.{rules};
-ghost use Rattle.kr_base.specs.Held.{held_bytes};
+ghost use Rattle.kr_base.specs.Held.{held_text};
 ghost use Rattle.kr_base.specs.Text.{HasZero, IsText};
 
 use crate::OutOfMemory;
@@ -37,9 +37,9 @@ pub struct Text {
 impl Model for Text {
     ghost Value = { List ℕ };
 
-    ghost view = { λ t. held_bytes t.held };
+    ghost view = { λ t. held_text t.held };
 
-    ghost invariant = { λ t. IsText (held_bytes t.held) };
+    ghost invariant = { λ t. IsText (held_text t.held) };
 }
 
 impl Text {
