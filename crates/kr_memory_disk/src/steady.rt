@@ -57,7 +57,7 @@ impl SteadySlot {
         let temporary = Vec::with_capacity(alloc, room)?;
         let (mut file, has_file) = match image {
             None => (Vec::new(alloc), false),
-            Some(bytes) => (bytes.into_vec(), true),
+            Some(bytes) => (bytes.into_vec()?, true),
         };
         file.reserve(room)?;
         Ok(SteadySlot {
