@@ -12,10 +12,10 @@ pub returns-then-clear-i : goal.returns-then-clear-i
 returns-then-clear-i c = (
   λ no. absurd cc,
   λ rising.
-    let xs = c.args.clear.now in
-    let number : ClearItem → ℕ = λ item. item.id.0 in
-    let up = rising_at number xs c.loop-i.i (c.loop-i.i + 1) c.index-clear-i.result c.index-clear-i-in-loop-i.result refl (omega arith) rising in
-    let here = ap number c.index-clear-i.is in
-    let next = ap number c.index-clear-i-in-loop-i.is in
-    absurd (omega (arith, up, here, next, c.if-clear-i.true)),
+      let xs = c.args.clear.now in
+      let number : ClearItem → ℕ = λ item. item.id.0 in
+      let up = rising_at number xs c.loop-i.i (c.loop-i.i + 1) c.index-clear-i.result c.index-clear-i-in-loop-i.result refl (omega arith) rising in
+      let here = ap number c.index-clear-i.is in
+      let next = ap number c.index-clear-i-in-loop-i.is in
+      absurd (omega (arith, up, here, next, c.if-clear-i.true)),
 )
