@@ -58,8 +58,9 @@ impl Files {
     {
         self.files.reserve(1)?;
         take_out(&mut self.files, &name);
-        if let Some(bytes) = image {
-            add(&mut self.files, name, bytes);
+        match image {
+            Some(bytes) => add(&mut self.files, name, bytes),
+            None => drop(name),
         }
         Ok(())
     }

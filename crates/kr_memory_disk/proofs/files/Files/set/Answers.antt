@@ -17,8 +17,8 @@ invariant_of-self-in-Some c =
     subst HasDistinctNames (sym (c.add.ensures ∙ ap (λ (f : List MemoryFile). f ++ (record { name = c.args.name; bytes = c.in-Some.bytes }) ∷ []) left))
     (distinct_push c.args.name c.in-Some.bytes (others c.args.name c.self.inside.files.items) (image_in_others c.args.name c.self.inside.files.items) (distinct_others c.args.name c.self.inside.files.items c.self.invariant))
 
-pub invariant_of-self-in-None-image-2 : goal.invariant_of-self-in-None-image-2
-invariant_of-self-in-None-image-2 c =
+pub invariant_of-self-in-None : goal.invariant_of-self-in-None
+invariant_of-self-in-None c =
     subst HasDistinctNames (sym (c.take_out.ensures.others ∙ ap (λ (f : List MemoryFile). others c.args.name f) c.in_ok-reserve.ensures.items))
     (distinct_others c.args.name c.self.inside.files.items c.self.invariant)
 
@@ -34,12 +34,12 @@ returns-in-Some-clause-others c other differs =
     subst (λ f. image_in f other ≡ image_in c.args.self.now other) (sym (c.add.ensures ∙ ap (λ (f : List MemoryFile). f ++ (record { name = c.args.name; bytes = c.in-Some.bytes }) ∷ []) left))
     (image_in-push_other c.args.name c.in-Some.bytes other differs (others c.args.name c.self.inside.files.items) ∙ image_in_others-other c.args.name other differs c.self.inside.files.items ∙ ap (λ (f : List MemoryFile). image_in f other) c.self.view_is)
 
-pub returns-in_default-clause-set : goal.returns-in_default-clause-set
-returns-in_default-clause-set c =
+pub returns-in-None-clause-set : goal.returns-in-None-clause-set
+returns-in-None-clause-set c =
     subst (λ f. image_in f c.args.name ≡ c.args.image) (sym (c.take_out.ensures.others ∙ ap (λ (f : List MemoryFile). others c.args.name f) c.in_ok-reserve.ensures.items))
-    (image_in_others c.args.name c.self.inside.files.items ∙ sym c.in_default.is)
+    (image_in_others c.args.name c.self.inside.files.items ∙ sym c.in-None.is)
 
-pub returns-in_default-clause-others : goal.returns-in_default-clause-others
-returns-in_default-clause-others c other differs =
+pub returns-in-None-clause-others : goal.returns-in-None-clause-others
+returns-in-None-clause-others c other differs =
     subst (λ f. image_in f other ≡ image_in c.args.self.now other) (sym (c.take_out.ensures.others ∙ ap (λ (f : List MemoryFile). others c.args.name f) c.in_ok-reserve.ensures.items))
     (image_in_others-other c.args.name other differs c.self.inside.files.items ∙ ap (λ (f : List MemoryFile). image_in f other) c.self.view_is)
