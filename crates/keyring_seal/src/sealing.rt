@@ -11,7 +11,7 @@ use crate::known::known;
 use crate::laws::a_file_of_a_content_opens_to_it;
 use crate::order::in_order;
 use crate::room::sizes;
-use crate::writing::{area_of, clear_of};
+use crate::writing::{put_area, put_clear};
 use aes_cbc::{Key, decrypting_undoes_encrypting};
 use key_derivation::Derived;
 use keyring_file::{ClearItem, FullItem};
@@ -58,7 +58,8 @@ fn encrypted_area(
     ensures undone { IfOk result (λ area. clear_area key.now area.items
         ≡ checked (padded (flat_map (λ row. item_text row.1.now) rows.now))) }
 {
-    let mut area = area_of(alloc, room, rows)?;
+    let mut area = Vec::with_capacity(alloc, room)?;
+    put_area(&mut area, rows)?;
     decrypting_undoes_encrypting(key.key(), key.vector(), area.as_slice());
     let cipher = Key::new(key.key());
     cipher.encrypt_in_place(key.vector(), area.as_mut_slice());
@@ -91,7 +92,8 @@ pub fn seal(alloc: Global, content: &Content, key: &Derived) -> Result<Vec<u8>, 
     let clear = &content.clear;
     let rows = in_order(alloc, clear.items.as_slice(), content.items.as_slice())?;
     let area = encrypted_area(alloc, area_len, rows.as_slice(), key)?;
-    let mut file = clear_of(alloc, len, clear, rows.as_slice(), area_len as u32)?;
+    let mut file = Vec::with_capacity(alloc, len)?;
+    put_clear(&mut file, clear, rows.as_slice(), area_len as u32)?;
     file.extend_from_slice(area.as_slice())?;
     Ok(file)
 }

@@ -1,7 +1,7 @@
 // The items of a content are written as they are lent, in the order that the caller gives, each with the
 // hashes of its own attributes. Nothing is copied but into the file.
 
-ghost use Rattle.std.specs.Prelude.{◌≡◌, ◌<◌, ◌^◌, ◌++◌, length, map, IfOk, OnOk};
+ghost use Rattle.std.specs.Prelude.{◌≡◌, ◌<◌, ◌^◌, [], ◌++◌, length, map, OnOk};
 ghost use Rattle.std.specs.List.{AllByRecursion, flat_map};
 ghost use Rattle.attribute_hash.specs.Hash.{hashes, pair_hash, value_hash};
 ghost use Rattle.keyring_file.specs.Canonical.{checked, clear_item_text, clear_text, hashed_text, item_text, list_text, padded, pair_text};
@@ -13,7 +13,6 @@ use attribute_hash::{number_hash, text_hash};
 use keyring_file::{Clear, ClearItem, FullItem, close_area, put_front, put_item};
 use keyring_text::{put_number, put_string};
 use kr_base::{AttrValue, Attributes, OutOfMemory, Text};
-use std::alloc::Global;
 
 /// Writes the hash of a value with its kind.
 fn put_hash(out: &mut Vec<u8>, value: &AttrValue) -> Result<(), OutOfMemory>
@@ -128,42 +127,34 @@ fn put_items(out: &mut Vec<u8>, rows: &[(&ClearItem, &FullItem)]) -> Result<(), 
     Ok(())
 }
 
-/// The area of the items before it is encrypted, in room for so many bytes.
-pub fn area_of(
-    alloc: Global,
-    room: usize,
-    rows: &[(&ClearItem, &FullItem)],
-) -> Result<Vec<u8>, OutOfMemory>
-    requires { AllByRecursion (λ row. IsShortItem row.1.now) rows.now }
-    ensures { IfOk result (λ area. area.items
+/// Writes the area of the items before it is encrypted, into an empty vector.
+pub fn put_area(area: &mut Vec<u8>, rows: &[(&ClearItem, &FullItem)]) -> Result<(), OutOfMemory>
+    requires empty { area.old.items ≡ [] }
+    requires short { AllByRecursion (λ row. IsShortItem row.1.now) rows.now }
+    ensures { OnOk result (area.new.items
         ≡ checked (padded (flat_map (λ row. item_text row.1.now) rows.now))) }
 {
-    let mut area = Vec::with_capacity(alloc, room)?;
     area.extend_from_slice(&[0; 16])?;
-    put_items(&mut area, rows)?;
-    close_area(&mut area)?;
-    Ok(area)
+    put_items(area, rows)?;
+    close_area(area)
 }
 
-/// The clear part with these items and the length of the area, in room for so many bytes.
-pub fn clear_of(
-    alloc: Global,
-    room: usize,
+/// Writes the clear part with these items and the length of the area.
+pub fn put_clear(
+    file: &mut Vec<u8>,
     clear: &Clear,
     rows: &[(&ClearItem, &FullItem)],
     area_length: u32,
-) -> Result<Vec<u8>, OutOfMemory>
+) -> Result<(), OutOfMemory>
     requires name { IsShort clear.now.name }
     requires few { length rows.now < 2 ^ 32 }
     requires short { AllByRecursion
         (λ row. IsShortClearItem (hashed_row (row.0.now, row.1.now)).0) rows.now }
-    ensures { IfOk result (λ file. file.items ≡ clear_text (record clear.now {
+    ensures { OnOk result (file.new.items ≡ file.old.items ++ clear_text (record clear.now {
       items = map (λ row. (hashed_row (row.0.now, row.1.now)).0) rows.now;
     }) area_length) }
 {
-    let mut file = Vec::with_capacity(alloc, room)?;
-    put_front(&mut file, clear)?;
-    put_row_list(&mut file, clear.minor, rows)?;
-    put_number(&mut file, area_length)?;
-    Ok(file)
+    put_front(file, clear)?;
+    put_row_list(file, clear.minor, rows)?;
+    put_number(file, area_length)
 }

@@ -19,14 +19,14 @@ encrypted_area-requires c =
     let seen : map see c.in_ok-rows.rows.items ≡ by_number row_number (rows c.args.content.now) = c.in_ok-rows.ensures ∙ (λ j. by_number row_number (zip (first j) (c.as_slice-2.ensures j))) in
     rw c.as_slice-3.ensures.value (lent_items c.args.content.now c.args.key.now c.requires c.known.ensures c.in-Some.ensures.2 c.in_ok-rows.rows.items seen)
 
-pub clear_of-requires-clause-few : goal.clear_of-requires-clause-few
-clear_of-requires-clause-few c =
+pub put_clear-requires-clause-few : goal.put_clear-requires-clause-few
+put_clear-requires-clause-few c =
     let first : c.as_slice.result.now ≡ c.args.content.now.clear.items = c.as_slice.ensures ∙ ap (λ (p : ClearPart). p.items) c.clear.view_is in
     let seen : map see c.in_ok-rows.rows.items ≡ by_number row_number (rows c.args.content.now) = c.in_ok-rows.ensures ∙ (λ j. by_number row_number (zip (first j) (c.as_slice-2.ensures j))) in
     rw c.as_slice-4.ensures.value (lent_few c.args.content.now c.args.key.now c.requires c.known.ensures c.in-Some.ensures.2 c.in_ok-rows.rows.items seen)
 
-pub clear_of-requires-clause-short : goal.clear_of-requires-clause-short
-clear_of-requires-clause-short c =
+pub put_clear-requires-clause-short : goal.put_clear-requires-clause-short
+put_clear-requires-clause-short c =
     let first : c.as_slice.result.now ≡ c.args.content.now.clear.items = c.as_slice.ensures ∙ ap (λ (p : ClearPart). p.items) c.clear.view_is in
     let seen : map see c.in_ok-rows.rows.items ≡ by_number row_number (rows c.args.content.now) = c.in_ok-rows.ensures ∙ (λ j. by_number row_number (zip (first j) (c.as_slice-2.ensures j))) in
     rw c.as_slice-4.ensures.value (lent_clear_items c.args.content.now c.args.key.now c.requires c.known.ensures c.in-Some.ensures.2 c.in_ok-rows.rows.items seen)
@@ -36,10 +36,10 @@ returns_sealed c =
     let first : c.as_slice.result.now ≡ c.args.content.now.clear.items = c.as_slice.ensures ∙ ap (λ (p : ClearPart). p.items) c.clear.view_is in
     let seen : map see c.in_ok-rows.rows.items ≡ by_number row_number (rows c.args.content.now) = c.in_ok-rows.ensures ∙ (λ j. by_number row_number (zip (first j) (c.as_slice-2.ensures j))) in
     let area = c.in_ok-area.area.items in
-    let whole : c.extend_from_slice.new.self.items ≡ c.in_ok-file.file.items ++ area = search rules in
-    let front = c.in_ok-file.ensures in
+    let front = rw c.in_ok-file.ensures.items at c.in_ok-put_clear.ensures in
+    let whole : c.extend_from_slice.new.self.items ≡ c.put_clear.new.file.items ++ area = search rules in
     let hidden = c.in_ok-area.ensures.sealed in
-    sealed_told c.args.content.now c.args.key.now c.requires c.known.ensures c.in-Some.ensures.2 c.in_ok-rows.rows.items seen c.extend_from_slice.new.self.items c.in_ok-file.file.items area c.in-Some.found.0 c.in-Some.ensures.0
+    sealed_told c.args.content.now c.args.key.now c.requires c.known.ensures c.in-Some.ensures.2 c.in_ok-rows.rows.items seen c.extend_from_slice.new.self.items c.put_clear.new.file.items area c.in-Some.found.0 c.in-Some.ensures.0
     (rw c.as_slice-4.ensures.value at front) (rw c.as_slice-3.ensures.value at hidden) whole
 
 pub returns-clause-sealed : goal.returns-clause-sealed
@@ -73,6 +73,9 @@ returns-in_err-area-clause-measured c = λ over. absurd (never_over c.args.conte
 
 pub returns-in_err-file-clause-measured : goal.returns-in_err-file-clause-measured
 returns-in_err-file-clause-measured c = λ over. absurd (never_over c.args.content.now c.args.key.now c.requires c.in-Some.ensures.2 over)
+
+pub returns-in_err-put_clear-clause-measured : goal.returns-in_err-put_clear-clause-measured
+returns-in_err-put_clear-clause-measured c = λ over. absurd (never_over c.args.content.now c.args.key.now c.requires c.in-Some.ensures.2 over)
 
 pub returns-in_err-extend_from_slice-clause-measured : goal.returns-in_err-extend_from_slice-clause-measured
 returns-in_err-extend_from_slice-clause-measured c = λ over. absurd (never_over c.args.content.now c.args.key.now c.requires c.in-Some.ensures.2 over)
