@@ -1,2 +1,5 @@
 pub mod AttributeLemmas
 pub mod OrderedLemmas
+pub mod IdLemmas
+pub mod ChunkLemmas
+pub mod DigitLemmas

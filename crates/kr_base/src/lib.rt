@@ -1,28 +1,32 @@
-//! The values that every other crate names: texts, bytes, the stems of keyring files, attributes, and
-//! the numbers of connections, sessions, prompts and items. A text follows the D-Bus Specification,
-//! "Type System": it is UTF-8 and holds no zero byte. Contracts see a text, bytes and a stem as lists
-//! of numbers, and attributes as the list of names with their values. Callers may rely on these: each
-//! text and stem was checked when it was made, attributes stand in byte order of names with no name
-//! twice, two values are equal exactly where contracts see the same, and of bytes, which may be a
-//! secret, nothing is ever printed but how many there are.
+//! The values that every other crate names: texts, bytes, the stems of keyring files, attributes, the
+//! numbers of connections, sessions, prompts and items, and lists of items' numbers. A text follows the
+//! D-Bus Specification, "Type System": it is UTF-8 and holds no zero byte. Contracts see a text, bytes, a
+//! stem and a list of items' numbers as lists of numbers, and attributes as the list of names with their
+//! values. Callers may rely on these: each text and stem was checked when it was made, attributes stand
+//! in byte order of names with no name twice, items' numbers rise, each one that is read or looked up in a
+//! list of them is counted, two values are equal exactly where contracts see the same, and of bytes, which
+//! may be a secret, nothing is ever printed but how many there are.
 #![tactic(auto)]
 
 mod attributes;
 mod bytes;
 mod hashed;
+mod id_chunks;
+mod id_list;
 mod ids;
 mod laws;
 mod stem;
-#[cfg(test)]
-mod tests;
+mod steps;
 mod text;
 
 pub use attributes::{AttrValue, Attributes};
 pub use bytes::Bytes;
 pub use hashed::{HashedPair, HashedValue};
+pub use id_list::IdList;
 pub use ids::{ConnId, ItemId, PromptId, SessionId};
 pub use laws::{equal_attributes_are_one_list, pairs_gather_one_list};
 pub use stem::Stem;
+pub use steps::Steps;
 pub use text::Text;
 
 /// No memory was left for a call. It is the one refusal that may come at any time.

@@ -1,4 +1,4 @@
-ghost use Rattle.std.specs.Prelude.{◌≡◌, ℕ, ◌↔◌, List, [], length, IsTrue, IsNone, IsSome, IfSome, IfOk, Ok, Some, None, string_bytes, nat_eq, refl};
+ghost use Rattle.std.specs.Prelude.{◌≡◌, ℕ, ◌↔◌, List, [], length, IsTrue, IsNone, IsSome, IfSome, IfOk, Ok, Some, None, decimal, string_bytes, nat_eq, refl};
 ghost use Rattle.std.specs.Fmt.{styled_text, debug_str};
 ghost use Rattle.std.specs.Hash as fed;
 ghost use Rattle.std.specs.Ordering.{nat_cmp};
@@ -11,6 +11,7 @@ ghost use Rattle.kr_base.specs.Text.{HasZero, IsText};
 
 use crate::OutOfMemory;
 use arrayvec::ArrayString;
+use itoa::Buffer;
 use std::alloc::Global;
 use std::cmp::Ordering;
 use std::fmt;
@@ -74,6 +75,20 @@ impl Text {
             Err(_) => Held::Long(String::from_str(alloc, text)?),
         };
         Ok(Some(Text { held }))
+    }
+
+    /// The decimal text of a number. It takes no memory.
+    pub fn of_number(number: u32) -> Text
+        ensures { result ≡ decimal number }
+    {
+        let mut buffer = Buffer::new();
+        let digits = buffer.format(number);
+        match ArrayString::from(digits) {
+            Ok(short) => Text {
+                held: Held::Short(short),
+            },
+            Err(_) => unreachable!(),
+        }
     }
 
     /// The text that the bytes are. It takes no memory.

@@ -5,7 +5,5 @@
 #![tactic(auto)]
 
 mod items;
-#[cfg(test)]
-mod tests;
 
 pub use items::Items;

@@ -7,7 +7,7 @@ use kr_outside::Clock;
 use std::marker::Model;
 
 /// A clock that gives listed moments in their order, and then the last one for ever. It is steady.
-#[derive(Debug, Drop)]
+#[derive(Drop)]
 pub struct ListedClock {
     moments: Vec<u64>,
     given: usize,

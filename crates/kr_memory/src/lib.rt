@@ -10,8 +10,6 @@ mod clock;
 mod plan;
 mod sink;
 mod source;
-#[cfg(test)]
-mod tests;
 
 pub use clock::ListedClock;
 pub use sink::{MemorySink, SteadySink};

@@ -6,7 +6,7 @@ use kr_outside::Failed;
 use std::marker::Model;
 
 /// How many bytes each call of a stream moves, by the call's number, which counts all calls from 0.
-#[derive(Debug, Drop)]
+#[derive(Drop)]
 pub struct Pieces {
     lengths: Vec<usize>,
     calls: u64,
@@ -56,7 +56,7 @@ impl Pieces {
 }
 
 /// The pieces of a stream, the calls that are to fail, and how many have failed.
-#[derive(Debug, Drop)]
+#[derive(Drop)]
 pub struct Plan {
     pieces: Pieces,
     failing: Vec<u64>,

@@ -10,7 +10,7 @@ use std::alloc::{AllocError, Global};
 use std::marker::Model;
 
 /// A sink that keeps all bytes in memory, takes them in planned pieces and fails at planned calls.
-#[derive(Debug, Drop)]
+#[derive(Drop)]
 pub struct MemorySink {
     kept: Vec<u8>,
     plan: Plan,
@@ -127,7 +127,7 @@ fn fill(kept: &mut Vec<u8>, room: usize, bytes: &[u8])
 
 /// A sink that never fails. It keeps the first bytes that are written, as many as it has room for,
 /// and drops what is behind them.
-#[derive(Debug, Drop)]
+#[derive(Drop)]
 pub struct SteadySink {
     kept: Vec<u8>,
     room: usize,

@@ -1,4 +1,4 @@
-ghost use Rattle.std.specs.Prelude.{◌≡◌, ◌<◌, ◌≤◌, ◌↔◌, ◌++◌, Some, length, take, drop, min, IsErr, IsOk, IfOk, OnErr, true, false};
+ghost use Rattle.std.specs.Prelude.{◌≡◌, ℕ, ◌<◌, ◌≤◌, ◌↔◌, ◌++◌, Some, length, take, drop, min, IsErr, IsOk, IfOk, OnOk, OnErr, true, false};
 ghost use Rattle.std.specs.Io.{ReadsAtMost};
 ghost use Rattle.std.specs.Io.KnownBytes.{ReadConsumes};
 ghost use Rattle.kr_outside.specs.Faults.{HasCause, KeepsSteady};
@@ -9,7 +9,7 @@ use kr_outside::{Failed, Source};
 use std::marker::Model;
 
 // The bytes that are left of those that a source was made with.
-#[derive(Debug, Drop)]
+#[derive(Drop)]
 struct Unread {
     bytes: Vec<u8>,
     read: usize,
@@ -52,7 +52,7 @@ impl Unread {
 }
 
 /// A source over bytes in memory, which gives them in planned pieces and fails at planned calls.
-#[derive(Debug, Drop)]
+#[derive(Drop)]
 pub struct MemorySource {
     left: Unread,
     plan: Plan,
@@ -104,6 +104,7 @@ impl Source for MemorySource {
         ensures within { ReadsAtMost result buffer.new }
         ensures taken { ReadConsumes (Some self.old.left) (Some self.new.left) result buffer.new }
         ensures cause { HasCause self.old.plan.faults self.new.plan.faults result }
+        ensures still { OnOk result (self.new.plan.faults ≡ self.old.plan.faults) }
         ensures steady { KeepsSteady false false self.old.plan.faults self.new.plan.faults }
 
         // Exactly the planned calls fail, and the others move the planned number of bytes.
@@ -133,7 +134,7 @@ impl Source for MemorySource {
 }
 
 /// A source over bytes in memory, which gives them in planned pieces and never fails.
-#[derive(Debug, Drop)]
+#[derive(Drop)]
 pub struct SteadySource {
     left: Unread,
     pieces: Pieces,
@@ -181,6 +182,7 @@ impl Source for SteadySource {
         ensures within { ReadsAtMost result buffer.new }
         ensures taken { ReadConsumes (Some self.old.left) (Some self.new.left) result buffer.new }
         ensures cause { HasCause 0 0 result }
+        ensures still { OnOk result (◌≡◌ {A = ℕ} 0 0) }
         ensures steady { KeepsSteady true true 0 0 }
 
         // No call fails, and each moves the planned number of bytes.

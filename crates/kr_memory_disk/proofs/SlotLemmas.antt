@@ -1,21 +1,22 @@
 -- What a call of a slot in memory does to its disk, and its moments.
-use Rattle.std.proofs.Common.{◌≡◌, ◌⊎◌, ⊎_elim, inl, inr, ℕ, ◌+◌, ◌≤◌, List, [], ◌∷◌, ◌++◌, length, take, None, Result, Ok, Err, IsOk, OnOk, OnErr, refl, sym, ◌∙◌, ap, subst, arith, length-append}
+use Rattle.std.proofs.Common.{◌≡◌, ◌⊎◌, ⊎_elim, inl, inr, ℕ, ◌+◌, ◌≤◌, List, [], ◌∷◌, ◌++◌, length, take, Option, None, Result, Ok, Err, IsOk, OnOk, OnErr, refl, sym, ◌∙◌, ap, subst, arith, length-append}
 use Rattle.std.proofs.lemmas.List.{take_all, take-append-le}
 use Rattle.std.proofs.lemmas.Bool.{cases_lt}
 use Rattle.std.proofs.lemmas.List.Sums.{fold-append}
 use Rattle.kr_outside.specs.RenameDisk.{Image, Temporary, Unknown, Unsynced, Synced, GivesTemporary, LeavesTemporary, Only, LeavesAnyBytes, LeavesNoMore, LeavesAlso}
 use Rattle.kr_outside.specs.Moments.{Elapses}
+use Rattle.kr_outside.specs.declared.slot.Seen.{Seen}
 use Rattle.kr_outside.specs.declared.source.Failed as refused
 use Rattle.kr_memory_disk.specs.declared.slot.SlotCall.{SlotCall}
 use Rattle.kr_memory_disk.specs.declared.slot.SlotCall.TheVariants.{PutTemp, SyncTemp, Rename, SyncFolder, Remove}
 use Rattle.kr_memory_disk.specs.declared.slot.CallEnd.{CallEnd}
 use Rattle.kr_memory_disk.specs.declared.slot.CallEnd.TheVariants.{Done, Failed, FailedDone}
 use Rattle.kr_memory_disk.specs.declared.slot.CallRecord.{CallRecord}
-use Rattle.kr_memory_disk.specs.Slot.{Stood, Whole, Torn, image_stood, Disk, DiskLeaves, LeavesOneOf, takes_temporary, misses_temporary, disk_after, disk_at, disk_of, SlotState, slot_may_leave, slot_moment, slot_left_since, IsPlanned, with_call, with_fault, IsFailure, unrecorded, recorded, IsNoted}
+use Rattle.kr_memory_disk.specs.Slot.{device_call, with_rest, Stood, Whole, Torn, image_stood, Disk, DiskLeaves, LeavesOneOf, takes_temporary, misses_temporary, disk_after, disk_at, disk_of, SlotState, slot_may_leave, slot_moment, slot_left_since, IsPlanned, with_call, with_fault, IsFailure, unrecorded, recorded, IsNoted}
 
 -- a call that didn't end as it should is recorded so
 pub noted_failure : (old : SlotState) (call : SlotCall) (new : SlotState) (end : CallEnd) → IsPlanned old end → (end ≡ Failed) ⊎ (end ≡ FailedDone)
-    → new ≡ with_fault (with_call old call end) → IsFailure old call new
+    → new ≡ with_rest new.room new.answered (with_fault (device_call call) (with_call old call end)) → IsFailure old call new
 noted_failure old call new end planned (inl is) same = recorded end planned (λ done. cc) same
 noted_failure old call new end planned (inr is) same = recorded end planned (λ done. cc) same
 
@@ -26,21 +27,21 @@ disk_push image calls call end = fold-append _ _ calls _
 -- what holds of the disk before a call and behind each of its ends holds behind it
 pub failed_disk : (P : Disk → Type 0) (old : SlotState) (call : SlotCall) (new : SlotState) → IsFailure old call new
     → P (disk_of old) → ((end : CallEnd) → ¬ (end ≡ Done) → P (disk_after call end (disk_of old))) → P (disk_of new)
-failed_disk P old call new (unrecorded is) none each = subst (λ s. P (disk_of s)) (sym is) none
+failed_disk P old call new (unrecorded takes is) none each = subst (λ s. P (disk_of s)) (sym is) none
 failed_disk P old call new (recorded end planned not_done is) none each =
     subst (λ s. P (disk_of s)) (sym is) (subst P (sym (disk_push old.image old.calls call end)) (each end not_done))
 
-pub noted_disk : (P : Disk → Type 0) (old : SlotState) (call : SlotCall) (new : SlotState) (result : Result (Unit {0}) refused.Failed) → IsNoted old call new result
+pub noted_disk : {T : Type 0} (P : Disk → Type 0) (old : SlotState) (call : SlotCall) (new : SlotState) (result : Result T refused.Failed) → IsNoted old call new result
     → P (disk_of old) → ((end : CallEnd) → P (disk_after call end (disk_of old))) → P (disk_of new)
 noted_disk P old call new (Ok none) noted before each = subst (λ s. P (disk_of s)) (sym noted.1) (subst P (sym (disk_push old.image old.calls call Done)) (each Done))
 noted_disk P old call new (Err refused) noted before each = failed_disk P old call new noted before (λ end _. each end)
 
-pub noted_ok : (P : Disk → Type 0) (old : SlotState) (call : SlotCall) (new : SlotState) (result : Result (Unit {0}) refused.Failed) → IsNoted old call new result
+pub noted_ok : {T : Type 0} (P : Disk → Type 0) (old : SlotState) (call : SlotCall) (new : SlotState) (result : Result T refused.Failed) → IsNoted old call new result
     → P (disk_after call Done (disk_of old)) → OnOk result (P (disk_of new))
 noted_ok P old call new (Ok none) noted done = subst (λ s. P (disk_of s)) (sym noted.1) (subst P (sym (disk_push old.image old.calls call Done)) done)
 noted_ok P old call new (Err refused) noted done = tt
 
-pub noted_err : (P : Disk → Type 0) (old : SlotState) (call : SlotCall) (new : SlotState) (result : Result (Unit {0}) refused.Failed) → IsNoted old call new result
+pub noted_err : {T : Type 0} (P : Disk → Type 0) (old : SlotState) (call : SlotCall) (new : SlotState) (result : Result T refused.Failed) → IsNoted old call new result
     → P (disk_of old) → ((end : CallEnd) → ¬ (end ≡ Done) → P (disk_after call end (disk_of old))) → OnErr result (P (disk_of new))
 noted_err P old call new (Ok none) noted before each = tt
 noted_err P old call new (Err refused) noted before each = failed_disk P old call new noted before each
@@ -85,15 +86,20 @@ push_time old new call result (image, calls) = record {
 
 pub failed_time : {T E : Type 0} (old : SlotState) (call : SlotCall) (new : SlotState) (result : Result T E) → IsFailure old call new → ¬ (IsOk result)
     → Elapses slot_moment slot_left_since slot_may_leave old new result
-failed_time old call new result (unrecorded is) failed = same_time old new result (ap (λ s. s.image) is, ap (λ s. s.calls) is) failed
+failed_time old call new result (unrecorded takes is) failed = same_time old new result (ap (λ s. s.image) is, ap (λ s. s.calls) is) failed
 failed_time old call new result (recorded end planned not_done is) failed =
     push_time old new (record { call = call; end = end }) result (ap (λ s. s.image) is, ap (λ s. s.calls) is)
 
 -- each call lets time go on
-pub noted_time : {T E : Type 0} (old : SlotState) (call : SlotCall) (new : SlotState) (noted : Result (Unit {0}) refused.Failed) (result : Result T E) → IsNoted old call new noted
+pub noted_time : {U T E : Type 0} (old : SlotState) (call : SlotCall) (new : SlotState) (noted : Result U refused.Failed) (result : Result T E) → IsNoted old call new noted
     → (IsOk result → IsOk noted) → Elapses slot_moment slot_left_since slot_may_leave old new result
 noted_time old call new (Ok none) result is as_noted = push_time old new (record { call = call; end = Done }) result (ap (λ s. s.image) is.1, ap (λ s. s.calls) is.1)
 noted_time old call new (Err refused) result is as_noted = failed_time old call new result is (λ ok. let refused_ok = as_noted ok in cc)
+
+-- what a read has answered is no matter of time
+pub answered_time : {T E : Type 0} (old new : SlotState) (answered : Option Seen) (result : Result T E) → Elapses slot_moment slot_left_since slot_may_leave old new result
+    → Elapses slot_moment slot_left_since slot_may_leave old (record new { answered = answered }) result
+answered_time old new answered result time = record { later = time.later; rises = time.rises; nothing_else = time.nothing_else; keeps = time.keeps }
 
 -- what a call leaves of the name, call by call
 pub name_stays_PutTemp : (bytes : List ℕ) (end : CallEnd) (disk : Disk) → image_stood (disk_after (PutTemp bytes) end disk).name ≡ image_stood disk.name

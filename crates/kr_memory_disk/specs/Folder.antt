@@ -1,5 +1,5 @@
 -- A folder in memory, and what a crash makes of it.
-use Rattle.std.specs.Prelude.{◌≡◌, ◌⊎◌, ◌/◌, ℕ, nat_eq, List, [], ◌∷◌, cond}
+use Rattle.std.specs.Prelude.{◌≡◌, ◌⊎◌, ◌/◌, ℕ, nat_eq, List, [], ◌∷◌, Contains, cond}
 use Rattle.std.specs.Cmp.Lexicographic.{pointwise}
 use Rattle.kr_outside.specs.RenameDisk.{Image}
 use Rattle.kr_memory_disk.specs.declared.files.MemoryFile.{MemoryFile}
@@ -42,6 +42,10 @@ abbrev pub HasSlot : List (List ℕ × SlotState) → List ℕ → Type 0
 HasSlot [] name = ⊥
 HasSlot (slot ∷ slots) name = (slot.0 ≡ name) ⊎ HasSlot slots name
 
+-- each name of which a slot was made has one of these slots
+abbrev pub AreGivenBack : List (List ℕ) → List (List ℕ × SlotState) → Type 0
+AreGivenBack made slots = (name : List ℕ) → Contains made name → HasSlot slots name
+
 -- a crash may leave this image of a slot of this name
 abbrev pub SlotLeaves : List (List ℕ × SlotState) → List ℕ → Image → Type 0
 SlotLeaves [] name image = ⊥
@@ -65,8 +69,8 @@ abbrev pub IsPicked : List MemoryFile → List (List ℕ × SlotState) → ℕ �
 IsPicked before slots choice after =
     (name : List ℕ) → image_in after name ≡ images_picked (image_in before) slots choice name
 
--- files before a crash and behind it: each name stands for what the crash may leave of its slot, and
--- a name of which no slot is given for what it stood for
+-- files before a crash and after it: each name stands for what the crash may leave of its slot, and a
+-- name that has no slot for what it stood for
 abbrev pub IsCrashed : List MemoryFile → List (List ℕ × SlotState) → List MemoryFile → Type 0
 IsCrashed before slots after =
     (name : List ℕ) → SlotLeaves slots name (image_in after name)

@@ -9,12 +9,13 @@ use Rattle.kr_memory_disk.specs.Folder.{FolderState}
 use Rattle.kr_memory_disk.specs.Plan.{PlannedCalls}
 
 -- a host that fails as planned: the path of its folder, the folder until it is given away, the moments
--- of its clock, and the plan of its calls
+-- of its clock, the plan of its calls, and how many folders it has given
 pub record HostState : Type 0 where
   pub path : List ℕ
   pub dir : Option FolderState
   pub clock : List ℕ
   pub calls : PlannedCalls
+  pub given : ℕ
 
 -- no slot of the folder was made
 abbrev pub IsFresh : Option FolderState → Type 0
@@ -25,8 +26,10 @@ abbrev pub host_tells : HostState → List ℕ → Option (List ℕ → Image)
 host_tells host path =
     cond (pointwise nat_eq host.path path) (option_map (λ folder name. image_in folder.files name) host.dir) None
 
--- a host that never fails: the files of its folders, the room of their slots, and its moments
+-- a host that never fails: the files of its folders, the room of their slots, its moments, and how many
+-- folders it has given
 pub record SteadyHostState : Type 0 where
   pub files : List MemoryFile
   pub room : ℕ
   pub clock : List ℕ
+  pub given : ℕ

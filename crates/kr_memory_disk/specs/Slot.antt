@@ -1,5 +1,8 @@
 -- The rename disk in memory: what a record of calls made of a name.
-use Rattle.std.specs.Prelude.{◌≡◌, ℕ, ◌≤◌, ◌%◌, ◌⊎◌, List, [], ◌∷◌, ◌++◌, length, map, reverse, get_or, take, fold, Contains, None, Some, IsSome, Result, Ok, Err}
+use Rattle.std.specs.Prelude.{◌≡◌, ℕ, ◌≤◌, ◌%◌, ◌⊎◌, ⊤, List, [], ◌∷◌, ◌++◌, length, map, reverse, get_or, take, fold, Contains, Option, None, Some, IsSome, Result, Ok, Err}
+use Rattle.kr_outside.specs.declared.slot.DeviceCall.{DeviceCall}
+use Rattle.kr_outside.specs.declared.slot.DeviceCall.TheVariants as device
+use Rattle.kr_outside.specs.declared.slot.Seen.{Seen}
 use Rattle.kr_outside.specs.declared.source.Failed as refused
 use Rattle.kr_memory.specs.Plan.{next_count}
 use Rattle.kr_outside.specs.RenameDisk.{Image, Temporary, Unknown, Unsynced, Synced, synced}
@@ -97,13 +100,17 @@ abbrev pub image_picked : Disk → ℕ → Image
 image_picked disk choice = get_or (images_left disk) (choice % length (images_left disk)) None
 
 -- a slot that fails as planned: the image that it began with, the record of its calls, the numbers of
--- the calls that are to fail, those of them which the disk does all the same, and the count of faults
+-- the calls that are to fail, those of them which the disk does all the same, the count of faults, for
+-- how many more records it holds memory, the last call if it failed, and what the last read answered
 pub record SlotState : Type 0 where
   pub image : Image
   pub calls : List CallRecord
   pub failing : List ℕ
   pub done : List ℕ
   pub faults : ℕ
+  pub room : ℕ
+  pub failed : Option DeviceCall
+  pub answered : Option Seen
 
 -- the disk of a slot
 abbrev pub disk_of : SlotState → Disk
@@ -144,7 +151,17 @@ IsPlanned slot Done = ¬ (Contains slot.failing (length slot.calls))
 IsPlanned slot Failed = Contains slot.failing (length slot.calls) × ¬ (Contains slot.done (length slot.calls))
 IsPlanned slot FailedDone = Contains slot.failing (length slot.calls) × Contains slot.done (length slot.calls)
 
--- the slot with one more call recorded
+-- the call of the device that a record is of
+abbrev pub device_call : SlotCall → DeviceCall
+device_call Size = device.Size
+device_call Read = device.Read
+device_call (PutTemp bytes) = device.PutTemp
+device_call SyncTemp = device.SyncTemp
+device_call Rename = device.Rename
+device_call SyncFolder = device.SyncFolder
+device_call Remove = device.Remove
+
+-- the slot with one more call recorded, which ended so
 abbrev pub with_call : SlotState → SlotCall → CallEnd → SlotState
 with_call slot call end =
     record {
@@ -153,25 +170,52 @@ with_call slot call end =
       failing = slot.failing;
       done = slot.done;
       faults = slot.faults;
+      room = slot.room;
+      failed = None;
+      answered = slot.answered;
     }
 
--- the slot with one more fault counted
-abbrev pub with_fault : SlotState → SlotState
-with_fault slot =
+-- the slot with one more fault counted, of this call
+abbrev pub with_fault : DeviceCall → SlotState → SlotState
+with_fault call slot =
     record {
       image = slot.image;
       calls = slot.calls;
       failing = slot.failing;
       done = slot.done;
       faults = next_count slot.faults;
+      room = slot.room;
+      failed = Some call;
+      answered = slot.answered;
     }
 
--- a call that failed: there was no memory for its record, or it is recorded with this end
+-- the slot with memory for so many more records, whose last read answered this
+abbrev pub with_rest : ℕ → Option Seen → SlotState → SlotState
+with_rest room answered slot =
+    record {
+      image = slot.image;
+      calls = slot.calls;
+      failing = slot.failing;
+      done = slot.done;
+      faults = slot.faults;
+      room = room;
+      failed = slot.failed;
+      answered = answered;
+    }
+
+-- for this call memory may be refused: for a record where there is no room for one, and for the bytes
+-- that are put
+abbrev pub TakesMemory : SlotState → SlotCall → Type 0
+TakesMemory slot (PutTemp bytes) = ⊤
+TakesMemory slot other = slot.room ≡ 0
+
+-- a call that failed: memory for it was refused, or it is recorded with this planned end
 pub data IsFailure (old : SlotState) (call : SlotCall) (new : SlotState) : Type 0 where
-  unrecorded : new ≡ with_fault old → IsFailure old call new
-  recorded : (end : CallEnd) → IsPlanned old end → ¬ (end ≡ Done) → new ≡ with_fault (with_call old call end) → IsFailure old call new
+  unrecorded : TakesMemory old call → new ≡ with_fault (device_call call) old → IsFailure old call new
+  recorded : (end : CallEnd) → IsPlanned old end → ¬ (end ≡ Done)
+      → new ≡ with_rest new.room new.answered (with_fault (device_call call) (with_call old call end)) → IsFailure old call new
 
 -- what a call leaves: it is recorded where it succeeds, which it does only as planned
-abbrev pub IsNoted : SlotState → SlotCall → SlotState → Result (Unit {0}) refused.Failed → Type 0
-IsNoted old call new (Ok none) = IsPlanned old Done × (new ≡ with_call old call Done)
+abbrev pub IsNoted : {T : Type 0} → SlotState → SlotCall → SlotState → Result T refused.Failed → Type 0
+IsNoted old call new (Ok value) = IsPlanned old Done × (new ≡ with_rest new.room new.answered (with_call old call Done))
 IsNoted old call new (Err refused) = IsFailure old call new

@@ -1,6 +1,6 @@
 -- The laws of the moments of a slot in memory.
-use Rattle.std.specs.Prelude.{ℕ, ◌≤◌, length}
-use Rattle.std.proofs.Common.{inl, refl, subst, sym, arith}
+use Rattle.std.specs.Prelude.{◌≡◌, ℕ, ◌≤◌, [], length}
+use Rattle.std.proofs.Common.{inl, refl, subst, sym, ap, arith}
 use Rattle.std.proofs.lemmas.List.{take_all}
 use Rattle.kr_outside.specs.RenameDisk.{Image}
 use Rattle.kr_memory_disk.specs.Slot.{Stood, Whole, Torn, LeavesStood, DiskLeaves, image_stood, disk_at, SlotState, slot_may_leave, slot_left_since, slot_seen, slot_moment, disk_of}
@@ -23,3 +23,7 @@ counts_moment slot t left le now =
 pub only_moment : (slot : SlotState) (left : Image) → slot_left_since slot (slot_moment slot) left → slot_may_leave slot left
 only_moment slot left (k, from, to, was) =
     subst (λ calls. DiskLeaves (disk_at slot.image calls) left) (take_all k slot.calls from) was
+
+-- before its first call a crash might have left what it may leave now
+pub fresh_left : (slot : SlotState) (left : Image) → slot.calls ≡ [] → slot_left_since slot 0 left → slot_may_leave slot left
+fresh_left slot left none (k, from, to, was) = only_moment slot left (k, omega (arith, ap length none), to, was)

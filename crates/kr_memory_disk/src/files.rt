@@ -9,7 +9,7 @@ use std::alloc::Global;
 use std::marker::Model;
 
 /// A file in memory.
-#[derive(Debug, Drop)]
+#[derive(Drop)]
 pub struct MemoryFile {
     /// Its name.
     pub name: Text,
@@ -18,7 +18,7 @@ pub struct MemoryFile {
 }
 
 /// Files in memory, each under a name of its own.
-#[derive(Debug, Drop)]
+#[derive(Drop)]
 pub struct Files {
     alloc: Global,
     files: Vec<MemoryFile>,

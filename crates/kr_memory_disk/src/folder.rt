@@ -3,7 +3,7 @@ ghost use Rattle.std.proofs.Common.{rules};
 ghost use Rattle.kr_outside.specs.Faults.{HasCause};
 ghost use Rattle.kr_outside.specs.Folder.{Lists, HasOutsideCause};
 ghost use Rattle.kr_memory_disk.specs.Files.{image_in};
-ghost use Rattle.kr_memory_disk.specs.Folder.{IsPicked, IsCrashed, HasPassed, HasFailed, failing_of, done_of};
+ghost use Rattle.kr_memory_disk.specs.Folder.{AreGivenBack, IsPicked, IsCrashed, HasPassed, HasFailed, failing_of, done_of};
 ghost use Rattle.kr_memory_disk.specs.Plan.{calls_at_start};
 
 use crate::files::Files;
@@ -15,7 +15,7 @@ use std::alloc::Global;
 use std::marker::Model;
 
 /// Which calls of the slot of a name are to fail.
-#[derive(Debug, Drop)]
+#[derive(Drop)]
 pub struct SlotPlan {
     /// The name.
     pub name: Text,
@@ -27,7 +27,7 @@ pub struct SlotPlan {
 
 /// A folder in memory: names and bytes. Its calls `sync` and `names` are numbered from 0, and fail
 /// where they are to. It is an honest folder.
-#[derive(Debug, Drop)]
+#[derive(Drop)]
 pub struct MemoryFolder {
     alloc: Global,
     files: Files,
@@ -105,11 +105,11 @@ impl MemoryFolder {
         self.files.image(name)
     }
 
-    /// The folder behind a crash of the machine. Each name whose slot is given back stands for an image
-    /// that the crash may leave of it, and every other name for what it stood for. The number picks
-    /// the images: the first slot's is the one that `left` of it picks, and the number divided by how
-    /// many there were (`count_left`) picks those of the slots behind it. So each combination of
-    /// images comes, as the numbers go up from 0.
+    /// The folder after a crash of the machine. Each slot that was made is given back, so that the folder
+    /// sees what was done through it: its name stands for an image that the crash may leave of it, and
+    /// every other name for what it stood for. The number picks the images: the first slot's is the one
+    /// that `left` of it picks, and the number divided by how many there were (`count_left`) picks those
+    /// of the slots after it. So each combination of images comes, as the numbers go up from 0.
     ///
     /// Refused where no memory was left.
     pub fn crash(
@@ -117,6 +117,7 @@ impl MemoryFolder {
         slots: Vec<(Text, MemorySlot)>,
         choice: u64,
     ) -> Result<MemoryFolder, OutOfMemory>
+        requires { AreGivenBack self.made slots.items }
         ensures picked { IfOk result (λ folder.
             IsPicked self.files slots.items choice folder.files) }
         ensures left { IfOk result (λ folder. IsCrashed self.files slots.items folder.files) }
@@ -214,7 +215,22 @@ impl Folder for MemoryFolder {
         names_of(&self.files)
     }
 
-    fn slot(&mut self, name: &str) -> Result<MemorySlot, OutOfMemory> {
+    fn slot(&mut self, name: &str) -> Result<MemorySlot, OutOfMemory>
+        // The slot fails as its name's plan says.
+        ensures planned { IfOk result (λ slot. slot ≡ record {
+          image = image_in self.old.files name.now;
+          calls = [];
+          failing = failing_of self.old.plans name.now;
+          done = done_of self.old.plans name.now;
+          faults = 0;
+          room = 0;
+          failed = None;
+          answered = None;
+        }) }
+        ensures made { OnOk result
+            (self.new ≡ record self.old { made = name.now ∷ self.old.made }) }
+        ensures unchanged { OnErr result (self.new ≡ self.old) }
+    {
         let slot = slot_of(self.alloc, &self.files, &self.plans, name)?;
         let made = Bytes::from_slice(self.alloc, name.as_bytes())?;
         match self.made.push(made) {
@@ -249,6 +265,9 @@ fn slot_of(
       failing = failing_of plans.now name.now;
       done = done_of plans.now name.now;
       faults = 0;
+      room = 0;
+      failed = None;
+      answered = None;
     }) }
 {
     let image = files.copy_of(name)?;

@@ -19,14 +19,15 @@ use std::mem;
 
 /// A host in memory. It has one folder, at one path, which it gives away once; a folder at another
 /// path isn't there. Its calls `folder` are numbered from 0, and fail where they are to. It is an
-/// honest host.
-#[derive(Debug, Drop)]
+/// honest host, and counts the folders that it gives.
+#[derive(Drop)]
 pub struct MemoryHost {
     alloc: Global,
     path: Text,
     dir: Option<MemoryFolder>,
     clock: ListedClock,
     calls: CallPlan,
+    given: u64,
 }
 
 impl Model for MemoryHost {
@@ -34,7 +35,13 @@ impl Model for MemoryHost {
 
     ghost Value = { HostState };
 
-    ghost view = { λ h. record { path = h.path; dir = h.dir; clock = h.clock; calls = h.calls } };
+    ghost view = { λ h. record {
+      path = h.path;
+      dir = h.dir;
+      clock = h.clock;
+      calls = h.calls;
+      given = h.given;
+    } };
 
     ghost invariant = { λ h. IsFresh h.dir };
 }
@@ -55,6 +62,7 @@ impl MemoryHost {
           dir = Some folder;
           clock = clock;
           calls = calls_at_start failing.items;
+          given = 0;
         } }
     {
         MemoryHost {
@@ -63,6 +71,7 @@ impl MemoryHost {
             dir: Some(folder),
             clock,
             calls: CallPlan::new(failing),
+            given: 0,
         }
     }
 }
@@ -78,6 +87,8 @@ impl Host for MemoryHost {
 
     ghost faults = { λ h. h.calls.faults };
 
+    ghost given = { λ h. h.given };
+
     ghost is_honest = { λ _. true };
 
     ghost is_steady = { λ _. false };
@@ -92,6 +103,7 @@ impl Host for MemoryHost {
         if self.calls.call().is_err() {
             return Err(OutsideRefused::Failed);
         }
+        self.given = self.given.saturating_add(1);
         Ok(self.dir.take().unwrap())
     }
 
@@ -100,13 +112,15 @@ impl Host for MemoryHost {
     }
 }
 
-/// A host that never fails. At every path it has a folder with the same files.
-#[derive(Debug, Drop)]
+/// A host that never fails. At every path it has a folder with the same files. It counts the folders
+/// that it gives.
+#[derive(Drop)]
 pub struct SteadyHost {
     alloc: Global,
     files: Files,
     room: usize,
     clock: ListedClock,
+    given: u64,
 }
 
 impl Model for SteadyHost {
@@ -114,20 +128,26 @@ impl Model for SteadyHost {
 
     ghost Value = { SteadyHostState };
 
-    ghost view = { λ h. record { files = h.files; room = h.room; clock = h.clock } };
+    ghost view = { λ h. record {
+      files = h.files;
+      room = h.room;
+      clock = h.clock;
+      given = h.given;
+    } };
 }
 
 impl SteadyHost {
     /// A host whose folders have these files, and whose clock gives these moments. A slot of such a
     /// folder keeps so many bytes of a file as there is room.
     pub fn new(alloc: Global, files: Files, room: usize, clock: ListedClock) -> SteadyHost
-        ensures { result ≡ record { files = files; room = room; clock = clock } }
+        ensures { result ≡ record { files = files; room = room; clock = clock; given = 0 } }
     {
         SteadyHost {
             alloc,
             files,
             room,
             clock,
+            given: 0,
         }
     }
 }
@@ -143,6 +163,8 @@ impl Host for SteadyHost {
 
     ghost faults = { λ _. 0 };
 
+    ghost given = { λ h. h.given };
+
     ghost is_honest = { λ _. false };
 
     ghost is_steady = { λ _. true };
@@ -152,7 +174,10 @@ impl Host for SteadyHost {
     fn folder(&mut self, path: &str) -> Result<SteadyFolder, OutsideRefused> {
         let _ = path;
         match self.files.copy() {
-            Ok(files) => Ok(SteadyFolder::new(self.alloc, files, self.room)),
+            Ok(files) => {
+                self.given = self.given.saturating_add(1);
+                Ok(SteadyFolder::new(self.alloc, files, self.room))
+            }
             Err(_) => Err(OutsideRefused::OutOfMemory),
         }
     }

@@ -15,8 +15,6 @@ mod place;
 mod plan;
 mod slot;
 mod steady;
-#[cfg(test)]
-mod tests;
 
 pub use files::{Files, MemoryFile};
 pub use folder::{MemoryFolder, SlotPlan};

@@ -6,7 +6,7 @@ use crate::slot::{CallEnd, CallRecord, SlotCall};
 use kr_base::Bytes;
 
 /// Where the bytes of a file stand in a record of calls.
-#[derive(Clone, Copy, Debug, PartialEq, Eq)]
+#[derive(Clone, Copy, PartialEq, Eq)]
 pub enum Place {
     /// The image that the name began with.
     Start,
@@ -19,7 +19,7 @@ pub enum Place {
 }
 
 /// Where a name and its temporary file stand.
-#[derive(Clone, Copy, Debug, PartialEq, Eq)]
+#[derive(Clone, Copy, PartialEq, Eq)]
 pub struct Standing {
     /// What the name stands for.
     pub name: Place,

@@ -7,7 +7,7 @@ use kr_outside::Failed;
 use std::marker::Model;
 
 /// Which calls are to fail, by the call's number, which counts all calls from 0.
-#[derive(Debug, Drop)]
+#[derive(Drop)]
 pub struct CallPlan {
     failing: Vec<u64>,
     calls: u64,

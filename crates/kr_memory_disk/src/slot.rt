@@ -1,20 +1,20 @@
-ghost use Rattle.std.specs.Prelude.{◌≡◌, ◌≤◌, ◌++◌, [], ◌∷◌, None, Some, IsNone, IfSome, IfOk, true, false, length, take};
+ghost use Rattle.std.specs.Prelude.{◌≡◌, ◌≤◌, ◌⊎◌, [], None, Some, IsNone, IfSome, IfOk, OnOk, OnErr, true, false, length, take};
 ghost use Rattle.std.proofs.Common.{rules};
-ghost use Rattle.kr_outside.specs.Faults.{Rose, HasCause};
-ghost use Rattle.kr_outside.specs.RenameDisk.{FitsIn, Reads};
-ghost use Rattle.kr_memory.specs.Plan.{next_count};
-ghost use Rattle.kr_memory_disk.specs.Slot.{IsPlanned, IsNoted, slot_seen, slot_temporary, slot_may_leave, slot_count_left, slot_left, slot_moment, slot_left_since};
+ghost use Rattle.kr_outside.specs.Faults.{Rose, HasCause, EndsAs};
+ghost use Rattle.kr_outside.specs.Moments.{Elapses};
+ghost use Rattle.kr_outside.specs.RenameDisk.{FitsIn, Reads, Unsynced, synced, size_of, Only, GivesTemporary, LeavesTemporary, LeavesNoMore, LeavesAlso, LeavesAnyBytes};
+ghost use Rattle.kr_memory_disk.specs.Slot.{IsPlanned, IsNoted, device_call, with_fault, slot_seen, slot_temporary, slot_may_leave, slot_count_left, slot_left, slot_moment, slot_left_since};
 ghost use Rattle.kr_memory_disk.specs.SlotLaws.{leaves_seen, counts_moment, only_moment};
 
 use crate::left::{place_left, places_left, stood};
 use crate::place::image_at;
 use kr_base::{Bytes, OutOfMemory};
-use kr_outside::{Failed, Seen, Slot};
+use kr_outside::{DeviceCall, Failed, Seen, Slot};
 use std::alloc::Global;
 use std::marker::Model;
 
 /// A call of a slot.
-#[derive(Debug, Drop)]
+#[derive(Drop)]
 pub enum SlotCall {
     /// `size`.
     Size,
@@ -32,8 +32,25 @@ pub enum SlotCall {
     Remove,
 }
 
+impl SlotCall {
+    /// The call of the device that is recorded.
+    pub fn device_call(&self) -> DeviceCall
+        ensures { result ≡ device_call self.now }
+    {
+        match self {
+            SlotCall::Size => DeviceCall::Size,
+            SlotCall::Read => DeviceCall::Read,
+            SlotCall::PutTemp(_) => DeviceCall::PutTemp,
+            SlotCall::SyncTemp => DeviceCall::SyncTemp,
+            SlotCall::Rename => DeviceCall::Rename,
+            SlotCall::SyncFolder => DeviceCall::SyncFolder,
+            SlotCall::Remove => DeviceCall::Remove,
+        }
+    }
+}
+
 /// How a call of a slot ended.
-#[derive(Clone, Copy, Debug, PartialEq, Eq)]
+#[derive(Clone, Copy, PartialEq, Eq)]
 pub enum CallEnd {
     /// It did what it is for.
     Done,
@@ -44,7 +61,7 @@ pub enum CallEnd {
 }
 
 /// A call of a slot, with its end.
-#[derive(Debug, Drop)]
+#[derive(Drop)]
 pub struct CallRecord {
     /// The call.
     pub call: SlotCall,
@@ -53,7 +70,7 @@ pub struct CallRecord {
 }
 
 /// A slot in memory, which records its calls and fails those that it is told to.
-#[derive(Debug, Drop)]
+#[derive(Drop)]
 pub struct MemorySlot {
     alloc: Global,
     image: Option<Bytes>,
@@ -61,9 +78,12 @@ pub struct MemorySlot {
     failing: Vec<u64>,
     done: Vec<u64>,
     faults: u64,
+    failed: Option<DeviceCall>,
+    answered: Option<Seen>,
 }
 
 impl Model for MemorySlot {
+    ghost use Rattle.std.specs.Prelude.{◌-◌, vec_len, vec_capacity};
     ghost use Rattle.kr_memory_disk.specs.Slot.{SlotState};
 
     ghost Value = { SlotState };
@@ -74,6 +94,9 @@ impl Model for MemorySlot {
       failing = s.failing.items;
       done = s.done.items;
       faults = s.faults;
+      room = vec_capacity s.calls - vec_len s.calls;
+      failed = s.failed;
+      answered = s.answered;
     } };
 }
 
@@ -88,6 +111,9 @@ impl MemorySlot {
           failing = failing.items;
           done = done.items;
           faults = 0;
+          room = 0;
+          failed = None;
+          answered = None;
         } }
     {
         MemorySlot {
@@ -97,6 +123,8 @@ impl MemorySlot {
             failing,
             done,
             faults: 0,
+            failed: None,
+            answered: None,
         }
     }
 
@@ -107,10 +135,13 @@ impl MemorySlot {
         &self.calls
     }
 
-    /// Takes back every call behind the first ones, as if the machine had stopped there. The count of
+    /// Takes back every call after the first ones, as if the machine had stopped there. The count of
     /// faults stays.
     pub fn cut(&mut self, calls: usize)
-        ensures { self.new ≡ record self.old { calls = take calls self.old.calls } }
+        ensures { self.new ≡ record self.old {
+          calls = take calls self.old.calls;
+          room = self.new.room;
+        } }
     {
         self.calls.truncate(calls);
     }
@@ -149,13 +180,14 @@ impl MemorySlot {
         stood(&self.image, &self.calls)
     }
 
-    // Counts a fault.
-    fn fail(&mut self) -> Failed
-        ensures counted { self.new ≡ record self.old { faults = next_count self.old.faults } }
+    // Counts a fault of this call.
+    fn fail(&mut self, call: DeviceCall) -> Failed
+        ensures counted { self.new ≡ with_fault call self.old }
         ensures later { self.old.faults ≤ self.new.faults }
         ensures rose { Rose self.old.faults self.new.faults }
     {
         self.faults = self.faults.saturating_add(1);
+        self.failed = Some(call);
         Failed
     }
 
@@ -178,15 +210,20 @@ impl MemorySlot {
     fn note(&mut self, call: SlotCall) -> Result<(), Failed>
         ensures noted { IsNoted self.old call self.new result }
         ensures cause { HasCause self.old.faults self.new.faults result }
+        ensures call { EndsAs (device_call call) self.new.failed result }
     {
         let end = self.end();
+        let device = call.device_call();
         if self.calls.reserve(1).is_err() {
-            return Err(self.fail());
+            return Err(self.fail(device));
         }
         self.calls.push(CallRecord { call, end }).unwrap();
         match end {
-            CallEnd::Done => Ok(()),
-            CallEnd::Failed | CallEnd::FailedDone => Err(self.fail()),
+            CallEnd::Done => {
+                self.failed = None;
+                Ok(())
+            }
+            CallEnd::Failed | CallEnd::FailedDone => Err(self.fail(device)),
         }
     }
 }
@@ -204,6 +241,10 @@ impl Slot for MemorySlot {
 
     ghost faults = { λ s. s.faults };
 
+    ghost failed = { λ s. s.failed };
+
+    ghost answered = { λ s. s.answered };
+
     ghost is_honest = { λ _. true };
 
     ghost is_steady = { λ _. false };
@@ -216,7 +257,20 @@ impl Slot for MemorySlot {
 
     ghost steady_below = { Prim.search rules };
 
-    fn size(&mut self) -> Result<Option<u64>, Failed> {
+    fn size(&mut self) -> Result<Option<u64>, Failed>
+        // What the trait says.
+        ensures answer { IfOk result (λ size. size ≡ size_of (slot_seen self.old)) }
+        ensures same { slot_seen self.new ≡ slot_seen self.old }
+        ensures same_temporary { slot_temporary self.new ≡ slot_temporary self.old }
+        ensures crash { LeavesNoMore (slot_may_leave self.old) (slot_may_leave self.new) }
+        ensures time { Elapses slot_moment slot_left_since slot_may_leave self.old self.new
+            result }
+        ensures cause { HasCause self.old.faults self.new.faults result }
+        ensures call { EndsAs DeviceCall.Size self.new.failed result }
+
+        // It fails as planned, and is recorded.
+        ensures noted { IsNoted self.old SlotCall.Size self.new result }
+    {
         self.note(SlotCall::Size)?;
         Ok(match self.image() {
             None => None,
@@ -224,34 +278,119 @@ impl Slot for MemorySlot {
         })
     }
 
-    fn read(&mut self, buffer: &mut [u8]) -> Result<Seen, Failed> {
+    fn read(&mut self, buffer: &mut [u8]) -> Result<Seen, Failed>
+        // What the trait says.
+        ensures fits { IfOk result (FitsIn (length buffer.new)) }
+        ensures answer { IfOk result (Reads (slot_seen self.old) buffer.new) }
+        ensures told { IfOk result (λ seen. self.new.answered ≡ Some seen) }
+        ensures same { slot_seen self.new ≡ slot_seen self.old }
+        ensures same_temporary { slot_temporary self.new ≡ slot_temporary self.old }
+        ensures crash { LeavesNoMore (slot_may_leave self.old) (slot_may_leave self.new) }
+        ensures time { Elapses slot_moment slot_left_since slot_may_leave self.old self.new
+            result }
+        ensures cause { HasCause self.old.faults self.new.faults result }
+        ensures call { EndsAs DeviceCall.Read self.new.failed result }
+
+        // It fails as planned, and is recorded.
+        ensures noted { IsNoted self.old SlotCall.Read self.new result }
+    {
         self.note(SlotCall::Read)?;
-        Ok(match self.image() {
+        let seen = match self.image() {
             None => Seen::Missing,
             Some(bytes) => fill(bytes, buffer),
-        })
+        };
+        self.answered = Some(seen);
+        Ok(seen)
     }
 
-    fn put_temp(&mut self, bytes: &[u8]) -> Result<(), Failed> {
+    fn put_temp(&mut self, bytes: &[u8]) -> Result<(), Failed>
+        // What the trait says.
+        ensures put { OnOk result (slot_temporary self.new ≡ Unsynced bytes.now) }
+        ensures same { slot_seen self.new ≡ slot_seen self.old }
+        ensures crash { LeavesNoMore (slot_may_leave self.old) (slot_may_leave self.new) }
+        ensures time { Elapses slot_moment slot_left_since slot_may_leave self.old self.new
+            result }
+        ensures cause { HasCause self.old.faults self.new.faults result }
+        ensures call { EndsAs DeviceCall.PutTemp self.new.failed result }
+
+        // It fails as planned, and is recorded.
+        ensures noted { IsNoted self.old (SlotCall.PutTemp bytes.now) self.new result }
+    {
         match Bytes::from_slice(self.alloc, bytes) {
             Ok(bytes) => self.note(SlotCall::PutTemp(bytes)),
-            Err(_) => Err(self.fail()),
+            Err(_) => Err(self.fail(DeviceCall::PutTemp)),
         }
     }
 
-    fn sync_temp(&mut self) -> Result<(), Failed> {
+    fn sync_temp(&mut self) -> Result<(), Failed>
+        // What the trait says.
+        ensures synced { OnOk result
+            (slot_temporary self.new ≡ synced (slot_temporary self.old)) }
+        ensures same { slot_seen self.new ≡ slot_seen self.old }
+        ensures crash { LeavesNoMore (slot_may_leave self.old) (slot_may_leave self.new) }
+        ensures time { Elapses slot_moment slot_left_since slot_may_leave self.old self.new
+            result }
+        ensures cause { HasCause self.old.faults self.new.faults result }
+        ensures call { EndsAs DeviceCall.SyncTemp self.new.failed result }
+
+        // It fails as planned, and is recorded.
+        ensures noted { IsNoted self.old SlotCall.SyncTemp self.new result }
+    {
         self.note(SlotCall::SyncTemp)
     }
 
-    fn rename(&mut self) -> Result<(), Failed> {
+    fn rename(&mut self) -> Result<(), Failed>
+        // What the trait says.
+        ensures renamed { OnOk result
+            (GivesTemporary (slot_temporary self.old) (slot_seen self.new)) }
+        ensures unsure { OnErr result ((slot_seen self.new ≡ slot_seen self.old)
+            ⊎ GivesTemporary (slot_temporary self.old) (slot_seen self.new)) }
+        ensures crash { LeavesAlso (slot_may_leave self.old)
+            (LeavesTemporary (slot_temporary self.old)) (slot_may_leave self.new) }
+        ensures time { Elapses slot_moment slot_left_since slot_may_leave self.old self.new
+            result }
+        ensures cause { HasCause self.old.faults self.new.faults result }
+        ensures call { EndsAs DeviceCall.Rename self.new.failed result }
+
+        // It fails as planned, and is recorded.
+        ensures noted { IsNoted self.old SlotCall.Rename self.new result }
+    {
         self.note(SlotCall::Rename)
     }
 
-    fn sync_folder(&mut self) -> Result<(), Failed> {
+    fn sync_folder(&mut self) -> Result<(), Failed>
+        // What the trait says.
+        ensures settled { OnOk result (LeavesAnyBytes (slot_may_leave self.old)
+            ⊎ Only (slot_seen self.old) (slot_may_leave self.new)) }
+        ensures same { slot_seen self.new ≡ slot_seen self.old }
+        ensures same_temporary { slot_temporary self.new ≡ slot_temporary self.old }
+        ensures crash { LeavesNoMore (slot_may_leave self.old) (slot_may_leave self.new) }
+        ensures time { Elapses slot_moment slot_left_since slot_may_leave self.old self.new
+            result }
+        ensures cause { HasCause self.old.faults self.new.faults result }
+        ensures call { EndsAs DeviceCall.SyncFolder self.new.failed result }
+
+        // It fails as planned, and is recorded.
+        ensures noted { IsNoted self.old SlotCall.SyncFolder self.new result }
+    {
         self.note(SlotCall::SyncFolder)
     }
 
-    fn remove(&mut self) -> Result<(), Failed> {
+    fn remove(&mut self) -> Result<(), Failed>
+        // What the trait says.
+        ensures removed { OnOk result (slot_seen self.new ≡ None) }
+        ensures unsure { OnErr result ((slot_seen self.new ≡ slot_seen self.old)
+            ⊎ (slot_seen self.new ≡ None)) }
+        ensures crash { LeavesAlso (slot_may_leave self.old) (λ image. image ≡ None)
+            (slot_may_leave self.new) }
+        ensures time { Elapses slot_moment slot_left_since slot_may_leave self.old self.new
+            result }
+        ensures cause { HasCause self.old.faults self.new.faults result }
+        ensures call { EndsAs DeviceCall.Remove self.new.failed result }
+
+        // It fails as planned, and is recorded.
+        ensures noted { IsNoted self.old SlotCall.Remove self.new result }
+    {
         self.note(SlotCall::Remove)
     }
 }

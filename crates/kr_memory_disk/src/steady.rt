@@ -18,13 +18,14 @@ use std::mem;
 
 /// A slot that never fails. It keeps the first bytes of a file that is put, as many as it has room
 /// for, and drops what is behind them.
-#[derive(Debug, Drop)]
+#[derive(Drop)]
 pub struct SteadySlot {
     file: Vec<u8>,
     has_file: bool,
     temporary: Vec<u8>,
     has_temporary: bool,
     room: usize,
+    answered: Option<Seen>,
 }
 
 impl Model for SteadySlot {
@@ -37,6 +38,7 @@ impl Model for SteadySlot {
       image = image_if s.has_file s.file.items;
       temporary = image_if s.has_temporary s.temporary.items;
       room = s.room;
+      answered = s.answered;
     } };
 
     ghost invariant = { λ s.
@@ -52,6 +54,7 @@ impl SteadySlot {
           image = image;
           temporary = None;
           room = room;
+          answered = None;
         }) }
     {
         let temporary = Vec::with_capacity(alloc, room)?;
@@ -66,6 +69,7 @@ impl SteadySlot {
             temporary,
             has_temporary: false,
             room,
+            answered: None,
         })
     }
 }
@@ -82,6 +86,10 @@ impl Slot for SteadySlot {
     ghost left_since = { λ _ _ _. Unit {0} };
 
     ghost faults = { λ _. 0 };
+
+    ghost failed = { λ _. None };
+
+    ghost answered = { λ s. s.answered };
 
     ghost is_honest = { λ _. false };
 
@@ -110,13 +118,16 @@ impl Slot for SteadySlot {
         ensures answers { IsOk result }
         ensures answer { IfOk result (Reads self.old.image buffer.new) }
         ensures fits { IfOk result (FitsIn (length buffer.new)) }
-        ensures unchanged { self.new ≡ self.old }
+        ensures told { IfOk result (λ seen. self.new.answered ≡ Some seen) }
+        ensures same { self.new ≡ record self.old { answered = self.new.answered } }
     {
-        Ok(if self.has_file {
+        let seen = if self.has_file {
             fill(&self.file, buffer)
         } else {
             Seen::Missing
-        })
+        };
+        self.answered = Some(seen);
+        Ok(seen)
     }
 
     fn put_temp(&mut self, bytes: &[u8]) -> Result<(), Failed>
@@ -177,7 +188,7 @@ fn keep(kept: &mut Vec<u8>, room: usize, bytes: &[u8])
 }
 
 /// A folder that never fails, with slots that never do.
-#[derive(Debug, Drop)]
+#[derive(Drop)]
 pub struct SteadyFolder {
     alloc: Global,
     files: Files,
@@ -250,6 +261,7 @@ impl Folder for SteadyFolder {
           image = image_in self.old.files name.now;
           temporary = None;
           room = self.old.room;
+          answered = None;
         }) }
         ensures made { OnOk result
             (self.new ≡ record self.old { made = name.now ∷ self.old.made }) }

@@ -9,8 +9,6 @@ mod escape;
 mod laws;
 mod object_name;
 mod path;
-#[cfg(test)]
-mod tests;
 
 pub use escape::{escaped_stem, stem_of_escaped};
 pub use laws::a_path_has_one_name;

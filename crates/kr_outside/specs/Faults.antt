@@ -1,6 +1,6 @@
 -- The count of faults that each object of the outside has: when it rose, and what a steady object keeps
 -- (docs/DECISIONS.md, "A count of faults says why a device failed").
-use Rattle.std.specs.Prelude.{◌≡◌, ℕ, ◌-◌, ◌^◌, ◌<◌, ◌≤◌, ◌⊎◌, Bool, IsTrue, Result, IsErr}
+use Rattle.std.specs.Prelude.{◌≡◌, ℕ, ◌-◌, ◌^◌, ◌<◌, ◌≤◌, ◌⊎◌, Bool, IsTrue, Option, None, Some, Result, IsOk, IsErr}
 
 -- the last number that a count of 64 bits has
 abbrev pub last_count : ℕ
@@ -27,3 +27,9 @@ pub record KeepsSteady (was is : Bool) (old new : ℕ) : Type 0 where
 -- the count of a steady object could still rise, so that one which stands still has had no failure
 abbrev pub IsBelowLast : Bool → ℕ → Type 0
 IsBelowLast is_steady count = IsTrue is_steady → count < last_count
+
+-- what is told of the last call, if it failed: a call that was refused is told, and after one that
+-- succeeded there is none
+pub record EndsAs {C T E : Type 0} (call : C) (failed : Option C) (result : Result T E) : Type 0 where
+  pub refused : IsErr result → failed ≡ Some call
+  pub succeeded : IsOk result → failed ≡ None

@@ -1,6 +1,7 @@
 pub mod Clock
 pub mod Faults
 pub mod Folder
+pub mod Host
 pub mod Moments
 pub mod RenameDisk
 pub mod Written

@@ -1,7 +1,7 @@
 ghost use Rattle.std.specs.Prelude.{◌≡◌, ℕ, Bool, IsTrue, List, [], ◌∷◌, Contains, Option, IfOk, OnOk, OnErr};
 ghost use Rattle.kr_outside.specs.Faults.{HasCause, KeepsSteady, IsBelowLast};
 ghost use Rattle.kr_outside.specs.Folder.{HasOutsideCause, Lists, Stays, IsSettled};
-ghost use Rattle.kr_outside.specs.RenameDisk.{LeavesNoMore};
+ghost use Rattle.kr_outside.specs.RenameDisk.{Unknown, LeavesNoMore};
 
 use crate::{Failed, Slot};
 use kr_base::{OutOfMemory, Text};
@@ -72,8 +72,10 @@ pub trait Folder: Drop {
         ensures steady { KeepsSteady (is_steady self.old) (is_steady self.new)
             (faults self.old) (faults self.new) };
 
-    /// The slot of a name, with no fault counted yet. Of a name that `names` didn't give, it stands
-    /// for no file. It is made once of each name: of a second slot nothing is known.
+    /// The slot of a name, with no fault counted yet, and of whose temporary file nothing is known. Of
+    /// a name that `names` didn't give, it stands for no file. At no moment of the slot's clock so far
+    /// might a crash have left what it may not leave now. It is made once of each name: of a second
+    /// slot nothing is known.
     ///
     /// Refused where no memory was left; no slot was made then.
     fn slot(&mut self, name: &str) -> Result<Self::Cell, OutOfMemory>
@@ -82,6 +84,11 @@ pub trait Folder: Drop {
         ensures crash { IsTrue (is_honest self.old) → ¬ (Contains (made self.old) name.now)
             → IfOk result (λ cell.
             LeavesNoMore (may_leave self.old name.now) (Self.Cell.may_leave cell)) }
+        ensures any_moment { IsTrue (is_honest self.old) → ¬ (Contains (made self.old) name.now)
+            → IfOk result (λ cell. LeavesNoMore (may_leave self.old name.now)
+            (Self.Cell.left_since cell 0)) }
+        ensures temporary { IsTrue (is_honest self.old)
+            → IfOk result (λ cell. Self.Cell.temporary cell ≡ Unknown) }
         ensures fresh { IfOk result (λ cell. Self.Cell.faults cell ≡ 0) }
         ensures honest_slot { IfOk result (λ cell. Self.Cell.is_honest cell ≡ is_honest self.old) }
         ensures steady_slot { IfOk result (λ cell. Self.Cell.is_steady cell ≡ is_steady self.old) }

@@ -1,6 +1,7 @@
-ghost use Rattle.std.specs.Prelude.{◌≡◌, ℕ, Bool, IsTrue, List, [], Option, IfOk};
+ghost use Rattle.std.specs.Prelude.{◌≡◌, ℕ, Bool, IsTrue, List, [], Option, IfOk, OnOk};
 ghost use Rattle.kr_outside.specs.Faults.{KeepsSteady, IsBelowLast};
 ghost use Rattle.kr_outside.specs.Folder.{HasOutsideCause, AreTold};
+ghost use Rattle.kr_outside.specs.Host.{CountsGiven};
 
 use crate::{Clock, Folder, OutsideRefused};
 
@@ -21,13 +22,16 @@ pub trait Host {
     /// How often the host has failed. The count never falls, and stands still at 2^64 - 1.
     ghost faults: { Self → ℕ };
 
+    /// How many folders the host has given. The count never falls, and stays at 2^64 - 1.
+    ghost given: { Self → ℕ };
+
     /// Whether its folders behave as the rename disk does, and nobody else writes them.
     ghost is_honest: { Self → Bool };
 
     /// Whether neither the host nor what it gives ever fails.
     ghost is_steady: { Self → Bool };
 
-    /// The folder at a path, of which no slot was made yet.
+    /// The folder at a path, of which no slot was made yet. It is counted.
     ///
     /// Refused with `Failed` only where the count of faults rose, and with `OutOfMemory`.
     fn folder(&mut self, path: &str) -> Result<Self::Dir, OutsideRefused>
@@ -40,7 +44,9 @@ pub trait Host {
             Self.Dir.is_steady folder ≡ is_steady self.old) }
         ensures coming { coming self.new ≡ coming self.old }
         ensures honest { is_honest self.new ≡ is_honest self.old }
+        ensures given { CountsGiven (given self.old) (given self.new) result }
         ensures cause { HasOutsideCause (faults self.old) (faults self.new) result }
+        ensures still { OnOk result (faults self.new ≡ faults self.old) }
         ensures steady { KeepsSteady (is_steady self.old) (is_steady self.new)
             (faults self.old) (faults self.new) };
 
@@ -49,6 +55,7 @@ pub trait Host {
         ensures told { Self.Time.coming result ≡ coming self.old }
         ensures steady_clock { IsTrue (is_steady self.old) → IsTrue (Self.Time.is_steady result) }
         ensures honest { is_honest self.new ≡ is_honest self.old }
+        ensures given { given self.new ≡ given self.old }
         ensures count { faults self.new ≡ faults self.old }
         ensures steady { is_steady self.new ≡ is_steady self.old };
 

@@ -18,5 +18,5 @@ pub use clock::Clock;
 pub use folder::{Folder, OutsideRefused};
 pub use host::Host;
 pub use sink::{Sink, write_all};
-pub use slot::{Seen, Slot};
+pub use slot::{DeviceCall, Seen, Slot};
 pub use source::{Failed, Source};

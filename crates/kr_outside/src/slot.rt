@@ -1,12 +1,12 @@
-ghost use Rattle.std.specs.Prelude.{◌≡◌, ℕ, ◌≤◌, ◌⊎◌, Bool, IsTrue, List, Option, None, length, IfOk, OnOk, OnErr};
-ghost use Rattle.kr_outside.specs.Faults.{HasCause, KeepsSteady, IsBelowLast};
+ghost use Rattle.std.specs.Prelude.{◌≡◌, ℕ, ◌≤◌, ◌⊎◌, Bool, IsTrue, List, Option, None, Some, length, IfOk, OnOk, OnErr};
+ghost use Rattle.kr_outside.specs.Faults.{HasCause, KeepsSteady, IsBelowLast, EndsAs};
 ghost use Rattle.kr_outside.specs.Moments.{Elapses};
 ghost use Rattle.kr_outside.specs.RenameDisk.{Temporary, Unsynced, synced, GivesTemporary, LeavesTemporary, Only, LeavesAnyBytes, LeavesNoMore, LeavesAlso, size_of, FitsIn, Reads};
 
 use crate::Failed;
 
 /// What a read of a slot found.
-#[derive(Clone, Copy, Debug, PartialEq, Eq)]
+#[derive(Clone, Copy, PartialEq, Eq)]
 pub enum Seen {
     /// The name stands for no file.
     Missing,
@@ -16,11 +16,33 @@ pub enum Seen {
     Longer,
 }
 
+/// A call of the device that a slot is made on.
+#[derive(Clone, Copy, PartialEq, Eq)]
+pub enum DeviceCall {
+    /// `size`.
+    Size,
+    /// `read`.
+    Read,
+    /// `put_temp`.
+    PutTemp,
+    /// `sync_temp`.
+    SyncTemp,
+    /// `rename`.
+    Rename,
+    /// `sync_folder`.
+    SyncFolder,
+    /// `remove`.
+    Remove,
+}
+
 /// One name of a folder, and the temporary file beside it that may take the name.
 ///
 /// What is said of content, time and crashes holds of an honest slot, one that behaves as the rename
 /// disk does. No call takes memory.
 pub trait Slot: Drop {
+    ghost use Rattle.kr_outside.specs.declared.slot.DeviceCall.{DeviceCall};
+    ghost use Rattle.kr_outside.specs.declared.slot.Seen.{Seen};
+
     /// What a read gives: the bytes of a file, or no file.
     ghost seen: { Self → Option (List ℕ) };
 
@@ -39,6 +61,12 @@ pub trait Slot: Drop {
 
     /// How often the slot has failed. The count never falls, and stands still at 2^64 - 1.
     ghost faults: { Self → ℕ };
+
+    /// The call that was made last, if it failed.
+    ghost failed: { Self → Option DeviceCall };
+
+    /// What the last read that succeeded has answered.
+    ghost answered: { Self → Option Seen };
 
     /// Whether the slot behaves as the rename disk does, and nobody else writes its folder.
     ghost is_honest: { Self → Bool };
@@ -59,6 +87,7 @@ pub trait Slot: Drop {
             → Elapses moment left_since may_leave self.old self.new result }
         ensures honest { is_honest self.new ≡ is_honest self.old }
         ensures cause { HasCause (faults self.old) (faults self.new) result }
+        ensures call { EndsAs DeviceCall.Size (failed self.new) result }
         ensures steady { KeepsSteady (is_steady self.old) (is_steady self.new)
             (faults self.old) (faults self.new) };
 
@@ -70,6 +99,7 @@ pub trait Slot: Drop {
         ensures fits { IfOk result (FitsIn (length buffer.new)) }
         ensures answer { IsTrue (is_honest self.old)
             → IfOk result (Reads (seen self.old) buffer.new) }
+        ensures told { IfOk result (λ found. answered self.new ≡ Some found) }
         ensures same { IsTrue (is_honest self.old) → seen self.new ≡ seen self.old }
         ensures same_temporary { IsTrue (is_honest self.old)
             → temporary self.new ≡ temporary self.old }
@@ -79,6 +109,7 @@ pub trait Slot: Drop {
             → Elapses moment left_since may_leave self.old self.new result }
         ensures honest { is_honest self.new ≡ is_honest self.old }
         ensures cause { HasCause (faults self.old) (faults self.new) result }
+        ensures call { EndsAs DeviceCall.Read (failed self.new) result }
         ensures steady { KeepsSteady (is_steady self.old) (is_steady self.new)
             (faults self.old) (faults self.new) };
 
@@ -96,6 +127,7 @@ pub trait Slot: Drop {
             → Elapses moment left_since may_leave self.old self.new result }
         ensures honest { is_honest self.new ≡ is_honest self.old }
         ensures cause { HasCause (faults self.old) (faults self.new) result }
+        ensures call { EndsAs DeviceCall.PutTemp (failed self.new) result }
         ensures steady { KeepsSteady (is_steady self.old) (is_steady self.new)
             (faults self.old) (faults self.new) };
 
@@ -112,6 +144,7 @@ pub trait Slot: Drop {
             → Elapses moment left_since may_leave self.old self.new result }
         ensures honest { is_honest self.new ≡ is_honest self.old }
         ensures cause { HasCause (faults self.old) (faults self.new) result }
+        ensures call { EndsAs DeviceCall.SyncTemp (failed self.new) result }
         ensures steady { KeepsSteady (is_steady self.old) (is_steady self.new)
             (faults self.old) (faults self.new) };
 
@@ -131,6 +164,7 @@ pub trait Slot: Drop {
             → Elapses moment left_since may_leave self.old self.new result }
         ensures honest { is_honest self.new ≡ is_honest self.old }
         ensures cause { HasCause (faults self.old) (faults self.new) result }
+        ensures call { EndsAs DeviceCall.Rename (failed self.new) result }
         ensures steady { KeepsSteady (is_steady self.old) (is_steady self.new)
             (faults self.old) (faults self.new) };
 
@@ -152,6 +186,7 @@ pub trait Slot: Drop {
             → Elapses moment left_since may_leave self.old self.new result }
         ensures honest { is_honest self.new ≡ is_honest self.old }
         ensures cause { HasCause (faults self.old) (faults self.new) result }
+        ensures call { EndsAs DeviceCall.SyncFolder (failed self.new) result }
         ensures steady { KeepsSteady (is_steady self.old) (is_steady self.new)
             (faults self.old) (faults self.new) };
 
@@ -170,6 +205,7 @@ pub trait Slot: Drop {
             → Elapses moment left_since may_leave self.old self.new result }
         ensures honest { is_honest self.new ≡ is_honest self.old }
         ensures cause { HasCause (faults self.old) (faults self.new) result }
+        ensures call { EndsAs DeviceCall.Remove (failed self.new) result }
         ensures steady { KeepsSteady (is_steady self.old) (is_steady self.new)
             (faults self.old) (faults self.new) };
 

@@ -1,4 +1,4 @@
-ghost use Rattle.std.specs.Prelude.{ℕ, Bool, List, Option};
+ghost use Rattle.std.specs.Prelude.{◌≡◌, ℕ, Bool, List, Option, OnOk};
 ghost use Rattle.std.specs.Io.{ReadsAtMost};
 ghost use Rattle.std.specs.Io.KnownBytes.{ReadConsumes};
 ghost use Rattle.kr_outside.specs.Faults.{HasCause, KeepsSteady, IsBelowLast};
@@ -24,12 +24,13 @@ pub trait Source {
     /// Reads some of the bytes that are left to the front of the buffer, takes them away, and answers
     /// how many. Of a buffer that has room, 0 is the end of the input: no bytes are left.
     ///
-    /// Refused with `Failed` only where the count of faults rose; the bytes left are then as before,
-    /// and nothing is known of the buffer.
+    /// Refused with `Failed` only where the count of faults rose, which it does at no other read; the
+    /// bytes left are then as before, and nothing is known of the buffer.
     fn read(&mut self, buffer: &mut [u8]) -> Result<usize, Failed>
         ensures within { ReadsAtMost result buffer.new }
         ensures taken { ReadConsumes (left self.old) (left self.new) result buffer.new }
         ensures cause { HasCause (faults self.old) (faults self.new) result }
+        ensures still { OnOk result (faults self.new ≡ faults self.old) }
         ensures steady { KeepsSteady (is_steady self.old) (is_steady self.new)
             (faults self.old) (faults self.new) };
 

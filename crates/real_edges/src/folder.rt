@@ -97,30 +97,14 @@ fn path_in(alloc: Global, folder: &str, name: &str, ending: &str) -> Result<Stri
     Ok(path)
 }
 
-// The names of the files in the folder at this path. A folder, a pipe and the like isn't one.
+// The names in the folder at this path, whatever they stand for: a folder that has the name of a keyring
+// file takes that name too.
 fn listed<R: Files + AllocGlobal + Copy>(rt: &R, path: &str) -> io::Result<Vec<Text>> {
     let mut names = Vec::new(rt.alloc());
     for entry in fs::read_dir(rt, path)? {
-        let entry = entry?;
-        if is_file(rt, &entry)? {
-            names.push(name_of(rt, &entry)?)?;
-        }
+        names.push(name_of(rt, &entry?)?)?;
     }
     Ok(names)
-}
-
-// Whether the entry stands for a file, be it by a link.
-fn is_file<R: Files + AllocGlobal + Copy>(rt: &R, entry: &DirEntry<R, Global>) -> io::Result<bool> {
-    match fs::metadata(rt, entry.path()) {
-        Ok(found) => Ok(found.is_file()),
-        Err(error) => {
-            if error.kind() == ErrorKind::NotFound {
-                Ok(false)
-            } else {
-                Err(error)
-            }
-        }
-    }
 }
 
 fn name_of<R: Files + AllocGlobal + Copy>(rt: &R, entry: &DirEntry<R, Global>) -> io::Result<Text> {

@@ -14,14 +14,20 @@ use std::time;
 pub struct RealHost<R: Files + time::Clock + AllocGlobal + Copy> {
     rt: R,
     faults: u64,
+    given: u64,
 }
 
 impl<R: Files + time::Clock + AllocGlobal + Copy> RealHost<R> {
-    /// The machine, with no fault so far.
+    /// The machine, with no fault so far, and no folder given.
     pub fn new(rt: R) -> Self
-        ensures { result.faults ≡ 0 }
+        ensures faults { result.faults ≡ 0 }
+        ensures given { result.given ≡ 0 }
     {
-        RealHost { rt, faults: 0 }
+        RealHost {
+            rt,
+            faults: 0,
+            given: 0,
+        }
     }
 
     /// How often the system answered an error.
@@ -43,6 +49,8 @@ impl<R: Files + time::Clock + AllocGlobal + Copy> Host for RealHost<R> {
 
     ghost faults = { λ h. h.faults };
 
+    ghost given = { λ h. h.given };
+
     ghost is_honest = { λ _. false };
 
     ghost is_steady = { λ _. false };
@@ -51,7 +59,10 @@ impl<R: Files + time::Clock + AllocGlobal + Copy> Host for RealHost<R> {
 
     fn folder(&mut self, path: &str) -> Result<RealFolder<R>, OutsideRefused> {
         match opened(&self.rt, path) {
-            Ok(path) => Ok(RealFolder::new(self.rt, path)),
+            Ok(path) => {
+                self.given = self.given.saturating_add(1);
+                Ok(RealFolder::new(self.rt, path))
+            }
             Err(error) => {
                 if error.kind() == ErrorKind::OutOfMemory {
                     return Err(OutsideRefused::OutOfMemory);

@@ -11,8 +11,6 @@ mod folder;
 mod host;
 mod slot;
 mod standard;
-#[cfg(test)]
-mod tests;
 
 pub use clock::SystemClock;
 pub use folder::RealFolder;

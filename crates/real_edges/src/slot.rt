@@ -1,12 +1,12 @@
 // One name of a real folder: its file, and the temporary file beside it.
-ghost use Rattle.std.specs.Prelude.{◌≡◌, ◌≤◌, None, IfOk, length, false};
+ghost use Rattle.std.specs.Prelude.{◌≡◌, ◌≤◌, Ok, None, IfOk, length, false};
 ghost use Rattle.std.proofs.Common.{rules};
-ghost use Rattle.kr_outside.specs.Faults.{HasCause};
+ghost use Rattle.kr_outside.specs.Faults.{HasCause, EndsAs};
 ghost use Rattle.kr_outside.specs.RenameDisk.{Unknown, FitsIn};
 
-use crate::faults::{count, counted};
+use crate::faults::counted;
 use crate::standard::{ReaderSource, WriterSink};
-use kr_outside::{Failed, Seen, Slot, Source, write_all};
+use kr_outside::{DeviceCall, Failed, Seen, Slot, Source, write_all};
 use std::fs::{self, Files, OpenFile, OpenOptions};
 use std::io::{self, ErrorKind};
 use std::os::unix::fs::OpenOptionsExt;
@@ -20,6 +20,8 @@ pub struct RealSlot<R: Files + Copy> {
     temporary: String,
     written: Option<R::File>,
     faults: u64,
+    failed: Option<DeviceCall>,
+    answered: Option<Seen>,
 }
 
 impl<R: Files + Copy> RealSlot<R> {
@@ -34,6 +36,8 @@ impl<R: Files + Copy> RealSlot<R> {
             temporary,
             written: None,
             faults: 0,
+            failed: None,
+            answered: None,
         }
     }
 
@@ -42,6 +46,20 @@ impl<R: Files + Copy> RealSlot<R> {
         ensures { result ≡ self.now.faults }
     {
         self.faults
+    }
+
+    // What the system answered to this call; an error is counted, and nothing else of it is passed on.
+    fn ended<T>(&mut self, call: DeviceCall, answer: io::Result<T>) -> Result<T, Failed>
+        ensures passed { IfOk result (λ value. answer ≡ Ok value) }
+        ensures cause { HasCause self.old.faults self.new.faults result }
+        ensures call { EndsAs call self.new.failed result }
+    {
+        let ended = counted(&mut self.faults, answer);
+        self.failed = match &ended {
+            Ok(_) => None,
+            Err(_) => Some(call),
+        };
+        ended
     }
 }
 
@@ -58,6 +76,10 @@ impl<R: Files + Copy> Slot for RealSlot<R> {
 
     ghost faults = { λ s. s.faults };
 
+    ghost failed = { λ s. s.failed };
+
+    ghost answered = { λ s. s.answered };
+
     ghost is_honest = { λ _. false };
 
     ghost is_steady = { λ _. false };
@@ -72,43 +94,45 @@ impl<R: Files + Copy> Slot for RealSlot<R> {
 
     fn size(&mut self) -> Result<Option<u64>, Failed> {
         let size = size_of(&self.rt, &self.path);
-        counted(&mut self.faults, size)
+        self.ended(DeviceCall::Size, size)
     }
 
     fn read(&mut self, buffer: &mut [u8]) -> Result<Seen, Failed> {
         let seen = read_file(&self.rt, &self.path, buffer);
-        counted(&mut self.faults, seen)
+        let seen = self.ended(DeviceCall::Read, seen)?;
+        self.answered = Some(seen);
+        Ok(seen)
     }
 
     fn put_temp(&mut self, bytes: &[u8]) -> Result<(), Failed> {
+        // A file that an earlier call wrote isn't this one: where this call fails, nothing can be synced.
+        self.written = None;
         let written = write_anew(&self.rt, &self.temporary, bytes);
-        self.written = Some(counted(&mut self.faults, written)?);
+        self.written = Some(self.ended(DeviceCall::PutTemp, written)?);
         Ok(())
     }
 
     fn sync_temp(&mut self) -> Result<(), Failed> {
-        match self.written.take() {
-            Some(file) => counted(&mut self.faults, file.sync_all()),
-            None => {
-                count(&mut self.faults);
-                Err(Failed)
-            }
-        }
+        let synced = match self.written.take() {
+            Some(file) => file.sync_all(),
+            None => Err(ErrorKind::NotFound.into()),
+        };
+        self.ended(DeviceCall::SyncTemp, synced)
     }
 
     fn rename(&mut self) -> Result<(), Failed> {
         let renamed = fs::rename(&self.rt, &self.temporary, &self.path);
-        counted(&mut self.faults, renamed)
+        self.ended(DeviceCall::Rename, renamed)
     }
 
     fn sync_folder(&mut self) -> Result<(), Failed> {
         let synced = sync_folder(&self.rt, &self.folder);
-        counted(&mut self.faults, synced)
+        self.ended(DeviceCall::SyncFolder, synced)
     }
 
     fn remove(&mut self) -> Result<(), Failed> {
         let removed = fs::remove_file(&self.rt, &self.path);
-        counted(&mut self.faults, removed)
+        self.ended(DeviceCall::Remove, removed)
     }
 }
 
@@ -118,16 +142,14 @@ pub fn sync_folder<R: Files>(rt: &R, path: &str) -> io::Result<()> {
 }
 
 // How many bytes the file at this path has; None where there is none. What is no file, as a folder or a
-// pipe, is an error: to open a pipe would wait for its writer.
+// pipe, counts as none: to open a pipe would wait for its writer.
 fn size_of<R: Files>(rt: &R, path: &str) -> io::Result<Option<u64>> {
     match fs::metadata(rt, path) {
-        Ok(found) => {
-            if found.is_file() {
-                Ok(Some(found.len()))
-            } else {
-                Err(ErrorKind::Unsupported.into())
-            }
-        }
+        Ok(found) => Ok(if found.is_file() {
+            Some(found.len())
+        } else {
+            None
+        }),
         Err(error) => {
             if error.kind() == ErrorKind::NotFound {
                 Ok(None)

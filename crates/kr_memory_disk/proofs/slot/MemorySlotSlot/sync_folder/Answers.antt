@@ -7,7 +7,7 @@ use Rattle.kr_memory_disk.proofs.slot.MemorySlotSlot.sync_folder.Goals as goal
 
 -- nothing counts as having stood but what the name stands for
 pub returns-clause-settled : goal.returns-clause-settled
-returns-clause-settled c _ =
+returns-clause-settled c =
     let old = disk_of c.args.self.now in
     noted_ok (λ disk. LeavesAnyBytes (DiskLeaves old) ⊎ Only (image_stood old.name) (DiskLeaves disk)) c.args.self.now SyncFolder c.note.new.self c.note.result c.note.ensures.noted
     (settles_SyncFolder old)

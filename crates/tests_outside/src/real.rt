@@ -1,5 +1,5 @@
-use super::*;
 use kr_outside::{Clock, Folder, Host, OutsideRefused, Seen, Sink, Slot, Source};
+use real_edges::{ReaderSource, RealHost, WriterSink};
 use std::fs::{self, Permissions};
 use std::os::unix::fs::PermissionsExt;
 use std::test::Fail;
@@ -40,7 +40,6 @@ fn a_file_in_a_real_folder_is_replaced_whole(rt: HostRuntime) -> Result<(), Fail
         let mode = fs::metadata(&rt, "ring/a")?.permissions().mode() % 0o1000;
         assert_eq!(rt; mode, 0o600);
     }
-    fs::create_dir(&rt, "ring/b")?;
     folder.sync()?;
     let names = folder.names().ok().ok_or("names")?;
     assert_eq!(rt; names.len(), 1);
@@ -52,16 +51,50 @@ fn a_file_in_a_real_folder_is_replaced_whole(rt: HostRuntime) -> Result<(), Fail
     Ok(())
 }
 
+// A folder that has the name of a file is among the names, and no file.
+#[test]
+fn a_folder_in_a_folder_takes_its_name(rt: HostRuntime) -> Result<(), Fail> {
+    fs::create_dir(&rt, "nest")?;
+    fs::create_dir(&rt, "nest/x.keyring")?;
+    let mut folder = RealHost::new(rt).folder("nest").ok().ok_or("a folder")?;
+    let names = folder.names().ok().ok_or("names")?;
+    assert_eq!(rt; names.len(), 1);
+    assert_eq!(rt; names[0].as_str(), "x.keyring");
+    let mut slot = folder.slot("x.keyring")?;
+    assert_eq!(rt; slot.size()?, None);
+    assert_eq!(rt; read(&rt, &mut slot)?.as_slice(), b".".as_slice());
+    assert_eq!(rt; slot.faults(), 0);
+    Ok(())
+}
+
+// A file that an earlier call put isn't synced in place of one that couldn't be put.
+#[test]
+fn after_a_failed_put_nothing_can_be_synced(rt: HostRuntime) -> Result<(), Fail> {
+    fs::create_dir(&rt, "torn")?;
+    let mut folder = RealHost::new(rt).folder("torn").ok().ok_or("a folder")?;
+    let mut slot = folder.slot("a")?;
+    slot.put_temp(b"one")?;
+    fs::remove_file(&rt, "torn/a.tmp")?;
+    fs::remove_dir(&rt, "torn")?;
+    assert!(rt; slot.put_temp(b"two").is_err());
+    assert!(rt; slot.sync_temp().is_err());
+    assert_eq!(rt; slot.faults(), 2);
+    Ok(())
+}
+
 #[test]
 fn a_folder_that_cannot_be_opened_is_a_fault(rt: HostRuntime) -> Result<(), Fail> {
     fs::write(&rt, "file", b"no folder")?;
     fs::create_dir(&rt, "closed")?;
     fs::set_permissions(&rt, "closed", Permissions::from_mode(0))?;
+    // A folder that its user may not open is open to root.
+    let is_closed = fs::read_dir(&rt, "closed").is_err();
     let mut host = RealHost::new(rt);
-    for (path, faults) in [("missing", 1), ("file", 2), ("closed", 3)] {
+    for (path, is_refused) in [("missing", true), ("file", true), ("closed", is_closed)] {
+        let before = host.faults();
         let refused = matches!(host.folder(path), Err(OutsideRefused::Failed));
-        assert!(rt; refused, "at {path}");
-        assert_eq!(rt; host.faults(), faults, "at {path}");
+        assert_eq!(rt; refused, is_refused, "at {path}");
+        assert_eq!(rt; host.faults() > before, is_refused, "at {path}");
     }
     Ok(())
 }

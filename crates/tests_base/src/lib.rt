@@ -1,0 +1,11 @@
+//! Tests of the crates of the base layer: of kr_base, kr_names and kr_items. They show what no clause
+//! of those crates says: worked examples of the standards, printed texts, and that each public function
+//! returns a value where there is memory.
+#![tactic(auto)]
+
+#[cfg(test)]
+mod base;
+#[cfg(test)]
+mod items;
+#[cfg(test)]
+mod names;
