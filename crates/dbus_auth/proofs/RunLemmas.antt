@@ -7,9 +7,8 @@ use Rattle.std.specs.List.{AllByRecursion}
 use Rattle.dbus_auth.specs.Conversation.{IsLine, ended, IsUnfinished, IsTooLong, Runs, waits, overflows, says, begins, refuses, joined, fed, resumed, continued}
 use Rattle.dbus_auth.specs.Exchange.{Exchange}
 use Rattle.dbus_auth.specs.Handshake.{End, waiting, refused, opened, Run, silent, answered, run_from_step, run_from_cut, run_lines, run}
-use Rattle.dbus_auth.specs.Lines.{Cut, first_cut, line_end}
+use Rattle.dbus_auth.specs.Lines.{Cut, first_cut, line_end, line_limit}
 use Rattle.dbus_auth.specs.Table.{step_of, next_of}
-use Rattle.dbus_auth.specs.declared.auth.TheConstants.{LINE_LIMIT}
 use Rattle.dbus_auth.specs.declared.auth.AuthFault.TheVariants.{LineTooLong}
 use Rattle.dbus_auth.specs.declared.auth.Step.{Step}
 use Rattle.dbus_auth.specs.declared.auth.Step.TheVariants as step
@@ -26,7 +25,7 @@ same_further : (f g : Exchange → List ℕ → Run) (at : Exchange) (bytes : Li
     → f (next_of at cut.line) cut.rest ≡ g (next_of at cut.line) cut.rest
     → run_from_cut f at bytes (Some cut) ≡ run_from_cut g at bytes (Some cut)
 same_further f g at bytes cut e =
-    ap (λ (r : Run). cond (nat_le (length cut.line + 2) LINE_LIMIT) (run_from_step (step_of at cut.line) cut.rest r) (silent (refused LineTooLong))) e
+    ap (λ (r : Run). cond (nat_le (length cut.line + 2) line_limit) (run_from_step (step_of at cut.line) cut.rest r) (silent (refused LineTooLong))) e
 
 -- nothing to run over
 run_lines-nil : (n : ℕ) (at : Exchange) → run_lines n at [] ≡ silent (waiting at [])
@@ -66,25 +65,25 @@ run-first at (c ∷ bytes) =
 pub run-waiting : (at : Exchange) (bytes : List ℕ) → IsUnfinished bytes → run at bytes ≡ silent (waiting at bytes)
 run-waiting at bytes is =
     run-first at bytes ∙ ap (run_from_cut run at bytes) is.none
-    ∙ ap (λ b. cond b (silent (waiting at bytes)) (silent (refused LineTooLong))) (lt-ltb (length bytes) LINE_LIMIT is.short)
+    ∙ ap (λ b. cond b (silent (waiting at bytes)) (silent (refused LineTooLong))) (lt-ltb (length bytes) line_limit is.short)
 
 -- a line that fits the limit is answered by its row
 pub run-line : (at : Exchange) (line rest : List ℕ) → IsLine line → run at (ended line rest) ≡ run_from_step (step_of at line) rest (run (next_of at line) rest)
 run-line at line rest is =
     run-first at (ended line rest) ∙ ap (run_from_cut run at (ended line rest)) (first_cut-line line rest is.whole)
-    ∙ ap (λ b. cond b (run_from_step (step_of at line) rest (run (next_of at line) rest)) (silent (refused LineTooLong))) (le-leb (length line + 2) LINE_LIMIT is.fits)
+    ∙ ap (λ b. cond b (run_from_step (step_of at line) rest (run (next_of at line) rest)) (silent (refused LineTooLong))) (le-leb (length line + 2) line_limit is.fits)
 
 -- where the first cut leads past the limit, or isn't there
-overflowing : (at : Exchange) (bytes : List ℕ) (o : Option Cut) → first_cut bytes ≡ o → first_cut (take LINE_LIMIT bytes) ≡ None → LINE_LIMIT ≤ length bytes
+overflowing : (at : Exchange) (bytes : List ℕ) (o : Option Cut) → first_cut bytes ≡ o → first_cut (take line_limit bytes) ≡ None → line_limit ≤ length bytes
     → run_from_cut run at bytes o ≡ silent (refused LineTooLong)
 overflowing at bytes None is none long =
-    ap (λ b. cond b (silent (waiting at bytes)) (silent (refused LineTooLong))) (le-ltb (length bytes) LINE_LIMIT long)
+    ap (λ b. cond b (silent (waiting at bytes)) (silent (refused LineTooLong))) (le-ltb (length bytes) line_limit long)
 overflowing at bytes (Some cut) is none long =
-    let whole = take-append-drop LINE_LIMIT bytes in
-    let late = first_cut-late (take LINE_LIMIT bytes) (drop LINE_LIMIT bytes) cut none (ap first_cut whole ∙ is) in
-    let limit : length (take LINE_LIMIT bytes) ≡ LINE_LIMIT = length-take-le LINE_LIMIT bytes long in
-    let past : LINE_LIMIT < length cut.line + 2 = omega arith in
-    ap (λ b. cond b (run_from_step (step_of at cut.line) cut.rest (run (next_of at cut.line) cut.rest)) (silent (refused LineTooLong))) (lt-leb (length cut.line + 2) LINE_LIMIT past)
+    let whole = take-append-drop line_limit bytes in
+    let late = first_cut-late (take line_limit bytes) (drop line_limit bytes) cut none (ap first_cut whole ∙ is) in
+    let limit : length (take line_limit bytes) ≡ line_limit = length-take-le line_limit bytes long in
+    let past : line_limit < length cut.line + 2 = omega arith in
+    ap (λ b. cond b (run_from_step (step_of at cut.line) cut.rest (run (next_of at cut.line) cut.rest)) (silent (refused LineTooLong))) (lt-leb (length cut.line + 2) line_limit past)
 
 -- as many bytes as the limit are there, and no line has ended within them
 pub run-overflow : (at : Exchange) (bytes : List ℕ) → IsTooLong bytes → run at bytes ≡ silent (refused LineTooLong)
@@ -120,23 +119,23 @@ step_goes at line rest (step.Refused fault) further is e later = refuses at line
 -- a run over bytes that hold no cut
 goes_uncut : (at : Exchange) (bytes : List ℕ) → first_cut bytes ≡ None → Goes at bytes (run at bytes)
 goes_uncut at bytes none =
-    elim (cases_lt (length bytes) LINE_LIMIT) [
+    elim (cases_lt (length bytes) line_limit) [
       | inl short ↦
           let is : IsUnfinished bytes = record { none = none; short = short } in
           subst (λ r. Goes at bytes r) (sym (run-waiting at bytes is)) (waits at bytes is)
       | inr long ↦
-          let is : IsTooLong bytes = record { none = front_uncut LINE_LIMIT bytes None none long (λ cut e. cc e); long = long } in
+          let is : IsTooLong bytes = record { none = front_uncut line_limit bytes None none long (λ cut e. cc e); long = long } in
           subst (λ r. Goes at bytes r) (sym (run-overflow at bytes is)) (overflows at bytes is)
     ]
 
 -- a run over bytes whose first cut leads past the limit
-goes_past : (at : Exchange) (bytes : List ℕ) (cut : Cut) → first_cut bytes ≡ Some cut → LINE_LIMIT < length cut.line + 2 → Goes at bytes (run at bytes)
+goes_past : (at : Exchange) (bytes : List ℕ) (cut : Cut) → first_cut bytes ≡ Some cut → line_limit < length cut.line + 2 → Goes at bytes (run at bytes)
 goes_past at bytes cut is past =
     let size = rest_shorter bytes cut is in
-    let long : LINE_LIMIT ≤ length bytes = omega arith in
-    let far : (other : Cut) → Some cut ≡ Some other → LINE_LIMIT < length other.line + 2 =
-    λ other e. let same : cut ≡ other = cc e in subst (λ (k : Cut). LINE_LIMIT < length k.line + 2) same past in
-    let too_long : IsTooLong bytes = record { none = front_uncut LINE_LIMIT bytes (Some cut) is long far; long = long } in
+    let long : line_limit ≤ length bytes = omega arith in
+    let far : (other : Cut) → Some cut ≡ Some other → line_limit < length other.line + 2 =
+    λ other e. let same : cut ≡ other = cc e in subst (λ (k : Cut). line_limit < length k.line + 2) same past in
+    let too_long : IsTooLong bytes = record { none = front_uncut line_limit bytes (Some cut) is long far; long = long } in
     subst (λ r. Goes at bytes r) (sym (run-overflow at bytes too_long)) (overflows at bytes too_long)
 
 -- each run goes in one of the ways
@@ -151,7 +150,7 @@ goes_at (suc n) at bytes few =
       | None ↦ λ none. goes_uncut at bytes none
       | Some cut ↦ λ is.
           let size = rest_shorter bytes cut is in
-          elim (cases_lt LINE_LIMIT (length cut.line + 2)) [
+          elim (cases_lt line_limit (length cut.line + 2)) [
             | inl past ↦ goes_past at bytes cut is past
             | inr fits ↦
                 let line : IsLine cut.line = record { whole = first_cut-alone bytes cut is; fits = fits } in
@@ -198,7 +197,7 @@ answered-resumed answer answers (opened rest) more = refl
 resumes : (at : Exchange) (bytes : List ℕ) (answers : List (List ℕ)) (end : End) (more : List ℕ) → Runs at bytes answers end → run at (bytes ++ more) ≡ resumed answers end more
 resumes _ _ _ _ more (waits at bytes is) = refl
 resumes _ _ _ _ more (overflows at bytes is) =
-    let front = take-append-le LINE_LIMIT bytes more is.long in
+    let front = take-append-le line_limit bytes more is.long in
     run-overflow at (bytes ++ more) (record { none = ap first_cut front ∙ is.none; long = omega (arith, is.long, length-append bytes more) })
 resumes _ _ _ _ more (says at line rest answer answers end is e later) =
     ap (run at) (line-append line rest more) ∙ run-line at line (rest ++ more) is

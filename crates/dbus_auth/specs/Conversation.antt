@@ -5,9 +5,8 @@ use Rattle.hex.specs.Hex.{decode_of}
 use Rattle.dbus_auth.specs.Answers.{ok_line, error_line}
 use Rattle.dbus_auth.specs.Exchange.{Exchange}
 use Rattle.dbus_auth.specs.Handshake.{End, waiting, refused, opened, Run, silent, run_from_step, run}
-use Rattle.dbus_auth.specs.Lines.{first_cut, line_end, word_of}
+use Rattle.dbus_auth.specs.Lines.{first_cut, line_end, word_of, line_limit}
 use Rattle.dbus_auth.specs.Table.{fresh, step_of, next_of}
-use Rattle.dbus_auth.specs.declared.auth.TheConstants.{LINE_LIMIT}
 use Rattle.dbus_auth.specs.declared.auth.AuthFault.{AuthFault}
 use Rattle.dbus_auth.specs.declared.auth.AuthFault.TheVariants.{NoZero, LineTooLong, BeginTooSoon, EndedEarly}
 use Rattle.dbus_auth.specs.declared.auth.State.{State}
@@ -17,7 +16,7 @@ use Rattle.dbus_auth.specs.declared.auth.Step.TheVariants as step
 -- a line as the table is fed with it: no CR LF stands in it, and with one behind it it fits the limit
 pub record IsLine (line : List ℕ) : Type 0 where
   pub whole : first_cut line ≡ None
-  pub fits : length line + 2 ≤ LINE_LIMIT
+  pub fits : length line + 2 ≤ line_limit
 
 -- a line with its ending, and the rest behind it
 abbrev pub ended : List ℕ → List ℕ → List ℕ
@@ -26,12 +25,12 @@ ended line rest = line ++ (line_end ++ rest)
 -- no line ends in these bytes yet, and one still may
 pub record IsUnfinished (bytes : List ℕ) : Type 0 where
   pub none : first_cut bytes ≡ None
-  pub short : length bytes < LINE_LIMIT
+  pub short : length bytes < line_limit
 
 -- as many bytes as the limit are there, and no line has ended within them
 pub record IsTooLong (bytes : List ℕ) : Type 0 where
-  pub none : first_cut (take LINE_LIMIT bytes) ≡ None
-  pub long : LINE_LIMIT ≤ length bytes
+  pub none : first_cut (take line_limit bytes) ≡ None
+  pub long : line_limit ≤ length bytes
 
 -- the ways in which a run goes, as a relation on whole lists
 pub data Runs : Exchange → List ℕ → List (List ℕ) → End → Type 0 where

@@ -1,9 +1,8 @@
 -- D-Bus Specification, "Authentication Protocol": the run of the table over a stream of bytes.
 use Rattle.std.specs.Prelude.{ℕ, zero, suc, ◌+◌, ◌==◌, nat_lt, nat_le, if◌then◌else◌, List, [], ◌∷◌, length, Option, None, Some}
 use Rattle.dbus_auth.specs.Exchange.{Exchange}
-use Rattle.dbus_auth.specs.Lines.{Cut, first_cut}
+use Rattle.dbus_auth.specs.Lines.{Cut, first_cut, line_limit}
 use Rattle.dbus_auth.specs.Table.{fresh, step_of, next_of}
-use Rattle.dbus_auth.specs.declared.auth.TheConstants.{LINE_LIMIT}
 use Rattle.dbus_auth.specs.declared.auth.AuthFault.{AuthFault}
 use Rattle.dbus_auth.specs.declared.auth.AuthFault.TheVariants.{NoZero, LineTooLong}
 use Rattle.dbus_auth.specs.declared.auth.Step.{Step}
@@ -41,9 +40,9 @@ run_from_step (step.Refused fault) rest further = silent (refused fault)
 -- bytes of a line are there and it hasn't ended within them
 abbrev pub run_from_cut : (Exchange → List ℕ → Run) → Exchange → List ℕ → Option Cut → Run
 run_from_cut further at bytes None =
-    if nat_lt (length bytes) LINE_LIMIT then silent (waiting at bytes) else silent (refused LineTooLong)
+    if nat_lt (length bytes) line_limit then silent (waiting at bytes) else silent (refused LineTooLong)
 run_from_cut further at bytes (Some cut) =
-    if nat_le (length cut.line + 2) LINE_LIMIT then run_from_step (step_of at cut.line) cut.rest (further (next_of at cut.line) cut.rest) else silent (refused LineTooLong)
+    if nat_le (length cut.line + 2) line_limit then run_from_step (step_of at cut.line) cut.rest (further (next_of at cut.line) cut.rest) else silent (refused LineTooLong)
 
 -- the run of the table over the first n lines of the bytes, from a given place
 unfoldable pub run_lines : ℕ → Exchange → List ℕ → Run

@@ -6,6 +6,11 @@ use Rattle.std.specs.Option.{option_map_or}
 abbrev pub line_end : List ℕ
 line_end = 13 ∷ 10 ∷ []
 
+-- how many bytes a line may have, CR LF at its end among them (docs/DECISIONS.md, "A line of the handshake
+-- has 16,384 bytes at most")
+abbrev pub line_limit : ℕ
+line_limit = 16384
+
 -- a space
 abbrev pub is_space : ℕ → Bool
 is_space c = c == 32

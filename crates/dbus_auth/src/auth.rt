@@ -38,7 +38,7 @@ pub enum AuthFault {
 }
 
 /// What a line brings.
-#[derive(Debug, Drop)]
+#[derive(Drop)]
 pub enum Step {
     /// This line is answered, and the handshake goes on.
     Say(Answer),
@@ -50,7 +50,7 @@ pub enum Step {
 
 /// The server's half of one handshake. A contract sees the awaited user id, the server's GUID and
 /// the state of the table.
-#[derive(Debug, Drop)]
+#[derive(Drop)]
 pub struct Auth {
     uid: u32,
     guid: [u8; 32],

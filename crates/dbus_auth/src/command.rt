@@ -5,7 +5,7 @@ ghost use Rattle.dbus_auth.specs.Commands.{is_hex_of, is_accepted, auth_of, data
 use itoa::Buffer;
 
 // What a line asks, as far as the table of the handshake tells lines apart.
-#[derive(Clone, Copy, Debug, PartialEq, Eq)]
+#[derive(Clone, Copy)]
 pub(crate) enum Command {
     // `AUTH EXTERNAL` without an argument.
     External,

@@ -6,9 +6,10 @@ ghost use Rattle.dbus_auth.specs.Commands.{is_accepted};
 ghost use Rattle.dbus_auth.specs.Conversation.{IsLine, ended, Runs, joined, fed, continued, in_pieces, IsAccepted, GivesAccepted, Stands, HasLine, OkStands, IsOpened, IsWaiting, HasCause};
 ghost use Rattle.dbus_auth.specs.Exchange.{Exchange};
 ghost use Rattle.dbus_auth.specs.Handshake.{End, waiting, refused, opened, silent, run, handshake};
-ghost use Rattle.dbus_auth.specs.Lines.{EndsAt, first_cut, word_of};
+ghost use Rattle.dbus_auth.specs.Lines.{EndsAt, first_cut, line_limit, word_of};
 ghost use Rattle.dbus_auth.specs.Table.{fresh, step_of};
 ghost use Rattle.dbus_auth.specs.declared.auth.State.{State};
+ghost use Rattle.dbus_auth.specs.declared.auth.TheConstants.{LINE_LIMIT};
 ghost use Rattle.dbus_auth.specs.declared.auth.Step.TheVariants as step;
 ghost use Rattle.dbus_auth.specs.declared.auth.AuthFault.{AuthFault};
 ghost use Rattle.dbus_auth.specs.declared.auth.AuthFault.TheVariants.{NoZero, BeginTooSoon};
@@ -31,6 +32,11 @@ pub fn cut_at_the_first_line_end()
         ≡ Some (record { line = take place bytes; rest = drop (place + 2) bytes }) }
     ensures nowhere { (bytes : List ℕ) → ((k : ℕ) → EndsAt bytes k → ⊥)
         → first_cut bytes ≡ None }
+{}
+
+/// A law: the limit that callers are given is the one that the definitions have.
+pub fn a_line_has_16_384_bytes_at_most()
+    ensures { LINE_LIMIT ≡ line_limit }
 {}
 
 /// A law: a stream begins with a zero byte, and behind it the table runs.

@@ -10,14 +10,12 @@ mod answer;
 mod auth;
 mod command;
 mod laws;
-#[cfg(test)]
-mod tests;
 
 pub use answer::Answer;
 pub use auth::{Auth, AuthFault, LINE_LIMIT, State, Step};
 pub use laws::{
-    accepted_arguments, begins_with_zero, cut_anywhere, cut_at_the_first_line_end,
-    each_answer_has_its_line, each_refusal_has_its_cause, lines_one_by_one,
-    ok_answers_an_accepted_argument, ok_decides_begin, only_begin_opens, runs_line_by_line,
-    waits_for_the_end_of_a_line,
+    a_line_has_16_384_bytes_at_most, accepted_arguments, begins_with_zero, cut_anywhere,
+    cut_at_the_first_line_end, each_answer_has_its_line, each_refusal_has_its_cause,
+    lines_one_by_one, ok_answers_an_accepted_argument, ok_decides_begin, only_begin_opens,
+    runs_line_by_line, waits_for_the_end_of_a_line,
 };

@@ -138,18 +138,24 @@ goes_on most taken bytes left behind message within is cut sees ignored next =
 
 -- ---- the framer
 
-pub kept_behind : (most start now : ℕ) (fed moved fresh piece : List ℕ) (progress : Progress) → IsKept most fed start progress → now ≤ length moved
-    → drop now moved ≡ drop start fed → fresh ≡ moved ++ piece → IsKept most fresh now progress
-kept_behind most start now fed moved fresh piece progress kept within same is =
-    subst (λ (f : List ℕ). IsKept most f now progress) (sym is) (record {
-      within = omega (arith, length-append moved piece);
+-- what is kept when more is fed
+pub kept_more : (most start : ℕ) (fed fresh piece : List ℕ) (progress : Progress) → IsKept most fed start progress → fresh ≡ fed ++ piece
+    → IsKept most fresh start progress
+kept_more most start fed fresh piece progress kept is =
+    subst (λ (f : List ℕ). IsKept most f start progress) (sym is) (record {
+      few = omega (arith, kept.few, length-append fed piece);
       limited = kept.limited;
-      known = known_behind most now moved piece progress within (subst (λ (rest : List ℕ). IsKnown most rest progress) (sym same) kept.known);
+      known = known_behind most start fed piece progress (omega (arith, kept.few)) kept.known;
     })
+
+-- the bytes that messages took are half of what is held at most, and the others are those that no message took
+pub record Moved (fed moved : List ℕ) (taken now : ℕ) : Type 0 where
+  pub rest : drop now moved ≡ drop taken fed
+  pub few : now + now ≤ length moved
 
 -- what contracts see of a framer's parts
 abbrev pub framing : ℕ → List ℕ → ℕ → Progress → Framing
-framing most fed start progress = record { most = most; rest = drop start fed; broken = broken_in progress }
+framing most fed start progress = record { most = most; rest = drop start fed; broken = broken_in progress; held = length fed }
 
 -- a violation that was found is answered again
 pub refused_again : (most start : ℕ) (fed : List ℕ) (progress : Progress) (cause : Violation) (shown : Framing) → IsKept most fed start progress
@@ -189,15 +195,33 @@ behind_found most start fed rest found look it =
       sees = subst (λ (l : Look). SeesBehind most (drop (start + found.taken) fed) l) it.look_is sees;
     }
 
-pub kept_broken : (most start taken : ℕ) (fed : List ℕ) (cause : Violation) → most < 2 ^ 32 → Behind most start fed taken (looks.Broken cause)
-    → IsKept most fed (start + taken) (steps.Broken cause)
-kept_broken most start taken fed cause limited it = record { within = it.fits; limited = limited; known = it.sees.breaks }
+pub kept_broken : (most start taken now : ℕ) (fed moved : List ℕ) (cause : Violation) → most < 2 ^ 32 → Behind most start fed taken (looks.Broken cause)
+    → Moved fed moved (start + taken) now → IsKept most moved now (steps.Broken cause)
+kept_broken most start taken now fed moved cause limited it move = record {
+  few = move.few;
+  limited = limited;
+  known = subst (λ (rest : List ℕ). Breaks most rest cause) (sym move.rest) it.sees.breaks;
+}
 
-pub refused_now : (most start taken : ℕ) (fed : List ℕ) (cause : Violation) (progress : Progress) (shown : Framing) → Behind most start fed taken (looks.Broken cause)
-    → framing most fed start progress ≡ shown → Refused shown cause (framing most fed (start + taken) (steps.Broken cause))
-refused_now most start taken fed cause progress shown it view =
-    subst (λ (f : Framing). Refused f cause (framing most fed (start + taken) (steps.Broken cause))) view
-    (record { stream = record { cut = it.cut; no_more = it.sees.no_message }; breaks = it.sees.breaks; kept = refl; most = refl })
+-- what is known where more bytes are awaited
+pub kept_waiting : (most start taken now : ℕ) (fed moved : List ℕ) (progress : Progress) → most < 2 ^ 32 → Behind most start fed taken (looks.Waits progress)
+    → Moved fed moved (start + taken) now → IsKept most moved now progress
+kept_waiting most start taken now fed moved progress limited it move = record {
+  few = move.few;
+  limited = limited;
+  known = subst (λ (rest : List ℕ). IsKnown most rest progress) (sym move.rest) it.sees.known;
+}
+
+pub refused_now : (most start taken now : ℕ) (fed moved : List ℕ) (cause : Violation) (progress : Progress) (shown : Framing)
+    → Behind most start fed taken (looks.Broken cause) → Moved fed moved (start + taken) now
+    → framing most fed start progress ≡ shown → Refused shown cause (framing most moved now (steps.Broken cause))
+refused_now most start taken now fed moved cause progress shown it move view =
+    subst (λ (f : Framing). Refused f cause (framing most moved now (steps.Broken cause))) view (record {
+      stream = subst (λ (rest : List ℕ). Stream most (drop start fed) [] rest) (sym move.rest) (record { cut = it.cut; no_more = it.sees.no_message });
+      breaks = subst (λ (rest : List ℕ). Breaks most rest cause) (sym move.rest) it.sees.breaks;
+      kept = refl;
+      most = refl;
+    })
 
 pub record Waiting (old : Framing) (left : List ℕ) : Type 0 where
   pub stream : Stream old.most old.rest [] left

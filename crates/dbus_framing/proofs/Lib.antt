@@ -4,3 +4,5 @@ pub mod Cuts
 pub mod Fronts
 pub mod Exact
 pub mod Ends
+pub mod Layouts
+pub mod HeaderLemmas

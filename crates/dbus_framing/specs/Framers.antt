@@ -1,5 +1,5 @@
 -- What contracts see of a framer, and what its type keeps.
-use Rattle.std.specs.Prelude.{◌≡◌, ℕ, ◌≤◌, ◌<◌, ◌^◌, List, [], ◌∷◌, length, drop, Option, Some, None, Result, Ok, Err}
+use Rattle.std.specs.Prelude.{◌≡◌, ℕ, ◌+◌, ◌≤◌, ◌<◌, ◌^◌, List, [], ◌∷◌, length, drop, Option, Some, None, Result, Ok, Err}
 use Rattle.dbus_types.specs.declared.message.Message.{Message}
 use Rattle.dbus_framing.specs.declared.violation.Violation.{Violation}
 use Rattle.dbus_framing.specs.declared.violation.FrameRefused.{FrameRefused}
@@ -9,11 +9,21 @@ use Rattle.dbus_framing.specs.declared.progress.Progress.TheVariants as progress
 use Rattle.dbus_framing.specs.Messages.{Parts, parts_of, head_of}
 use Rattle.dbus_framing.specs.Streams.{Breaks, BreaksNone, Stream}
 
--- the reader's limit on a message, the bytes that no message took, and the violation that was found
+-- the reader's limit on a message, the bytes that no message took, the violation that was found, and how many bytes are
+-- held
 pub record Framing : Type 0 where
   pub most : ℕ
   pub rest : List ℕ
   pub broken : Option Violation
+  pub held : ℕ
+
+-- a framer of this limit that was fed these bytes alone, before they are looked at
+abbrev pub just_fed : ℕ → List ℕ → Framing
+just_fed most bytes = record { most = most; rest = bytes; broken = None; held = length bytes }
+
+-- what is held is at most twice what no message took
+abbrev pub HoldsFew : Framing → Type 0
+HoldsFew framing = framing.held ≤ length framing.rest + length framing.rest
 
 -- the violation that was found
 abbrev pub broken_in : Progress → Option Violation
@@ -27,9 +37,10 @@ IsKnown most rest progress.Nothing = Unit {0}
 IsKnown most rest (progress.Begun head) = (16 ≤ length rest) × (head_of most rest ≡ Ok head)
 IsKnown most rest (progress.Broken cause) = Breaks most rest cause
 
--- what a framer keeps: the limit, the bytes that it holds, how many of them messages took, and what is known of the others
+-- What a framer keeps: the limit, the bytes that it holds, how many of them messages took, which is half of them at most,
+-- and what is known of the others.
 pub record IsKept (most : ℕ) (fed : List ℕ) (start : ℕ) (progress : Progress) : Type 0 where
-  pub within : start ≤ length fed
+  pub few : start + start ≤ length fed
   pub limited : most < 2 ^ 32
   pub known : IsKnown most (drop start fed) progress
 

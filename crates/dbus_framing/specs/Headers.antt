@@ -129,9 +129,13 @@ two_of _ = None
 abbrev pub coded_in : Val × Val → Option (ℕ × Val)
 coded_in pair = option_and_then (λ code. option_map (λ value. (code, value)) (held_in pair.1)) (code_in pair.0)
 
+-- the two parts of a struct of two
+abbrev pub pair_in : Val → Option (Val × Val)
+pair_in value = option_and_then two_of (parts_in value)
+
 -- the code and the value of a field, `(yv)`
 abbrev pub field_in : Val → Option (ℕ × Val)
-field_in field = option_and_then (λ parts. option_and_then coded_in (two_of parts)) (parts_in field)
+field_in field = option_and_then coded_in (pair_in field)
 
 -- the fields with one more, which is given as `(yv)`
 abbrev pub with_value : Fields → Val → Option Fields
@@ -147,14 +151,22 @@ abbrev pub one_of : Vals → Option Val
 one_of (Vals.more value Vals.end) = Some value
 one_of _ = None
 
--- whether the type is a struct's
-abbrev pub is_struct : Ty → Bool
-is_struct (Ty.struct types) = true
-is_struct _ = false
+-- the types of a field's code and its value
+abbrev pub field_parts : Tys
+field_parts = Tys.more (Ty.basic basics.Byte) (Tys.more Ty.variant Tys.end)
 
--- the elements of an array of structs
+-- the type of a field, `(yv)`
+abbrev pub field_type : Ty
+field_type = Ty.struct field_parts
+
+-- whether the type is that of a field
+abbrev pub is_field_type : Ty → Bool
+is_field_type (Ty.struct (Tys.more (Ty.basic basics.Byte) (Tys.more Ty.variant Tys.end))) = true
+is_field_type _ = false
+
+-- the elements of an array of fields
 abbrev pub structs_in : Val → Option Vals
-structs_in (Val.array element elements) = where_is (is_struct element) elements
+structs_in (Val.array element elements) = where_is (is_field_type element) elements
 structs_in _ = None
 
 -- the header whose field array was read as these values

@@ -1,5 +1,5 @@
 -- D-Bus Specification, "Message Format": which bytes are a message, and what it says.
-use Rattle.std.specs.Prelude.{◌≡◌, ◌≢◌, ℕ, ◌+◌, ◌≤◌, ◌==◌, nat_lt, not, IsTrue, List, length, take, drop, slice_index, Option, Some, None, Result, Ok, Err, unwrap_or, option_and_then, if◌then◌else◌}
+use Rattle.std.specs.Prelude.{◌≡◌, ◌≢◌, ℕ, ◌+◌, ◌≤◌, ◌==◌, nat_lt, not, IsTrue, List, ◌++◌, length, take, drop, slice_index, Option, Some, None, Result, Ok, Err, unwrap_or, option_and_then, if◌then◌else◌}
 use Rattle.std.specs.Result.{result_ok}
 use Rattle.std.specs.Int.{w32}
 use Rattle.dbus_types.specs.declared.endian.Endian.{Endian}
@@ -8,9 +8,9 @@ use Rattle.dbus_types.specs.declared.complete_type.BasicType.TheVariants as basi
 use Rattle.dbus_types.specs.declared.message.Message.{Message}
 use Rattle.dbus_types.specs.Types.{Ty, Tys, is_signature}
 use Rattle.dbus_types.specs.SignatureViews.{types_in}
-use Rattle.dbus_types.specs.Values.{Vals}
+use Rattle.dbus_types.specs.Values.{Val, Vals}
 use Rattle.dbus_types.specs.ValueViews.{values_of}
-use Rattle.dbus_marshal.specs.Wire.{padding, number_from}
+use Rattle.dbus_marshal.specs.Wire.{padding, zeros, number_from}
 use Rattle.dbus_marshal.specs.Marshals.{AreSpelled}
 use Rattle.dbus_marshal.specs.Reading.{are_zero, values_at}
 use Rattle.dbus_framing.specs.declared.violation.Violation.{Violation}
@@ -132,6 +132,34 @@ pub record IsMessage (most : ℕ) (bytes : List ℕ) (parts : Parts) : Type 0 wh
   pub listed : IsTrue (is_signature (body_types fields))
   pub bodied : AreSpelled endian 0 (body_types fields) body (drop (body_start endian bytes) bytes)
   pub says : parts ≡ parts_from endian bytes fields body
+
+-- ---- the same bytes as a header and a body
+
+-- the types of a header: `yyyyuua(yv)`
+abbrev pub header_types : Tys
+header_types =
+    Tys.more (Ty.basic basics.Byte) (Tys.more (Ty.basic basics.Byte) (Tys.more (Ty.basic basics.Byte) (Tys.more (Ty.basic basics.Byte)
+    (Tys.more (Ty.basic basics.Uint32) (Tys.more (Ty.basic basics.Uint32) field_types)))))
+
+-- the values of a header: byte order, type, flags, version 1, the body's length, the serial, the array of fields
+abbrev pub header_values : ℕ → ℕ → Parts → Vals → Vals
+header_values mark count parts array =
+    Vals.more (Val.number basics.Byte mark) (Vals.more (Val.number basics.Byte parts.kind) (Vals.more (Val.number basics.Byte parts.flags) (Vals.more (Val.number basics.Byte 1)
+    (Vals.more (Val.number basics.Uint32 count) (Vals.more (Val.number basics.Uint32 parts.serial) array)))))
+
+-- The bytes are the spelling of a header, zeros up to the next multiple of 8, and the spelling of the body.
+pub record IsHeaderAndBody (bytes : List ℕ) (parts : Parts) : Type 0 where
+  pub endian : Endian
+  pub mark : ℕ
+  pub array : Vals
+  pub fields : Fields
+  pub header : List ℕ
+  pub body : List ℕ
+  pub marked : endian_of mark ≡ Some endian
+  pub whole : bytes ≡ header ++ (zeros (padding 8 (length header)) ++ body)
+  pub headed : AreSpelled endian 0 header_types (header_values mark (length body) parts array) header
+  pub listed : fields_in array ≡ Some fields
+  pub bodied : AreSpelled endian 0 (body_types fields) parts.body body
 
 -- ---- the violations, in the order in which they are looked at
 

@@ -45,13 +45,6 @@ pub data Breaks (most : ℕ) (bytes : List ℕ) (cause : Violation) : Type 0 whe
   late : (head : Head) → 16 ≤ length bytes → head_of most bytes ≡ Ok head → head.size ≤ length bytes
       → message_at head.endian (take head.size bytes) ≡ Err cause → Breaks most bytes cause
 
--- a message of the stream is violated, with this cause: the rest behind the messages that stand whole
-pub record Violates (most : ℕ) (bytes : List ℕ) (cause : Violation) : Type 0 where
-  pub messages : List Parts
-  pub rest : List ℕ
-  pub stream : Stream most bytes messages rest
-  pub broken : Breaks most rest cause
-
 -- the bytes show no violation
 abbrev pub BreaksNone : ℕ → List ℕ → Type 0
 BreaksNone most bytes = (cause : Violation) → Breaks most bytes cause → ⊥

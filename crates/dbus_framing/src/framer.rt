@@ -3,13 +3,13 @@ ghost use Rattle.dbus_framing.specs.declared.violation.Violation.{Violation};
 ghost use Rattle.dbus_framing.specs.declared.violation.FrameRefused.TheVariants as refused;
 ghost use Rattle.dbus_framing.specs.Messages.{parts_of, head_of};
 ghost use Rattle.dbus_framing.specs.Streams.{Cut, Stream, BreaksNone};
-ghost use Rattle.dbus_framing.specs.Framers.{Framing, IsKnown, IsRefusal, IsExact, broken_in};
+ghost use Rattle.dbus_framing.specs.Framers.{Framing, HoldsFew, IsKnown, IsRefusal, IsExact, broken_in, just_fed};
 ghost use Rattle.dbus_framing.specs.Looks.{Sees, Finds};
 
 use crate::OutOfMemory;
 use crate::head::{Head, head_of};
 use crate::progress::Progress;
-use crate::reading::message_at;
+use crate::reading::{FieldTypes, message_at};
 use crate::violation::{FrameRefused, Violation};
 use dbus_types::Message;
 use std::alloc::{AllocError, Global};
@@ -19,7 +19,7 @@ use std::marker::Model;
 const KEPT_ROOM: usize = 65_536;
 
 /// What is seen in front of a stream.
-#[derive(Debug, Drop)]
+#[derive(Drop)]
 enum Look {
     Waits(Progress),
     Broken(Violation),
@@ -27,15 +27,16 @@ enum Look {
 }
 
 /// What is found behind the messages of ignored types.
-#[derive(Debug, Drop)]
+#[derive(Drop)]
 struct Found {
     taken: usize,
     look: Look,
 }
 
 /// Takes messages out of bytes that come in any pieces (D-Bus Specification, "Message Format"). A
-/// contract sees the reader's limit, the bytes that no message took, and the violation that was found.
-#[derive(Debug, Drop)]
+/// contract sees the reader's limit, the bytes that no message took, the violation that was found, and how
+/// many bytes are held.
+#[derive(Drop)]
 pub struct Framer {
     most: u32,
     // The bytes fed, from the first one that is kept.
@@ -43,6 +44,8 @@ pub struct Framer {
     // How many of them messages took.
     start: usize,
     progress: Progress,
+    // Made at the first look.
+    field_types: Option<FieldTypes>,
 }
 
 impl Model for Framer {
@@ -50,13 +53,14 @@ impl Model for Framer {
 
     ghost Value = { Framing };
 
-    ghost use Rattle.std.specs.Prelude.{drop};
+    ghost use Rattle.std.specs.Prelude.{drop, length};
     ghost use Rattle.dbus_framing.specs.Framers.{IsKnown, broken_in, IsKept};
 
     ghost view = { λ framer. record {
       most = framer.most;
       rest = drop framer.start framer.fed.items;
       broken = broken_in framer.progress;
+      held = length framer.fed.items;
     } };
 
     ghost invariant = { λ framer.
@@ -76,7 +80,13 @@ fn head_known(most: u32, progress: Progress, bytes: &[u8]) -> Result<Head, Viola
     }
 }
 
-fn look_at(alloc: Global, most: u32, progress: Progress, bytes: &[u8]) -> Result<Look, OutOfMemory>
+fn look_at(
+    alloc: Global,
+    types: &FieldTypes,
+    most: u32,
+    progress: Progress,
+    bytes: &[u8],
+) -> Result<Look, OutOfMemory>
     requires known { IsKnown most bytes.now progress }
     requires whole { broken_in progress ≡ None }
     ensures { IfOk result (Sees most bytes.now) }
@@ -92,14 +102,20 @@ fn look_at(alloc: Global, most: u32, progress: Progress, bytes: &[u8]) -> Result
         return Ok(Look::Waits(Progress::Begun(head)));
     }
     let (whole, _) = bytes.split_at(head.size);
-    match message_at(alloc, head.endian, whole) {
+    match message_at(alloc, types, head.endian, whole) {
         Ok(message) => Ok(Look::Whole(message)),
         Err(FrameRefused::Violation(cause)) => Ok(Look::Broken(cause)),
         Err(FrameRefused::OutOfMemory) => Err(AllocError),
     }
 }
 
-fn find(alloc: Global, most: u32, progress: Progress, bytes: &[u8]) -> Result<Found, OutOfMemory>
+fn find(
+    alloc: Global,
+    types: &FieldTypes,
+    most: u32,
+    progress: Progress,
+    bytes: &[u8],
+) -> Result<Found, OutOfMemory>
     requires known { IsKnown most bytes.now progress }
     requires whole { broken_in progress ≡ None }
     ensures { IfOk result (Finds most bytes.now) }
@@ -108,7 +124,7 @@ fn find(alloc: Global, most: u32, progress: Progress, bytes: &[u8]) -> Result<Fo
     let mut left = bytes;
     let mut progress = progress;
     'messages: loop {
-        let seen = look_at(alloc, most, progress, left)?;
+        let seen = look_at(alloc, types, most, progress, left)?;
         let Look::Whole(message) = seen else {
             return Ok(Found { taken, look: seen });
         };
@@ -153,7 +169,7 @@ fn let_go(bytes: &mut Vec<u8>, taken: usize)
 fn make_room(bytes: &mut Vec<u8>, taken: usize) -> usize
     requires { taken ≤ vec_len bytes.old }
     ensures rest { drop result bytes.new.items ≡ drop taken bytes.old.items }
-    ensures few { result + result ≤ vec_len bytes.new }
+    ensures few { result + result ≤ length bytes.new.items }
 {
     if taken < bytes.len() - taken {
         return taken;
@@ -166,13 +182,14 @@ impl Framer {
     /// A framer that nothing was fed to. `most` is how many bytes a message may have. It takes no
     /// memory.
     pub fn new(alloc: Global, most: u32) -> Framer
-        ensures { result ≡ record { most = most; rest = []; broken = None } }
+        ensures { result ≡ just_fed most [] }
     {
         Framer {
             most,
             fed: Vec::new(alloc),
             start: 0,
             progress: Progress::Nothing,
+            field_types: None,
         }
     }
 
@@ -180,11 +197,13 @@ impl Framer {
     ///
     /// Refused with `OutOfMemory`, and then nothing has changed.
     pub fn feed(&mut self, piece: &[u8]) -> Result<(), OutOfMemory>
-        ensures fed { OnOk result
-            (self.new ≡ record self.old { rest = self.old.rest ++ piece.now }) }
+        ensures fed { OnOk result (self.new ≡ record self.old {
+          rest = self.old.rest ++ piece.now;
+          held = self.old.held + length piece.now;
+        }) }
+        ensures few { HoldsFew self.new }
         ensures unchanged { OnErr result (self.new ≡ self.old) }
     {
-        self.start = make_room(&mut self.fed, self.start);
         self.fed.extend_from_slice(piece)?;
         Ok(())
     }
@@ -203,6 +222,7 @@ impl Framer {
             × BreaksNone self.old.most self.new.rest)) }
         ensures unbroken { OnOk result (self.new.broken ≡ None) }
         ensures most { self.new.most ≡ self.old.most }
+        ensures few { HoldsFew self.new }
 
         // A violation is the first one, and stays. For want of memory nothing changes.
         ensures refused { IfErr result (λ refusal. IsRefusal self.old refusal self.new) }
@@ -216,14 +236,17 @@ impl Framer {
             return Err(FrameRefused::Violation(cause));
         }
         let alloc = *self.fed.allocator();
+        let types = match self.field_types.take() {
+            Some(types) => types,
+            None => FieldTypes::new(alloc)?,
+        };
         let (_, rest) = self.fed.as_slice().split_at(self.start);
-        let found = find(alloc, self.most, self.progress, rest)?;
-        self.start += found.taken;
+        let found = find(alloc, &types, self.most, self.progress, rest)?;
+        self.field_types = Some(types);
+        self.start = make_room(&mut self.fed, self.start + found.taken);
         match found.look {
             Look::Waits(progress) => {
                 self.progress = progress;
-                let_go(&mut self.fed, self.start);
-                self.start = 0;
                 Ok(None)
             }
             Look::Broken(cause) => {

@@ -8,7 +8,7 @@ use dbus_types::Endian;
 
 /// What the first 16 bytes of a message say: in which order the bytes of its numbers stand, and how
 /// many bytes it has.
-#[derive(Clone, Copy, Debug, PartialEq, Eq)]
+#[derive(Clone, Copy)]
 pub struct Head {
     pub endian: Endian,
     pub size: usize,

@@ -1,7 +1,8 @@
 ghost use Rattle.std.specs.Prelude.{◌≡◌, IsTrue, Option, option_map};
-ghost use Rattle.dbus_types.specs.ValueViews.{value_of, values_of};
-ghost use Rattle.dbus_framing.specs.Headers.{no_fields, kind_of, once, with_field, with_value, with_values, fields_in, has_needed};
+ghost use Rattle.dbus_types.specs.ValueViews.{value_of, values_of, value_as, each_as};
+ghost use Rattle.dbus_framing.specs.Headers.{no_fields, kind_of, once, with_field, with_value, with_values, fields_in, has_needed, field_type};
 ghost use Rattle.dbus_framing.specs.HeaderViews.{fields_of};
+ghost use Rattle.dbus_framing.specs.declared.header.FieldKind.TheVariants as kinds;
 
 use crate::opened::{
     field_in, interface_in, member_in, number_in, one_of, path_in, serial_in, signature_in,
@@ -11,7 +12,7 @@ use dbus_types::{Signature, Value};
 use kr_base::Text;
 
 /// A header field, by its code (D-Bus Specification, "Message Format", "Header Fields").
-#[derive(Clone, Copy, Debug, PartialEq, Eq)]
+#[derive(Clone, Copy)]
 pub enum FieldKind {
     Invalid,
     Path,
@@ -27,7 +28,7 @@ pub enum FieldKind {
 }
 
 /// The header fields of a message.
-#[derive(Debug, Drop)]
+#[derive(Drop)]
 pub struct Header {
     pub path: Option<Text>,
     pub interface: Option<Text>,
@@ -84,44 +85,109 @@ fn empty() -> Header
     }
 }
 
+fn with_path(header: Header, value: Value) -> Option<Header>
+    ensures { option_map fields_of result
+        ≡ with_field (fields_of header) kinds.Path (value_of value) }
+{
+    let mut header = header;
+    header.path = Some(once(&header.path, path_in(value))?);
+    Some(header)
+}
+
+fn with_interface(header: Header, value: Value) -> Option<Header>
+    ensures { option_map fields_of result
+        ≡ with_field (fields_of header) kinds.Interface (value_of value) }
+{
+    let mut header = header;
+    header.interface = Some(once(&header.interface, interface_in(value))?);
+    Some(header)
+}
+
+fn with_member(header: Header, value: Value) -> Option<Header>
+    ensures { option_map fields_of result
+        ≡ with_field (fields_of header) kinds.Member (value_of value) }
+{
+    let mut header = header;
+    header.member = Some(once(&header.member, member_in(value))?);
+    Some(header)
+}
+
+fn with_error_name(header: Header, value: Value) -> Option<Header>
+    ensures { option_map fields_of result
+        ≡ with_field (fields_of header) kinds.ErrorName (value_of value) }
+{
+    let mut header = header;
+    header.error_name = Some(once(&header.error_name, interface_in(value))?);
+    Some(header)
+}
+
+fn with_reply_serial(header: Header, value: Value) -> Option<Header>
+    ensures { option_map fields_of result
+        ≡ with_field (fields_of header) kinds.ReplySerial (value_of value) }
+{
+    let mut header = header;
+    header.reply_serial = Some(once(&header.reply_serial, serial_in(value))?);
+    Some(header)
+}
+
+fn with_destination(header: Header, value: Value) -> Option<Header>
+    ensures { option_map fields_of result
+        ≡ with_field (fields_of header) kinds.Destination (value_of value) }
+{
+    let mut header = header;
+    header.destination = Some(once(&header.destination, string_in(value))?);
+    Some(header)
+}
+
+fn with_sender(header: Header, value: Value) -> Option<Header>
+    ensures { option_map fields_of result
+        ≡ with_field (fields_of header) kinds.Sender (value_of value) }
+{
+    let mut header = header;
+    header.sender = Some(once(&header.sender, string_in(value))?);
+    Some(header)
+}
+
+fn with_signature(header: Header, value: Value) -> Option<Header>
+    ensures { option_map fields_of result
+        ≡ with_field (fields_of header) kinds.Signature (value_of value) }
+{
+    let mut header = header;
+    header.signature = Some(once(&header.signature, signature_in(value))?);
+    Some(header)
+}
+
+fn with_unix_fds(header: Header, value: Value) -> Option<Header>
+    ensures { option_map fields_of result
+        ≡ with_field (fields_of header) kinds.UnixFds (value_of value) }
+{
+    let mut header = header;
+    header.unix_fds = Some(once(&header.unix_fds, number_in(value))?);
+    Some(header)
+}
+
 // The header with one more field.
 fn with_field(header: Header, kind: FieldKind, value: Value) -> Option<Header>
     ensures { option_map fields_of result ≡ with_field (fields_of header) kind (value_of value) }
 {
-    let mut header = header;
     match kind {
-        FieldKind::Invalid => return None,
-        FieldKind::Path => header.path = Some(once(&header.path, path_in(value))?),
-        FieldKind::Interface => header.interface = Some(once(
-            &header.interface,
-            interface_in(value),
-        )?),
-        FieldKind::Member => header.member = Some(once(&header.member, member_in(value))?),
-        FieldKind::ErrorName => header.error_name = Some(once(
-            &header.error_name,
-            interface_in(value),
-        )?),
-        FieldKind::ReplySerial => header.reply_serial = Some(once(
-            &header.reply_serial,
-            serial_in(value),
-        )?),
-        FieldKind::Destination => header.destination = Some(once(
-            &header.destination,
-            string_in(value),
-        )?),
-        FieldKind::Sender => header.sender = Some(once(&header.sender, string_in(value))?),
-        FieldKind::Signature => header.signature = Some(once(
-            &header.signature,
-            signature_in(value),
-        )?),
-        FieldKind::UnixFds => header.unix_fds = Some(once(&header.unix_fds, number_in(value))?),
-        FieldKind::Unknown => {}
+        FieldKind::Invalid => None,
+        FieldKind::Path => with_path(header, value),
+        FieldKind::Interface => with_interface(header, value),
+        FieldKind::Member => with_member(header, value),
+        FieldKind::ErrorName => with_error_name(header, value),
+        FieldKind::ReplySerial => with_reply_serial(header, value),
+        FieldKind::Destination => with_destination(header, value),
+        FieldKind::Sender => with_sender(header, value),
+        FieldKind::Signature => with_signature(header, value),
+        FieldKind::UnixFds => with_unix_fds(header, value),
+        FieldKind::Unknown => Some(header),
     }
-    Some(header)
 }
 
 fn with_value(header: Header, field: Value) -> Option<Header>
-    ensures { option_map fields_of result ≡ with_value (fields_of header) (value_of field) }
+    ensures { option_map fields_of result
+        ≡ with_value (fields_of header) (value_as field_type field) }
 {
     let (code, value) = field_in(field)?;
     with_field(header, kind_of(code), value)
@@ -129,7 +195,7 @@ fn with_value(header: Header, field: Value) -> Option<Header>
 
 fn with_values(header: Header, fields: Vec<Value>) -> Option<Header>
     ensures { option_map fields_of result
-        ≡ with_values (fields_of header) (values_of fields.items) }
+        ≡ with_values (fields_of header) (each_as field_type fields.items) }
 {
     let mut header = header;
     for field in fields {

@@ -1,9 +1,9 @@
 // What the definitions of messages and streams say together. Each law is the contract of a function
 // that does nothing.
-ghost use Rattle.std.specs.Prelude.{◌≡◌, ℕ, ◌++◌, List, []};
+ghost use Rattle.std.specs.Prelude.{◌≡◌, ◌<◌, ℕ, ◌++◌, List, [], slice_index};
 ghost use Rattle.dbus_framing.specs.declared.violation.Violation.{Violation};
 ghost use Rattle.dbus_framing.specs.declared.violation.Violation.TheVariants as violation;
-ghost use Rattle.dbus_framing.specs.Messages.{Parts, IsMessage};
+ghost use Rattle.dbus_framing.specs.Messages.{Parts, IsHeaderAndBody, IsMessage};
 ghost use Rattle.dbus_framing.specs.Streams.{Cut, Stream, BeginsNone, Breaks, Turn, Went, fed_in, answered_in};
 
 /// No spelling of a message begins another, also under another limit: what was sent is read again,
@@ -17,6 +17,14 @@ pub fn a_spelling_begins_no_other()
 pub fn a_message_has_one_meaning()
     ensures { (most : ℕ) (bytes : List ℕ) (one other : Parts)
         → IsMessage most bytes one → IsMessage most bytes other → one ≡ other }
+{}
+
+/// A message is the spelling of a header of the types `yyyyuua(yv)`, zeros up to the next multiple of 8, and
+/// the spelling of its body (D-Bus Specification, "Message Format").
+pub fn a_message_is_a_header_and_a_body()
+    ensures { (most : ℕ) (bytes : List ℕ) (parts : Parts)
+        → ((place : ℕ) → slice_index bytes place < 256) → IsMessage most bytes parts
+        → IsHeaderAndBody bytes parts }
 {}
 
 /// Bytes are one stream: the messages that stand whole in them are these and no others, and the rest is

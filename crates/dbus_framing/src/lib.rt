@@ -14,15 +14,13 @@ mod names;
 mod opened;
 mod progress;
 mod reading;
-#[cfg(test)]
-mod tests;
 mod violation;
 
 pub use framer::Framer;
 pub use laws::{
-    a_message_has_one_meaning, a_spelling_begins_no_other, answers_add_up,
-    answers_begin_the_stream, answers_begin_the_stream_of_any_pieces, bytes_are_one_stream,
-    no_bytes_end_inside, violations_stay,
+    a_message_has_one_meaning, a_message_is_a_header_and_a_body, a_spelling_begins_no_other,
+    answers_add_up, answers_begin_the_stream, answers_begin_the_stream_of_any_pieces,
+    bytes_are_one_stream, no_bytes_end_inside, violations_stay,
 };
 pub use names::{is_interface_name, is_member_name};
 pub use violation::{FrameRefused, Violation};

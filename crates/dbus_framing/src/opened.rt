@@ -1,12 +1,15 @@
 // What values hold: each answers None where the value is none of its type.
 ghost use Rattle.std.specs.Prelude.{◌≡◌, option_map};
 ghost use Rattle.dbus_types.specs.SignatureViews.{types_in};
-ghost use Rattle.dbus_types.specs.Views.{type_of};
-ghost use Rattle.dbus_types.specs.ValueViews.{value_of, values_of};
-ghost use Rattle.dbus_framing.specs.Headers.{path_in, string_in, number_in, types_in_value, interface_in, member_in, serial_in, parts_in, code_in, held_in, two_of, field_in, one_of, is_struct, structs_in};
+ghost use Rattle.dbus_types.specs.Types.{Ty};
+ghost use Rattle.dbus_types.specs.declared.complete_type.BasicType.TheVariants.{Byte};
+ghost use Rattle.dbus_types.specs.Views.{type_of, types_of};
+ghost use Rattle.dbus_types.specs.ValueViews.{value_of, values_of, value_as, all_as, each_as};
+ghost use Rattle.dbus_framing.specs.Headers.{path_in, string_in, number_in, types_in_value, interface_in, member_in, serial_in, code_in, held_in, two_of, pair_in, field_in, one_of, field_type, field_parts, is_field_type, structs_in};
 
 use crate::names::{is_interface_name, is_member_name};
-use dbus_types::{CompleteType, Signature, Value};
+use dbus_marshal::is_byte;
+use dbus_types::{CompleteType, Signature, Value, fields_in, is_variant, lone_in};
 use kr_base::Text;
 
 /// The path that a value of type `o` is.
@@ -82,17 +85,8 @@ pub fn serial_in(value: Value) -> Option<u32>
     Some(number)
 }
 
-fn parts_in(value: Value) -> Option<Vec<Value>>
-    ensures { option_map (λ parts. values_of parts.items) result ≡ parts_in (value_of value) }
-{
-    match value {
-        Value::Struct(parts) => Some(parts),
-        _ => None,
-    }
-}
-
 fn code_in(value: Value) -> Option<u8>
-    ensures { result ≡ code_in (value_of value) }
+    ensures { result ≡ code_in (value_as (Ty.basic Byte) value) }
 {
     match value {
         Value::Byte(code) => Some(code),
@@ -110,8 +104,8 @@ fn held_in(value: Value) -> Option<Value>
 }
 
 fn two_of(values: Vec<Value>) -> Option<(Value, Value)>
-    ensures { option_map (λ two. (value_of two.0, value_of two.1)) result
-        ≡ two_of (values_of values.items) }
+    ensures { option_map (λ two. (value_as (Ty.basic Byte) two.0, value_of two.1)) result
+        ≡ two_of (all_as field_parts values.items) }
 {
     let mut values = values;
     if values.len() != 2 {
@@ -122,11 +116,22 @@ fn two_of(values: Vec<Value>) -> Option<(Value, Value)>
     Some((first, second))
 }
 
+fn pair_in(value: Value) -> Option<(Value, Value)>
+    ensures { option_map (λ two. (value_as (Ty.basic Byte) two.0, value_of two.1)) result
+        ≡ pair_in (value_as field_type value) }
+{
+    match value {
+        Value::Struct(parts) => two_of(parts),
+        _ => None,
+    }
+}
+
 /// The code and the value of a header field, which is a struct `(yv)`.
 pub fn field_in(field: Value) -> Option<(u8, Value)>
-    ensures { option_map (λ it. (it.0, value_of it.1)) result ≡ field_in (value_of field) }
+    ensures { option_map (λ it. (it.0, value_of it.1)) result
+        ≡ field_in (value_as field_type field) }
 {
-    let (code, value) = two_of(parts_in(field)?)?;
+    let (code, value) = pair_in(field)?;
     let code = code_in(code)?;
     Some((code, held_in(value)?))
 }
@@ -142,26 +147,39 @@ pub fn one_of(values: Vec<Value>) -> Option<Value>
     values.pop()
 }
 
-fn is_struct(complete_type: &CompleteType) -> bool
-    ensures { result ≡ is_struct (type_of complete_type.now) }
+fn is_field_type(complete_type: &CompleteType) -> bool
+    ensures { result ≡ is_field_type (type_of complete_type.now) }
 {
-    match complete_type {
-        CompleteType::Struct(_) => true,
-        _ => false,
+    match fields_in(complete_type) {
+        Some(types) => are_field_parts(types),
+        None => false,
     }
 }
 
-/// The elements of an array of structs.
+fn are_field_parts(types: &[CompleteType]) -> bool
+    ensures { result ≡ is_field_type (Ty.struct (types_of types.now)) }
+{
+    let Some((code, others)) = types.split_first() else {
+        return false;
+    };
+    let Some(value) = lone_in(others, true) else {
+        return false;
+    };
+    is_byte(code) && is_variant(value)
+}
+
+/// The elements of an array of fields.
 pub fn structs_in(array: Value) -> Option<Vec<Value>>
-    ensures { option_map (λ elements. values_of elements.items) result
+    ensures { option_map (λ elements. each_as field_type elements.items) result
         ≡ structs_in (value_of array) }
 {
     match array {
-        Value::Array(element, elements) => {
-            if !is_struct(&element) {
+        Value::Array(array) => {
+            let array = Box::into_inner(array);
+            if !is_field_type(&array.element) {
                 return None;
             }
-            Some(elements)
+            Some(array.values)
         }
         _ => None,
     }

@@ -2,7 +2,7 @@ use crate::head::Head;
 use crate::violation::Violation;
 
 /// What is known of the bytes that no message took.
-#[derive(Clone, Copy, Debug, PartialEq, Eq)]
+#[derive(Clone, Copy)]
 pub enum Progress {
     /// Nothing: fewer than 16 bytes are there, or they weren't looked at.
     Nothing,

@@ -16,6 +16,7 @@ use crate::violation::{FrameRefused, Violation};
 use dbus_marshal::{ValueFault, unmarshal};
 use dbus_types::{Endian, Message, Signature, SignatureFault, Value};
 use std::alloc::{AllocError, Global};
+use std::marker::Model;
 
 // The values of which the bytes are the spelling, where they are one.
 fn values_in(
@@ -58,6 +59,42 @@ fn field_signature(alloc: Global) -> Result<Signature, OutOfMemory>
     }
 }
 
+/// The types of the header fields, made once for many messages. A contract sees
+/// their text.
+#[derive(Drop)]
+pub struct FieldTypes {
+    signature: Signature,
+}
+
+impl Model for FieldTypes {
+    ghost use Rattle.std.specs.Prelude.{List, ℕ};
+
+    ghost Value = { List ℕ };
+
+    ghost use Rattle.std.specs.Prelude.{◌≡◌};
+    ghost use Rattle.dbus_types.specs.Types.{texts_of};
+    ghost use Rattle.dbus_types.specs.SignatureViews.{types_in};
+    ghost use Rattle.dbus_framing.specs.Messages.{field_types};
+
+    ghost view = { λ types. texts_of (types_in types.signature) };
+
+    ghost invariant = { λ types. types_in types.signature ≡ field_types };
+}
+
+impl FieldTypes {
+    /// The types `a(yv)`.
+    pub fn new(alloc: Global) -> Result<FieldTypes, OutOfMemory> {
+        let signature = field_signature(alloc)?;
+        Ok(FieldTypes { signature })
+    }
+
+    fn signature(&self) -> &Signature
+        ensures { types_in result.now ≡ field_types }
+    {
+        &self.signature
+    }
+}
+
 fn are_zero(bytes: &[u8]) -> bool
     ensures { result ≡ are_zero bytes.now }
 {
@@ -73,7 +110,12 @@ fn are_zero(bytes: &[u8]) -> bool
 
 // The header fields of a message, where they and the padding behind them are as they must be.
 #[tactic(auto, unfolding(crate::specs::Messages::fields_at))]
-fn fields_at(alloc: Global, endian: Endian, bytes: &[u8]) -> Result<Option<Header>, OutOfMemory>
+fn fields_at(
+    alloc: Global,
+    types: &FieldTypes,
+    endian: Endian,
+    bytes: &[u8],
+) -> Result<Option<Header>, OutOfMemory>
     requires begun { 16 ≤ length bytes.now }
     requires whole { body_start endian bytes.now ≤ length bytes.now }
     ensures { IfOk result (λ found. option_map fields_of found ≡ fields_at endian bytes.now) }
@@ -86,8 +128,7 @@ fn fields_at(alloc: Global, endian: Endian, bytes: &[u8]) -> Result<Option<Heade
     }
     let (_, from_fields) = bytes.split_at(12);
     let (fields, _) = from_fields.split_at(4 + count);
-    let signature = field_signature(alloc)?;
-    match values_in(alloc, &signature, endian, 12, fields)? {
+    match values_in(alloc, types.signature(), endian, 12, fields)? {
         Some(values) => Ok(fields_in(values)),
         None => Ok(None),
     }
@@ -144,14 +185,19 @@ fn bodied(
 ///
 /// Refused with the first violation of `BadHeader`, `MissingField` and `BadBody`, and with
 /// `OutOfMemory`.
-pub fn message_at(alloc: Global, endian: Endian, bytes: &[u8]) -> Result<Message, FrameRefused>
+pub fn message_at(
+    alloc: Global,
+    types: &FieldTypes,
+    endian: Endian,
+    bytes: &[u8],
+) -> Result<Message, FrameRefused>
     requires begun { 16 ≤ length bytes.now }
     requires whole { length bytes.now ≡ size_at endian bytes.now }
     requires numbered { word_at endian 8 bytes.now ≢ 0 }
     requires short { length bytes.now < 2 ^ 32 }
     ensures { Reads result (message_at endian bytes.now) }
 {
-    let Some(header) = fields_at(alloc, endian, bytes)? else {
+    let Some(header) = fields_at(alloc, types, endian, bytes)? else {
         return Err(FrameRefused::Violation(Violation::BadHeader));
     };
     if !has_needed(bytes[1], &header) {

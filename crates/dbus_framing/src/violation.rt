@@ -38,7 +38,7 @@ pub enum Violation {
 }
 
 /// Why `Framer::next` answered no message.
-#[derive(Clone, Copy, Debug, PartialEq, Eq)]
+#[derive(Clone, Copy, Debug)]
 pub enum FrameRefused {
     /// The bytes break a rule.
     Violation(Violation),

@@ -10,7 +10,7 @@ use Rattle.dbus_types.specs.declared.endian.Endian.{Endian}
 use Rattle.dbus_types.specs.Types.{Ty, Tys, has_type, is_within, are_within, is_signature, text_of, texts_of}
 use Rattle.dbus_types.specs.Values.{Val, Vals, ty_of}
 use Rattle.dbus_types.specs.Signatures.{◌>>=◌}
-use Rattle.dbus_marshal.specs.Wire.{width_of, alignment_of, padding, behind, start_of, zeros, number_bytes, limit_of, IsTextOf}
+use Rattle.dbus_marshal.specs.Wire.{width_of, alignment_of, padding, behind, start_of, zeros, number_bytes, limit_of, is_byte, IsTextOf}
 use Rattle.dbus_marshal.specs.Fitting.{Fits, AllFit, EachFits}
 use Rattle.dbus_marshal.specs.Spelling.{aligned, text_spelled, array_spelled, first_at, spelled, all_spelled, is_short, are_short}
 use Rattle.dbus_marshal.specs.Reading.{Reader, Spot, signature_value_at, basic_at, variant_by, elements_from, elements_of, array_by, fields_by, struct_by, entry_by, value_at}
@@ -103,6 +103,10 @@ some_bytes depth endian (Ty.array t) (Val.array u vs) place solid f =
     let rest = aligned (alignment_of u) (behind (start_of 4 place) 4) elements in
     some_behind (zeros (padding 4 place)) (number_bytes endian w32 (length elements) ++ rest)
     (some_before (number_bytes endian w32 (length elements)) rest (omega (arith, wide32.len endian (length elements))))
+some_bytes depth endian (Ty.array t) (Val.bytes them) place solid f =
+    let rest = aligned 1 (behind (start_of 4 place) 4) them in
+    some_behind (zeros (padding 4 place)) (number_bytes endian w32 (length them) ++ rest)
+    (some_before (number_bytes endian w32 (length them)) rest (omega (arith, wide32.len endian (length them))))
 some_bytes zero endian (Ty.struct ts) (Val.struct vs) place solid f = absurd f
 some_bytes (suc fewer) endian (Ty.struct Tys.end) (Val.struct vs) place solid f = absurd cc
 some_bytes (suc fewer) endian (Ty.struct (Tys.more t ts)) (Val.struct Vals.end) place solid f = absurd f
@@ -203,11 +207,11 @@ array_regroup zs ns ys es rest =
     append_assoc zs (ns ++ (ys ++ es)) rest ∙ ap (λ (r : List ℕ). zs ++ r) (append_assoc ns (ys ++ es) rest ∙ ap (λ (r : List ℕ). ns ++ r) (append_assoc ys es rest))
     ∙ sym (append_assoc zs ns (ys ++ (es ++ rest)))
 
-array_again : (fewer : ℕ) (endian : Endian) (read : Ty → Reader Val) (t : Ty) (vs : Vals) (place : ℕ) (rest : List ℕ) → ReadsAgain fewer endian read → is_solid t ≡ true → EachFits fewer t vs
+array_again : (fewer : ℕ) (endian : Endian) (read : Ty → Reader Val) (t : Ty) (vs : Vals) (place : ℕ) (rest : List ℕ) → ReadsAgain fewer endian read → is_byte t ≡ false → is_solid t ≡ true → EachFits fewer t vs
     → is_short endian (Val.array t vs) place ≡ true
     → array_by (read t) endian t (at place (spelled endian (Val.array t vs) place ++ rest)) ≡ Ok (Val.array t vs, at (behind place (length (spelled endian (Val.array t vs) place))) rest)
 unfolding array_by elements_of
-array_again fewer endian read t vs place rest reads solid f s =
+array_again fewer endian read t vs place rest reads other solid f s =
     let first = first_at (alignment_of t) place in
     let E = all_spelled endian vs first in
     let shorts = both (are_short endian vs first) (nat_le (length E) 67108864) s in
@@ -219,9 +223,26 @@ array_again fewer endian read t vs place rest reads solid f s =
       le-ltb 67108864 (length E) long,
       padding_again (alignment_of t) (behind (start_of 4 place) 4) (E ++ rest),
       bytes_again first (length E) E rest refl,
+      other,
       elements_again fewer endian read t vs (length E) first reads solid f shorts.0 (omega arith),
     )
     (ap (λ (p : ℕ). Ok (Val.array t vs, at p rest)) (array_end endian (alignment_of t) place E))
+
+bytes_array_again : (endian : Endian) (read : Reader Val) (them : List ℕ) (place : ℕ) (rest : List ℕ) → is_short endian (Val.bytes them) place ≡ true
+    → array_by read endian (Ty.basic basics.Byte) (at place (spelled endian (Val.bytes them) place ++ rest)) ≡ Ok (Val.bytes them, at (behind place (length (spelled endian (Val.bytes them) place))) rest)
+unfolding array_by elements_of
+bytes_array_again endian read them place rest s =
+    let first = first_at 1 place in
+    let long : length them ≤ 67108864 = leb-true _ _ s in
+    let Z = zeros (padding 1 (behind (start_of 4 place) 4)) in
+    rw (
+      array_regroup (zeros (padding 4 place)) (number_bytes endian w32 (length them)) Z them rest,
+      number_again w32 (2 ^ 32) wide32 endian place (length them) (Z ++ (them ++ rest)) (omega arith),
+      le-ltb 67108864 (length them) long,
+      padding_again 1 (behind (start_of 4 place) 4) (them ++ rest),
+      bytes_again first (length them) them rest refl,
+    )
+    (ap (λ (p : ℕ). Ok (Val.bytes them, at p rest)) (array_end endian 1 place them))
 
 -- ---- structs and entries
 
@@ -278,7 +299,11 @@ again_by (suc fewer) endian inner Ty.variant (Val.variant v) place rest solid f 
 again_by zero endian inner (Ty.array t) (Val.array u vs) place rest solid f s = absurd f
 again_by (suc fewer) endian inner (Ty.array t) (Val.array u vs) place rest solid f s =
     subst (λ (k : Ty). value_at (suc fewer) endian (Ty.array t) (at place (spelled endian (Val.array k vs) place ++ rest)) ≡ Ok (Val.array k vs, at (behind place (length (spelled endian (Val.array k vs) place))) rest))
-    (sym f.0) (array_again fewer endian (value_at fewer endian) t vs place rest (inner fewer refl) solid f.1 (subst (λ (k : Ty). is_short endian (Val.array k vs) place ≡ true) f.0 s))
+    (sym f.0) (array_again fewer endian (value_at fewer endian) t vs place rest (inner fewer refl) f.2 solid f.1 (subst (λ (k : Ty). is_short endian (Val.array k vs) place ≡ true) f.0 s))
+again_by zero endian inner (Ty.array t) (Val.bytes them) place rest solid f s = absurd f
+again_by (suc fewer) endian inner (Ty.array t) (Val.bytes them) place rest solid f s =
+    subst (λ (k : Ty). value_at (suc fewer) endian (Ty.array k) (at place (spelled endian (Val.bytes them) place ++ rest)) ≡ Ok (Val.bytes them, at (behind place (length (spelled endian (Val.bytes them) place))) rest))
+    (sym f.0) (bytes_array_again endian (value_at fewer endian (Ty.basic basics.Byte)) them place rest s)
 again_by zero endian inner (Ty.struct ts) (Val.struct vs) place rest solid f s = absurd f
 again_by (suc fewer) endian inner (Ty.struct ts) (Val.struct vs) place rest solid f s =
     struct_again fewer endian (value_at fewer endian) ts vs place rest (inner fewer refl) (both (has_type ts) (are_solid ts) solid).1 f s

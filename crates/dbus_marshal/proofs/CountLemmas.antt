@@ -53,6 +53,7 @@ mutual
       let within : length E ≤ length (A ++ (N ++ (Z ++ E))) = omega (arith, length-append A (N ++ (Z ++ E)), length-append N (Z ++ E), length-append Z E) in
       around_suc fewer (counts vs) (length E) (length (A ++ (N ++ (Z ++ E)))) (few_each fewer endian t vs (first_at (alignment_of u) place) solid f.1) within
       (some_bytes (suc fewer) endian (Ty.array t) (Val.array u vs) place solid f)
+  few_inside depth endian (Ty.array t) (Val.bytes them) place solid f = alone depth _ (some_bytes depth endian (Ty.array t) (Val.bytes them) place solid f)
   few_inside zero endian (Ty.struct ts) (Val.struct vs) place solid f = absurd f
   few_inside (suc fewer) endian (Ty.struct ts) (Val.struct vs) place solid f =
       let E = all_spelled endian vs (start_of 8 place) in

@@ -7,6 +7,7 @@ pub mod TakenValues
 pub mod AgainBasics
 pub mod AgainValues
 pub mod CountLemmas
+pub mod HeldLemmas
 pub mod UnmarshalLaws
 pub mod WritingLemmas
 pub mod MarshalLaws

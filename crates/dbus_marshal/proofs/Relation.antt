@@ -8,7 +8,7 @@ use Rattle.dbus_types.specs.declared.complete_type.BasicType.TheVariants as basi
 use Rattle.dbus_types.specs.declared.endian.Endian.{Endian}
 use Rattle.dbus_types.specs.Types.{Ty, Tys, is_signature, text_of}
 use Rattle.dbus_types.specs.Values.{Val, Vals, ty_of, tys_of, entry_of}
-use Rattle.dbus_marshal.specs.Wire.{width_of, alignment_of, padding, behind, start_of, zeros, number_bytes}
+use Rattle.dbus_marshal.specs.Wire.{width_of, alignment_of, padding, behind, start_of, zeros, number_bytes, is_byte, AreBytes}
 use Rattle.dbus_marshal.specs.Fitting.{Fits, AllFit, EachFits}
 use Rattle.dbus_marshal.specs.Spelling.{number_spelled, text_spelled, array_spelled, first_at, spelled, all_spelled, is_short, are_short}
 use Rattle.dbus_marshal.specs.Marshals.{NumberMarshals, TextMarshals, Marshals, AllMarshal, EachMarshals}
@@ -30,6 +30,8 @@ mutual
   fits_type depth Ty.variant (Val.variant v) f = refl
   fits_type zero (Ty.array t) (Val.array u vs) f = absurd f
   fits_type (suc fewer) (Ty.array t) (Val.array u vs) f = ap Ty.array f.0
+  fits_type zero (Ty.array t) (Val.bytes them) f = absurd f
+  fits_type (suc fewer) (Ty.array t) (Val.bytes them) f = ap Ty.array (sym f.0)
   fits_type zero (Ty.struct ts) (Val.struct vs) f = absurd f
   fits_type (suc fewer) (Ty.struct ts) (Val.struct vs) f = ap Ty.struct (all_fit_types fewer ts vs f)
   fits_type zero (Ty.entry key t) (Val.entry k v) f = absurd f
@@ -94,16 +96,28 @@ variant_is fewer endian place t v signature rest bytes valid parts text inner =
       is = parts ∙ ap (λ (r : List ℕ). signature ++ r) inner.is ∙ ap (λ (s : List ℕ). s ++ spelled endian v (behind place (length s))) front;
     }
 
-array_is_same : (fewer : ℕ) (endian : Endian) (place : ℕ) (t : Ty) (vs : Vals) (bytes elements four first padded : List ℕ) → length elements ≤ 67108864
+array_is_same : (fewer : ℕ) (endian : Endian) (place : ℕ) (t : Ty) (vs : Vals) (bytes elements four first padded : List ℕ) → is_byte t ≡ false → length elements ≤ 67108864
     → bytes ≡ zeros (padding 4 place) ++ four → four ≡ number_bytes endian w32 (length elements) ++ first
     → first ≡ zeros (padding (alignment_of t) (behind (start_of 4 place) 4)) ++ padded → padded ≡ elements
     → AreEachSpelled fewer endian (first_at (alignment_of t) place) t vs elements → IsSpelled (suc fewer) endian place (Ty.array t) (Val.array t vs) bytes
-array_is_same fewer endian place t vs bytes elements four first padded long parts counted aligns same inner = record {
-  fits = (refl, inner.fits);
+array_is_same fewer endian place t vs bytes elements four first padded other long parts counted aligns same inner = record {
+  fits = (refl, inner.fits, other);
   short = and_both _ _ inner.short (subst (λ (e : List ℕ). nat_le (length e) 67108864 ≡ true) inner.is (le-leb _ _ long));
   is = parts ∙ ap (λ (r : List ℕ). zeros (padding 4 place) ++ r) (counted ∙ ap (λ (r : List ℕ). number_bytes endian w32 (length elements) ++ r)
       (aligns ∙ ap (λ (r : List ℕ). zeros (padding (alignment_of t) (behind (start_of 4 place) 4)) ++ r) same))
       ∙ ap (array_spelled endian (alignment_of t) place) inner.is;
+}
+
+bytes_is : (fewer : ℕ) (endian : Endian) (place : ℕ) (t : Ty) (them bytes elements four first padded : List ℕ) → t ≡ Ty.basic basics.Byte → AreBytes them → length elements ≤ 67108864
+    → bytes ≡ zeros (padding 4 place) ++ four → four ≡ number_bytes endian w32 (length elements) ++ first
+    → first ≡ zeros (padding (alignment_of t) (behind (start_of 4 place) 4)) ++ padded → padded ≡ elements → elements ≡ them
+    → IsSpelled (suc fewer) endian place (Ty.array t) (Val.bytes them) bytes
+bytes_is fewer endian place t them bytes elements four first padded byte each long parts counted aligns same is = record {
+  fits = (byte, each);
+  short = subst (λ (e : List ℕ). nat_le (length e) 67108864 ≡ true) is (le-leb _ _ long);
+  is = parts ∙ ap (λ (r : List ℕ). zeros (padding 4 place) ++ r) (counted ∙ ap (λ (r : List ℕ). number_bytes endian w32 (length elements) ++ r)
+      (aligns ∙ ap (λ (r : List ℕ). zeros (padding (alignment_of t) (behind (start_of 4 place) 4)) ++ r) same))
+      ∙ ap (array_spelled endian (alignment_of t) place) is ∙ ap (λ (u : Ty). array_spelled endian (alignment_of u) place them) byte;
 }
 
 array_is : (fewer : ℕ) (endian : Endian) (place : ℕ) (t u : Ty) (vs : Vals) (bytes : List ℕ) → u ≡ t → IsSpelled (suc fewer) endian place (Ty.array t) (Val.array t vs) bytes
@@ -153,8 +167,11 @@ mutual
       variant_is fewer endian place m.0 v m.1 m.2 bytes m.3 m.4 (text_is endian place basics.Signature (text_of m.0) m.1 m.5) (marshals_is fewer endian (behind place (length m.1)) m.0 v m.2 m.6)
   marshals_is zero endian place (Ty.array t) (Val.array u vs) bytes m = absurd m
   marshals_is (suc fewer) endian place (Ty.array t) (Val.array u vs) bytes m =
-      array_is fewer endian place t u vs bytes m.0 (array_is_same fewer endian place t vs bytes m.1.0 m.1.2.0 m.1.2.2.0 m.1.2.2.2.0 m.1.1 m.1.2.1 m.1.2.2.1 m.1.2.2.2.1 m.1.2.2.2.2.0
-      (each_is fewer endian (first_at (alignment_of t) place) t vs m.1.0 m.1.2.2.2.2.1))
+      array_is fewer endian place t u vs bytes m.0 (array_is_same fewer endian place t vs bytes m.2.0 m.2.2.0 m.2.2.2.0 m.2.2.2.2.0 m.1 m.2.1 m.2.2.1 m.2.2.2.1 m.2.2.2.2.1 m.2.2.2.2.2.0
+      (each_is fewer endian (first_at (alignment_of t) place) t vs m.2.0 m.2.2.2.2.2.1))
+  marshals_is zero endian place (Ty.array t) (Val.bytes them) bytes m = absurd m
+  marshals_is (suc fewer) endian place (Ty.array t) (Val.bytes them) bytes m =
+      bytes_is fewer endian place t them bytes m.2.0 m.2.2.0 m.2.2.2.0 m.2.2.2.2.0 m.0 m.1 m.2.1 m.2.2.1 m.2.2.2.1 m.2.2.2.2.1 m.2.2.2.2.2.0 m.2.2.2.2.2.1
   marshals_is zero endian place (Ty.struct ts) (Val.struct vs) bytes m = absurd m
   marshals_is (suc fewer) endian place (Ty.struct ts) (Val.struct vs) bytes m =
       struct_is fewer endian place ts vs bytes m.0 m.1 (all_is fewer endian (start_of 8 place) ts vs m.0 m.2)
@@ -177,10 +194,14 @@ mutual
 
 -- ---- the spelling is related
 
-array_spelled_same : (fewer : ℕ) (endian : Endian) (place : ℕ) (t : Ty) (vs : Vals) → length (all_spelled endian vs (first_at (alignment_of t) place)) ≤ 67108864
+array_spelled_same : (fewer : ℕ) (endian : Endian) (place : ℕ) (t : Ty) (vs : Vals) → is_byte t ≡ false → length (all_spelled endian vs (first_at (alignment_of t) place)) ≤ 67108864
     → EachMarshals fewer endian (first_at (alignment_of t) place) t vs (all_spelled endian vs (first_at (alignment_of t) place))
     → Marshals (suc fewer) endian place (Ty.array t) (Val.array t vs) (spelled endian (Val.array t vs) place)
-array_spelled_same fewer endian place t vs long inner = (refl, (_, long, (_, refl, (_, refl, (_, refl, (refl, inner))))))
+array_spelled_same fewer endian place t vs other long inner = (refl, other, (_, long, (_, refl, (_, refl, (_, refl, (refl, inner))))))
+
+bytes_spelled_same : (fewer : ℕ) (endian : Endian) (place : ℕ) (them : List ℕ) → AreBytes them → length them ≤ 67108864
+    → Marshals (suc fewer) endian place (Ty.array (Ty.basic basics.Byte)) (Val.bytes them) (spelled endian (Val.bytes them) place)
+bytes_spelled_same fewer endian place them each long = (refl, each, (_, long, (_, refl, (_, refl, (_, refl, (refl, refl))))))
 
 mutual
   pub spelled_marshals : (depth : ℕ) (endian : Endian) (place : ℕ) (t : Ty) (v : Val) → Fits depth t v → is_short endian v place ≡ true → Marshals depth endian place t v (spelled endian v place)
@@ -203,7 +224,10 @@ mutual
   spelled_marshals (suc fewer) endian place (Ty.array t) (Val.array u vs) f s =
       let parts = and_parts (are_short endian vs (first_at (alignment_of t) place)) _ (subst (λ (k : Ty). is_short endian (Val.array k vs) place ≡ true) f.0 s) in
       subst (λ (k : Ty). Marshals (suc fewer) endian place (Ty.array t) (Val.array k vs) (spelled endian (Val.array k vs) place)) (sym f.0)
-      (array_spelled_same fewer endian place t vs (leb-true _ _ parts.1) (each_spelled_marshal fewer endian (first_at (alignment_of t) place) t vs f.1 parts.0))
+      (array_spelled_same fewer endian place t vs f.2 (leb-true _ _ parts.1) (each_spelled_marshal fewer endian (first_at (alignment_of t) place) t vs f.1 parts.0))
+  spelled_marshals zero endian place (Ty.array t) (Val.bytes them) f s = absurd f
+  spelled_marshals (suc fewer) endian place (Ty.array t) (Val.bytes them) f s =
+      subst (λ (k : Ty). Marshals (suc fewer) endian place (Ty.array k) (Val.bytes them) (spelled endian (Val.bytes them) place)) (sym f.0) (bytes_spelled_same fewer endian place them f.1 (leb-true _ _ s))
   spelled_marshals zero endian place (Ty.struct ts) (Val.struct vs) f s = absurd f
   spelled_marshals (suc fewer) endian place (Ty.struct ts) (Val.struct vs) f s = (_, refl, all_spelled_marshal fewer endian (start_of 8 place) ts vs f s)
   spelled_marshals zero endian place (Ty.entry key t) (Val.entry k v) f s = absurd f

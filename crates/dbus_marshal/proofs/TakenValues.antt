@@ -12,7 +12,7 @@ use Rattle.dbus_types.specs.Values.{Val, Vals, ty_of}
 use Rattle.dbus_types.specs.Signatures.{◌>>=◌}
 use Rattle.dbus_marshal.specs.declared.refused.ValueFault.{ValueFault}
 use Rattle.dbus_marshal.specs.declared.refused.ValueFault.TheVariants.{ArrayTooLong}
-use Rattle.dbus_marshal.specs.Wire.{alignment_of, padding, behind, start_of, zeros, number_bytes}
+use Rattle.dbus_marshal.specs.Wire.{alignment_of, padding, behind, start_of, zeros, number_bytes, is_byte, AreBytes}
 use Rattle.dbus_marshal.specs.Fitting.{AllFit, EachFits}
 use Rattle.dbus_marshal.specs.Spelling.{aligned, text_spelled, array_spelled, first_at, spelled, all_spelled, is_short, are_short}
 use Rattle.dbus_marshal.specs.Reading.{Reader, Spot, bytes_at, padding_at, number_at, signature_value_at, basic_at, only_type, variant_by, elements_from, elements_of, array_by, fields_by, struct_by, entry_by, value_at}
@@ -151,10 +151,10 @@ behind_four endian n place =
 joined : (a b c d : List ℕ) → (a ++ b) ++ (c ++ d) ≡ a ++ (b ++ (c ++ d))
 joined a b c d = append_assoc a b (c ++ d)
 
-array_took_as : (fewer : ℕ) (endian : Endian) (t : Ty) (spot : Spot) (n : ℕ × Spot) (start : Spot) (y : List ℕ × Spot) (vs : Vals) → n.0 ≤ 67108864
+array_took_as : (fewer : ℕ) (endian : Endian) (t : Ty) (spot : Spot) (n : ℕ × Spot) (start : Spot) (y : List ℕ × Spot) (vs : Vals) → is_byte t ≡ false → n.0 ≤ 67108864
     → Takes spot (aligned 4 spot.place (number_bytes endian w32 n.0)) n.1 → Takes n.1 (zeros (padding (alignment_of t) n.1.place)) start → Takes start y.0 y.1 → length y.0 ≡ n.0
     → TookEach fewer endian t (record { place = start.place; left = y.0 }) vs → Took (suc fewer) endian (Ty.array t) spot (Val.array t vs, y.1)
-array_took_as fewer endian t spot n start y vs long counted aligns whole count inner =
+array_took_as fewer endian t spot n start y vs other long counted aligns whole count inner =
     let four : n.1.place ≡ behind (start_of 4 spot.place) 4 = counted.place ∙ behind_four endian n.0 spot.place in
     let Z = zeros (padding (alignment_of t) n.1.place) in
     let first : start.place ≡ first_at (alignment_of t) spot.place =
@@ -168,10 +168,68 @@ array_took_as fewer endian t spot n start y vs long counted aligns whole count i
     ∙ ap (λ (p : ℕ). zeros (padding 4 spot.place) ++ (number_bytes endian w32 (length y.0) ++ (zeros (padding (alignment_of t) p) ++ y.0))) four in
     let short_enough : nat_le (length y.0) 67108864 ≡ true = le-leb _ _ (subst (λ (k : ℕ). k ≤ 67108864) (sym count) long) in
     record {
-      fits = (refl, inner.fits);
+      fits = (refl, inner.fits, other);
       short = and_both _ _ (subst (λ (p : ℕ). are_short endian vs p ≡ true) first inner.short) (subst (λ (e : List ℕ). nat_le (length e) 67108864 ≡ true) is short_enough);
       takes = subst (λ (bs : List ℕ). Takes spot bs y.1) (text ∙ ap (array_spelled endian (alignment_of t) spot.place) is) all;
     }
+
+-- the type of a byte is one type
+is_byte_type : (t : Ty) → is_byte t ≡ true → t ≡ Ty.basic basics.Byte
+is_byte_type (Ty.basic basics.Byte) e = refl
+is_byte_type (Ty.basic basics.Boolean) e = absurd cc
+is_byte_type (Ty.basic basics.Int16) e = absurd cc
+is_byte_type (Ty.basic basics.Uint16) e = absurd cc
+is_byte_type (Ty.basic basics.Int32) e = absurd cc
+is_byte_type (Ty.basic basics.Uint32) e = absurd cc
+is_byte_type (Ty.basic basics.Int64) e = absurd cc
+is_byte_type (Ty.basic basics.Uint64) e = absurd cc
+is_byte_type (Ty.basic basics.Double) e = absurd cc
+is_byte_type (Ty.basic basics.UnixFd) e = absurd cc
+is_byte_type (Ty.basic basics.String) e = absurd cc
+is_byte_type (Ty.basic basics.ObjectPath) e = absurd cc
+is_byte_type (Ty.basic basics.Signature) e = absurd cc
+is_byte_type Ty.variant e = absurd cc
+is_byte_type (Ty.array t) e = absurd cc
+is_byte_type (Ty.struct ts) e = absurd cc
+is_byte_type (Ty.entry key t) e = absurd cc
+
+each_byte : (them : List ℕ) → IsBytes them → AreBytes them
+each_byte [] fits = tt
+each_byte (b ∷ them) fits = (fits 0, each_byte them (λ i. fits (suc i)))
+
+-- an array of bytes
+bytes_took_as : (fewer : ℕ) (endian : Endian) (spot : Spot) (n : ℕ × Spot) (start : Spot) (y : List ℕ × Spot) → n.0 ≤ 67108864
+    → Takes spot (aligned 4 spot.place (number_bytes endian w32 n.0)) n.1 → Takes n.1 (zeros (padding 1 n.1.place)) start → Takes start y.0 y.1 → length y.0 ≡ n.0 → IsBytes y.0
+    → Took (suc fewer) endian (Ty.array (Ty.basic basics.Byte)) spot (Val.bytes y.0, y.1)
+bytes_took_as fewer endian spot n start y long counted aligns whole count fits =
+    let four : n.1.place ≡ behind (start_of 4 spot.place) 4 = counted.place ∙ behind_four endian n.0 spot.place in
+    let Z = zeros (padding 1 n.1.place) in
+    let all : Takes spot (aligned 4 spot.place (number_bytes endian w32 n.0) ++ (Z ++ y.0)) y.1 =
+    Takes-then spot (aligned 4 spot.place (number_bytes endian w32 n.0)) n.1 (Z ++ y.0) y.1 counted (Takes-then n.1 Z start y.0 y.1 aligns whole) in
+    let text : aligned 4 spot.place (number_bytes endian w32 n.0) ++ (Z ++ y.0) ≡ array_spelled endian 1 spot.place y.0 =
+    joined (zeros (padding 4 spot.place)) (number_bytes endian w32 n.0) Z y.0
+    ∙ ap (λ (k : ℕ). zeros (padding 4 spot.place) ++ (number_bytes endian w32 k ++ (Z ++ y.0))) (sym count)
+    ∙ ap (λ (p : ℕ). zeros (padding 4 spot.place) ++ (number_bytes endian w32 (length y.0) ++ (zeros (padding 1 p) ++ y.0))) four in
+    record {
+      fits = (refl, each_byte y.0 fits);
+      short = le-leb _ _ (subst (λ (k : ℕ). k ≤ 67108864) (sym count) long);
+      takes = subst (λ (bs : List ℕ). Takes spot bs y.1) text all;
+    }
+
+elements_took_as : (test : Bool) (fewer : ℕ) (endian : Endian) (read : Ty → Reader Val) (t : Ty) (spot : Spot) (n : ℕ × Spot) (start : Spot) (y : List ℕ × Spot) (v : Val) → is_byte t ≡ test → IsTaker fewer endian read
+    → n.0 ≤ 67108864 → Takes spot (aligned 4 spot.place (number_bytes endian w32 n.0)) n.1 → Takes n.1 (zeros (padding (alignment_of t) n.1.place)) start → Takes start y.0 y.1 → length y.0 ≡ n.0 → IsBytes y.0
+    → cond test (Ok (Val.bytes y.0)) (elements_from (read t) (length y.0) (record { place = start.place; left = y.0 }) y.0 >>= λ vs. Ok (Val.array t vs)) ≡ Ok v
+    → Took (suc fewer) endian (Ty.array t) spot (v, y.1)
+elements_took_as true fewer endian read t spot n start y v test taker long counted aligns whole count fits e =
+    let byte = is_byte_type t test in
+    let bare : Takes n.1 (zeros (padding 1 n.1.place)) start = subst (λ (u : Ty). Takes n.1 (zeros (padding (alignment_of u) n.1.place)) start) byte aligns in
+    subst (λ (w : Val). Took (suc fewer) endian (Ty.array t) spot (w, y.1)) (one_value (Val.bytes y.0) v e)
+    (subst (λ (u : Ty). Took (suc fewer) endian (Ty.array u) spot (Val.bytes y.0, y.1)) (sym byte) (bytes_took_as fewer endian spot n start y long counted bare whole count fits))
+elements_took_as false fewer endian read t spot n start y v test taker long counted aligns whole count fits e =
+    let g = bind_ok (elements_from (read t) (length y.0) (record { place = start.place; left = y.0 }) y.0) (λ vs. Ok (Val.array t vs)) v e in
+    let inner = elements_took fewer endian read t (length y.0) (record { place = start.place; left = y.0 }) y.0 g.0 taker fits refl g.1 in
+    subst (λ (w : Val). Took (suc fewer) endian (Ty.array t) spot (w, y.1)) (one_value (Val.array t g.0) v g.2)
+    (array_took_as fewer endian t spot n start y g.0 test long counted aligns whole count inner)
 
 array_took : (fewer : ℕ) (endian : Endian) (read : Ty → Reader Val) (t : Ty) (spot : Spot) (x : Val × Spot) → IsTaker fewer endian read → IsBytes spot.left → array_by (read t) endian t spot ≡ Ok x
     → Took (suc fewer) endian (Ty.array t) spot x
@@ -190,13 +248,10 @@ array_took fewer endian read t spot x taker fits e =
           let b = bind_ok (padding_at (alignment_of t) a.0.1) (λ start. bytes_at a.0.0 start >>= λ y. elements_of (read t) t (record { place = start.place; left = y.0 }) >>= λ v. Ok (v, y.1)) x rest in
           let c = bind_ok (bytes_at a.0.0 b.0) (λ y. elements_of (read t) t (record { place = b.0.place; left = y.0 }) >>= λ v. Ok (v, y.1)) x b.2 in
           let d = bind_ok (elements_of (read t) t (record { place = b.0.place; left = c.0.0 })) (λ v. Ok (v, c.0.1)) x c.2 in
-          let g = bind_ok (elements_from (read t) (length c.0.0) (record { place = b.0.place; left = c.0.0 }) c.0.0) (λ vs. Ok (Val.array t vs)) d.0 d.1 in
           let aligns = padding_taken (alignment_of t) a.0.1 b.0 counted.0.fits b.1 in
           let whole = bytes_taken a.0.0 b.0 c.0 aligns.fits c.1 in
-          let inner = elements_took fewer endian read t (length c.0.0) (record { place = b.0.place; left = c.0.0 }) c.0.0 g.0 taker whole.2 refl g.1 in
           subst (λ (z : Val × Spot). Took (suc fewer) endian (Ty.array t) spot z) (value_is (d.0, c.0.1) x d.2)
-          (subst (λ (v : Val). Took (suc fewer) endian (Ty.array t) spot (v, c.0.1)) (one_value (Val.array t g.0) d.0 g.2)
-          (array_took_as fewer endian t spot a.0 b.0 c.0 g.0 le counted.0 aligns whole.0 whole.1 inner))
+          (elements_took_as (is_byte t) fewer endian read t spot a.0 b.0 c.0 d.0 refl taker le counted.0 aligns whole.0 whole.1 whole.2 d.1)
     ]
 
 -- ---- structs and entries

@@ -1,16 +1,17 @@
 -- What `unmarshal` gives: the values that the bytes are, or the first fault from the left.
-use Rattle.std.proofs.Common.{◌≡◌, ℕ, ◌*◌, ◌%◌, ◌<◌, ◌≤◌, Bool, true, cond, List, [], ◌++◌, length, Result, Ok, Err, refl, sym, ap, subst, ◌∙◌, arith, append-nil, inl, inr, Vec, Global}
+use Rattle.std.proofs.Common.{◌≡◌, ℕ, ◌+◌, ◌*◌, ◌%◌, ◌<◌, ◌≤◌, Bool, true, cond, List, [], ◌++◌, length, Result, Ok, Err, refl, sym, ap, subst, ◌∙◌, arith, append-nil, inl, inr, Vec, Global}
 use Rattle.std.specs.Prelude.{if◌then◌else◌, nat_lt, IfOk}
 use Rattle.std.proofs.lemmas.Bool.{cases_lt, lt-ltb, le-ltb}
 use Rattle.std.proofs.lemmas.List.{nil_from_length}
 use Rattle.dbus_types.specs.declared.endian.Endian.{Endian}
-use Rattle.dbus_types.specs.Types.{Tys, is_signature}
+use Rattle.dbus_types.specs.Types.{Tys, is_signature, texts_of}
 use Rattle.dbus_types.specs.Values.{Vals, tys_of}
 use Rattle.dbus_types.specs.ValueViews.{values_of}
 use Rattle.dbus_types.specs.declared.value.Value.{Value}
 use Rattle.dbus_marshal.specs.declared.refused.ValueFault.{ValueFault}
 use Rattle.dbus_marshal.specs.declared.refused.ValueFault.TheVariants.{Rest}
 use Rattle.dbus_marshal.specs.Counting.{counts}
+use Rattle.dbus_marshal.specs.Held.{all_parts}
 use Rattle.dbus_marshal.specs.Marshals.{AllMarshal, AreSpelled}
 use Rattle.dbus_marshal.specs.Spelling.{all_spelled}
 use Rattle.dbus_marshal.specs.Reading.{Reads, Spot, fields_by, value_at, values_at}
@@ -21,6 +22,7 @@ use Rattle.dbus_marshal.proofs.Relation.{all_is, all_fit_types, all_spelled_mars
 use Rattle.dbus_marshal.proofs.AgainBasics.{at}
 use Rattle.dbus_marshal.proofs.AgainValues.{readers_again, fields_again, signature_solid}
 use Rattle.dbus_marshal.proofs.CountLemmas.{few_values}
+use Rattle.dbus_marshal.proofs.HeldLemmas.{all_plain_few}
 
 abbrev vals_done : Vals → Result Vals ValueFault
 vals_done x = Ok x
@@ -62,6 +64,12 @@ values_few endian ts place bytes vs valid m =
     let is = all_is 64 endian place ts vs bytes m in
     subst (λ (bs : List ℕ). counts vs ≤ 65 * length bs) (sym is.is) (few_values 64 endian ts vs place (signature_solid ts valid) is.fits)
 
+-- and take few parts of memory
+pub values_held : (endian : Endian) (ts : Tys) (place : ℕ) (bytes : List ℕ) (vs : Vals) → is_signature ts ≡ true → AllMarshal 64 endian place ts vs bytes → all_parts vs ≤ 2 * length bytes + length (texts_of ts)
+values_held endian ts place bytes vs valid m =
+    let is = all_is 64 endian place ts vs bytes m in
+    subst (λ (bs : List ℕ). all_parts vs ≤ 2 * length bs + length (texts_of ts)) (sym is.is) (all_plain_few 64 endian ts vs place (signature_solid ts valid) is.fits)
+
 -- ---- the answer of a call
 
 pub types_same : (ts us : Tys) (endian : Endian) (place : ℕ) (bytes : List ℕ) (result : Result (Vec Value Global) ValueFault) → ts ≡ us
@@ -83,6 +91,12 @@ pub answer_few : (result : Result (Vec Value Global) ValueFault) (endian : Endia
 answer_few (Ok x) endian ts place bytes valid fits reads =
     values_few endian ts (place % 8) bytes (values_of x.items) valid (values_found endian ts (place % 8) bytes (values_of x.items) (omega arith) fits reads)
 answer_few (Err e) endian ts place bytes valid fits reads = tt
+
+pub answer_held : (result : Result (Vec Value Global) ValueFault) (endian : Endian) (ts : Tys) (place : ℕ) (bytes : List ℕ) → is_signature ts ≡ true → IsBytes bytes
+    → Reads (λ x. values_of x.items) result (values_at endian ts (at (place % 8) bytes)) → IfOk result (λ x. all_parts (values_of x.items) ≤ 2 * length bytes + length (texts_of ts))
+answer_held (Ok x) endian ts place bytes valid fits reads =
+    values_held endian ts (place % 8) bytes (values_of x.items) valid (values_found endian ts (place % 8) bytes (values_of x.items) (omega arith) fits reads)
+answer_held (Err e) endian ts place bytes valid fits reads = tt
 
 pub answer_types : (result : Result (Vec Value Global) ValueFault) (endian : Endian) (ts : Tys) (place : ℕ) (bytes : List ℕ) → IsBytes bytes
     → Reads (λ x. values_of x.items) result (values_at endian ts (at (place % 8) bytes)) → IfOk result (λ x. tys_of (values_of x.items) ≡ ts)

@@ -1,24 +1,25 @@
 -- What the readers of values give, one value at a time.
-use Rattle.std.proofs.Common.{◌≡◌, ℕ, zero, suc, ◌+◌, ◌-◌, ◌<◌, ◌≤◌, List, [], ◌∷◌, ◌++◌, length, Result, Ok, Err, refl, sym, ap, ◌∙◌, arith, rules, sub-one, false, ltb, le_refl, Vec, Global}
+use Rattle.std.proofs.Common.{Box, Bool, true, Some, None, subst, ◌≡◌, ℕ, zero, suc, ◌+◌, ◌-◌, ◌<◌, ◌≤◌, List, [], ◌∷◌, ◌++◌, length, Result, Ok, Err, refl, sym, ap, ◌∙◌, append_assoc, arith, rules, sub-one, false, ltb, le_refl, Vec, Global}
 use Rattle.std.proofs.lemmas.List.{nil_from_length}
-use Rattle.std.proofs.lemmas.Bool.{le-ltb}
-use Rattle.std.specs.Int.{w8}
 use Rattle.dbus_types.specs.declared.complete_type.BasicType.TheVariants as basics
 use Rattle.dbus_types.specs.declared.complete_type.CompleteType.{CompleteType, Basic, Variant, Array', Struct', DictEntry'}
-use Rattle.dbus_types.specs.declared.endian.Endian.TheVariants.{Little, Big}
-use Rattle.dbus_types.proofs.ValueViews.{struct_holds, array_holds}
+use Rattle.dbus_types.proofs.ValueViews.{inner_holds, plain_array, core_struct, known_first, known_none, lone_is}
+use Rattle.dbus_types.specs.declared.value.TypedArray.{TypedArray}
 use Rattle.dbus_types.specs.Views.{type_of, types_of}
-use Rattle.dbus_marshal.specs.Wire.{padding, behind, number_from}
+use Rattle.dbus_marshal.specs.Wire.{is_byte}
 use Rattle.dbus_types.specs.declared.complete_type.BasicType.{BasicType}
 use Rattle.dbus_types.specs.declared.endian.Endian.{Endian}
-use Rattle.dbus_types.specs.declared.value.Value.{Value, Array, Struct}
+use Rattle.dbus_types.specs.declared.value.Value.{Value, Array, InnerArray, Bytes, Struct, DictEntry}
+use Rattle.dbus_types.specs.declared.value.DictEntry.{DictEntry as KeyAndValue}
 use Rattle.dbus_types.specs.Types.{Ty, Tys}
-use Rattle.dbus_types.specs.Values.{Val, Vals, bytes_as_values}
-use Rattle.dbus_types.specs.ValueViews.{value_of, values_of}
+use Rattle.dbus_types.specs.Values.{Val, Vals}
+use Rattle.dbus_types.specs.ValueViews.{core_as, value_of, values_of, value_as, each_as, fields_as, known_as, lone_in}
 use Rattle.dbus_types.specs.Signatures.{◌>>=◌}
 use Rattle.dbus_marshal.specs.declared.refused.ValueFault.{ValueFault}
 use Rattle.dbus_marshal.specs.declared.refused.ValueFault.TheVariants.{Short, Padding, BadBool, BadText, BadPath, BadSignature, ArrayTooLong, TooDeep, Rest, OutOfMemory}
-use Rattle.dbus_marshal.specs.Reading.{Refuses, Reader, Spot, further, bytes_at, padding_at, number_at, basic_number_at, elements_of, only_type, basic_at, value_at, variant_by, array_by, struct_by, entry_by, fields_by, elements_from, values_then, with_values, with_fields}
+use Rattle.dbus_marshal.specs.declared.cursor.Cursor.{Cursor}
+use Rattle.dbus_marshal.specs.Cursors.{spot_of}
+use Rattle.dbus_marshal.specs.Reading.{Refuses, Reads, Reader, Spot, further, bytes_at, padding_at, number_at, basic_number_at, elements_of, only_type, basic_at, value_at, variant_by, array_by, struct_by, entry_by, fields_by, elements_from, values_then, with_values, with_fields}
 
 -- where one reading gives a fault, another that gives each fault with it gives it too
 pub refuses_as : {Y Z : Type 0} (e : ValueFault) (read : Result Y ValueFault) (total : Result Z ValueFault) → ((f : ValueFault) → read ≡ Err f → total ≡ Err f) → Refuses e read → Refuses e total
@@ -93,9 +94,9 @@ pub values_then-end : (vs : Vals) → values_then vs Vals.end ≡ vs
 values_then-end Vals.end = refl
 values_then-end (Vals.more v vs) = ap (Vals.more v) (values_then-end vs)
 
-pub values_of-push : (vs : List Value) (v : Value) (ws : Vals) → values_then (values_of (vs ++ v ∷ [])) ws ≡ values_then (values_of vs) (Vals.more (value_of v) ws)
-values_of-push [] v ws = refl
-values_of-push (u ∷ vs) v ws = ap (Vals.more (value_of u)) (values_of-push vs v ws)
+pub each_as-push : (t : Ty) (vs : List Value) (v : Value) (ws : Vals) → values_then (each_as t (vs ++ v ∷ [])) ws ≡ values_then (each_as t vs) (Vals.more (value_as t v) ws)
+each_as-push t [] v ws = refl
+each_as-push t (u ∷ vs) v ws = ap (Vals.more (value_as t u)) (each_as-push t vs v ws)
 
 -- ---- the elements of an array
 
@@ -153,6 +154,33 @@ elements_fault e read front n i spot left total lt some fault so_far =
 
 -- ---- the fields of a struct
 
+-- the types that are left behind those of values
+abbrev pub AreLeft : Bool → Tys → List Value → Tys → Type 0
+AreLeft inner ts values left = (rest : List Value) → fields_as inner ts (values ++ rest) ≡ values_then (fields_as inner ts values) (fields_as inner left rest)
+
+values_then-assoc : (us vs ws : Vals) → values_then (values_then us vs) ws ≡ values_then us (values_then vs ws)
+values_then-assoc Vals.end vs ws = refl
+values_then-assoc (Vals.more u us) vs ws = ap (Vals.more u) (values_then-assoc us vs ws)
+
+pub none_left : (inner : Bool) (ts : Tys) (values : List Value) → values ≡ [] → AreLeft inner ts values ts
+none_left inner ts values none rest = rw (none, known_none inner ts) refl
+
+pub fields_push : (inner : Bool) (ts : Tys) (values pushed : List Value) (t : Ty) (others left : Tys) (v : Value) → pushed ≡ values ++ v ∷ [] → left ≡ Tys.more t others → AreLeft inner ts values left
+    → (ws : Vals) → values_then (fields_as inner ts pushed) ws ≡ values_then (fields_as inner ts values) (Vals.more (value_as (known_as inner t) v) ws)
+fields_push inner ts values pushed t others left v is same lefts ws =
+    let first : fields_as inner left (v ∷ []) ≡ Vals.more (value_as (known_as inner t) v) Vals.end =
+    ap (λ (us : Tys). fields_as inner us (v ∷ [])) same ∙ known_first inner t others v [] ∙ ap (Vals.more (value_as (known_as inner t) v)) (known_none inner others) in
+    ap (λ (l : List Value). values_then (fields_as inner ts l) ws) is ∙ ap (λ (us : Vals). values_then us ws) (lefts (v ∷ []) ∙ ap (values_then (fields_as inner ts values)) first)
+    ∙ values_then-assoc (fields_as inner ts values) (Vals.more (value_as (known_as inner t) v) Vals.end) ws
+
+pub fields_left : (inner : Bool) (ts : Tys) (values pushed : List Value) (t : Ty) (others left : Tys) (v : Value) → pushed ≡ values ++ v ∷ [] → left ≡ Tys.more t others → AreLeft inner ts values left
+    → AreLeft inner ts pushed others
+fields_left inner ts values pushed t others left v is same lefts rest =
+    let first : fields_as inner left (v ∷ rest) ≡ Vals.more (value_as (known_as inner t) v) (fields_as inner others rest) =
+    ap (λ (us : Tys). fields_as inner us (v ∷ rest)) same ∙ known_first inner t others v rest in
+    ap (λ (l : List Value). fields_as inner ts (l ++ rest)) is ∙ ap (fields_as inner ts) (append_assoc values (v ∷ []) rest) ∙ lefts (v ∷ rest) ∙ ap (values_then (fields_as inner ts values)) first
+    ∙ sym (fields_push inner ts values pushed t others left v is same lefts (fields_as inner others rest))
+
 pub with_fields-end : (read : Result (Vals × Spot) ValueFault) → with_fields Vals.end read ≡ read
 with_fields-end (Ok x) = refl
 with_fields-end (Err f) = refl
@@ -187,57 +215,82 @@ fields_end read front types spot total is so_far =
     let one : with_fields front (fields_by read types spot) ≡ Ok (front, spot) = rw is (ap (λ (vs : Vals). Ok (vs, spot)) (values_then-end front)) in
     sym so_far ∙ one
 
--- ---- bytes as elements
+-- ---- what a container has
 
-no_padding : (place : ℕ) → padding 1 place ≡ 0
-no_padding place = omega arith
+bytes_as : (inner : Bool) (t : Ty) (bytes : List ℕ) → value_as (known_as inner (Ty.array t)) (Bytes bytes) ≡ Val.bytes bytes
+bytes_as true t bytes = refl
+bytes_as false t bytes = refl
 
-byte_is : (endian : Endian) (b : ℕ) → number_from endian w8 (b ∷ []) ≡ b
-unfolding number_from
-byte_is Little b = search rules
-byte_is Big b = search rules
-
-nothing_at : (spot : Spot) → bytes_at 0 spot ≡ Ok ([], further 0 spot)
-unfolding bytes_at
-nothing_at spot = let long : ltb (length spot.left) 0 ≡ false = le-ltb _ _ (omega arith) in rw long refl
-
-one_at : (place b : ℕ) (rest : List ℕ) → bytes_at 1 (record { place = place; left = b ∷ rest }) ≡ Ok (b ∷ [], record { place = behind place 1; left = rest })
-unfolding bytes_at
-one_at place b rest = let long : ltb (length (b ∷ rest)) 1 ≡ false = le-ltb _ _ (omega arith) in rw long refl
-
-unpadded : (place : ℕ) (left : List ℕ) → padding_at 1 (record { place = place; left = left }) ≡ Ok (record { place = behind place 0; left = left })
-unfolding padding_at
-unpadded place left = rw (no_padding place, nothing_at (record { place = place; left = left })) refl
-
-byte_at : (endian : Endian) (depth place b : ℕ) (rest : List ℕ)
-    → value_at depth endian (Ty.basic basics.Byte) (record { place = place; left = b ∷ rest }) ≡ Ok (Val.number basics.Byte b, record { place = behind (behind place 0) 1; left = rest })
-unfolding basic_at basic_number_at number_at
-byte_at endian depth place b rest =
-    value_at-basic depth endian basics.Byte (record { place = place; left = b ∷ rest })
-    ∙ rw (unpadded place (b ∷ rest), one_at (behind place 0) b rest, byte_is endian b) refl
-
-pub bytes_read : (endian : Endian) (depth n place : ℕ) (left : List ℕ) → length left ≤ n
-    → elements_from (value_at depth endian (Ty.basic basics.Byte)) n (record { place = place; left = left }) left ≡ Ok (bytes_as_values left)
-unfolding elements_from
-bytes_read endian depth zero place [] le = refl
-bytes_read endian depth (suc n) place [] le = refl
-bytes_read endian depth zero place (b ∷ left) le = absurd (omega arith)
-bytes_read endian depth (suc n) place (b ∷ left) le =
-    rw (byte_at endian depth place b left, bytes_read endian depth n (behind (behind place 0) 1) left (omega arith)) refl
-
-pub bytes_are : (endian : Endian) (depth : ℕ) (element : CompleteType) (spot : Spot) (bytes : List ℕ) → element ≡ Basic basics.Byte → bytes ≡ spot.left
-    → elements_of (value_at depth endian (type_of element)) (type_of element) spot ≡ Ok (Val.array (Ty.basic basics.Byte) (bytes_as_values bytes))
+pub bytes_are : (inner : Bool) (read : Reader Val) (t : Ty) (spot : Spot) (bytes : List ℕ) → is_byte t ≡ true → bytes ≡ spot.left → elements_of read t spot ≡ Ok (value_as (known_as inner (Ty.array t)) (Bytes bytes))
 unfolding elements_of
-bytes_are endian depth element spot bytes is same =
-    rw is (rw (bytes_read endian depth (length spot.left) spot.place spot.left (le_refl _)) (ap (λ (bs : List ℕ). Ok (Val.array (Ty.basic basics.Byte) (bytes_as_values bs))) (sym same)))
+bytes_are inner read t spot bytes is same = rw is (ap (λ (bs : List ℕ). Ok (Val.bytes bs)) (sym same) ∙ ap (λ (v : Val). Ok v) (sym (bytes_as inner t bytes)))
 
-pub elements_are : (read : Reader Val) (element copied : CompleteType) (spot : Spot) (values : Vec Value Global) → elements_from read (length spot.left) spot spot.left ≡ Ok (values_of values.items) → type_of copied ≡ type_of element
-    → elements_of read (type_of element) spot ≡ Ok (value_of (Array copied values))
+elements_are : (read : Reader Val) (t : Ty) (spot : Spot) (vs : Vals) → is_byte t ≡ false → elements_from read (length spot.left) spot spot.left ≡ Ok vs → elements_of read t spot ≡ Ok (Val.array t vs)
 unfolding elements_of
-elements_are read element copied spot values found same =
-    rw (found, array_holds copied values, same) refl
+elements_are read t spot vs other found = rw (other, found) refl
 
-pub struct_are : (read : Ty → Reader Val) (ts : Tys) (spot start after : Spot) (values : Vec Value Global) → padding_at 8 spot ≡ Ok start → fields_by read ts start ≡ Ok (values_of values.items, after)
-    → struct_by read ts spot ≡ Ok (value_of (Struct values), after)
+-- an array inside another one
+pub inner_are : (inner : Bool) (read : Reader Val) (t : Ty) (spot : Spot) (values : Vec Value Global) (vs : List Value) → inner ≡ true → is_byte t ≡ false
+    → elements_from read (length spot.left) spot spot.left ≡ Ok (each_as t vs) → values.items ≡ vs → elements_of read t spot ≡ Ok (value_as (known_as inner (Ty.array t)) (InnerArray values))
+inner_are inner read t spot values vs is other found same =
+    elements_are read t spot (each_as t vs) other found ∙ ap (λ (l : List Value). Ok (Val.array t (each_as t l))) (sym same) ∙ ap (λ (v : Val). Ok v) (sym (inner_holds (Ty.array t) values))
+    ∙ ap (λ (b : Bool). Ok (value_as (known_as b (Ty.array t)) (InnerArray values))) (sym is)
+
+-- an array that has its type
+pub array_are : (inner : Bool) (read : Reader Val) (t : Ty) (spot : Spot) (array : Box TypedArray Global) (vs : List Value) → inner ≡ false → is_byte t ≡ false
+    → elements_from read (length spot.left) spot spot.left ≡ Ok (each_as t vs) → type_of array.value.element ≡ t → array.value.values.items ≡ vs → elements_of read t spot ≡ Ok (value_as (known_as inner (Ty.array t)) (Array array))
+array_are inner read t spot array vs is other found type same =
+    elements_are read t spot (each_as t vs) other found ∙ ap (λ (l : List Value). Ok (Val.array t (each_as t l))) (sym same)
+    ∙ ap (λ (u : Ty). Ok (Val.array u (each_as u array.value.values.items))) (sym type) ∙ ap (λ (v : Val). Ok v) (sym (plain_array array))
+    ∙ ap (λ (b : Bool). Ok (value_as (known_as b (Ty.array t)) (Array array))) (sym is)
+
+-- a struct whose fields are there
+pub struct_are : (inner : Bool) (read : Ty → Reader Val) (ts : Tys) (spot start after : Spot) (values : Vec Value Global) → lone_in inner ts ≡ None → padding_at 8 spot ≡ Ok start
+    → fields_by read ts start ≡ Ok (fields_as inner ts values.items, after) → struct_by read ts spot ≡ Ok (value_as (known_as inner (Ty.struct ts)) (Struct values), after)
 unfolding struct_by
-struct_are read ts spot start after values padded found = rw (padded, found, struct_holds values) refl
+struct_are inner read ts spot start after values none padded found = rw (padded, found) (ap (λ (v : Val). Ok (v, after)) (sym (core_struct inner ts values none)))
+
+one_field : (read : Ty → Reader Val) (t : Ty) (spot : Spot) → fields_by read (Tys.more t Tys.end) spot ≡ (read t spot >>= λ v. Ok (Vals.more v.0 Vals.end, v.1))
+unfolding fields_by
+one_field read t spot = refl
+
+-- a struct of one field in an array is what its field is
+pub lone_read : (inner : Bool) (read : Ty → Reader Val) (ts : Tys) (t : Ty) (spot start : Spot) (result : Result (Value × Cursor) ValueFault) → lone_in inner ts ≡ Some t → padding_at 8 spot ≡ Ok start
+    → Reads (λ x. (value_as (known_as true t) x.0, spot_of x.1)) result (read t start)
+    → Reads (λ x. (value_as (known_as inner (Ty.struct ts)) x.0, spot_of x.1)) result (struct_by read ts spot)
+unfolding struct_by
+lone_read inner read ts t spot start (Ok x) lone padded found =
+    let parts = lone_is inner ts t lone in
+    rw (parts.0, parts.1, padded, one_field read t start, found) refl
+lone_read inner read ts t spot start (Err e) lone padded fault =
+    let parts = lone_is inner ts t lone in
+    refuses_as e (read t start) (struct_by read ts spot) (λ f is. rw (parts.1, padded, one_field read t start, is) refl) fault
+
+-- ---- a value, by its type and where it lies
+
+abbrev pub ReadsAs : Bool → Ty → Result (Value × Cursor) ValueFault → Result (Val × Spot) ValueFault → Type 0
+ReadsAs inner t result read = Reads (λ x. (value_as (known_as inner t) x.0, spot_of x.1)) result read
+
+pub read_as : (inner : Bool) (depth : ℕ) (endian : Endian) (t u : Ty) (spot : Spot) (result : Result (Value × Cursor) ValueFault) (other : Result (Val × Spot) ValueFault) → t ≡ u → value_at depth endian u spot ≡ other
+    → ReadsAs inner u result other → ReadsAs inner t result (value_at depth endian t spot)
+read_as inner depth endian t u spot result other same is reads =
+    subst (λ (k : Ty). ReadsAs inner k result (value_at depth endian k spot)) (sym same) (subst (λ (r : Result (Val × Spot) ValueFault). ReadsAs inner u result r) (sym is) reads)
+
+pub basic_reads : (inner : Bool) (b : BasicType) (result : Result (Value × Cursor) ValueFault) (read : Result (Val × Spot) ValueFault) → ((known : Ty) → Reads (λ x. (core_as known x.0, spot_of x.1)) result read)
+    → ReadsAs inner (Ty.basic b) result read
+basic_reads true b result read any = any (Ty.basic b)
+basic_reads false b result read any = any Ty.variant
+
+pub variant_reads : (inner : Bool) (result : Result (Value × Cursor) ValueFault) (read : Result (Val × Spot) ValueFault) → Reads (λ x. (value_as Ty.variant x.0, spot_of x.1)) result read → ReadsAs inner Ty.variant result read
+variant_reads true result read reads = reads
+variant_reads false result read reads = reads
+
+-- a key and its value
+pub entry_are : (inner : Bool) (read : Ty → Reader Val) (endian : Endian) (key : BasicType) (t : Ty) (spot start behind after : Spot) (entry : Box KeyAndValue Global) (k v : Value) → padding_at 8 spot ≡ Ok start
+    → basic_at endian key start ≡ Ok (core_as (known_as inner (Ty.entry key t)) k, behind) → read t behind ≡ Ok (value_as (known_as inner t) v, after) → entry.value.key ≡ k → entry.value.value ≡ v
+    → entry_by read endian key t spot ≡ Ok (value_as (known_as inner (Ty.entry key t)) (DictEntry entry), after)
+unfolding entry_by
+entry_are true read endian key t spot start behind after entry k v padded first second is_key is_value =
+    rw (padded, first, second) (ap (λ (x : Value). Ok (Val.entry (core_as (Ty.entry key t) x) (value_as t v), after)) (sym is_key) ∙ ap (λ (x : Value). Ok (Val.entry (core_as (Ty.entry key t) entry.value.key) (value_as t x), after)) (sym is_value))
+entry_are false read endian key t spot start behind after entry k v padded first second is_key is_value =
+    rw (padded, first, second) (ap (λ (x : Value). Ok (Val.entry (value_of x) (value_of v), after)) (sym is_key) ∙ ap (λ (x : Value). Ok (Val.entry (value_of entry.value.key) (value_of x), after)) (sym is_value))

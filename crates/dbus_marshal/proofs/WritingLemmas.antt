@@ -1,5 +1,5 @@
 -- What the writers leave behind the bytes that they found.
-use Rattle.std.proofs.Common.{◌≡◌, ℕ, zero, suc, ◌+◌, ◌-◌, ◌%◌, ◌<◌, ◌≤◌, ◌&&◌, Bool, true, false, List, [], ◌∷◌, ◌++◌, length, take, drop, get_or, replicate, Result, Ok, Err, refl, sym, ap, subst, ◌∙◌, arith, append_assoc, append-nil, length-append, length-drop, Vec, Global}
+use Rattle.std.proofs.Common.{Box, Some, None, ◌≡◌, ℕ, zero, suc, ◌+◌, ◌-◌, ◌%◌, ◌<◌, ◌≤◌, ◌&&◌, Bool, true, false, List, [], ◌∷◌, ◌++◌, length, take, drop, get_or, replicate, Result, Ok, Err, refl, sym, ap, subst, ◌∙◌, arith, append_assoc, append-nil, length-append, length-drop, Vec, Global}
 use Rattle.std.specs.Prelude.{nat_le}
 use Rattle.std.specs.Int.{w8, w32}
 use Rattle.std.proofs.Math.Seq.{drop-cons}
@@ -10,13 +10,15 @@ use Rattle.std.proofs.lemmas.List.{take_at, drop_at, length-replicate}
 use Rattle.dbus_types.specs.declared.complete_type.BasicType.TheVariants as basics
 use Rattle.dbus_types.specs.declared.endian.Endian.{Endian}
 use Rattle.dbus_types.specs.declared.endian.Endian.TheVariants.{Little, Big}
-use Rattle.dbus_types.specs.declared.value.Value.{Value, Array, Struct}
+use Rattle.dbus_types.specs.declared.value.Value.{Value, Array, InnerArray, Struct}
+use Rattle.dbus_types.specs.declared.value.TypedArray.{TypedArray}
+use Rattle.dbus_types.specs.Known.{wrapping, is_variant, is_array, fields_in}
 use Rattle.dbus_types.specs.declared.complete_type.CompleteType.{CompleteType}
-use Rattle.dbus_types.proofs.ValueViews.{struct_holds, array_holds}
-use Rattle.dbus_types.specs.Types.{Ty}
-use Rattle.dbus_types.specs.Values.{Val, Vals, bytes_as_values}
+use Rattle.dbus_types.proofs.ValueViews.{struct_holds, inner_holds, array_holds}
+use Rattle.dbus_types.specs.Types.{Ty, Tys}
+use Rattle.dbus_types.specs.Values.{Val, Vals}
 use Rattle.dbus_types.specs.Views.{type_of}
-use Rattle.dbus_types.specs.ValueViews.{value_of, values_of}
+use Rattle.dbus_types.specs.ValueViews.{value_as, core_as, each_as, all_as, core_of, wrapped, element_of, fields_of, struct_fields, typed_array, in_variant, nothing}
 use Rattle.dbus_marshal.specs.declared.refused.MarshalFault.{MarshalFault}
 use Rattle.dbus_marshal.specs.declared.refused.MarshalFault.TheVariants.{TooLong, OutOfMemory}
 use Rattle.dbus_marshal.specs.Wire.{alignment_of, padding, behind, start_of, zeros, number_bytes}
@@ -143,39 +145,11 @@ array_wrote endian old opened done new zs ys elements mark count opens at is_don
 
 -- ---- an array of bytes
 
-byte_bytes : (endian : Endian) (b : ℕ) → b < 256 → number_bytes endian w8 b ≡ b ∷ []
-unfolding number_bytes
-byte_bytes Little b lt = let same : b % 256 ≡ b = omega arith in ap (λ (k : ℕ). k ∷ []) same
-byte_bytes Big b lt = let same : b % 256 ≡ b = omega arith in ap (λ (k : ℕ). k ∷ []) same
-
-byte_spelled : (endian : Endian) (b place : ℕ) → b < 256 → spelled endian (Val.number basics.Byte b) place ≡ b ∷ []
-byte_spelled endian b place lt =
-    let none : padding 1 place ≡ 0 = omega arith in
-    ap (λ (n : ℕ). zeros n ++ number_bytes endian w8 b) none ∙ byte_bytes endian b lt
-
-pub bytes_spelled : (endian : Endian) (bytes : List ℕ) (place : ℕ) → IsBytes bytes → all_spelled endian (bytes_as_values bytes) place ≡ bytes
-bytes_spelled endian [] place fits = refl
-bytes_spelled endian (b ∷ bytes) place fits =
-    ap (λ (f : List ℕ). f ++ all_spelled endian (bytes_as_values bytes) (behind place (length f))) (byte_spelled endian b place (fits 0))
-    ∙ ap (λ (r : List ℕ). b ∷ r) (bytes_spelled endian bytes (behind place 1) (λ i. fits (suc i)))
-
-pub bytes_short : (endian : Endian) (bytes : List ℕ) (place : ℕ) → are_short endian (bytes_as_values bytes) place ≡ true
-bytes_short endian [] place = refl
-bytes_short endian (b ∷ bytes) place = bytes_short endian bytes (behind place (length (spelled endian (Val.number basics.Byte b) place)))
-
-pub bytes_array : (endian : Endian) (bytes : List ℕ) (place : ℕ) → IsBytes bytes
-    → spelled endian (Val.array (Ty.basic basics.Byte) (bytes_as_values bytes)) place ≡ aligned 4 place (number_bytes endian w32 (length bytes)) ++ bytes
-bytes_array endian bytes place fits =
-    let first = first_at 1 place in
+pub bytes_array : (endian : Endian) (bytes : List ℕ) (place : ℕ) → spelled endian (Val.bytes bytes) place ≡ aligned 4 place (number_bytes endian w32 (length bytes)) ++ bytes
+bytes_array endian bytes place =
     let none : padding 1 (behind (start_of 4 place) 4) ≡ 0 = omega arith in
-    ap (array_spelled endian 1 place) (bytes_spelled endian bytes first fits)
-    ∙ ap (λ (n : ℕ). aligned 4 place (number_bytes endian w32 (length bytes) ++ (zeros n ++ bytes))) none
+    ap (λ (n : ℕ). aligned 4 place (number_bytes endian w32 (length bytes) ++ (zeros n ++ bytes))) none
     ∙ sym (append_assoc (zeros (padding 4 place)) (number_bytes endian w32 (length bytes)) bytes)
-
-pub bytes_array_short : (endian : Endian) (bytes : List ℕ) (place : ℕ) → IsBytes bytes → is_short endian (Val.array (Ty.basic basics.Byte) (bytes_as_values bytes)) place ≡ nat_le (length bytes) 67108864
-bytes_array_short endian bytes place fits =
-    ap (λ (b : Bool). b && nat_le (length (all_spelled endian (bytes_as_values bytes) (first_at 1 place))) 67108864) (bytes_short endian bytes (first_at 1 place))
-    ∙ ap (λ (bs : List ℕ). nat_le (length bs) 67108864) (bytes_spelled endian bytes (first_at 1 place) fits)
 
 -- ---- numbers of which the lower bits are written
 
@@ -243,11 +217,150 @@ writes_array result endian t vs place alignment old new same written =
     subst (λ (a : ℕ). Writes result (array_spelled endian a place (all_spelled endian vs (first_at a place)))
     (are_short endian vs (first_at a place) && nat_le (length (all_spelled endian vs (first_at a place))) 67108864) old new) same written
 
-pub array_tree : (value : Value) (t : CompleteType) (values : Vec Value Global) (slice : List Value) → value ≡ Array t values → slice ≡ values.items → value_of value ≡ Val.array (type_of t) (values_of slice)
-array_tree value t values slice is same = ap value_of is ∙ array_holds t values ∙ ap (λ (l : List Value). Val.array (type_of t) (values_of l)) (sym same)
+pub array_tree : (value : Value) (known : Ty) (array : Box TypedArray Global) → value ≡ Array array
+    → core_as known value ≡ typed_array known (type_of array.value.element) (each_as (type_of array.value.element) array.value.values.items)
+array_tree value known array is = ap (core_as known) is ∙ array_holds known array
 
-pub struct_tree : (value : Value) (values : Vec Value Global) (slice : List Value) → value ≡ Struct values → slice ≡ values.items → value_of value ≡ Val.struct (values_of slice)
-struct_tree value values slice is same = ap value_of is ∙ struct_holds values ∙ ap (λ (l : List Value). Val.struct (values_of l)) (sym same)
+pub inner_tree : (value : Value) (known t : Ty) (values : Vec Value Global) (slice : List Value) → value ≡ InnerArray values → slice ≡ values.items → t ≡ element_of known → core_as known value ≡ Val.array t (each_as t slice)
+inner_tree value known t values slice is same of_known =
+    ap (core_as known) is ∙ inner_holds known values ∙ ap (λ (l : List Value). Val.array (element_of known) (each_as (element_of known) l)) (sym same)
+    ∙ ap (λ (u : Ty). Val.array u (each_as u slice)) (sym of_known)
+
+pub struct_tree : (value : Value) (known : Ty) (values : Vec Value Global) (slice : List Value) → value ≡ Struct values → slice ≡ values.items
+    → core_as known value ≡ Val.struct (struct_fields known (all_as (fields_of known) slice) (each_as known slice))
+struct_tree value known values slice is same =
+    ap (core_as known) is ∙ struct_holds known values ∙ ap (λ (l : List Value). Val.struct (struct_fields known (all_as (fields_of known) l) (each_as known l))) (sym same)
+
+-- ---- what lies where it can't
+
+pub writes_nothing : (endian : Endian) (v : Val) (place : ℕ) (old new : List ℕ) → v ≡ nothing → new ≡ old ++ zeros (padding 8 place) → Writes {X = Unit {0}} (Ok tt) (spelled endian v place) (is_short endian v place) old new
+writes_nothing endian v place old new same is =
+    subst (λ (w : Val). Writes {X = Unit {0}} (Ok tt) (spelled endian w place) (is_short endian w place) old new) (sym same)
+    (is ∙ ap (λ (r : List ℕ). old ++ r) (sym (append-nil (zeros (padding 8 place)))), refl)
+
+pub variant_no : (known : Ty) (v : Val) → is_variant known ≡ false → in_variant known v ≡ nothing
+variant_no (Ty.basic b) v e = refl
+variant_no Ty.variant v e = absurd cc
+variant_no (Ty.array t) v e = refl
+variant_no (Ty.struct ts) v e = refl
+variant_no (Ty.entry key t) v e = refl
+
+pub variant_yes : (known : Ty) → is_variant known ≡ true → known ≡ Ty.variant
+variant_yes (Ty.basic b) e = absurd cc
+variant_yes Ty.variant e = refl
+variant_yes (Ty.array t) e = absurd cc
+variant_yes (Ty.struct ts) e = absurd cc
+variant_yes (Ty.entry key t) e = absurd cc
+
+pub typed_no : (known t : Ty) (vs : Vals) → is_array known ≡ true → typed_array known t vs ≡ nothing
+typed_no (Ty.basic b) t vs e = absurd cc
+typed_no Ty.variant t vs e = absurd cc
+typed_no (Ty.array u) t vs e = refl
+typed_no (Ty.struct ts) t vs e = absurd cc
+typed_no (Ty.entry key u) t vs e = absurd cc
+
+pub typed_yes : (known t : Ty) (vs : Vals) → is_array known ≡ false → typed_array known t vs ≡ Val.array t vs
+typed_yes (Ty.basic b) t vs e = refl
+typed_yes Ty.variant t vs e = refl
+typed_yes (Ty.array u) t vs e = absurd cc
+typed_yes (Ty.struct ts) t vs e = refl
+typed_yes (Ty.entry key u) t vs e = refl
+
+pub struct_yes : (known : Ty) (ts : Tys) → Some ts ≡ fields_in known → known ≡ Ty.struct ts
+struct_yes (Ty.struct us) ts e = let same : us ≡ ts = cc in ap Ty.struct same
+struct_yes (Ty.basic b) ts e = absurd cc
+struct_yes Ty.variant ts e = absurd cc
+struct_yes (Ty.array t) ts e = absurd cc
+struct_yes (Ty.entry key t) ts e = absurd cc
+
+pub struct_no : (known : Ty) (all each : Vals) → None ≡ fields_in known → struct_fields known all each ≡ each
+struct_no (Ty.struct us) all each e = absurd cc
+struct_no (Ty.basic b) all each e = refl
+struct_no Ty.variant all each e = refl
+struct_no (Ty.array t) all each e = refl
+struct_no (Ty.entry key t) all each e = refl
+
+-- ---- structs of one field around a value
+
+wrapped_at_0 : (endian : Endian) (t : Ty) (w : Val) → spelled endian (wrapped t w) 0 ≡ spelled endian w 0
+wrapped_at_0 endian (Ty.struct (Tys.more t Tys.end)) w = append-nil (spelled endian (wrapped t w) 0) ∙ wrapped_at_0 endian t w
+wrapped_at_0 endian (Ty.struct (Tys.more t (Tys.more u ts))) w = refl
+wrapped_at_0 endian (Ty.struct Tys.end) w = refl
+wrapped_at_0 endian (Ty.basic b) w = refl
+wrapped_at_0 endian Ty.variant w = refl
+wrapped_at_0 endian (Ty.array t) w = refl
+wrapped_at_0 endian (Ty.entry key t) w = refl
+
+and_true : (b : Bool) → (b && true) ≡ b
+and_true true = refl
+and_true false = refl
+
+wrapped_short_at_0 : (endian : Endian) (t : Ty) (w : Val) → is_short endian (wrapped t w) 0 ≡ is_short endian w 0
+wrapped_short_at_0 endian (Ty.struct (Tys.more t Tys.end)) w = and_true (is_short endian (wrapped t w) 0) ∙ wrapped_short_at_0 endian t w
+wrapped_short_at_0 endian (Ty.struct (Tys.more t (Tys.more u ts))) w = refl
+wrapped_short_at_0 endian (Ty.struct Tys.end) w = refl
+wrapped_short_at_0 endian (Ty.basic b) w = refl
+wrapped_short_at_0 endian Ty.variant w = refl
+wrapped_short_at_0 endian (Ty.array t) w = refl
+wrapped_short_at_0 endian (Ty.entry key t) w = refl
+
+unwrapped : (endian : Endian) (w : Val) (place : ℕ) → place < 8 → spelled endian w place ≡ aligned 1 place (spelled endian w (start_of 1 place))
+unwrapped endian w place below =
+    let none : padding 1 place ≡ 0 = omega arith in
+    let same : place ≡ behind place 0 = omega arith in
+    rw none (ap (spelled endian w) same)
+
+unwrapped_short : (endian : Endian) (w : Val) (place : ℕ) → place < 8 → is_short endian w place ≡ is_short endian w (start_of 1 place)
+unwrapped_short endian w place below =
+    let same : place ≡ start_of 1 place = omega arith in
+    ap (is_short endian w) same
+
+wrapped_spelled : (endian : Endian) (t : Ty) (w : Val) (place : ℕ) → place < 8 → spelled endian (wrapped t w) place ≡ aligned (wrapping t) place (spelled endian w (start_of (wrapping t) place))
+wrapped_spelled endian (Ty.struct (Tys.more t Tys.end)) w place below =
+    let first : start_of 8 place ≡ 0 = omega arith in
+    ap (λ (bs : List ℕ). aligned 8 place bs)
+    (append-nil (spelled endian (wrapped t w) (start_of 8 place)) ∙ ap (spelled endian (wrapped t w)) first ∙ wrapped_at_0 endian t w ∙ ap (spelled endian w) (sym first))
+wrapped_spelled endian (Ty.struct (Tys.more t (Tys.more u ts))) w place below = unwrapped endian w place below
+wrapped_spelled endian (Ty.struct Tys.end) w place below = unwrapped endian w place below
+wrapped_spelled endian (Ty.basic b) w place below = unwrapped endian w place below
+wrapped_spelled endian Ty.variant w place below = unwrapped endian w place below
+wrapped_spelled endian (Ty.array t) w place below = unwrapped endian w place below
+wrapped_spelled endian (Ty.entry key t) w place below = unwrapped endian w place below
+
+wrapped_short : (endian : Endian) (t : Ty) (w : Val) (place : ℕ) → place < 8 → is_short endian (wrapped t w) place ≡ is_short endian w (start_of (wrapping t) place)
+wrapped_short endian (Ty.struct (Tys.more t Tys.end)) w place below =
+    let first : start_of 8 place ≡ 0 = omega arith in
+    and_true (is_short endian (wrapped t w) (start_of 8 place)) ∙ ap (is_short endian (wrapped t w)) first ∙ wrapped_short_at_0 endian t w ∙ ap (is_short endian w) (sym first)
+wrapped_short endian (Ty.struct (Tys.more t (Tys.more u ts))) w place below = unwrapped_short endian w place below
+wrapped_short endian (Ty.struct Tys.end) w place below = unwrapped_short endian w place below
+wrapped_short endian (Ty.basic b) w place below = unwrapped_short endian w place below
+wrapped_short endian Ty.variant w place below = unwrapped_short endian w place below
+wrapped_short endian (Ty.array t) w place below = unwrapped_short endian w place below
+wrapped_short endian (Ty.entry key t) w place below = unwrapped_short endian w place below
+
+-- bytes that are padded for the structs are the whole
+pub wrapped_value : (endian : Endian) (t core : Ty) (value : Value) (place alignment start : ℕ) (inner slice made : List ℕ) → place < 8 → alignment ≡ wrapping t → core ≡ core_of t → start ≡ start_of alignment place
+    → inner ≡ spelled endian (core_as core value) start → slice ≡ inner → made ≡ aligned alignment place slice → made ≡ spelled endian (value_as t value) place
+wrapped_value endian t core value place alignment start inner slice made below is_alignment is_core is_start is_inner is_slice is =
+    let w = core_as (core_of t) value in
+    is ∙ ap (aligned alignment place) (is_slice ∙ is_inner ∙ ap (λ (u : Ty). spelled endian (core_as u value) start) is_core ∙ ap (spelled endian w) is_start)
+    ∙ ap (λ (a : ℕ). aligned a place (spelled endian w (start_of a place))) is_alignment ∙ sym (wrapped_spelled endian t w place below)
+
+-- what is written behind the padding of the structs is the whole
+pub writes_wrapped : {X : Type 0} (result : Result X MarshalFault) (endian : Endian) (phase : ℕ) (t core : Ty) (value : Value) (alignment : ℕ) (old mid new : List ℕ) → alignment ≡ wrapping t → core ≡ core_of t
+    → mid ≡ old ++ zeros (padding alignment (behind phase (length old)))
+    → Writes result (spelled endian (core_as core value) (behind phase (length mid))) (is_short endian (core_as core value) (behind phase (length mid))) mid new
+    → Writes result (spelled endian (value_as t value) (behind phase (length old))) (is_short endian (value_as t value) (behind phase (length old))) old new
+writes_wrapped result endian phase t core value alignment old mid new is_alignment is_core padded written =
+    let place = behind phase (length old) in
+    let below : place < 8 = omega arith in
+    let w = core_as (core_of t) value in
+    let inner : Writes result (spelled endian w (behind phase (length mid))) (is_short endian w (behind phase (length mid))) mid new =
+    subst (λ (u : Ty). Writes result (spelled endian (core_as u value) (behind phase (length mid))) (is_short endian (core_as u value) (behind phase (length mid))) mid new) is_core written in
+    let there = subst (λ (k : ℕ). mid ≡ old ++ zeros (padding k place)) is_alignment padded in
+    let whole = writes_padded result phase (wrapping t) (spelled endian w) (is_short endian w) old mid new there inner in
+    subst (λ (b : Bool). Writes result (spelled endian (value_as t value) place) b old new) (sym (wrapped_short endian t w place below))
+    (subst (λ (bs : List ℕ). Writes result bs (is_short endian w (start_of (wrapping t) place)) old new) (sym (wrapped_spelled endian t w place below)) whole)
 
 -- ---- the elements of an array
 
@@ -336,29 +449,44 @@ array_done endian phase alignment mark vs old opened done new start end opens at
 
 -- ---- values one behind the other
 
-values_left : (values : List Value) (i : ℕ) (each : Value) → i < length values → each ≡ get_or values i each → values_of (drop i values) ≡ Vals.more (value_of each) (values_of (drop (i + 1) values))
-values_left values i each lt is =
-    ap values_of (drop-cons values i each lt) ∙ ap (λ (x : Value). values_of (x ∷ drop (suc i) values)) (sym is) ∙ ap (λ (k : ℕ). Vals.more (value_of each) (values_of (drop k values))) (sym (add-one i))
+pub each_left : (t : Ty) (values : List Value) (i : ℕ) (each : Value) → i < length values → each ≡ get_or values i each → each_as t (drop i values) ≡ Vals.more (value_as t each) (each_as t (drop (i + 1) values))
+each_left t values i each lt is =
+    ap (each_as t) (drop-cons values i each lt) ∙ ap (λ (x : Value). each_as t (x ∷ drop (suc i) values)) (sym is) ∙ ap (λ (k : ℕ). Vals.more (value_as t each) (each_as t (drop k values))) (sym (add-one i))
 
-pub all_step : (endian : Endian) (phase i : ℕ) (out new total : List ℕ) (test : Bool) (values : List Value) (each : Value) → i < length values → each ≡ get_or values i each
-    → new ≡ out ++ spelled endian (value_of each) (behind phase (length out)) → is_short endian (value_of each) (behind phase (length out)) ≡ true
-    → (out ++ all_spelled endian (values_of (drop i values)) (behind phase (length out)) ≡ total) × (are_short endian (values_of (drop i values)) (behind phase (length out)) ≡ test)
-    → (new ++ all_spelled endian (values_of (drop (i + 1) values)) (behind phase (length new)) ≡ total) × (are_short endian (values_of (drop (i + 1) values)) (behind phase (length new)) ≡ test)
-all_step endian phase i out new total test values each lt is written short before =
+pub all_left : (left : Tys) (first : Ty) (others : Tys) (values : List Value) (i : ℕ) (each : Value) → i < length values → each ≡ get_or values i each → left ≡ Tys.more first others
+    → all_as left (drop i values) ≡ Vals.more (value_as first each) (all_as others (drop (i + 1) values))
+all_left left first others values i each lt is parts =
+    ap (λ (us : Tys). all_as us (drop i values)) parts ∙ ap (all_as (Tys.more first others)) (drop-cons values i each lt) ∙ ap (λ (x : Value). all_as (Tys.more first others) (x ∷ drop (suc i) values)) (sym is)
+    ∙ ap (λ (k : ℕ). Vals.more (value_as first each) (all_as others (drop k values))) (sym (add-one i))
+
+pub all_past : (left : Tys) (values : List Value) (i : ℕ) (each : Value) → i < length values → each ≡ get_or values i each → left ≡ Tys.end
+    → all_as left (drop i values) ≡ Vals.more nothing (all_as left (drop (i + 1) values))
+all_past left values i each lt is none =
+    ap (λ (us : Tys). all_as us (drop i values)) none ∙ ap (all_as Tys.end) (drop-cons values i each lt)
+    ∙ ap (λ (k : ℕ). Vals.more nothing (all_as Tys.end (drop k values))) (sym (add-one i)) ∙ ap (λ (us : Tys). Vals.more nothing (all_as us (drop (i + 1) values))) (sym none)
+
+pub each_none : (t : Ty) (values : List Value) (i : ℕ) → length values ≤ i → each_as t (drop i values) ≡ Vals.end
+each_none t values i le = ap (each_as t) (drop_of_length-le values le)
+
+pub all_none : (ts : Tys) (values : List Value) (i : ℕ) → length values ≤ i → all_as ts (drop i values) ≡ Vals.end
+all_none ts values i le = ap (all_as ts) (drop_of_length-le values le)
+
+pub next_step : (endian : Endian) (phase : ℕ) (out new total : List ℕ) (test : Bool) (vs rest : Vals) (w : Val) → vs ≡ Vals.more w rest
+    → new ≡ out ++ spelled endian w (behind phase (length out)) → is_short endian w (behind phase (length out)) ≡ true
+    → (out ++ all_spelled endian vs (behind phase (length out)) ≡ total) × (are_short endian vs (behind phase (length out)) ≡ test)
+    → (new ++ all_spelled endian rest (behind phase (length new)) ≡ total) × (are_short endian rest (behind phase (length new)) ≡ test)
+next_step endian phase out new total test vs rest w parts written short before =
     let here = behind phase (length out) in
-    let S = spelled endian (value_of each) here in
-    let rest = values_of (drop (i + 1) values) in
-    let parts = values_left values i each lt is in
+    let S = spelled endian w here in
     let there : behind phase (length new) ≡ behind here (length S) = ap (λ (l : List ℕ). behind phase (length l)) written ∙ behind_both phase out S in (
       ap (λ (p : ℕ). new ++ all_spelled endian rest p) there ∙ ap (λ (l : List ℕ). l ++ all_spelled endian rest (behind here (length S))) written ∙ append_assoc out S (all_spelled endian rest (behind here (length S)))
-          ∙ ap (λ (vs : Vals). out ++ all_spelled endian vs here) (sym parts) ∙ before.0,
-      ap (are_short endian rest) there ∙ ap (λ (b : Bool). b && are_short endian rest (behind here (length S))) (sym short) ∙ ap (λ (vs : Vals). are_short endian vs here) (sym parts) ∙ before.1,
+          ∙ ap (λ (us : Vals). out ++ all_spelled endian us here) (sym parts) ∙ before.0,
+      ap (are_short endian rest) there ∙ ap (λ (b : Bool). b && are_short endian rest (behind here (length S))) (sym short) ∙ ap (λ (us : Vals). are_short endian us here) (sym parts) ∙ before.1,
     )
 
-pub all_over : (endian : Endian) (phase i : ℕ) (out total : List ℕ) (test : Bool) (values : List Value) → length values ≤ i
-    → (out ++ all_spelled endian (values_of (drop i values)) (behind phase (length out)) ≡ total) × (are_short endian (values_of (drop i values)) (behind phase (length out)) ≡ test) → (out ≡ total) × (test ≡ true)
-all_over endian phase i out total test values le before =
-    let none : values_of (drop i values) ≡ Vals.end = ap values_of (drop_of_length-le values le) in (
-      sym (append-nil out) ∙ ap (λ (vs : Vals). out ++ all_spelled endian vs (behind phase (length out))) (sym none) ∙ before.0,
-      sym before.1 ∙ ap (λ (vs : Vals). are_short endian vs (behind phase (length out))) none,
-    )
+pub next_over : (endian : Endian) (phase : ℕ) (out total : List ℕ) (test : Bool) (vs : Vals) → vs ≡ Vals.end
+    → (out ++ all_spelled endian vs (behind phase (length out)) ≡ total) × (are_short endian vs (behind phase (length out)) ≡ test) → (out ≡ total) × (test ≡ true)
+next_over endian phase out total test vs none before = (
+  sym (append-nil out) ∙ ap (λ (us : Vals). out ++ all_spelled endian us (behind phase (length out))) (sym none) ∙ before.0,
+  sym before.1 ∙ ap (λ (us : Vals). are_short endian us (behind phase (length out))) none,
+)

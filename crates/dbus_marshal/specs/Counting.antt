@@ -9,6 +9,7 @@ abbrev mutual
   count (Val.text b bytes) = 1
   count (Val.variant v) = 1 + count v
   count (Val.array t vs) = 1 + counts vs
+  count (Val.bytes them) = 1
   count (Val.struct vs) = 1 + counts vs
   count (Val.entry key v) = 1 + (count key + count v)
 

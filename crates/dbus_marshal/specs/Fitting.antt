@@ -1,8 +1,9 @@
 -- D-Bus Specification, "Type System", "Marshaling": which values a type has, but for the length of their arrays.
-use Rattle.std.specs.Prelude.{ℕ, ◌<◌, ◌≡◌, IsTrue}
+use Rattle.std.specs.Prelude.{ℕ, ◌<◌, ◌≡◌, IsTrue, IsFalse}
+use Rattle.dbus_types.specs.declared.complete_type.BasicType.TheVariants as basics
 use Rattle.dbus_types.specs.Types.{Ty, Tys, is_signature}
 use Rattle.dbus_types.specs.Values.{Val, Vals, ty_of, tys_of}
-use Rattle.dbus_marshal.specs.Wire.{limit_of, IsTextOf, Opens}
+use Rattle.dbus_marshal.specs.Wire.{limit_of, is_byte, AreBytes, IsTextOf, Opens}
 
 abbrev mutual
   -- a value of the type, in which at most so many arrays, structs, dict entries and variants are open at once
@@ -10,7 +11,8 @@ abbrev mutual
   Fits depth (Ty.basic b) (Val.number c n) = (c ≡ b) × (n < limit_of b)
   Fits depth (Ty.basic b) (Val.text c bytes) = (c ≡ b) × IsTextOf b bytes
   Fits depth Ty.variant (Val.variant v) = Opens depth (λ fewer. IsTrue (is_signature (Tys.more (ty_of v) Tys.end)) × Fits fewer (ty_of v) v)
-  Fits depth (Ty.array t) (Val.array u vs) = Opens depth (λ fewer. (u ≡ t) × EachFits fewer t vs)
+  Fits depth (Ty.array t) (Val.array u vs) = Opens depth (λ fewer. (u ≡ t) × EachFits fewer t vs × IsFalse (is_byte t))
+  Fits depth (Ty.array t) (Val.bytes bytes) = Opens depth (λ fewer. (t ≡ Ty.basic basics.Byte) × AreBytes bytes)
   Fits depth (Ty.struct ts) (Val.struct vs) = Opens depth (λ fewer. AllFit fewer ts vs)
   Fits depth (Ty.entry key t) (Val.entry k v) = Opens depth (λ fewer. Fits fewer (Ty.basic key) k × Fits fewer t v)
   Fits depth t v = ⊥

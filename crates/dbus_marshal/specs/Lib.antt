@@ -6,4 +6,4 @@ pub mod Reading
 pub mod Cursors
 pub mod Counting
 pub mod Writing
-pub mod TypeTexts
+pub mod Held

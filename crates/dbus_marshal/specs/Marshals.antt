@@ -1,13 +1,13 @@
 -- D-Bus Specification, "Marshaling": which bytes a value of a type has at a place, by cases on the type. Places are
 -- counted modulo 8, which each alignment divides.
-use Rattle.std.specs.Prelude.{ℕ, ◌%◌, ◌<◌, ◌≤◌, ◌≡◌, IsTrue, List, [], ◌∷◌, ◌++◌, length}
+use Rattle.std.specs.Prelude.{ℕ, ◌%◌, ◌<◌, ◌≤◌, ◌≡◌, IsTrue, IsFalse, List, [], ◌∷◌, ◌++◌, length}
 use Rattle.std.specs.Int.{w32, byte_len}
 use Rattle.dbus_types.specs.declared.complete_type.BasicType.{BasicType}
 use Rattle.dbus_types.specs.declared.complete_type.BasicType.TheVariants as basics
 use Rattle.dbus_types.specs.declared.endian.Endian.{Endian}
 use Rattle.dbus_types.specs.Types.{Ty, Tys, is_signature, text_of}
 use Rattle.dbus_types.specs.Values.{Val, Vals}
-use Rattle.dbus_marshal.specs.Wire.{width_of, alignment_of, padding, behind, start_of, zeros, number_bytes, limit_of, IsTextOf, Opens}
+use Rattle.dbus_marshal.specs.Wire.{width_of, alignment_of, padding, behind, start_of, zeros, number_bytes, limit_of, is_byte, AreBytes, IsTextOf, Opens}
 
 -- the bytes are zeros up to the alignment, and then bytes of which this holds, where they stand
 abbrev pub Padded : ℕ → ℕ → (ℕ → List ℕ → Type 0) → List ℕ → Type 0
@@ -39,7 +39,9 @@ abbrev mutual
       Opens depth (λ fewer. (t : Ty) × (signature : List ℕ) × (rest : List ℕ) × IsTrue (is_signature (Tys.more t Tys.end)) × (bytes ≡ signature ++ rest)
       × TextMarshals endian place basics.Signature (text_of t) signature × Marshals fewer endian (behind place (length signature)) t v rest)
   Marshals depth endian place (Ty.array t) (Val.array u vs) bytes =
-      Opens depth (λ fewer. (u ≡ t) × ArrayMarshals endian place t (λ first elements. EachMarshals fewer endian first t vs elements) bytes)
+      Opens depth (λ fewer. (u ≡ t) × IsFalse (is_byte t) × ArrayMarshals endian place t (λ first elements. EachMarshals fewer endian first t vs elements) bytes)
+  Marshals depth endian place (Ty.array t) (Val.bytes them) bytes =
+      Opens depth (λ fewer. (t ≡ Ty.basic basics.Byte) × AreBytes them × ArrayMarshals endian place t (λ first elements. elements ≡ them) bytes)
   Marshals depth endian place (Ty.struct ts) (Val.struct vs) bytes =
       Opens depth (λ fewer. Padded 8 place (λ at fields. AllMarshal fewer endian at ts vs fields) bytes)
   Marshals depth endian place (Ty.entry key t) (Val.entry k v) bytes =

@@ -11,7 +11,7 @@ use Rattle.dbus_types.specs.Paths.{is_object_path}
 use Rattle.dbus_types.specs.Values.{Val, Vals}
 use Rattle.dbus_marshal.specs.declared.refused.ValueFault.{ValueFault}
 use Rattle.dbus_marshal.specs.declared.refused.ValueFault.TheVariants.{Short, Padding, BadBool, BadText, BadPath, BadSignature, ArrayTooLong, TooDeep, Rest, OutOfMemory}
-use Rattle.dbus_marshal.specs.Wire.{width_of, alignment_of, padding, behind, number_from, is_text}
+use Rattle.dbus_marshal.specs.Wire.{width_of, alignment_of, padding, behind, number_from, is_text, is_byte}
 
 -- the fault is what reading gives, unless memory ran out
 abbrev pub Refuses : {Y : Type 0} → ValueFault → Result Y ValueFault → Type 0
@@ -137,9 +137,10 @@ elements_from read n spot [] = Ok Vals.end
 elements_from read zero spot (b ∷ bytes) = Err Short
 elements_from read (suc n) spot (b ∷ bytes) = read spot >>= λ v. elements_from read n v.1 v.1.left >>= λ vs. Ok (Vals.more v.0 vs)
 
--- an array of the elements that are all of the bytes
+-- an array of the elements that are all of the bytes, or the bytes
 unfoldable pub elements_of : Reader Val → Ty → Spot → Result Val ValueFault
-elements_of read t spot = elements_from read (length spot.left) spot spot.left >>= λ vs. Ok (Val.array t vs)
+elements_of read t spot =
+    if is_byte t then Ok (Val.bytes spot.left) else (elements_from read (length spot.left) spot spot.left >>= λ vs. Ok (Val.array t vs))
 
 -- An array: its length, the padding to its first element, and the elements, which see only the array's bytes.
 unfoldable pub array_by : Reader Val → Endian → Ty → Reader Val

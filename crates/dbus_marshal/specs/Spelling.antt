@@ -37,6 +37,7 @@ abbrev mutual
   spelled endian (Val.variant v) place =
       text_spelled endian basics.Signature (text_of (ty_of v)) place ++ spelled endian v (behind place (length (text_spelled endian basics.Signature (text_of (ty_of v)) place)))
   spelled endian (Val.array t vs) place = array_spelled endian (alignment_of t) place (all_spelled endian vs (first_at (alignment_of t) place))
+  spelled endian (Val.bytes them) place = array_spelled endian 1 place them
   spelled endian (Val.struct vs) place = aligned 8 place (all_spelled endian vs (start_of 8 place))
   spelled endian (Val.entry key v) place =
       aligned 8 place (spelled endian key (start_of 8 place) ++ spelled endian v (behind (start_of 8 place) (length (spelled endian key (start_of 8 place)))))
@@ -54,6 +55,7 @@ abbrev mutual
   is_short endian (Val.variant v) place = is_short endian v (behind place (length (text_spelled endian basics.Signature (text_of (ty_of v)) place)))
   is_short endian (Val.array t vs) place =
       are_short endian vs (first_at (alignment_of t) place) && nat_le (length (all_spelled endian vs (first_at (alignment_of t) place))) 67108864
+  is_short endian (Val.bytes them) place = nat_le (length them) 67108864
   is_short endian (Val.struct vs) place = are_short endian vs (start_of 8 place)
   is_short endian (Val.entry key v) place =
       is_short endian key (start_of 8 place) && is_short endian v (behind (start_of 8 place) (length (spelled endian key (start_of 8 place))))

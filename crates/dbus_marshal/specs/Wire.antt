@@ -1,5 +1,5 @@
 -- D-Bus Specification, "Marshaling": alignment, padding, numbers and texts.
-use Rattle.std.specs.Prelude.{ℕ, zero, suc, ◌+◌, ◌-◌, ◌%◌, ◌^◌, ◌<◌, ◌≡◌, ◌&&◌, nat_eq, not, Bool, IsTrue, List, length, replicate}
+use Rattle.std.specs.Prelude.{ℕ, zero, suc, ◌+◌, ◌-◌, ◌%◌, ◌^◌, ◌<◌, ◌≡◌, ◌&&◌, nat_eq, not, Bool, true, false, IsTrue, List, [], ◌∷◌, length, replicate}
 use Rattle.std.specs.List.{list_any}
 use Rattle.std.specs.Str.{is_utf8}
 use Rattle.std.specs.Int.{Width, w8, w16, w32, w64, byte_len, to_le_bytes, to_be_bytes, from_le_bytes, from_be_bytes}
@@ -104,6 +104,16 @@ IsTextOf basics.Int64 bytes = ⊥
 IsTextOf basics.Uint64 bytes = ⊥
 IsTextOf basics.Double bytes = ⊥
 IsTextOf basics.UnixFd bytes = ⊥
+
+-- the type of a byte: an array of bytes is the bytes, and no array of values
+abbrev pub is_byte : Ty → Bool
+is_byte (Ty.basic basics.Byte) = true
+is_byte t = false
+
+-- each is a byte
+abbrev pub AreBytes : List ℕ → Type 0
+AreBytes [] = Unit {0}
+AreBytes (b ∷ bytes) = (b < 2 ^ 8) × AreBytes bytes
 
 -- one container is open, and inside it one fewer may be
 abbrev pub Opens : ℕ → (ℕ → Type 0) → Type 0

@@ -9,8 +9,6 @@ mod marshalling;
 mod places;
 mod reading;
 mod refused;
-#[cfg(test)]
-mod tests;
 mod type_text;
 mod values;
 mod writers;
@@ -18,7 +16,7 @@ mod writing;
 
 pub use laws::{a_value_has_one_spelling, no_spelling_goes_on};
 pub use marshalling::marshal;
-pub use places::alignment;
+pub use places::{alignment, is_byte};
 pub use refused::{MarshalFault, ValueFault};
 pub use values::unmarshal;
 

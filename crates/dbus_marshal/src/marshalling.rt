@@ -8,8 +8,8 @@ ghost use Rattle.dbus_marshal.specs.Reading.{values_at};
 ghost use Rattle.dbus_marshal.specs.Spelling.{are_short};
 
 use crate::refused::MarshalFault;
-use crate::writers::write_all;
-use dbus_types::{Endian, Value};
+use crate::writers::write_each;
+use dbus_types::{CompleteType, Endian, Value};
 use std::alloc::Global;
 
 /// The bytes that values are (D-Bus Specification, "Marshaling"). `place` is where the first byte
@@ -40,6 +40,6 @@ pub fn marshal(
 {
     let mut out = Vec::new(alloc);
     let phase = (place % 8) as usize;
-    write_all(&mut out, phase, endian, values)?;
+    write_each(&mut out, phase, endian, values, &CompleteType::Variant)?;
     Ok(out)
 }

@@ -1,7 +1,7 @@
 ghost use Rattle.std.specs.Prelude.{◌≡◌, ◌<◌, ◌≤◌};
 ghost use Rattle.std.specs.Int.{byte_len};
 ghost use Rattle.dbus_types.specs.Views.{type_of};
-ghost use Rattle.dbus_marshal.specs.Wire.{alignment_of, width_of, padding};
+ghost use Rattle.dbus_marshal.specs.Wire.{alignment_of, width_of, padding, is_byte};
 
 use dbus_types::{BasicType, CompleteType};
 
@@ -30,6 +30,16 @@ fn width(basic: BasicType) -> usize
         BasicType::Int16 | BasicType::Uint16 => 2,
         BasicType::Int64 | BasicType::Uint64 | BasicType::Double => 8,
         _ => 4,
+    }
+}
+
+/// Whether the type is that of a byte.
+pub fn is_byte(complete_type: &CompleteType) -> bool
+    ensures { result ≡ is_byte (type_of complete_type.now) }
+{
+    match complete_type {
+        CompleteType::Basic(BasicType::Byte) => true,
+        _ => false,
     }
 }
 

@@ -1,9 +1,10 @@
 ghost use Rattle.std.specs.Prelude.{◌≡◌, ◌<◌, ◌≤◌, ◌^◌, length, IfOk, IsTrue, Some, None, option_map, if◌then◌else◌};
 ghost use Rattle.std.specs.Str.{is_utf8};
 ghost use Rattle.std.specs.Int.{w8, w16, w32, w64};
+ghost use Rattle.dbus_types.specs.Types.{Ty};
 ghost use Rattle.dbus_types.specs.Signatures.{signature_at};
 ghost use Rattle.dbus_types.specs.SignatureViews.{types_in};
-ghost use Rattle.dbus_types.specs.ValueViews.{value_of};
+ghost use Rattle.dbus_types.specs.ValueViews.{core_as, value_of};
 ghost use Rattle.dbus_marshal.specs.Reading.{Reads, bytes_at, padding_at, number_at, are_zero, ended_at, string_at, path_at, signature_value_at, listed, basic_number_at, is_number, basic_at};
 ghost use Rattle.dbus_marshal.specs.Cursors.{spot_of};
 ghost use Rattle.dbus_marshal.specs.Wire.{padding, number_from, is_text};
@@ -248,7 +249,9 @@ fn parse_signature(alloc: Global, bytes: &[u8]) -> Result<Signature, ValueFault>
 
 #[tactic(auto, unfolding(crate::specs::Reading::basic_number_at))]
 fn read_boolean(endian: Endian, cursor: Cursor<'_>) -> Result<(Value, Cursor<'_>), ValueFault>
-    ensures { Reads (λ x. (value_of x.0, spot_of x.1)) result
+    ensures value { Reads (λ x. (value_of x.0, spot_of x.1)) result
+        (basic_number_at endian BasicType.Boolean (spot_of cursor.entry)) }
+    ensures any { (known : Ty) → Reads (λ x. (core_as known x.0, spot_of x.1)) result
         (basic_number_at endian BasicType.Boolean (spot_of cursor.entry)) }
 {
     let (number, after) = read_u32(endian, cursor)?;
@@ -265,7 +268,9 @@ fn read_number(
     cursor: Cursor<'_>,
 ) -> Result<(Value, Cursor<'_>), ValueFault>
     requires { IsTrue (is_number basic) }
-    ensures { Reads (λ x. (value_of x.0, spot_of x.1)) result
+    ensures value { Reads (λ x. (value_of x.0, spot_of x.1)) result
+        (basic_number_at endian basic (spot_of cursor.entry)) }
+    ensures any { (known : Ty) → Reads (λ x. (core_as known x.0, spot_of x.1)) result
         (basic_number_at endian basic (spot_of cursor.entry)) }
 {
     match basic {
@@ -310,7 +315,7 @@ fn read_number(
     }
 }
 
-/// A value of a basic type.
+/// A value of a basic type, which is the same wherever it lies.
 #[tactic(auto, unfolding(crate::specs::Reading::basic_at))]
 pub fn read_basic(
     alloc: Global,
@@ -318,7 +323,9 @@ pub fn read_basic(
     basic: BasicType,
     cursor: Cursor<'_>,
 ) -> Result<(Value, Cursor<'_>), ValueFault>
-    ensures { Reads (λ x. (value_of x.0, spot_of x.1)) result
+    ensures value { Reads (λ x. (value_of x.0, spot_of x.1)) result
+        (basic_at endian basic (spot_of cursor.entry)) }
+    ensures any { (known : Ty) → Reads (λ x. (core_as known x.0, spot_of x.1)) result
         (basic_at endian basic (spot_of cursor.entry)) }
 {
     match basic {

@@ -1,12 +1,11 @@
-ghost use Rattle.std.specs.Prelude.{◌≡◌, ◌++◌, [], ◌∷◌, length, Some, None, OnOk};
+ghost use Rattle.std.specs.Prelude.{◌≡◌, ◌++◌, [], ◌∷◌, length, OnOk};
 ghost use Rattle.dbus_types.specs.Types.{Ty, text_of, texts_of};
 ghost use Rattle.dbus_types.specs.Values.{ty_of, tys_of};
 ghost use Rattle.dbus_types.specs.Views.{type_of, types_of};
 ghost use Rattle.dbus_types.specs.ValueViews.{value_of, values_of};
-ghost use Rattle.dbus_marshal.specs.TypeTexts.{BasicIs};
 
 use crate::OutOfMemory;
-use dbus_types::{BasicType, CompleteType, Value};
+use dbus_types::{CompleteType, Value};
 
 /// Writes the text of a type (D-Bus Specification, "Type System").
 #[cycle(types)]
@@ -46,56 +45,32 @@ pub fn write_types(out: &mut Vec<u8>, types: &[CompleteType]) -> Result<(), OutO
     Ok(())
 }
 
-// The basic type of a value, where it has one.
-fn basic_of(value: &Value) -> Option<BasicType>
-    ensures { BasicIs result (ty_of (value_of value.now)) }
-{
-    match value {
-        Value::Byte(_) => Some(BasicType::Byte),
-        Value::Boolean(_) => Some(BasicType::Boolean),
-        Value::Int16(_) => Some(BasicType::Int16),
-        Value::Uint16(_) => Some(BasicType::Uint16),
-        Value::Int32(_) => Some(BasicType::Int32),
-        Value::Uint32(_) => Some(BasicType::Uint32),
-        Value::Int64(_) => Some(BasicType::Int64),
-        Value::Uint64(_) => Some(BasicType::Uint64),
-        Value::Double(_) => Some(BasicType::Double),
-        Value::UnixFd(_) => Some(BasicType::UnixFd),
-        Value::String(_) => Some(BasicType::String),
-        Value::ObjectPath(_) => Some(BasicType::ObjectPath),
-        Value::Signature(_) => Some(BasicType::Signature),
-        Value::Variant(_) => None,
-        Value::Array(_, _) => None,
-        Value::Bytes(_) => None,
-        Value::Struct(_) => None,
-        Value::DictEntry(_) => None,
-    }
-}
-
 /// Writes the text of a value's type. An entry whose key isn't basic has none; it is written as a
-/// variant, which `ty_of` also says, and no value that has a spelling holds one.
+/// variant, which `ty_of` also says, and no value that has a spelling holds one. The type of an array
+/// that would be inside another one isn't known here; it is written as one of variants.
 #[cycle(value_types)]
 pub fn write_type_of(out: &mut Vec<u8>, value: &Value) -> Result<(), OutOfMemory>
     ensures { OnOk result (out.new.items ≡ out.old.items ++ text_of (ty_of (value_of value.now))) }
 {
-    if let Some(basic) = basic_of(value) {
+    if let Some(basic) = value.basic_type() {
         out.push(basic.code())?;
         return Ok(());
     }
     match value {
         Value::Variant(_) => out.push(b'v')?,
         Value::Bytes(_) => out.extend_from_slice(b"ay")?,
-        Value::Array(element, _) => {
+        Value::Array(array) => {
             out.push(b'a')?;
-            write_type(out, element)?;
+            write_type(out, &array.element)?;
         }
+        Value::InnerArray(_) => out.extend_from_slice(b"av")?,
         Value::Struct(fields) => {
             out.push(b'(')?;
             write_types_of(out, fields.as_slice())?;
             out.push(b')')?;
         }
         Value::DictEntry(entry) => {
-            let Some(key) = basic_of(&entry.key) else {
+            let Some(key) = entry.key.basic_type() else {
                 out.push(b'v')?;
                 return Ok(());
             };

@@ -1,19 +1,23 @@
-ghost use Rattle.std.specs.Prelude.{◌≡◌, ◌<◌, ◌≤◌, ◌*◌, ◌%◌, length, IfOk, IsTrue, Ok};
+ghost use Rattle.std.specs.Prelude.{◌≡◌, ◌<◌, ◌≤◌, ◌+◌, ◌*◌, ◌%◌, length, IfOk, IsTrue, Ok};
 ghost use Rattle.dbus_types.specs.Views.{type_of, types_of};
 ghost use Rattle.dbus_types.specs.SignatureViews.{types_in};
-ghost use Rattle.dbus_types.specs.ValueViews.{value_of, values_of};
+ghost use Rattle.dbus_types.specs.ValueViews.{value_as, values_of, each_as, fields_as, known_as};
 ghost use Rattle.dbus_marshal.specs.Reading.{Reads, value_at, variant_by, array_by, struct_by, entry_by, fields_by, elements_of, elements_from, values_at, only_type, with_values, with_fields};
+ghost use Rattle.dbus_types.specs.Types.{Ty, texts_of};
 ghost use Rattle.dbus_types.specs.Values.{Vals, tys_of};
 ghost use Rattle.dbus_marshal.specs.Fitting.{HaveSpelling};
 ghost use Rattle.dbus_marshal.specs.Counting.{counts};
+ghost use Rattle.dbus_marshal.specs.Held.{all_parts};
 ghost use Rattle.dbus_marshal.specs.Cursors.{spot_of};
 ghost use Rattle.dbus_marshal.specs.Marshals.{AreSpelled};
 
 use crate::cursor::Cursor;
-use crate::places::alignment;
+use crate::places::{alignment, is_byte};
 use crate::reading::{read_basic, read_signature, read_u32, skip_padding, take_bytes};
 use crate::refused::ValueFault;
-use dbus_types::{BasicType, CompleteType, DictEntry, Endian, Signature, Value};
+use dbus_types::{
+    BasicType, CompleteType, DictEntry, Endian, Signature, TypedArray, Value, lone_in,
+};
 use kr_base::Bytes;
 use std::alloc::Global;
 
@@ -30,16 +34,22 @@ fn only_of(types: &[CompleteType]) -> Result<&CompleteType, ValueFault>
     Ok(only)
 }
 
+// A value. What lies in an array is made without the types that the array has.
 #[cycle(readers)]
 fn read_value<'a>(
     alloc: Global,
     depth: u8,
     endian: Endian,
     complete_type: &CompleteType,
+    is_inner: bool,
     cursor: Cursor<'a>,
 ) -> Result<(Value, Cursor<'a>), ValueFault>
-    ensures { Reads (λ x. (value_of x.0, spot_of x.1)) result
-        (value_at depth endian (type_of complete_type.now) (spot_of cursor.entry)) }
+    ensures { Reads (λ x. (
+      value_as (known_as is_inner (type_of complete_type.now)) x.0,
+      spot_of
+          x.1,
+    ))
+        result (value_at depth endian (type_of complete_type.now) (spot_of cursor.entry)) }
 {
     if let CompleteType::Basic(basic) = complete_type {
         return read_basic(alloc, endian, *basic, cursor);
@@ -50,12 +60,20 @@ fn read_value<'a>(
     match complete_type {
         CompleteType::Basic(_) => unreachable!(),
         CompleteType::Variant => read_variant(alloc, depth - 1, endian, cursor),
-        CompleteType::Array(element) => read_array(alloc, depth - 1, endian, element, cursor),
+        CompleteType::Array(element) => read_array(
+            alloc,
+            depth - 1,
+            endian,
+            element,
+            is_inner,
+            cursor,
+        ),
         CompleteType::Struct(types) => read_struct(
             alloc,
             depth - 1,
             endian,
             types.as_slice(),
+            is_inner,
             cursor,
         ),
         CompleteType::DictEntry(key, value) => read_entry(
@@ -64,6 +82,7 @@ fn read_value<'a>(
             endian,
             *key,
             value,
+            is_inner,
             cursor,
         ),
     }
@@ -77,12 +96,12 @@ fn read_variant<'a>(
     endian: Endian,
     cursor: Cursor<'a>,
 ) -> Result<(Value, Cursor<'a>), ValueFault>
-    ensures { Reads (λ x. (value_of x.0, spot_of x.1)) result
+    ensures { Reads (λ x. (value_as Ty.variant x.0, spot_of x.1)) result
         (variant_by (value_at depth endian) endian (spot_of cursor.entry)) }
 {
     let (signature, start) = read_signature(alloc, endian, cursor)?;
     let only = only_of(signature.types())?;
-    let (value, after) = read_value(alloc, depth, endian, only, start)?;
+    let (value, after) = read_value(alloc, depth, endian, only, false, start)?;
     Ok((Value::Variant(Box::new(alloc, value)?), after))
 }
 
@@ -93,10 +112,13 @@ fn read_array<'a>(
     depth: u8,
     endian: Endian,
     element: &CompleteType,
+    is_inner: bool,
     cursor: Cursor<'a>,
 ) -> Result<(Value, Cursor<'a>), ValueFault>
-    ensures { Reads (λ x. (value_of x.0, spot_of x.1)) result
-        (array_by (value_at depth endian (type_of element.now)) endian
+    ensures { Reads (λ x. (
+      value_as (known_as is_inner (Ty.array (type_of element.now))) x.0,
+      spot_of x.1,
+    )) result (array_by (value_at depth endian (type_of element.now)) endian
         (type_of element.now) (spot_of cursor.entry)) }
 {
     let (count, start) = read_u32(endian, cursor)?;
@@ -107,7 +129,7 @@ fn read_array<'a>(
     let place = start.place;
     let (bytes, after) = take_bytes(start, count as usize)?;
     let elements = Cursor { place, left: bytes };
-    let array = read_elements(alloc, depth, endian, element, elements)?;
+    let array = read_elements(alloc, depth, endian, element, is_inner, elements)?;
     Ok((array, after))
 }
 
@@ -118,20 +140,24 @@ fn read_elements(
     depth: u8,
     endian: Endian,
     element: &CompleteType,
+    is_inner: bool,
     cursor: Cursor<'_>,
 ) -> Result<Value, ValueFault>
-    ensures { Reads value_of result
+    ensures { Reads (value_as (known_as is_inner (Ty.array (type_of element.now)))) result
         (elements_of (value_at depth endian (type_of element.now))
         (type_of element.now) (spot_of cursor.entry)) }
 {
-    if let CompleteType::Basic(basic) = element
-        && let BasicType::Byte = *basic
-    {
+    if is_byte(element) {
         return Ok(Value::Bytes(Bytes::from_slice(alloc, cursor.left)?));
     }
-    let values = read_each(alloc, depth, endian, element, cursor)?;
+    let mut values = read_each(alloc, depth, endian, element, cursor)?;
+    values.shrink_to_fit();
+    if is_inner {
+        return Ok(Value::InnerArray(values));
+    }
     let element = element.copy(alloc)?;
-    Ok(Value::Array(element, values))
+    let array = Box::new(alloc, TypedArray { element, values })?;
+    Ok(Value::Array(array))
 }
 
 #[cycle(readers)]
@@ -142,7 +168,7 @@ fn read_each(
     element: &CompleteType,
     cursor: Cursor<'_>,
 ) -> Result<Vec<Value>, ValueFault>
-    ensures { Reads (λ x. values_of x.items) result
+    ensures { Reads (λ x. each_as (type_of element.now) x.items) result
         (elements_from (value_at depth endian (type_of element.now)) (length cursor.entry.left.now)
         (spot_of cursor.entry) cursor.entry.left.now) }
 {
@@ -153,7 +179,7 @@ fn read_each(
         if rest.left.is_empty() {
             return Ok(values);
         }
-        let (value, after) = read_value(alloc, depth, endian, element, rest)?;
+        let (value, after) = read_value(alloc, depth, endian, element, true, rest)?;
         values.push(value)?;
         rest = after;
     }
@@ -170,13 +196,20 @@ fn read_struct<'a>(
     depth: u8,
     endian: Endian,
     types: &[CompleteType],
+    is_inner: bool,
     cursor: Cursor<'a>,
 ) -> Result<(Value, Cursor<'a>), ValueFault>
-    ensures { Reads (λ x. (value_of x.0, spot_of x.1)) result
+    ensures { Reads (λ x. (
+      value_as (known_as is_inner (Ty.struct (types_of types.now))) x.0,
+      spot_of x.1,
+    )) result
         (struct_by (value_at depth endian) (types_of types.now) (spot_of cursor.entry)) }
 {
     let start = skip_padding(cursor, 8)?;
-    let (fields, after) = read_fields(alloc, depth, endian, types, start)?;
+    if let Some(only) = lone_in(types, is_inner) {
+        return read_value(alloc, depth, endian, only, true, start);
+    }
+    let (fields, after) = read_fields(alloc, depth, endian, types, is_inner, start)?;
     Ok((Value::Struct(fields), after))
 }
 
@@ -186,16 +219,17 @@ fn read_fields<'a>(
     depth: u8,
     endian: Endian,
     types: &[CompleteType],
+    is_inner: bool,
     cursor: Cursor<'a>,
 ) -> Result<(Vec<Value>, Cursor<'a>), ValueFault>
-    ensures { Reads (λ x. (values_of x.0.items, spot_of x.1)) result
-        (fields_by (value_at depth endian) (types_of types.now) (spot_of cursor.entry)) }
+    ensures { Reads (λ x. (fields_as is_inner (types_of types.now) x.0.items, spot_of x.1))
+        result (fields_by (value_at depth endian) (types_of types.now) (spot_of cursor.entry)) }
 {
-    let mut values = Vec::new(alloc);
+    let mut values = Vec::with_capacity(alloc, types.len())?;
     let mut rest = cursor;
     let mut left = types;
     while let Some((next, others)) = left.split_first() {
-        let (value, after) = read_value(alloc, depth, endian, next, rest)?;
+        let (value, after) = read_value(alloc, depth, endian, next, is_inner, rest)?;
         values.push(value)?;
         rest = after;
         left = others;
@@ -211,15 +245,18 @@ fn read_entry<'a>(
     endian: Endian,
     key: BasicType,
     complete_type: &CompleteType,
+    is_inner: bool,
     cursor: Cursor<'a>,
 ) -> Result<(Value, Cursor<'a>), ValueFault>
-    ensures { Reads (λ x. (value_of x.0, spot_of x.1)) result
-        (entry_by (value_at depth endian) endian key
+    ensures { Reads (λ x. (
+      value_as (known_as is_inner (Ty.entry key (type_of complete_type.now))) x.0,
+      spot_of x.1,
+    )) result (entry_by (value_at depth endian) endian key
         (type_of complete_type.now) (spot_of cursor.entry)) }
 {
     let start = skip_padding(cursor, 8)?;
     let (key, behind) = read_basic(alloc, endian, key, start)?;
-    let (value, after) = read_value(alloc, depth, endian, complete_type, behind)?;
+    let (value, after) = read_value(alloc, depth, endian, complete_type, is_inner, behind)?;
     let entry = Box::new(alloc, DictEntry { key, value })?;
     Ok((Value::DictEntry(entry), after))
 }
@@ -240,7 +277,7 @@ fn read_values(
         place: (place % 8) as usize,
         left: bytes,
     };
-    let (values, after) = read_fields(alloc, 64, endian, types, start)?;
+    let (values, after) = read_fields(alloc, 64, endian, types, false, start)?;
     if !after.left.is_empty() {
         return Err(ValueFault::Rest);
     }
@@ -274,6 +311,10 @@ pub fn unmarshal(
     ensures types { IfOk result (λ x. tys_of (values_of x.items) ≡ types_in signature.now) }
     ensures fits { IfOk result (λ x. HaveSpelling (values_of x.items)) }
     ensures few { IfOk result (λ x. counts (values_of x.items) ≤ 65 * length bytes.now) }
+
+    // All that they take in memory is two parts for each byte at most, and what the signature takes.
+    ensures held { IfOk result (λ x. all_parts (values_of x.items)
+        ≤ 2 * length bytes.now + length (texts_of (types_in signature.now))) }
 {
     let types = signature.types();
     read_values(alloc, types, endian, place, bytes)

@@ -1,10 +1,10 @@
 ghost use Rattle.std.specs.Prelude.{◌≡◌, ◌+◌, ◌*◌, ◌%◌, ◌<◌, ◌≤◌, ◌++◌, ◌&&◌, [], ◌∷◌, nat_le, length, take, drop, true, IfOk, IsErrOf, IsTrue, IsFalse, Ok, OnOk};
 ghost use Rattle.std.specs.Int.{w8, w32};
-ghost use Rattle.dbus_types.specs.declared.complete_type.BasicType.TheVariants.{Byte, Signature};
-ghost use Rattle.dbus_types.specs.Types.{Ty, is_signature, text_of, texts_of};
-ghost use Rattle.dbus_types.specs.Values.{Val, ty_of, tys_of, bytes_as_values};
-ghost use Rattle.dbus_types.specs.Views.{types_of};
-ghost use Rattle.dbus_types.specs.ValueViews.{value_of, values_of};
+ghost use Rattle.dbus_types.specs.declared.complete_type.BasicType.TheVariants.{Signature};
+ghost use Rattle.dbus_types.specs.Types.{text_of, texts_of};
+ghost use Rattle.dbus_types.specs.Values.{Val, ty_of};
+ghost use Rattle.dbus_types.specs.Views.{type_of, types_of};
+ghost use Rattle.dbus_types.specs.ValueViews.{value_of, value_as, core_as, each_as, all_as, fields_of, held_of, in_variant, typed_array, struct_fields};
 ghost use Rattle.dbus_marshal.specs.Wire.{behind, start_of, padding, zeros, number_bytes};
 ghost use Rattle.dbus_marshal.specs.Spelling.{aligned, spelled, all_spelled, array_spelled, first_at, is_short, are_short, text_spelled};
 ghost use Rattle.dbus_marshal.specs.Writing.{Writes};
@@ -14,7 +14,10 @@ use crate::places::alignment;
 use crate::refused::MarshalFault;
 use crate::type_text::{write_type_of, write_types};
 use crate::writing::{pad, put_u32, write_text, write_u8, write_u16, write_u32, write_u64};
-use dbus_types::{CompleteType, DictEntry, Endian, Value};
+use dbus_types::{
+    CompleteType, DictEntry, Endian, TypedArray, Value, core_of, element_of, fields_in, held_of,
+    is_array, is_variant, wrapping,
+};
 
 // Puts the length of a text into the byte at the mark.
 #[tactic(auto, unfolding(crate::specs::Wire::number_bytes))]
@@ -85,10 +88,8 @@ fn write_bytes(
     bytes: &[u8],
 ) -> Result<(), MarshalFault>
     ensures { Writes result
-        (spelled endian (Val.array (Ty.basic Byte) (bytes_as_values bytes.now))
-        (behind phase (length out.old.items)))
-        (is_short endian (Val.array (Ty.basic Byte) (bytes_as_values bytes.now))
-        (behind phase (length out.old.items)))
+        (spelled endian (Val.bytes bytes.now) (behind phase (length out.old.items)))
+        (is_short endian (Val.bytes bytes.now) (behind phase (length out.old.items)))
         out.old.items out.new.items }
 {
     if bytes.len() > 67_108_864 {
@@ -135,17 +136,39 @@ fn close_array(out: &mut Vec<u8>, mark: usize, endian: Endian, count: u32)
     }
 }
 
-/// Writes a value with its padding (D-Bus Specification, "Marshaling").
+/// Writes a value with its padding (D-Bus Specification, "Marshaling"). The value lies where its type
+/// is known, as in an array: `known` is a variant where nothing is known.
 #[cycle(writers)]
 pub fn write_value(
     out: &mut Vec<u8>,
     phase: usize,
     endian: Endian,
     value: &Value,
+    known: &CompleteType,
 ) -> Result<(), MarshalFault>
-    ensures { Writes result
-        (spelled endian (value_of value.now) (behind phase (length out.old.items)))
-        (is_short endian (value_of value.now) (behind phase (length out.old.items)))
+    ensures { Writes result (spelled endian (value_as (type_of known.now) value.now)
+        (behind phase (length out.old.items)))
+        (is_short endian (value_as (type_of known.now) value.now)
+        (behind phase (length out.old.items)))
+        out.old.items out.new.items }
+{
+    pad(out, phase, wrapping(known))?;
+    write_core(out, phase, endian, value, core_of(known))
+}
+
+// A value with no struct of one field around it.
+#[cycle(writers)]
+fn write_core(
+    out: &mut Vec<u8>,
+    phase: usize,
+    endian: Endian,
+    value: &Value,
+    known: &CompleteType,
+) -> Result<(), MarshalFault>
+    ensures { Writes result (spelled endian (core_as (type_of known.now) value.now)
+        (behind phase (length out.old.items)))
+        (is_short endian (core_as (type_of known.now) value.now)
+        (behind phase (length out.old.items)))
         out.old.items out.new.items }
 {
     match value {
@@ -162,34 +185,67 @@ pub fn write_value(
         Value::String(text) => write_text(out, phase, endian, text.as_bytes()),
         Value::ObjectPath(path) => write_text(out, phase, endian, path.as_bytes()),
         Value::Signature(signature) => write_signature(out, phase, endian, signature.types()),
-        Value::Variant(inner) => write_variant(out, phase, endian, inner),
+        Value::Variant(inner) => write_variant(out, phase, endian, inner, known),
         Value::Bytes(bytes) => write_bytes(out, phase, endian, bytes.as_slice()),
-        Value::Array(element, values) => write_array(
+        Value::Array(array) => write_typed_array(out, phase, endian, array, known),
+        Value::InnerArray(values) => write_array(
             out,
             phase,
             endian,
-            alignment(element),
             values.as_slice(),
+            element_of(known),
         ),
-        Value::Struct(fields) => write_struct(out, phase, endian, fields.as_slice()),
-        Value::DictEntry(entry) => write_entry(out, phase, endian, entry),
+        Value::Struct(fields) => write_struct(out, phase, endian, fields.as_slice(), known),
+        Value::DictEntry(entry) => write_entry(out, phase, endian, entry, known),
     }
 }
 
+// A variant lies only where one is asked for, or where nothing is known.
 #[cycle(writers)]
 fn write_variant(
     out: &mut Vec<u8>,
     phase: usize,
     endian: Endian,
     value: &Value,
+    known: &CompleteType,
 ) -> Result<(), MarshalFault>
-    ensures { Writes result
-        (spelled endian (Val.variant (value_of value.now)) (behind phase (length out.old.items)))
-        (is_short endian (Val.variant (value_of value.now)) (behind phase (length out.old.items)))
+    ensures { Writes result (spelled endian (in_variant (type_of known.now) (value_of value.now))
+        (behind phase (length out.old.items)))
+        (is_short endian (in_variant (type_of known.now) (value_of value.now))
+        (behind phase (length out.old.items)))
         out.old.items out.new.items }
 {
+    if !is_variant(known) {
+        pad(out, phase, 8)?;
+        return Ok(());
+    }
     write_signature_of(out, phase, endian, value)?;
-    write_value(out, phase, endian, value)
+    write_value(out, phase, endian, value, known)
+}
+
+// An array that has a type of its own lies only where none is known.
+#[cycle(writers)]
+fn write_typed_array(
+    out: &mut Vec<u8>,
+    phase: usize,
+    endian: Endian,
+    array: &TypedArray,
+    known: &CompleteType,
+) -> Result<(), MarshalFault>
+    ensures { Writes result
+        (spelled endian (typed_array (type_of known.now) (type_of array.now.element)
+        (each_as (type_of array.now.element) array.now.values.items))
+        (behind phase (length out.old.items)))
+        (is_short endian (typed_array (type_of known.now) (type_of array.now.element)
+        (each_as (type_of array.now.element) array.now.values.items))
+        (behind phase (length out.old.items)))
+        out.old.items out.new.items }
+{
+    if is_array(known) {
+        pad(out, phase, 8)?;
+        return Ok(());
+    }
+    write_array(out, phase, endian, array.values.as_slice(), &array.element)
 }
 
 #[cycle(writers)]
@@ -197,24 +253,21 @@ fn write_array(
     out: &mut Vec<u8>,
     phase: usize,
     endian: Endian,
-    alignment: usize,
     values: &[Value],
+    element: &CompleteType,
 ) -> Result<(), MarshalFault>
-    requires some { 0 < alignment }
-    requires most { alignment ≤ 8 }
     ensures { Writes result
-        (array_spelled endian alignment (behind phase (length out.old.items))
-        (all_spelled endian (values_of values.now)
-        (first_at alignment (behind phase (length out.old.items)))))
-        (are_short endian (values_of values.now)
-        (first_at alignment (behind phase (length out.old.items)))
-        && nat_le (length (all_spelled endian (values_of values.now)
-        (first_at alignment (behind phase (length out.old.items))))) 67108864)
+        (spelled endian (Val.array (type_of element.now) (each_as (type_of element.now) values.now))
+        (behind phase (length out.old.items)))
+        (is_short endian (Val.array (type_of element.now) (each_as (type_of element.now)
+        values.now))
+        (behind phase (length out.old.items)))
         out.old.items out.new.items }
 {
+    let alignment = alignment(element);
     let mark = open_array(out, phase, endian, alignment)?;
     let start = out.len();
-    write_all(out, phase, endian, values)?;
+    write_each(out, phase, endian, values, element)?;
     let count = out.len() - start;
     if count > 67_108_864 {
         return Err(MarshalFault::TooLong);
@@ -229,14 +282,24 @@ fn write_struct(
     phase: usize,
     endian: Endian,
     fields: &[Value],
+    known: &CompleteType,
 ) -> Result<(), MarshalFault>
     ensures { Writes result
-        (spelled endian (Val.struct (values_of fields.now)) (behind phase (length out.old.items)))
-        (is_short endian (Val.struct (values_of fields.now)) (behind phase (length out.old.items)))
+        (spelled endian (Val.struct (struct_fields (type_of known.now)
+        (all_as (fields_of (type_of known.now)) fields.now) (each_as (type_of known.now)
+        fields.now)))
+        (behind phase (length out.old.items)))
+        (is_short endian (Val.struct (struct_fields (type_of known.now)
+        (all_as (fields_of (type_of known.now)) fields.now) (each_as (type_of known.now)
+        fields.now)))
+        (behind phase (length out.old.items)))
         out.old.items out.new.items }
 {
     pad(out, phase, 8)?;
-    write_all(out, phase, endian, fields)
+    if let Some(types) = fields_in(known) {
+        return write_all(out, phase, endian, fields, types);
+    }
+    write_each(out, phase, endian, fields, known)
 }
 
 #[cycle(writers)]
@@ -245,34 +308,67 @@ fn write_entry(
     phase: usize,
     endian: Endian,
     entry: &DictEntry,
+    known: &CompleteType,
 ) -> Result<(), MarshalFault>
     ensures { Writes result
-        (spelled endian (Val.entry (value_of entry.now.key) (value_of entry.now.value))
-        (behind phase (length out.old.items)))
-        (is_short endian (Val.entry (value_of entry.now.key) (value_of entry.now.value))
-        (behind phase (length out.old.items)))
+        (spelled endian (Val.entry (value_as (type_of known.now) entry.now.key)
+        (value_as (held_of (type_of known.now)) entry.now.value)) (behind phase (length
+        out.old.items)))
+        (is_short endian (Val.entry (value_as (type_of known.now) entry.now.key)
+        (value_as (held_of (type_of known.now)) entry.now.value)) (behind phase (length
+        out.old.items)))
         out.old.items out.new.items }
 {
     pad(out, phase, 8)?;
-    write_value(out, phase, endian, &entry.key)?;
-    write_value(out, phase, endian, &entry.value)
+    write_value(out, phase, endian, &entry.key, known)?;
+    write_value(out, phase, endian, &entry.value, held_of(known))
 }
 
-/// Writes values, one behind the other.
+/// Writes values that lie where their one type is known, one behind the other.
 #[cycle(writers)]
-pub fn write_all(
+pub fn write_each(
     out: &mut Vec<u8>,
     phase: usize,
     endian: Endian,
     values: &[Value],
+    known: &CompleteType,
 ) -> Result<(), MarshalFault>
-    ensures { Writes result
-        (all_spelled endian (values_of values.now) (behind phase (length out.old.items)))
-        (are_short endian (values_of values.now) (behind phase (length out.old.items)))
+    ensures { Writes result (all_spelled endian (each_as (type_of known.now) values.now)
+        (behind phase (length out.old.items)))
+        (are_short endian (each_as (type_of known.now) values.now)
+        (behind phase (length out.old.items)))
         out.old.items out.new.items }
 {
     for each in values {
-        write_value(out, phase, endian, each)?;
+        write_value(out, phase, endian, each, known)?;
+    }
+    Ok(())
+}
+
+// Values that lie where their types are known, one behind the other.
+#[cycle(writers)]
+fn write_all(
+    out: &mut Vec<u8>,
+    phase: usize,
+    endian: Endian,
+    values: &[Value],
+    types: &[CompleteType],
+) -> Result<(), MarshalFault>
+    ensures { Writes result (all_spelled endian (all_as (types_of types.now) values.now)
+        (behind phase (length out.old.items)))
+        (are_short endian (all_as (types_of types.now) values.now)
+        (behind phase (length out.old.items)))
+        out.old.items out.new.items }
+{
+    let mut left = types;
+    for each in values {
+        match left.split_first() {
+            Some((first, others)) => {
+                write_value(out, phase, endian, each, first)?;
+                left = others;
+            }
+            None => pad(out, phase, 8)?,
+        }
     }
     Ok(())
 }

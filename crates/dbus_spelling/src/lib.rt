@@ -5,8 +5,6 @@
 
 mod numbers;
 mod plain;
-#[cfg(test)]
-mod tests;
 mod texts;
 
 pub use plain::{spelling, spelling_of_all};

@@ -1,9 +1,9 @@
 ghost use Rattle.std.specs.Prelude.{◌≡◌, ◌<◌, ◌≤◌, ◌++◌, [], ◌∷◌, length, IfOk};
 ghost use Rattle.std.specs.Int.{w8, w16, w32, w64};
-ghost use Rattle.dbus_types.specs.declared.complete_type.BasicType.TheVariants.{Byte, String, Signature};
-ghost use Rattle.dbus_types.specs.Types.{Ty};
-ghost use Rattle.dbus_types.specs.Values.{Val, bytes_as_values};
-ghost use Rattle.dbus_types.specs.ValueViews.{value_of, values_of};
+ghost use Rattle.dbus_types.specs.declared.complete_type.BasicType.TheVariants.{String, Signature};
+ghost use Rattle.dbus_types.specs.Values.{Val};
+ghost use Rattle.dbus_types.specs.Views.{type_of, types_of};
+ghost use Rattle.dbus_types.specs.ValueViews.{value_of, values_of, value_as, core_as, each_as, all_as, fields_of, held_of, in_variant, typed_array, struct_fields};
 ghost use Rattle.dbus_marshal.specs.Wire.{behind, number_bytes};
 ghost use Rattle.dbus_marshal.specs.Spelling.{aligned, text_spelled, array_spelled, spelled, all_spelled};
 
@@ -13,7 +13,10 @@ use crate::numbers::{
 };
 use crate::texts::{text_of_value_type, texts_of_types};
 use dbus_marshal::alignment;
-use dbus_types::{Endian, Value};
+use dbus_types::{
+    CompleteType, DictEntry, Endian, TypedArray, Value, core_of, element_of, fields_in, held_of,
+    is_array, is_variant, wrapping,
+};
 use std::alloc::Global;
 
 fn behind(place: usize, count: usize) -> usize
@@ -81,7 +84,7 @@ fn array_of_bytes(
 ) -> Result<Vec<u8>, OutOfMemory>
     requires { place < 8 }
     ensures { IfOk result (λ made. made.items
-        ≡ spelled endian (Val.array (Ty.basic Byte) (bytes_as_values bytes.now)) place) }
+        ≡ spelled endian (Val.bytes bytes.now) place) }
 {
     let made = array(alloc, endian, 1, bytes, place)?;
     Ok(made)
@@ -142,8 +145,21 @@ fn number64(
     Ok(made)
 }
 
-/// The bytes of a value that stands at a place, which is counted modulo 8.
-#[cycle(plain)]
+// The fields of a struct or a dict entry with the padding.
+fn padded(alloc: Global, fields: &[u8], place: usize) -> Result<Vec<u8>, OutOfMemory>
+    ensures { IfOk result (λ made. made.items ≡ aligned 8 place fields.now) }
+{
+    aligned(alloc, 8, place, fields)
+}
+
+// What lies where it can't is spelled as a struct without fields.
+fn nothing(alloc: Global, place: usize) -> Result<Vec<u8>, OutOfMemory>
+    ensures { IfOk result (λ made. made.items ≡ aligned 8 place []) }
+{
+    aligned(alloc, 8, place, &[])
+}
+
+/// The bytes of a value that isn't in an array. The place is counted modulo 8.
 pub fn spelling(
     alloc: Global,
     endian: Endian,
@@ -152,6 +168,55 @@ pub fn spelling(
 ) -> Result<Vec<u8>, OutOfMemory>
     requires { place < 8 }
     ensures { IfOk result (λ made. made.items ≡ spelled endian (value_of value.now) place) }
+{
+    spelling_as(alloc, endian, value, &CompleteType::Variant, place)
+}
+
+/// The bytes of values that aren't in an array, one behind the other.
+pub fn spelling_of_all(
+    alloc: Global,
+    endian: Endian,
+    values: &[Value],
+    place: usize,
+) -> Result<Vec<u8>, OutOfMemory>
+    requires { place < 8 }
+    ensures { IfOk result (λ made. made.items ≡ all_spelled endian (values_of values.now) place) }
+{
+    spelling_of_each(alloc, endian, values, &CompleteType::Variant, place)
+}
+
+// A value that lies where its type is known.
+#[cycle(plain)]
+fn spelling_as(
+    alloc: Global,
+    endian: Endian,
+    value: &Value,
+    known: &CompleteType,
+    place: usize,
+) -> Result<Vec<u8>, OutOfMemory>
+    requires { place < 8 }
+    ensures { IfOk result (λ made. made.items
+        ≡ spelled endian (value_as (type_of known.now) value.now) place) }
+{
+    let around = wrapping(known);
+    let start = start_of(around, place);
+    let inner = core_spelling(alloc, endian, value, core_of(known), start)?;
+    let made = aligned(alloc, around, place, inner.as_slice())?;
+    Ok(made)
+}
+
+// A value with no struct of one field around it.
+#[cycle(plain)]
+fn core_spelling(
+    alloc: Global,
+    endian: Endian,
+    value: &Value,
+    known: &CompleteType,
+    place: usize,
+) -> Result<Vec<u8>, OutOfMemory>
+    requires { place < 8 }
+    ensures { IfOk result (λ made. made.items
+        ≡ spelled endian (core_as (type_of known.now) value.now) place) }
 {
     match value {
         Value::Byte(it) => number8(alloc, endian, *it, place),
@@ -174,53 +239,189 @@ pub fn spelling(
             let made = array_of_bytes(alloc, endian, it.as_slice(), place)?;
             Ok(made)
         }
-        Value::Variant(inner) => {
-            let types = text_of_value_type(alloc, inner)?;
-            let front = signature(alloc, endian, types.as_slice(), place)?;
-            let rest = spelling(alloc, endian, inner, behind(place, front.len()))?;
-            joined(alloc, front.as_slice(), rest.as_slice())
-        }
-        Value::Array(element, values) => {
-            let first = start_of(alignment(element), behind(start_of(4, place), 4));
-            let elements = spelling_of_all(alloc, endian, values.as_slice(), first)?;
-            array(
-                alloc,
-                endian,
-                alignment(element),
-                elements.as_slice(),
-                place,
-            )
-        }
-        Value::Struct(fields) => {
-            let inner = spelling_of_all(alloc, endian, fields.as_slice(), start_of(8, place))?;
-            let made = aligned(alloc, 8, place, inner.as_slice())?;
-            Ok(made)
-        }
-        Value::DictEntry(entry) => {
-            let start = start_of(8, place);
-            let key = spelling(alloc, endian, &entry.key, start)?;
-            let rest = spelling(alloc, endian, &entry.value, behind(start, key.len()))?;
-            let inner = joined(alloc, key.as_slice(), rest.as_slice())?;
-            aligned(alloc, 8, place, inner.as_slice())
-        }
+        Value::Variant(inner) => variant_spelling(alloc, endian, inner, known, place),
+        Value::Array(array) => typed_array_spelling(alloc, endian, array, known, place),
+        Value::InnerArray(values) => array_spelling(
+            alloc,
+            endian,
+            values.as_slice(),
+            element_of(known),
+            place,
+        ),
+        Value::Struct(fields) => struct_spelling(alloc, endian, fields.as_slice(), known, place),
+        Value::DictEntry(entry) => entry_spelling(alloc, endian, entry, known, place),
     }
 }
 
-/// The bytes of values, one behind the other.
 #[cycle(plain)]
-pub fn spelling_of_all(
+fn variant_spelling(
     alloc: Global,
     endian: Endian,
-    values: &[Value],
+    value: &Value,
+    known: &CompleteType,
     place: usize,
 ) -> Result<Vec<u8>, OutOfMemory>
     requires { place < 8 }
-    ensures { IfOk result (λ made. made.items ≡ all_spelled endian (values_of values.now) place) }
+    ensures { IfOk result (λ made. made.items
+        ≡ spelled endian (in_variant (type_of known.now) (value_of value.now)) place) }
+{
+    if !is_variant(known) {
+        return nothing(alloc, place);
+    }
+    let types = text_of_value_type(alloc, value)?;
+    let front = signature(alloc, endian, types.as_slice(), place)?;
+    let rest = spelling_as(alloc, endian, value, known, behind(place, front.len()))?;
+    let made = joined(alloc, front.as_slice(), rest.as_slice())?;
+    Ok(made)
+}
+
+#[cycle(plain)]
+fn typed_array_spelling(
+    alloc: Global,
+    endian: Endian,
+    array: &TypedArray,
+    known: &CompleteType,
+    place: usize,
+) -> Result<Vec<u8>, OutOfMemory>
+    requires { place < 8 }
+    ensures { IfOk result (λ made. made.items
+        ≡ spelled endian (typed_array (type_of known.now) (type_of array.now.element)
+        (each_as (type_of array.now.element) array.now.values.items)) place) }
+{
+    if is_array(known) {
+        return nothing(alloc, place);
+    }
+    array_spelling(
+        alloc,
+        endian,
+        array.values.as_slice(),
+        &array.element,
+        place,
+    )
+}
+
+#[cycle(plain)]
+fn array_spelling(
+    alloc: Global,
+    endian: Endian,
+    values: &[Value],
+    element: &CompleteType,
+    place: usize,
+) -> Result<Vec<u8>, OutOfMemory>
+    requires { place < 8 }
+    ensures { IfOk result (λ made. made.items ≡ spelled endian
+        (Val.array (type_of element.now) (each_as (type_of element.now) values.now)) place) }
+{
+    let around = alignment(element);
+    let four = behind(start_of(4, place), 4);
+    let first = start_of(around, four);
+    let elements = spelling_of_each(alloc, endian, values, element, first)?;
+    let made = array(alloc, endian, around, elements.as_slice(), place)?;
+    Ok(made)
+}
+
+#[cycle(plain)]
+fn struct_spelling(
+    alloc: Global,
+    endian: Endian,
+    fields: &[Value],
+    known: &CompleteType,
+    place: usize,
+) -> Result<Vec<u8>, OutOfMemory>
+    requires { place < 8 }
+    ensures { IfOk result (λ made. made.items ≡ spelled endian
+        (Val.struct (struct_fields (type_of known.now)
+        (all_as (fields_of (type_of known.now)) fields.now) (each_as (type_of known.now)
+        fields.now)))
+        place) }
+{
+    let start = start_of(8, place);
+    if let Some(types) = fields_in(known) {
+        let inner = spelling_of_fields(alloc, endian, fields, types, start)?;
+        let made = padded(alloc, inner.as_slice(), place)?;
+        return Ok(made);
+    }
+    let inner = spelling_of_each(alloc, endian, fields, known, start)?;
+    let made = padded(alloc, inner.as_slice(), place)?;
+    Ok(made)
+}
+
+#[cycle(plain)]
+fn entry_spelling(
+    alloc: Global,
+    endian: Endian,
+    entry: &DictEntry,
+    known: &CompleteType,
+    place: usize,
+) -> Result<Vec<u8>, OutOfMemory>
+    requires { place < 8 }
+    ensures { IfOk result (λ made. made.items ≡ spelled endian
+        (Val.entry (value_as (type_of known.now) entry.now.key)
+        (value_as (held_of (type_of known.now)) entry.now.value)) place) }
+{
+    let start = start_of(8, place);
+    let key = spelling_as(alloc, endian, &entry.key, known, start)?;
+    let rest = spelling_as(
+        alloc,
+        endian,
+        &entry.value,
+        held_of(known),
+        behind(start, key.len()),
+    )?;
+    let inner = joined(alloc, key.as_slice(), rest.as_slice())?;
+    let made = padded(alloc, inner.as_slice(), place)?;
+    Ok(made)
+}
+
+// Values that lie where their one type is known, one behind the other.
+#[cycle(plain)]
+fn spelling_of_each(
+    alloc: Global,
+    endian: Endian,
+    values: &[Value],
+    known: &CompleteType,
+    place: usize,
+) -> Result<Vec<u8>, OutOfMemory>
+    requires { place < 8 }
+    ensures { IfOk result (λ made. made.items
+        ≡ all_spelled endian (each_as (type_of known.now) values.now) place) }
 {
     let mut made = Vec::new(alloc);
     for each in values {
-        let next = spelling(alloc, endian, each, behind(place, made.len()))?;
+        let next = spelling_as(alloc, endian, each, known, behind(place, made.len()))?;
         made.extend_from_slice(next.as_slice())?;
+    }
+    Ok(made)
+}
+
+// Values that lie where their types are known, one behind the other.
+#[cycle(plain)]
+fn spelling_of_fields(
+    alloc: Global,
+    endian: Endian,
+    values: &[Value],
+    types: &[CompleteType],
+    place: usize,
+) -> Result<Vec<u8>, OutOfMemory>
+    requires { place < 8 }
+    ensures { IfOk result (λ made. made.items
+        ≡ all_spelled endian (all_as (types_of types.now) values.now) place) }
+{
+    let mut made = Vec::new(alloc);
+    let mut left = types;
+    for each in values {
+        let at = behind(place, made.len());
+        match left.split_first() {
+            Some((first, others)) => {
+                let next = spelling_as(alloc, endian, each, first, at)?;
+                made.extend_from_slice(next.as_slice())?;
+                left = others;
+            }
+            None => {
+                let next = nothing(alloc, at)?;
+                made.extend_from_slice(next.as_slice())?;
+            }
+        }
     }
     Ok(made)
 }

@@ -3,11 +3,10 @@ ghost use Rattle.dbus_types.specs.Types.{text_of, texts_of};
 ghost use Rattle.dbus_types.specs.Values.{ty_of, tys_of};
 ghost use Rattle.dbus_types.specs.Views.{type_of, types_of};
 ghost use Rattle.dbus_types.specs.ValueViews.{value_of, values_of};
-ghost use Rattle.dbus_spelling.specs.Texts.{BasicIs};
 
 use crate::OutOfMemory;
 use crate::numbers::{copied, joined};
-use dbus_types::{BasicType, CompleteType, Value};
+use dbus_types::{CompleteType, Value};
 use std::alloc::Global;
 
 /// The text of a type (D-Bus Specification, "Type System").
@@ -49,48 +48,23 @@ pub fn texts_of_types(alloc: Global, types: &[CompleteType]) -> Result<Vec<u8>, 
     Ok(made)
 }
 
-// The basic type of a value, where it has one.
-fn basic_of(value: &Value) -> Option<BasicType>
-    ensures { BasicIs result (ty_of (value_of value.now)) }
-{
-    match value {
-        Value::Byte(_) => Some(BasicType::Byte),
-        Value::Boolean(_) => Some(BasicType::Boolean),
-        Value::Int16(_) => Some(BasicType::Int16),
-        Value::Uint16(_) => Some(BasicType::Uint16),
-        Value::Int32(_) => Some(BasicType::Int32),
-        Value::Uint32(_) => Some(BasicType::Uint32),
-        Value::Int64(_) => Some(BasicType::Int64),
-        Value::Uint64(_) => Some(BasicType::Uint64),
-        Value::Double(_) => Some(BasicType::Double),
-        Value::UnixFd(_) => Some(BasicType::UnixFd),
-        Value::String(_) => Some(BasicType::String),
-        Value::ObjectPath(_) => Some(BasicType::ObjectPath),
-        Value::Signature(_) => Some(BasicType::Signature),
-        Value::Variant(_) => None,
-        Value::Array(_, _) => None,
-        Value::Bytes(_) => None,
-        Value::Struct(_) => None,
-        Value::DictEntry(_) => None,
-    }
-}
-
 /// The text of a value's type. An entry whose key isn't basic has none; it stands for a variant, as
 /// `ty_of` has it.
 #[cycle(value_types)]
 pub fn text_of_value_type(alloc: Global, value: &Value) -> Result<Vec<u8>, OutOfMemory>
     ensures { IfOk result (λ made. made.items ≡ text_of (ty_of (value_of value.now))) }
 {
-    if let Some(basic) = basic_of(value) {
+    if let Some(basic) = value.basic_type() {
         return copied(alloc, &[basic.code()]);
     }
     match value {
         Value::Variant(_) => copied(alloc, b"v"),
         Value::Bytes(_) => copied(alloc, b"ay"),
-        Value::Array(element, _) => {
-            let inner = text_of_type(alloc, element)?;
+        Value::Array(array) => {
+            let inner = text_of_type(alloc, &array.element)?;
             joined(alloc, b"a", inner.as_slice())
         }
+        Value::InnerArray(_) => copied(alloc, b"av"),
         Value::Struct(fields) => {
             let inner = texts_of_value_types(alloc, fields.as_slice())?;
             let ended = joined(alloc, inner.as_slice(), b")")?;
@@ -98,7 +72,7 @@ pub fn text_of_value_type(alloc: Global, value: &Value) -> Result<Vec<u8>, OutOf
             Ok(made)
         }
         Value::DictEntry(entry) => {
-            let Some(key) = basic_of(&entry.key) else {
+            let Some(key) = entry.key.basic_type() else {
                 return copied(alloc, b"v");
             };
             let inner = text_of_value_type(alloc, &entry.value)?;

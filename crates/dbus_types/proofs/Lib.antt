@@ -2,3 +2,4 @@ pub mod Views
 pub mod ValueViews
 pub mod SignatureLaws
 pub mod SignatureReading
+pub mod KnownLemmas

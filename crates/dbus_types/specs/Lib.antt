@@ -5,3 +5,5 @@ pub mod SignatureViews
 pub mod Paths
 pub mod Values
 pub mod ValueViews
+pub mod BasicTypes
+pub mod Known

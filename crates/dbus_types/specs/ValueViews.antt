@@ -1,46 +1,161 @@
 -- What a value of the program stands for, without where it lies in memory.
-use Rattle.std.specs.Prelude.{ℕ, Bool, true, false, List, [], ◌∷◌}
+use Rattle.std.specs.Prelude.{ℕ, Bool, true, false, List, [], ◌∷◌, Option, Some, None}
 use Rattle.std.specs.Int.{w16, w32, w64, cast_unsigned}
 use Rattle.dbus_types.specs.declared.complete_type.BasicType.TheVariants as basics
-use Rattle.dbus_types.specs.declared.value.Value.{Value, Byte, Boolean, Int16, Uint16, Int32, Uint32, Int64, Uint64, Double, UnixFd, String, ObjectPath, Signature, Variant', Array', Bytes, Struct', DictEntry', Row_of-Value, end_of-Value, more_of-Value}
-use Rattle.dbus_types.specs.Types.{Ty, texts_of}
+use Rattle.dbus_types.specs.declared.value.Value.{Value, Byte, Boolean, Int16, Uint16, Int32, Uint32, Int64, Uint64, Double, UnixFd, String, ObjectPath, Signature, Variant', Array', InnerArray', Bytes, Struct', DictEntry', Row_of-Value, end_of-Value, more_of-Value}
+use Rattle.dbus_types.specs.Types.{Ty, Tys, texts_of}
 use Rattle.dbus_types.specs.Views.{type_of}
 use Rattle.dbus_types.specs.SignatureViews.{types_in}
-use Rattle.dbus_types.specs.Values.{Val, Vals, bytes_as_values}
+use Rattle.dbus_types.specs.Values.{Val, Vals}
 
 -- true is 1, false is 0
 abbrev pub bit_of : Bool → ℕ
 bit_of true = 1
 bit_of false = 0
 
+-- A struct of one field lies in an array as its field alone: so the type of what lies there is that of the field.
+abbrev pub core_of : Ty → Ty
+core_of (Ty.struct (Tys.more t Tys.end)) = core_of t
+core_of (Ty.struct (Tys.more t (Tys.more u ts))) = Ty.struct (Tys.more t (Tys.more u ts))
+core_of (Ty.struct Tys.end) = Ty.struct Tys.end
+core_of (Ty.basic b) = Ty.basic b
+core_of Ty.variant = Ty.variant
+core_of (Ty.array t) = Ty.array t
+core_of (Ty.entry key t) = Ty.entry key t
+
+-- the structs of one field around it
+abbrev pub wrapped : Ty → Val → Val
+wrapped (Ty.struct (Tys.more t Tys.end)) v = Val.struct (Vals.more (wrapped t v) Vals.end)
+wrapped (Ty.struct (Tys.more t (Tys.more u ts))) v = v
+wrapped (Ty.struct Tys.end) v = v
+wrapped (Ty.basic b) v = v
+wrapped Ty.variant v = v
+wrapped (Ty.array t) v = v
+wrapped (Ty.entry key t) v = v
+
+-- the type of the one field, where a struct of these fields lies in an array and has one
+abbrev pub lone_in : Bool → Tys → Option Ty
+lone_in true (Tys.more t Tys.end) = Some t
+lone_in true (Tys.more t (Tys.more u ts)) = None
+lone_in true Tys.end = None
+lone_in false ts = None
+
+-- No value of any type. It stands where a value hasn't the form that its place asks for.
+abbrev pub nothing : Val
+nothing = Val.struct Vals.end
+
+-- the type of the elements, where an array's type is known
+abbrev pub element_of : Ty → Ty
+element_of (Ty.array t) = t
+element_of (Ty.basic b) = Ty.basic b
+element_of Ty.variant = Ty.variant
+element_of (Ty.struct ts) = Ty.struct ts
+element_of (Ty.entry key t) = Ty.entry key t
+
+-- the types of the fields, where a struct's type is known
+abbrev pub fields_of : Ty → Tys
+fields_of (Ty.struct ts) = ts
+fields_of (Ty.basic b) = Tys.end
+fields_of Ty.variant = Tys.end
+fields_of (Ty.array t) = Tys.end
+fields_of (Ty.entry key t) = Tys.end
+
+-- the type of the value behind the key, where an entry's type is known
+abbrev pub held_of : Ty → Ty
+held_of (Ty.entry key t) = t
+held_of (Ty.basic b) = Ty.basic b
+held_of Ty.variant = Ty.variant
+held_of (Ty.array t) = Ty.array t
+held_of (Ty.struct ts) = Ty.struct ts
+
+-- a variant, which lies only where one is asked for or where nothing is known
+abbrev pub in_variant : Ty → Val → Val
+in_variant Ty.variant v = Val.variant v
+in_variant (Ty.basic b) v = nothing
+in_variant (Ty.array t) v = nothing
+in_variant (Ty.struct ts) v = nothing
+in_variant (Ty.entry key t) v = nothing
+
+-- an array with a type of its own, which lies only where none is known
+abbrev pub typed_array : Ty → Ty → Vals → Val
+typed_array (Ty.array t) u vs = nothing
+typed_array (Ty.basic b) u vs = Val.array u vs
+typed_array Ty.variant u vs = Val.array u vs
+typed_array (Ty.struct ts) u vs = Val.array u vs
+typed_array (Ty.entry key t) u vs = Val.array u vs
+
+-- the fields of a struct: by their types, where they are known, or else all alike
+abbrev pub struct_fields : Ty → Vals → Vals → Vals
+struct_fields (Ty.struct ts) all each = all
+struct_fields (Ty.basic b) all each = each
+struct_fields Ty.variant all each = each
+struct_fields (Ty.array t) all each = each
+struct_fields (Ty.entry key t) all each = each
+
 abbrev mutual
-  -- the tree of a value
-  pub value_of : Value → Val
-  value_of (Byte n) = Val.number basics.Byte n
-  value_of (Boolean b) = Val.number basics.Boolean (bit_of b)
-  value_of (Int16 n) = Val.number basics.Int16 (cast_unsigned w16 n)
-  value_of (Uint16 n) = Val.number basics.Uint16 n
-  value_of (Int32 n) = Val.number basics.Int32 (cast_unsigned w32 n)
-  value_of (Uint32 n) = Val.number basics.Uint32 n
-  value_of (Int64 n) = Val.number basics.Int64 (cast_unsigned w64 n)
-  value_of (Uint64 n) = Val.number basics.Uint64 n
-  value_of (Double n) = Val.number basics.Double n
-  value_of (UnixFd n) = Val.number basics.UnixFd n
-  value_of (String t) = Val.text basics.String t
-  value_of (ObjectPath p) = Val.text basics.ObjectPath p
-  value_of (Signature s) = Val.text basics.Signature (texts_of (types_in s))
-  value_of (Variant' place v) = Val.variant (value_of v)
-  value_of (Array' t shape row) = Val.array (type_of t) (row_values row)
-  value_of (Bytes bytes) = Val.array (Ty.basic basics.Byte) (bytes_as_values bytes)
-  value_of (Struct' shape row) = Val.struct (row_values row)
-  value_of (DictEntry' place key v) = Val.entry (value_of key) (value_of v)
+  -- The tree of a value that lies where this type is known, which has no struct of one field around it. Where nothing is
+  -- known, the type is a variant.
+  pub core_as : Ty → Value → Val
+  core_as known (Byte n) = Val.number basics.Byte n
+  core_as known (Boolean b) = Val.number basics.Boolean (bit_of b)
+  core_as known (Int16 n) = Val.number basics.Int16 (cast_unsigned w16 n)
+  core_as known (Uint16 n) = Val.number basics.Uint16 n
+  core_as known (Int32 n) = Val.number basics.Int32 (cast_unsigned w32 n)
+  core_as known (Uint32 n) = Val.number basics.Uint32 n
+  core_as known (Int64 n) = Val.number basics.Int64 (cast_unsigned w64 n)
+  core_as known (Uint64 n) = Val.number basics.Uint64 n
+  core_as known (Double n) = Val.number basics.Double n
+  core_as known (UnixFd n) = Val.number basics.UnixFd n
+  core_as known (String t) = Val.text basics.String t
+  core_as known (ObjectPath p) = Val.text basics.ObjectPath p
+  core_as known (Signature s) = Val.text basics.Signature (texts_of (types_in s))
+  core_as known (Variant' place v) = in_variant known (core_as Ty.variant v)
+  core_as known (Array' place t shape row) = typed_array known (type_of t) (row_each (type_of t) row)
+  core_as known (InnerArray' shape row) = Val.array (element_of known) (row_each (element_of known) row)
+  core_as known (Bytes bytes) = Val.bytes bytes
+  core_as known (Struct' shape row) = Val.struct (struct_fields known (row_all (fields_of known) row) (row_each known row))
+  core_as known (DictEntry' place key v) = Val.entry (wrapped known (core_as (core_of known) key)) (wrapped (held_of known) (core_as (core_of (held_of known)) v))
 
-  -- the trees of the values in a row
-  pub row_values : {m : _} → Row_of-Value m → Vals
-  row_values end_of-Value = Vals.end
-  row_values (more_of-Value v rest) = Vals.more (value_of v) (row_values rest)
+  -- the trees of the values in a row, which all have this type
+  pub row_each : Ty → {m : _} → Row_of-Value m → Vals
+  row_each t end_of-Value = Vals.end
+  row_each t (more_of-Value v rest) = Vals.more (wrapped t (core_as (core_of t) v)) (row_each t rest)
 
--- the trees of values, one behind the other
+  -- the trees of the values in a row, which have these types
+  pub row_all : Tys → {m : _} → Row_of-Value m → Vals
+  row_all ts end_of-Value = Vals.end
+  row_all Tys.end (more_of-Value v rest) = Vals.more nothing (row_all Tys.end rest)
+  row_all (Tys.more t ts) (more_of-Value v rest) = Vals.more (wrapped t (core_as (core_of t) v)) (row_all ts rest)
+
+-- the tree of a value that lies where this type is known
+abbrev pub value_as : Ty → Value → Val
+value_as t v = wrapped t (core_as (core_of t) v)
+
+-- the trees of values that lie where this type is known, one behind the other
+abbrev pub each_as : Ty → List Value → Vals
+each_as t [] = Vals.end
+each_as t (v ∷ vs) = Vals.more (value_as t v) (each_as t vs)
+
+-- the trees of values that lie where their types are known
+abbrev pub all_as : Tys → List Value → Vals
+all_as ts [] = Vals.end
+all_as Tys.end (v ∷ vs) = Vals.more nothing (all_as Tys.end vs)
+all_as (Tys.more t ts) (v ∷ vs) = Vals.more (value_as t v) (all_as ts vs)
+
+-- what is known of the type of a value: all of it, if the value is in an array
+abbrev pub known_as : Bool → Ty → Ty
+known_as true t = t
+known_as false t = Ty.variant
+
+-- the same of values of these types
+abbrev pub fields_as : Bool → Tys → List Value → Vals
+fields_as true ts vs = all_as ts vs
+fields_as false ts vs = each_as Ty.variant vs
+
+-- the tree of a value that isn't in an array
+abbrev pub value_of : Value → Val
+value_of v = value_as Ty.variant v
+
+-- the trees of values that aren't in an array, one behind the other
 abbrev pub values_of : List Value → Vals
-values_of [] = Vals.end
-values_of (v ∷ vs) = Vals.more (value_of v) (values_of vs)
+values_of vs = each_as Ty.variant vs

@@ -1,16 +1,18 @@
 -- D-Bus Specification, "Type System": values as plain trees.
-use Rattle.std.specs.Prelude.{ℕ, List, [], ◌∷◌}
+use Rattle.std.specs.Prelude.{ℕ, List}
 use Rattle.dbus_types.specs.declared.complete_type.BasicType.{BasicType}
 use Rattle.dbus_types.specs.declared.complete_type.BasicType.TheVariants as basics
 use Rattle.dbus_types.specs.Types.{Ty, Tys}
 
 mutual
-  -- A value. A number of a basic type stands for its bits, a text for its bytes; an array has the type of its elements.
+  -- A value. A number of a basic type stands for its bits, a text for its bytes; an array has the type of its elements,
+  -- and an array of bytes is the bytes.
   pub data Val : Type 0 where
     number : BasicType → ℕ → Val
     text : BasicType → List ℕ → Val
     variant : Val → Val
     array : Ty → Vals → Val
+    bytes : List ℕ → Val
     struct : Vals → Val
     entry : Val → Val → Val
 
@@ -18,11 +20,6 @@ mutual
   pub data Vals : Type 0 where
     end : Vals
     more : Val → Vals → Vals
-
--- the values that bytes are
-abbrev pub bytes_as_values : List ℕ → Vals
-bytes_as_values [] = Vals.end
-bytes_as_values (b ∷ bytes) = Vals.more (Val.number basics.Byte b) (bytes_as_values bytes)
 
 -- the type of an entry with a key of this type, which is basic
 abbrev pub entry_of : Ty → Ty → Ty
@@ -36,9 +33,10 @@ abbrev mutual
   -- the type of a value
   pub ty_of : Val → Ty
   ty_of (Val.number b n) = Ty.basic b
-  ty_of (Val.text b bytes) = Ty.basic b
+  ty_of (Val.text b them) = Ty.basic b
   ty_of (Val.variant v) = Ty.variant
   ty_of (Val.array t vs) = Ty.array t
+  ty_of (Val.bytes them) = Ty.array (Ty.basic basics.Byte)
   ty_of (Val.struct vs) = Ty.struct (tys_of vs)
   ty_of (Val.entry key v) = entry_of (ty_of key) (ty_of v)
 

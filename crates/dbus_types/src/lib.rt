@@ -6,20 +6,20 @@
 
 mod complete_type;
 mod endian;
+mod known;
 mod message;
 mod object_path;
 mod signature;
 mod signature_reading;
-#[cfg(test)]
-mod tests;
 mod value;
 
 pub use complete_type::{BasicType, CompleteType};
 pub use endian::Endian;
+pub use known::{core_of, element_of, fields_in, held_of, is_array, is_variant, lone_in, wrapping};
 pub use message::Message;
 pub use object_path::ObjectPath;
 pub use signature::{Signature, SignatureFault};
-pub use value::{DictEntry, Value};
+pub use value::{DictEntry, TypedArray, Value};
 
 /// No memory was left for a call. It is the one refusal that may come at any time.
 pub type OutOfMemory = kr_base::OutOfMemory;

@@ -5,7 +5,7 @@ use crate::value::Value;
 use kr_base::Text;
 
 /// A message (D-Bus Specification, "Message Format"). A field is None where the header has none.
-#[derive(Debug, Drop)]
+#[derive(Drop)]
 pub struct Message {
     /// The type: 1 a call, 2 a return, 3 an error, 4 a signal.
     pub kind: u8,

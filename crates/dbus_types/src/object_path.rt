@@ -9,7 +9,7 @@ use std::marker::Model;
 
 /// The path of an object: `/`, or elements of `[A-Za-z0-9_]`, each not empty and each led by `/`
 /// (D-Bus Specification, "Marshaling", "Valid Object Paths"). A contract sees the list of its bytes.
-#[derive(Debug, Drop)]
+#[derive(Drop)]
 pub struct ObjectPath {
     text: Text,
 }

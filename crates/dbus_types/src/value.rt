@@ -1,12 +1,19 @@
-use crate::complete_type::CompleteType;
+ghost use Rattle.dbus_types.specs.BasicTypes.{BasicIs};
+ghost use Rattle.dbus_types.specs.Values.{ty_of};
+ghost use Rattle.dbus_types.specs.ValueViews.{value_of};
+
+use crate::complete_type::{BasicType, CompleteType};
 use crate::object_path::ObjectPath;
 use crate::signature::Signature;
 use kr_base::{Bytes, Text};
 
-/// A value (D-Bus Specification, "Type System"), with a variant for each type code. Contracts see it
-/// as a `Val`, by `value_of`; signed numbers there are their bits.
+/// A value (D-Bus Specification, "Type System"). Contracts see it as a `Val`, by `value_of`; signed
+/// numbers there are their bits.
+///
+/// An array has its elements' type once: what lies in an array is seen with that type, by `value_as`.
+/// So an array inside an array has none, and a struct of one field inside an array is its field.
 #[cycle(values)]
-#[derive(Debug, Drop)]
+#[derive(Drop)]
 pub enum Value {
     /// `y`.
     Byte(u8),
@@ -36,9 +43,11 @@ pub enum Value {
     Signature(Signature),
     /// `v`, a value of any type.
     Variant(Box<Value>),
-    /// `a`, elements of the type, of which there may be none.
-    Array(CompleteType, Vec<Value>),
-    /// `ay`, the array of the bytes, which stand in one piece.
+    /// `a`, an array that isn't inside another one, of elements that are no bytes.
+    Array(Box<TypedArray>),
+    /// `a`, an array inside another one, which has the type of these elements.
+    InnerArray(Vec<Value>),
+    /// `ay`, bytes.
     Bytes(Bytes),
     /// `(`, the fields.
     Struct(Vec<Value>),
@@ -46,12 +55,51 @@ pub enum Value {
     DictEntry(Box<DictEntry>),
 }
 
+/// Elements and their type (D-Bus Specification, "Type System").
+#[cycle(values)]
+#[derive(Drop)]
+pub struct TypedArray {
+    /// The type of each element.
+    pub element: CompleteType,
+    /// The elements, of which there may be none.
+    pub values: Vec<Value>,
+}
+
 /// A key and its value, an element of an array (D-Bus Specification, "Type System").
 #[cycle(values)]
-#[derive(Debug, Drop)]
+#[derive(Drop)]
 pub struct DictEntry {
     /// The key, of a basic type.
     pub key: Value,
     /// The value, of any type.
     pub value: Value,
+}
+
+impl Value {
+    /// The basic type of the value, or None if its type isn't basic.
+    pub fn basic_type(&self) -> Option<BasicType>
+        ensures { BasicIs result (ty_of (value_of self.now)) }
+    {
+        match self {
+            Value::Byte(_) => Some(BasicType::Byte),
+            Value::Boolean(_) => Some(BasicType::Boolean),
+            Value::Int16(_) => Some(BasicType::Int16),
+            Value::Uint16(_) => Some(BasicType::Uint16),
+            Value::Int32(_) => Some(BasicType::Int32),
+            Value::Uint32(_) => Some(BasicType::Uint32),
+            Value::Int64(_) => Some(BasicType::Int64),
+            Value::Uint64(_) => Some(BasicType::Uint64),
+            Value::Double(_) => Some(BasicType::Double),
+            Value::UnixFd(_) => Some(BasicType::UnixFd),
+            Value::String(_) => Some(BasicType::String),
+            Value::ObjectPath(_) => Some(BasicType::ObjectPath),
+            Value::Signature(_) => Some(BasicType::Signature),
+            Value::Variant(_) => None,
+            Value::Array(_) => None,
+            Value::InnerArray(_) => None,
+            Value::Bytes(_) => None,
+            Value::Struct(_) => None,
+            Value::DictEntry(_) => None,
+        }
+    }
 }

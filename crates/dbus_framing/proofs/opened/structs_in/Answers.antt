@@ -1,12 +1,17 @@
 -- An array's elements are what its vector holds.
-use Rattle.std.proofs.Common.{Bool, sym, ap, ◌∙◌}
-use Rattle.dbus_types.specs.ValueViews.{value_of, values_of}
-use Rattle.dbus_types.proofs.ValueViews.{array_holds}
-use Rattle.dbus_framing.specs.Headers.{structs_in, where_is}
+use Rattle.std.proofs.Common.{sym, ap, ◌∙◌}
+use Rattle.dbus_types.specs.Values.{Val}
+use Rattle.dbus_types.specs.declared.value.TypedArray.{TypedArray}
+use Rattle.dbus_types.specs.Views.{type_of}
+use Rattle.dbus_types.specs.ValueViews.{value_of, each_as}
+use Rattle.dbus_types.proofs.ValueViews.{plain_array}
+use Rattle.dbus_framing.specs.Headers.{structs_in}
+use Rattle.dbus_framing.proofs.HeaderLemmas.{field_elements}
 use Rattle.dbus_framing.proofs.opened.structs_in.Goals as goal
 
 pub returns-in-Array : goal.returns-in-Array
 returns-in-Array c =
-    let elements = values_of c.in-Array.elements.items in
-    let is = ap value_of c.in-Array.is ∙ array_holds c.in-Array.element c.in-Array.elements in
-    ap (λ (t : Bool). where_is t elements) (sym c.if-not-is_struct.false ∙ c.is_struct.ensures) ∙ sym (ap structs_in is)
+    let inner = c.into_inner-array.result in
+    field_elements (type_of inner.element) inner.values.items (sym c.is_field_type.ensures ∙ c.if-not-is_field_type.false)
+    ∙ ap (λ (a : TypedArray). structs_in (Val.array (type_of a.element) (each_as (type_of a.element) a.values.items))) c.into_inner-array.ensures
+    ∙ sym (ap structs_in (ap value_of c.in-Array.is ∙ plain_array c.in-Array.array))

@@ -1,11 +1,11 @@
 -- Where there aren't two values, none are taken out.
 use Rattle.std.proofs.Common.{◌≡◌, List, [], ◌∷◌, length, refl, None, arith}
 use Rattle.dbus_types.specs.declared.value.Value.{Value}
-use Rattle.dbus_types.specs.ValueViews.{values_of}
-use Rattle.dbus_framing.specs.Headers.{two_of}
+use Rattle.dbus_types.specs.ValueViews.{all_as}
+use Rattle.dbus_framing.specs.Headers.{two_of, field_parts}
 use Rattle.dbus_framing.proofs.opened.two_of.Goals as goal
 
-not_two : (values : List Value) → (length values ≡ 2 → ⊥) → None ≡ two_of (values_of values)
+not_two : (values : List Value) → (length values ≡ 2 → ⊥) → None ≡ two_of (all_as field_parts values)
 not_two [] ne = refl
 not_two (first ∷ []) ne = refl
 not_two (first ∷ second ∷ []) ne = absurd (ne refl)

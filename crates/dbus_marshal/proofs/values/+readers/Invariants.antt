@@ -1,9 +1,10 @@
 -- Each container has one depth less for what is inside it.
 use Rattle.std.proofs.Common.{◌≡◌, ◌+◌, ◌-◌, ◌*◌, length}
 use Rattle.dbus_types.specs.Views.{type_of, types_of}
-use Rattle.dbus_types.specs.ValueViews.{values_of}
+use Rattle.dbus_types.specs.ValueViews.{each_as, fields_as}
 use Rattle.dbus_marshal.specs.Cursors.{spot_of}
 use Rattle.dbus_marshal.specs.Reading.{value_at, elements_from, fields_by, with_values, with_fields}
+use Rattle.dbus_marshal.proofs.ValueReading.{AreLeft}
 use Rattle.dbus_marshal.proofs.values.+readers.Given as goal
 
 abbrev pub decreases-read_value : goal.decreases-read_value
@@ -32,13 +33,14 @@ decreases-read_entry l = 4 * l.depth + 3
 
 abbrev pub invariant-read_each-loop : goal.invariant-read_each-loop
 invariant-read_each-loop l =
-    with_values (values_of l.values.items) (elements_from (value_at l.depth l.endian (type_of l.element)) (l.count - l.counter) (spot_of l.rest) l.rest.left.now)
+    with_values (each_as (type_of l.element) l.values.items) (elements_from (value_at l.depth l.endian (type_of l.element)) (l.count - l.counter) (spot_of l.rest) l.rest.left.now)
     ≡ elements_from (value_at l.depth l.endian (type_of l.element)) l.count (spot_of l.fn.cursor) l.fn.cursor.left.now
 
 abbrev pub invariant-read_fields-loop-next : goal.invariant-read_fields-loop-next
 invariant-read_fields-loop-next l =
-    with_fields (values_of l.values.items) (fields_by (value_at l.depth l.endian) (types_of l.left) (spot_of l.rest))
-    ≡ fields_by (value_at l.depth l.endian) (types_of l.types) (spot_of l.fn.cursor)
+    (with_fields (fields_as l.is_inner (types_of l.types) l.values.items) (fields_by (value_at l.depth l.endian) (types_of l.left) (spot_of l.rest))
+    ≡ fields_by (value_at l.depth l.endian) (types_of l.types) (spot_of l.fn.cursor))
+    × AreLeft l.is_inner (types_of l.types) l.values.items (types_of l.left)
 
 abbrev pub decreases-read_fields-loop-next : goal.decreases-read_fields-loop-next
 decreases-read_fields-loop-next l = length l.left

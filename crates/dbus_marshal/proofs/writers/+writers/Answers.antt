@@ -1,93 +1,151 @@
 -- What each writer leaves, from what its parts left.
-use Rattle.std.proofs.Common.{ℕ, ◌++◌, ◌&&◌, List, length, sym, ap, ◌∙◌}
+use Rattle.std.proofs.Common.{ℕ, ◌++◌, ◌&&◌, List, length, Ok, Err, sym, ap, subst, ◌∙◌}
 use Rattle.std.proofs.lemmas.Result.{err_from_is_err_and}
 use Rattle.dbus_types.specs.declared.complete_type.BasicType.TheVariants as basics
+use Rattle.dbus_types.specs.declared.value.Value.{Value}
 use Rattle.dbus_types.specs.Types.{Ty, Tys, text_of, texts_of}
-use Rattle.dbus_types.specs.Values.{Val, ty_of, bytes_as_values}
-use Rattle.dbus_types.specs.ValueViews.{value_of, values_of}
+use Rattle.dbus_types.specs.Values.{Val, Vals, ty_of}
+use Rattle.dbus_types.specs.Views.{type_of, types_of}
+use Rattle.dbus_types.specs.ValueViews.{value_of, value_as, core_as, each_as, all_as, fields_of, held_of, in_variant, struct_fields, nothing}
+use Rattle.dbus_marshal.specs.declared.refused.MarshalFault.TheVariants.{TooLong}
 use Rattle.dbus_marshal.specs.Wire.{behind}
 use Rattle.dbus_marshal.specs.Spelling.{spelled, all_spelled, is_short, are_short, text_spelled}
-use Rattle.dbus_marshal.proofs.WritingLemmas.{writes_at, writes_both, writes_padded, writes_tree, writes_array, array_tree, struct_tree, array_fault, array_long, array_room, array_done, all_step, all_over}
+use Rattle.dbus_marshal.specs.Writing.{Writes}
+use Rattle.dbus_marshal.proofs.WritingLemmas.{writes_at, writes_both, writes_padded, writes_tree, writes_array, writes_wrapped, writes_nothing, array_tree, inner_tree, struct_tree, variant_no, variant_yes, typed_no, typed_yes, struct_yes, struct_no, array_fault, array_long, array_room, array_done, next_step, next_over, each_left, all_left, all_past, each_none, all_none}
 use Rattle.dbus_marshal.proofs.writers.+writers.Goals as goal
 
-pub write_value-returns-in-Array : goal.write_value-returns-in-Array
-write_value-returns-in-Array t c =
-    let place = behind c.args.phase (length c.args.out.now.items) in
-    writes_tree c.write_array.result c.args.endian _ _ place c.args.out.now.items c.write_array.new.out.items (array_tree _ _ c.in-Array.values _ c.in-Array.is c.as_slice-in-Array.ensures.value)
-    (writes_array c.write_array.result c.args.endian _ _ place c.alignment.result c.args.out.now.items c.write_array.new.out.items c.alignment.ensures.value c.write_array.ensures)
+pub write_value-returns : goal.write_value-returns
+write_value-returns t c =
+    writes_wrapped c.write_core.result c.args.endian c.args.phase (type_of c.args.known.now) (type_of c.core_of.result.now) c.args.value.now c.wrapping.result c.args.out.now.items c.pad.new.out.items c.write_core.new.out.items
+    c.wrapping.ensures.value c.core_of.ensures c.in_ok-pad.ensures c.write_core.ensures
 
-pub write_value-returns-in-Struct : goal.write_value-returns-in-Struct
-write_value-returns-in-Struct t c =
+pub write_core-returns-in-Array : goal.write_core-returns-in-Array
+write_core-returns-in-Array t c =
+    writes_tree c.write_typed_array.result c.args.endian _ _ (behind c.args.phase (length c.args.out.now.items)) c.args.out.now.items c.write_typed_array.new.out.items
+    (array_tree _ (type_of c.args.known.now) c.in-Array.array c.in-Array.is) (rw (← c.deref-in-Array.ensures) c.write_typed_array.ensures)
+
+pub write_core-returns-in-InnerArray : goal.write_core-returns-in-InnerArray
+write_core-returns-in-InnerArray t c =
+    writes_tree c.write_array.result c.args.endian _ _ (behind c.args.phase (length c.args.out.now.items)) c.args.out.now.items c.write_array.new.out.items
+    (inner_tree _ (type_of c.args.known.now) (type_of c.element_of.result.now) c.in-InnerArray.values _ c.in-InnerArray.is c.as_slice-in-InnerArray.ensures.value c.element_of.ensures) c.write_array.ensures
+
+pub write_core-returns-in-Struct : goal.write_core-returns-in-Struct
+write_core-returns-in-Struct t c =
     writes_tree c.write_struct.result c.args.endian _ _ (behind c.args.phase (length c.args.out.now.items)) c.args.out.now.items c.write_struct.new.out.items
-    (struct_tree _ c.in-Struct.fields _ c.in-Struct.is c.as_slice-in-Struct.ensures.value) c.write_struct.ensures
+    (struct_tree _ (type_of c.args.known.now) c.in-Struct.fields _ c.in-Struct.is c.as_slice-in-Struct.ensures.value) c.write_struct.ensures
 
-pub write_value-returns-in-DictEntry : goal.write_value-returns-in-DictEntry
-write_value-returns-in-DictEntry t c =
+pub write_core-returns-in-DictEntry : goal.write_core-returns-in-DictEntry
+write_core-returns-in-DictEntry t c =
     writes_tree c.write_entry.result c.args.endian _ _ (behind c.args.phase (length c.args.out.now.items)) c.args.out.now.items c.write_entry.new.out.items
-    (ap value_of c.in-DictEntry.is) (rw (← c.deref-in-DictEntry.ensures) c.write_entry.ensures)
+    (ap (core_as (type_of c.args.known.now)) c.in-DictEntry.is) (rw (← c.deref-in-DictEntry.ensures) c.write_entry.ensures)
 
-pub write_value-returns-in-Bytes : goal.write_value-returns-in-Bytes
-write_value-returns-in-Bytes t c =
+pub write_core-returns-in-Bytes : goal.write_core-returns-in-Bytes
+write_core-returns-in-Bytes t c =
     writes_tree c.write_bytes.result c.args.endian _ _ (behind c.args.phase (length c.args.out.now.items)) c.args.out.now.items c.write_bytes.new.out.items
-    (ap value_of c.in-Bytes.is ∙ ap (λ (bs : List ℕ). Val.array (Ty.basic basics.Byte) (bytes_as_values bs)) (sym c.as_slice.ensures)) c.write_bytes.ensures
+    (ap (core_as (type_of c.args.known.now)) c.in-Bytes.is ∙ ap (λ (bs : List ℕ). Val.bytes bs) (sym c.as_slice.ensures)) c.write_bytes.ensures
 
-pub write_value-returns-in-Variant : goal.write_value-returns-in-Variant
-write_value-returns-in-Variant t c =
+pub write_core-returns-in-Variant : goal.write_core-returns-in-Variant
+write_core-returns-in-Variant t c =
     writes_tree c.write_variant.result c.args.endian _ _ (behind c.args.phase (length c.args.out.now.items)) c.args.out.now.items c.write_variant.new.out.items
-    (ap value_of c.in-Variant.is) (rw (← c.deref.ensures) c.write_variant.ensures)
+    (ap (core_as (type_of c.args.known.now)) c.in-Variant.is) (rw (← c.deref.ensures) c.write_variant.ensures)
 
-pub write_value-returns-in-Signature : goal.write_value-returns-in-Signature
-write_value-returns-in-Signature t c =
+pub write_core-returns-in-Signature : goal.write_core-returns-in-Signature
+write_core-returns-in-Signature t c =
     writes_tree c.write_signature.result c.args.endian _ _ (behind c.args.phase (length c.args.out.now.items)) c.args.out.now.items c.write_signature.new.out.items
-    (ap value_of c.in-Signature.is ∙ ap (λ (ts : Tys). Val.text basics.Signature (texts_of ts)) (sym c.types.ensures.value)) c.write_signature.ensures
+    (ap (core_as (type_of c.args.known.now)) c.in-Signature.is ∙ ap (λ (ts : Tys). Val.text basics.Signature (texts_of ts)) (sym c.types.ensures.value)) c.write_signature.ensures
+
+pub write_variant-returns-then-not-is_variant : goal.write_variant-returns-then-not-is_variant
+write_variant-returns-then-not-is_variant t c =
+    writes_nothing c.args.endian _ (behind c.args.phase (length c.args.out.now.items)) c.args.out.now.items _
+    (variant_no (type_of c.args.known.now) (value_of c.args.value.now) (sym c.is_variant.ensures ∙ c.if-not-is_variant.true)) c.in_ok-pad.ensures
 
 pub write_variant-returns : goal.write_variant-returns
 write_variant-returns t c =
-    writes_at c.write_value.result c.args.phase (spelled c.args.endian (value_of c.args.value.now)) (is_short c.args.endian (value_of c.args.value.now))
-    (text_spelled c.args.endian basics.Signature (text_of (ty_of (value_of c.args.value.now))) (behind c.args.phase (length c.args.out.now.items)))
-    c.args.out.now.items c.write_signature_of.new.out.items c.write_value.new.out.items c.in_ok-write_signature_of.ensures.0 c.write_value.ensures
+    let same = variant_yes (type_of c.args.known.now) (sym c.is_variant.ensures ∙ c.if-not-is_variant.false) in
+    let v = value_of c.args.value.now in
+    let mid = c.write_signature_of.new.out.items in
+    writes_tree c.write_value.result c.args.endian _ (Val.variant v) (behind c.args.phase (length c.args.out.now.items)) c.args.out.now.items c.write_value.new.out.items (ap (λ (k : Ty). in_variant k v) same)
+    (writes_at c.write_value.result c.args.phase (spelled c.args.endian v) (is_short c.args.endian v)
+    (text_spelled c.args.endian basics.Signature (text_of (ty_of v)) (behind c.args.phase (length c.args.out.now.items)))
+    c.args.out.now.items mid c.write_value.new.out.items c.in_ok-write_signature_of.ensures.0
+    (subst (λ (k : Ty). Writes c.write_value.result (spelled c.args.endian (value_as k c.args.value.now) (behind c.args.phase (length mid))) (is_short c.args.endian (value_as k c.args.value.now) (behind c.args.phase (length mid))) mid c.write_value.new.out.items)
+    same c.write_value.ensures))
+
+pub write_typed_array-returns-then-is_array : goal.write_typed_array-returns-then-is_array
+write_typed_array-returns-then-is_array t c =
+    writes_nothing c.args.endian _ (behind c.args.phase (length c.args.out.now.items)) c.args.out.now.items _ (typed_no (type_of c.args.known.now) _ _ (sym c.is_array.ensures ∙ c.if-is_array.true)) c.in_ok-pad.ensures
+
+pub write_typed_array-returns : goal.write_typed_array-returns
+write_typed_array-returns t c =
+    let u = type_of c.args.array.now.element in
+    writes_tree c.write_array.result c.args.endian _ _ (behind c.args.phase (length c.args.out.now.items)) c.args.out.now.items c.write_array.new.out.items
+    (typed_yes (type_of c.args.known.now) u _ (sym c.is_array.ensures ∙ c.if-is_array.false) ∙ ap (λ (l : List Value). Val.array u (each_as u l)) (sym c.as_slice.ensures.value)) c.write_array.ensures
+
+pub write_struct-returns-in-Some : goal.write_struct-returns-in-Some
+write_struct-returns-in-Some t c =
+    let fields = c.args.fields.now in
+    let vs = all_as (types_of c.in-Some.types.now) fields in
+    writes_tree c.write_all.result c.args.endian _ (Val.struct vs) (behind c.args.phase (length c.args.out.now.items)) c.args.out.now.items c.write_all.new.out.items
+    (ap (λ (k : Ty). Val.struct (struct_fields k (all_as (fields_of k) fields) (each_as k fields))) (struct_yes (type_of c.args.known.now) _ c.in-Some.ensures))
+    (writes_padded c.write_all.result c.args.phase 8 (all_spelled c.args.endian vs) (are_short c.args.endian vs) c.args.out.now.items c.pad.new.out.items c.write_all.new.out.items c.in_ok-pad.ensures c.write_all.ensures)
 
 pub write_struct-returns : goal.write_struct-returns
 write_struct-returns t c =
-    writes_padded c.write_all.result c.args.phase 8 (all_spelled c.args.endian (values_of c.args.fields.now)) (are_short c.args.endian (values_of c.args.fields.now))
-    c.args.out.now.items c.pad.new.out.items c.write_all.new.out.items c.in_ok-pad.ensures c.write_all.ensures
+    let vs = each_as (type_of c.args.known.now) c.args.fields.now in
+    writes_tree c.write_each.result c.args.endian _ (Val.struct vs) (behind c.args.phase (length c.args.out.now.items)) c.args.out.now.items c.write_each.new.out.items
+    (ap Val.struct (struct_no (type_of c.args.known.now) _ _ c.in_default.ensures))
+    (writes_padded c.write_each.result c.args.phase 8 (all_spelled c.args.endian vs) (are_short c.args.endian vs) c.args.out.now.items c.pad.new.out.items c.write_each.new.out.items c.in_ok-pad.ensures c.write_each.ensures)
 
 pub write_entry-returns : goal.write_entry-returns
 write_entry-returns t c =
-    let key = value_of c.args.entry.now.key in
-    let value = value_of c.args.entry.now.value in
+    let key = value_as (type_of c.args.known.now) c.args.entry.now.key in
+    let value = value_as (held_of (type_of c.args.known.now)) c.args.entry.now.value in
+    let mid = c.write_value.new.out.items in
     writes_padded c.write_value-2.result c.args.phase 8 (λ p. spelled c.args.endian key p ++ spelled c.args.endian value (behind p (length (spelled c.args.endian key p))))
     (λ p. is_short c.args.endian key p && is_short c.args.endian value (behind p (length (spelled c.args.endian key p))))
     c.args.out.now.items c.pad.new.out.items c.write_value-2.new.out.items c.in_ok-pad.ensures
     (writes_both c.write_value-2.result c.args.phase (spelled c.args.endian key (behind c.args.phase (length c.pad.new.out.items))) (is_short c.args.endian key (behind c.args.phase (length c.pad.new.out.items)))
-    (spelled c.args.endian value) (is_short c.args.endian value) c.pad.new.out.items c.write_value.new.out.items c.write_value-2.new.out.items c.in_ok-write_value.ensures.0 c.in_ok-write_value.ensures.1 c.write_value-2.ensures)
+    (spelled c.args.endian value) (is_short c.args.endian value) c.pad.new.out.items mid c.write_value-2.new.out.items c.in_ok-write_value.ensures.0 c.in_ok-write_value.ensures.1
+    (subst (λ (k : Ty). Writes c.write_value-2.result (spelled c.args.endian (value_as k c.args.entry.now.value) (behind c.args.phase (length mid))) (is_short c.args.endian (value_as k c.args.entry.now.value) (behind c.args.phase (length mid))) mid c.write_value-2.new.out.items)
+    c.held_of.ensures c.write_value-2.ensures))
 
-pub write_array-returns-in_err-write_all : goal.write_array-returns-in_err-write_all
-write_array-returns-in_err-write_all t c =
-    let p = err_from_is_err_and c.from_residual-in_err-write_all.result c.from_residual-in_err-write_all.ensures.1 in rw (p.1, p.2)
-    (array_fault c.in_err-write_all.field-0.0 c.args.endian c.args.phase c.args.alignment c.in_ok-mark.mark (values_of c.args.values.now) c.args.out.now.items c.open_array.new.out.items c.write_all.new.out.items
-    c.in_ok-mark.ensures.opens c.in_ok-mark.ensures.mark c.in_err-write_all.ensures)
+pub write_array-returns-in_err-write_each : goal.write_array-returns-in_err-write_each
+write_array-returns-in_err-write_each t c =
+    let p = err_from_is_err_and c.from_residual-in_err-write_each.result c.from_residual-in_err-write_each.ensures.1 in
+    let vs = each_as (type_of c.args.element.now) c.args.values.now in rw (p.1, p.2)
+    (writes_array {X = Unit {0}} (Err c.in_err-write_each.field-0.0) c.args.endian (type_of c.args.element.now) vs (behind c.args.phase (length c.args.out.now.items)) c.alignment-alignment.result c.args.out.now.items c.write_each.new.out.items c.alignment-alignment.ensures.value
+    (array_fault c.in_err-write_each.field-0.0 c.args.endian c.args.phase c.alignment-alignment.result c.in_ok-mark.mark vs c.args.out.now.items c.open_array.new.out.items c.write_each.new.out.items
+    c.in_ok-mark.ensures.opens c.in_ok-mark.ensures.mark c.in_err-write_each.ensures))
 
 pub write_array-returns-then-count-gt67108864 : goal.write_array-returns-then-count-gt67108864
 write_array-returns-then-count-gt67108864 t c =
-    array_long c.args.endian c.args.phase c.args.alignment c.in_ok-mark.mark (values_of c.args.values.now) c.args.out.now.items c.open_array.new.out.items c.write_all.new.out.items _ _
-    c.in_ok-mark.ensures.opens c.in_ok-mark.ensures.mark c.in_ok-write_all.ensures.0 (c.len-start.ensures ∙ c.open_array.new.out.ok.0) (c.len.ensures ∙ c.write_all.new.out.ok.0) c.if-count-gt67108864.true
+    let vs = each_as (type_of c.args.element.now) c.args.values.now in
+    writes_array {X = Unit {0}} (Err TooLong) c.args.endian (type_of c.args.element.now) vs (behind c.args.phase (length c.args.out.now.items)) c.alignment-alignment.result c.args.out.now.items c.write_each.new.out.items c.alignment-alignment.ensures.value
+    (array_long c.args.endian c.args.phase c.alignment-alignment.result c.in_ok-mark.mark vs c.args.out.now.items c.open_array.new.out.items c.write_each.new.out.items _ _
+    c.in_ok-mark.ensures.opens c.in_ok-mark.ensures.mark c.in_ok-write_each.ensures.0 (c.len-start.ensures ∙ c.open_array.new.out.ok.0) (c.len.ensures ∙ c.write_each.new.out.ok.0) c.if-count-gt67108864.true)
 
 pub write_array-close_array-requires : goal.write_array-close_array-requires
 write_array-close_array-requires t c =
-    array_room c.args.endian c.args.phase c.args.alignment c.in_ok-mark.mark (values_of c.args.values.now) c.args.out.now.items c.open_array.new.out.items c.write_all.new.out.items
-    c.in_ok-mark.ensures.opens c.in_ok-mark.ensures.mark c.in_ok-write_all.ensures.0
+    array_room c.args.endian c.args.phase c.alignment-alignment.result c.in_ok-mark.mark (each_as (type_of c.args.element.now) c.args.values.now) c.args.out.now.items c.open_array.new.out.items c.write_each.new.out.items
+    c.in_ok-mark.ensures.opens c.in_ok-mark.ensures.mark c.in_ok-write_each.ensures.0
 
 pub write_array-returns : goal.write_array-returns
 write_array-returns t c =
-    array_done c.args.endian c.args.phase c.args.alignment c.in_ok-mark.mark (values_of c.args.values.now) c.args.out.now.items c.open_array.new.out.items c.write_all.new.out.items c.close_array.new.out.items _ _
-    c.in_ok-mark.ensures.opens c.in_ok-mark.ensures.mark c.in_ok-write_all.ensures.0 c.in_ok-write_all.ensures.1 (c.len-start.ensures ∙ c.open_array.new.out.ok.0) (c.len.ensures ∙ c.write_all.new.out.ok.0)
-    c.if-count-gt67108864.false c.close_array.ensures
+    let vs = each_as (type_of c.args.element.now) c.args.values.now in
+    writes_array {X = Unit {0}} (Ok tt) c.args.endian (type_of c.args.element.now) vs (behind c.args.phase (length c.args.out.now.items)) c.alignment-alignment.result c.args.out.now.items c.close_array.new.out.items c.alignment-alignment.ensures.value
+    (array_done c.args.endian c.args.phase c.alignment-alignment.result c.in_ok-mark.mark vs c.args.out.now.items c.open_array.new.out.items c.write_each.new.out.items c.close_array.new.out.items _ _
+    c.in_ok-mark.ensures.opens c.in_ok-mark.ensures.mark c.in_ok-write_each.ensures.0 c.in_ok-write_each.ensures.1 (c.len-start.ensures ∙ c.open_array.new.out.ok.0) (c.len.ensures ∙ c.write_each.new.out.ok.0)
+    c.if-count-gt67108864.false c.close_array.ensures)
 
-pub write_all-loop-each-preserved : goal.write_all-loop-each-preserved
-write_all-loop-each-preserved t c =
-    all_step c.args.endian c.args.phase c.loop-each.each-index c.loop-each.out.items c.write_value.new.out.items _ _ c.args.values.now c.each-item.result c.loop-each-test.true c.each-item.is
+pub write_each-loop-each-preserved : goal.write_each-loop-each-preserved
+write_each-loop-each-preserved t c =
+    next_step c.args.endian c.args.phase c.loop-each.out.items c.write_value.new.out.items _ _ _ _ _ (each_left (type_of c.args.known.now) c.args.values.now c.loop-each.each-index c.each-item.result c.loop-each-test.true c.each-item.is)
     c.in_ok-write_value.ensures.0 c.in_ok-write_value.ensures.1 c.loop-each.invariant
 
+pub write_each-returns : goal.write_each-returns
+write_each-returns t c =
+    next_over c.args.endian c.args.phase c.loop-each.out.items _ _ _ (each_none (type_of c.args.known.now) c.args.values.now c.loop-each.each-index c.loop-each-test.false) c.loop-each.invariant
+
 pub write_all-returns : goal.write_all-returns
-write_all-returns t c = all_over c.args.endian c.args.phase c.loop-each.each-index c.loop-each.out.items _ _ c.args.values.now c.loop-each-test.false c.loop-each.invariant
+write_all-returns t c =
+    next_over c.args.endian c.args.phase c.loop-each.out.items _ _ _ (all_none (types_of c.loop-each.left.now) c.args.values.now c.loop-each.each-index c.loop-each-test.false) c.loop-each.invariant

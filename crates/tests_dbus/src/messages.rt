@@ -1,4 +1,4 @@
-use super::*;
+use dbus_framing::{FrameRefused, Framer, is_interface_name, is_member_name};
 use dbus_types::Message;
 use std::alloc::Global;
 use std::test::Fail;

@@ -1,7 +1,7 @@
 ghost use Rattle.std.specs.Prelude.{◌<◌, IfOk};
 
-use super::*;
 use dbus_marshal::{MarshalFault, ValueFault, marshal, unmarshal};
+use dbus_spelling::spelling_of_all;
 use dbus_types::{Endian, Signature};
 use std::test::Fail;
 
@@ -39,7 +39,7 @@ fn what_is_marshalled_at_any_place_is_the_plain_spelling(rt: HostRuntime) -> Res
         let read = unmarshal(rt.alloc(), &types, Endian::Little, 0, bytes.as_slice());
         let values = read.ok().ok_or("values")?;
         let plain = spelling_of_all(rt.alloc(), Endian::Little, values.as_slice(), 0)?;
-        assert_eq!(rt; plain.as_slice(), bytes.as_slice());
+        assert_eq!(rt; plain.as_slice(), bytes.as_slice(), "{row}");
         for place in 0..8u8 {
             let plain = spelling_of_all(
                 rt.alloc(),

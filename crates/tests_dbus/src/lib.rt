@@ -1,0 +1,14 @@
+//! The tests of the D-Bus crates: tables of texts, bytes and conversations that come from the standard and from
+//! other programs, and calls of each public function. They call what the crates give to all.
+#![tactic(auto)]
+
+#[cfg(test)]
+mod handshake;
+#[cfg(test)]
+mod marshalling;
+#[cfg(test)]
+mod messages;
+#[cfg(test)]
+mod spelling;
+#[cfg(test)]
+mod types;
