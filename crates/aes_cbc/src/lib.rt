@@ -13,10 +13,6 @@ mod key;
 mod laws;
 mod schedule;
 mod state;
-#[cfg(test)]
-mod tests;
-#[cfg(test)]
-mod vectors;
 
 pub use key::Key;
 pub use laws::{decrypting_undoes_encrypting, encrypting_undoes_decrypting};

@@ -4,7 +4,5 @@
 #![tactic(auto)]
 
 mod hash;
-#[cfg(test)]
-mod tests;
 
 pub use hash::{hashed, number_hash, text_hash};

@@ -5,7 +5,5 @@
 #![tactic(auto)]
 
 mod derived;
-#[cfg(test)]
-mod tests;
 
 pub use derived::{Derived, derive};

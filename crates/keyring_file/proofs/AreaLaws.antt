@@ -23,7 +23,7 @@ use Rattle.keyring_file.specs.declared.area.FullItem.{FullItem}
 use Rattle.keyring_file.specs.declared.fault.AreaFault.TheVariants as area_fault
 use Rattle.keyring_file.specs.AreaText.{SpellsValue, SpellsAttribute, SpellsAttributes, IsReservedString, SpellsAccess, SpellsItem, AreaText}
 use Rattle.keyring_file.specs.Gathered.{gathered}
-use Rattle.keyring_file.specs.Reading.{in_area, area_refused, value_at, attribute_at, so_many_attributes_at, listed_attributes_at, attributes_at, access_at, so_many_accesses_at, accesses_at, lists_at, item_at, items_read, is_checked, area_read}
+use Rattle.keyring_file.specs.Reading.{in_area, area_refused, value_at, attribute_at, so_many_attributes_at, listed_attributes_at, attributes_at, reserved_after, access_at, so_many_accesses_at, accesses_at, lists_at, lists_after, item_at, items_read, is_checked, area_read}
 use Rattle.keyring_file.proofs.ClearLaws.{is_name-symm}
 use Rattle.keyring_file.proofs.GatheredLemmas.{gathers}
 use Rattle.keyring_file.proofs.Refusals.{fails-area}
@@ -95,7 +95,7 @@ span-down : (n : ℕ) (text : List ℕ) → IsSpan n text → (a : List ℕ) × 
 span-down n text s = (text, record { is = refl; len = s.len })
 
 access_law : Reads field_fault.Short SpellsAccess access_at
-unfolding access_at
+unfolding access_at reserved_after
 access_law =
     field (λ (a : Access). a.allowed) number_law
     (λ allowed.
@@ -126,7 +126,7 @@ lists_law =
     field (λ (x : Lists). x.0) attributes_law (λ attributes. last {holds = λ (x : Lists). Always x × (x.0 ≡ attributes)} (λ x. x.1) accesses_law (λ access. (attributes, access)) (λ a. ((tt, refl), refl)) (λ b h i. (sym h.1 i, b.1)))
 
 item_law : Reads field_fault.Short SpellsItem item_at
-unfolding item_at
+unfolding item_at lists_after
 item_law =
     field (λ (x : FullItem). x.label) text_law
     (λ label.

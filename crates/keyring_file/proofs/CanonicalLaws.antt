@@ -29,7 +29,8 @@ use Rattle.keyring_file.specs.AreaText.{SpellsValue, SpellsAttribute, SpellsAttr
 use Rattle.keyring_file.specs.Canonical.{list_text, hashed_text, pair_text, content_text, clear_item_text, zeros, clear_text, value_text, attribute_text, access_text, item_text, body_text, area_text, padding}
 use Rattle.keyring_file.specs.Gathered.{with_pair, gathered}
 use Rattle.keyring_file.specs.Short.{IsShort, IsShortHashed, IsShortPair, IsShortList, IsShortClearItem, IsShortClear, IsShortValue, IsShortAttribute, IsShortAccess, IsShortItem}
-use Rattle.keyring_file.specs.Sound.{IsSoundHashed, IsSoundPair, IsSoundClearItem, IsSoundClear, IsSoundValue, IsSoundAttribute, IsSoundAccess, IsSoundItem}
+use Rattle.keyring_file.specs.Known.{IsKnownValue, IsKnownPair, IsKnownAccess, IsKnownItem}
+use Rattle.keyring_file.specs.Sound.{IsSoundHashed, IsSoundPair, IsSoundClearItem, IsSoundClear}
 use Rattle.keyring_file.proofs.GatheredLemmas.{gathers}
 
 -- ---- fields
@@ -75,11 +76,11 @@ content-at minor content false e plain is lt = told (omega (arith, eqb-false min
 
 clear_item-spelled : (minor : ℕ) (item : ClearItem) → (minor ≡ 0 → IsPlain item) → IsSoundClearItem item → IsShortClearItem item → SpellsClearItem minor item (clear_item_text minor item)
 clear_item-spelled minor item plain sound short =
-    joined (number item.id.0) (number item.kind ++ (list_text pair_text item.hashed ++ content_text minor item.content)) (number-spelled item.id.0 sound.id)
-    (joined (number item.kind) (list_text pair_text item.hashed ++ content_text minor item.content) (number-spelled item.kind sound.kind)
+    joined (number item.id.0) (number item.kind ++ (list_text pair_text item.hashed ++ content_text minor item.content)) (number-spelled item.id.0 sound.known.id)
+    (joined (number item.kind) (list_text pair_text item.hashed ++ content_text minor item.content) (number-spelled item.kind sound.known.kind)
     (joined (list_text pair_text item.hashed) (content_text minor item.content)
     (record { distinct = sound.distinct; list = spelled-list SpellsPair pair_text IsSoundPair IsShortPair pair-spelled item.hashed sound.hashed short.hashed })
-    (content-at minor item.content (eqb minor 0) refl plain sound.content short.content)))
+    (content-at minor item.content (eqb minor 0) refl plain sound.known.content short.content)))
 
 -- an item that is sound, and plain in version 0.0
 abbrev Fine : ℕ → ClearItem → Type 0
@@ -93,7 +94,7 @@ clear_items-spelled : (clear : ClearPart) → IsSoundClear clear → IsShortClea
 clear_items-spelled clear sound short = record {
   distinct = sound.distinct;
   list = spelled-list (SpellsClearItem clear.minor) (clear_item_text clear.minor) (Fine clear.minor) IsShortClearItem (λ item fine s. clear_item-spelled clear.minor item fine.1 fine.0 s) clear.items
-      (all-fine clear.minor clear.items sound.items sound.version.plain) short.items;
+      (all-fine clear.minor clear.items sound.items sound.known.version.plain) short.items;
 }
 
 -- the front up to the iterations
@@ -102,11 +103,11 @@ front_part c = string c.name ++ (time c.created ++ (time c.modified ++ (number c
 
 front-spelled : (c : ClearPart) → IsSoundClear c → IsShort c.name → SpellsFront c (front_part c)
 front-spelled c sound short =
-    joined (string c.name) (time c.created ++ (time c.modified ++ (number c.flags ++ (number c.timeout ++ number c.iterations)))) (text-spelled c.name sound.name short)
-    (joined (time c.created) (time c.modified ++ (number c.flags ++ (number c.timeout ++ number c.iterations))) (time-spelled c.created sound.created)
-    (joined (time c.modified) (number c.flags ++ (number c.timeout ++ number c.iterations)) (time-spelled c.modified sound.modified)
-    (joined (number c.flags) (number c.timeout ++ number c.iterations) (number-spelled c.flags sound.flags)
-    (joined (number c.timeout) (number c.iterations) (number-spelled c.timeout sound.timeout) (record { few = sound.iterations; number = number-spelled c.iterations (omega (arith, sound.iterations)) })))))
+    joined (string c.name) (time c.created ++ (time c.modified ++ (number c.flags ++ (number c.timeout ++ number c.iterations)))) (text-spelled c.name sound.known.name short)
+    (joined (time c.created) (time c.modified ++ (number c.flags ++ (number c.timeout ++ number c.iterations))) (time-spelled c.created sound.known.created)
+    (joined (time c.modified) (number c.flags ++ (number c.timeout ++ number c.iterations)) (time-spelled c.modified sound.known.modified)
+    (joined (number c.flags) (number c.timeout ++ number c.iterations) (number-spelled c.flags sound.known.flags)
+    (joined (number c.timeout) (number c.iterations) (number-spelled c.timeout sound.known.timeout) (record { few = sound.iterations; number = number-spelled c.iterations (omega (arith, sound.iterations)) })))))
 
 zeros-length : (n : ℕ) → length (zeros n) ≡ n
 zeros-length n = length-replicate {A = ℕ} n 0
@@ -126,8 +127,8 @@ clear-written c area sound short blocks lt =
     let front = front_part c in
     let clears : SpellsClear c (magic ++ (version c.minor ++ (front ++ (salt ++ items)))) =
     joined magic (version c.minor ++ (front ++ (salt ++ items))) refl
-    (joined (version c.minor) (front ++ (salt ++ items)) (record { known = sound.version.known; is = refl })
-    (joined front (salt ++ items) (front-spelled c sound short.name) (joined salt items (salt-spelled c.salt sound.salt) (clear_items-spelled c sound short)))) in
+    (joined (version c.minor) (front ++ (salt ++ items)) (record { known = sound.known.version.known; is = refl })
+    (joined front (salt ++ items) (front-spelled c sound short.name) (joined salt items (salt-spelled c.salt sound.known.salt) (clear_items-spelled c sound short)))) in
     let tail = number (length area) ++ area in
     let is : clear_text c (length area) ++ area ≡ (magic ++ (version c.minor ++ (front ++ (salt ++ items)))) ++ tail =
     regroup magic (version c.minor) (string c.name) (time c.created) (time c.modified) (number c.flags) (number c.timeout) (number c.iterations) c.salt (zeros 16) items (number (length area)) area in
@@ -144,12 +145,12 @@ clear-written c area sound short blocks lt =
 
 -- ---- the area
 
-value-spelled : (v : AttrValue) → IsSoundValue v → IsShortValue v → SpellsValue v (value_text v)
-value-spelled (value.Text t) sound short = joined (number 0) (string t) refl (text-spelled t sound short)
-value-spelled (value.Number n) sound short = joined (number 1) (number n) refl (number-spelled n sound)
+value-spelled : (v : AttrValue) → IsKnownValue v → IsShortValue v → SpellsValue v (value_text v)
+value-spelled (value.Text t) known short = joined (number 0) (string t) refl (text-spelled t known short)
+value-spelled (value.Number n) known short = joined (number 1) (number n) refl (number-spelled n known)
 
-attribute-spelled : (p : List ℕ × AttrValue) → IsSoundAttribute p → IsShortAttribute p → SpellsAttribute p (attribute_text p)
-attribute-spelled p sound short = joined (string p.0) (value_text p.1) (text-spelled p.0 sound.name short.name) (value-spelled p.1 sound.value short.value)
+attribute-spelled : (p : List ℕ × AttrValue) → IsKnownPair p → IsShortAttribute p → SpellsAttribute p (attribute_text p)
+attribute-spelled p known short = joined (string p.0) (value_text p.1) (text-spelled p.0 known.name short.name) (value-spelled p.1 known.value short.value)
 
 -- what is in order already is left in order
 in_order-with : {V : Type 0} (pair : List ℕ × V) (xs : List (List ℕ × V)) → IsInOrder (pair ∷ xs) → with_pair pair xs ≡ pair ∷ xs
@@ -162,38 +163,38 @@ unfolding gathered IsStrictlySortedBy
 in_order-again [] h = refl
 in_order-again (x ∷ xs) h = ap (λ ys. with_pair x ys) (in_order-again xs h.1) ∙ in_order-with x xs h
 
-attributes-spelled : (xs : List (List ℕ × AttrValue)) → IsInOrder xs → AllByRecursion IsSoundAttribute xs → IsShortList IsShortAttribute xs → SpellsAttributes xs (list_text attribute_text xs)
-attributes-spelled xs ordered sound short = record {
+attributes-spelled : (xs : List (List ℕ × AttrValue)) → IsInOrder xs → AllByRecursion IsKnownPair xs → IsShortList IsShortAttribute xs → SpellsAttributes xs (list_text attribute_text xs)
+attributes-spelled xs ordered known short = record {
   pairs = xs;
   gathers = subst (λ ys. Gathers xs ys) (in_order-again xs ordered) (gathers xs);
-  keyed = record { distinct = IsDistinct-from_sorted (slice_cmp nat_cmp) (keys_of xs) ordered; list = spelled-list SpellsAttribute attribute_text IsSoundAttribute IsShortAttribute attribute-spelled xs sound short };
+  keyed = record { distinct = IsDistinct-from_sorted (slice_cmp nat_cmp) (keys_of xs) ordered; list = spelled-list SpellsAttribute attribute_text IsKnownPair IsShortAttribute attribute-spelled xs known short };
 }
 
 none-reserved : IsReservedString (number none_length)
 none-reserved = record { s = []; string = none refl refl }
 
-access-spelled : (a : Access) → IsSoundAccess a → IsShortAccess a → SpellsAccess a (access_text a)
-access-spelled a sound short =
-    joined (number a.allowed) (string a.display ++ (string a.path ++ (number none_length ++ number 0))) (number-spelled a.allowed sound.allowed)
-    (joined (string a.display) (string a.path ++ (number none_length ++ number 0)) (text-spelled a.display sound.display short.display)
-    (joined (string a.path) (number none_length ++ number 0) (text-spelled a.path sound.path short.path) (joined (number none_length) (number 0) none-reserved (record { len = length-number 0 }))))
+access-spelled : (a : Access) → IsKnownAccess a → IsShortAccess a → SpellsAccess a (access_text a)
+access-spelled a known short =
+    joined (number a.allowed) (string a.display ++ (string a.path ++ (number none_length ++ number 0))) (number-spelled a.allowed known.allowed)
+    (joined (string a.display) (string a.path ++ (number none_length ++ number 0)) (text-spelled a.display known.display short.display)
+    (joined (string a.path) (number none_length ++ number 0) (text-spelled a.path known.path short.path) (joined (number none_length) (number 0) none-reserved (record { len = length-number 0 }))))
 
-item-spelled : (x : FullItem) → IsSoundItem x → IsShortItem x → SpellsItem x (item_text x)
-item-spelled x sound short =
+item-spelled : (x : FullItem) → IsKnownItem x → IsShortItem x → SpellsItem x (item_text x)
+item-spelled x known short =
     let lists = list_text attribute_text x.attributes ++ list_text access_text x.access in
-    joined (string x.label) (string x.value ++ (time x.created ++ (time x.modified ++ (number none_length ++ (zeros 16 ++ lists))))) (text-spelled x.label sound.label short.label)
+    joined (string x.label) (string x.value ++ (time x.created ++ (time x.modified ++ (number none_length ++ (zeros 16 ++ lists))))) (text-spelled x.label known.label short.label)
     (joined (string x.value) (time x.created ++ (time x.modified ++ (number none_length ++ (zeros 16 ++ lists)))) (string-spelled x.value short.value)
-    (joined (time x.created) (time x.modified ++ (number none_length ++ (zeros 16 ++ lists))) (time-spelled x.created sound.created)
-    (joined (time x.modified) (number none_length ++ (zeros 16 ++ lists)) (time-spelled x.modified sound.modified)
+    (joined (time x.created) (time x.modified ++ (number none_length ++ (zeros 16 ++ lists))) (time-spelled x.created known.created)
+    (joined (time x.modified) (number none_length ++ (zeros 16 ++ lists)) (time-spelled x.modified known.modified)
     (joined (number none_length) (zeros 16 ++ lists) none-reserved
     (joined (zeros 16) lists (record { len = zeros-length 16 })
-    (joined (list_text attribute_text x.attributes) (list_text access_text x.access) (attributes-spelled x.attributes sound.ordered sound.attributes short.attributes)
-    (spelled-list SpellsAccess access_text IsSoundAccess IsShortAccess access-spelled x.access sound.access short.access)))))))
+    (joined (list_text attribute_text x.attributes) (list_text access_text x.access) (attributes-spelled x.attributes known.ordered known.attributes short.attributes)
+    (spelled-list SpellsAccess access_text IsKnownAccess IsShortAccess access-spelled x.access known.access short.access)))))))
 
 -- the canonical area
-pub area-written : (items : List FullItem) → AllByRecursion IsSoundItem items → AllByRecursion IsShortItem items → AreaText (area_text items) items
-area-written items sound short = record {
+pub area-written : (items : List FullItem) → AllByRecursion IsKnownItem items → AllByRecursion IsShortItem items → AreaText (area_text items) items
+area-written items known short = record {
   rest = body_text items;
   check = joined (md5 (body_text items)) (body_text items) refl refl;
-  text = joined (flat_map item_text items) (zeros (padding (length (flat_map item_text items)))) (spelled-all SpellsItem item_text IsSoundItem IsShortItem item-spelled items sound short) (record { any = tt });
+  text = joined (flat_map item_text items) (zeros (padding (length (flat_map item_text items)))) (spelled-all SpellsItem item_text IsKnownItem IsShortItem item-spelled items known short) (record { any = tt });
 }

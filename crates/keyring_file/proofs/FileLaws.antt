@@ -17,7 +17,7 @@ use Rattle.keyring_file.specs.declared.fault.ClearFault.{ClearFault}
 use Rattle.keyring_file.specs.declared.fault.ClearFault.TheVariants as clear_fault
 use Rattle.keyring_file.specs.Clear.{ClearPart}
 use Rattle.keyring_file.specs.ClearText.{magic, most_iterations, SpellsVersion, SpellsIterations, IsSalt, SpellsSalt, SpellsClear, SpellsClearItems, IsAreaLength, ClearText}
-use Rattle.keyring_file.specs.Reading.{in_clear, magic_at, version_byte_at, version_at, front_at, limited_at, salt_at, clear_at, is_no_area_length, area_of, encrypted_at, clear_read}
+use Rattle.keyring_file.specs.Reading.{in_clear, magic_at, version_byte_at, version_at, numbers_after, front_at, limited_at, salt_at, items_after, clear_at, is_no_area_length, area_of, encrypted_at, clear_read}
 use Rattle.keyring_file.proofs.ClearLaws.{in_clear_law, clear_items_law}
 
 -- ---- the first 16 bytes
@@ -159,7 +159,7 @@ FrontText f =
     Joined (SpellsText f.name) (Joined (SpellsTime f.created) (Joined (SpellsTime f.modified) (Joined (SpellsNumber f.flags) (Joined (SpellsNumber f.timeout) (SpellsNumber f.iterations)))))
 
 front_law : Reads field_fault.Short FrontText front_at
-unfolding front_at
+unfolding front_at numbers_after
 front_law =
     field (λ (f : Front). f.name) text_law
     (λ name.
@@ -272,7 +272,7 @@ salt_law = field (λ s. s) eight_law (λ salt. skip_last {holds = λ s. Always s
 -- ---- all of the clear part
 
 pub clear_law : Reads clear_fault.Short SpellsClear clear_at
-unfolding clear_at
+unfolding clear_at items_after
 clear_law =
     skip magic_law (λ u text is. is) (λ text is. (tt, is))
     (field (λ (c : ClearPart). c.minor) version_law

@@ -9,4 +9,6 @@ pub mod Plain
 pub mod Bounds
 pub mod Answering
 pub mod CanonicalLaws
+pub mod ByteLemmas
+pub mod KnownLemmas
 pub mod Writing

@@ -12,26 +12,6 @@ use Rattle.keyring_file.specs.declared.fault.ClearFault.TheVariants as clear_fau
 use Rattle.keyring_file.specs.Clear.{plain_content, IsPlain, IsOfVersion}
 use Rattle.keyring_file.specs.Reading.{pairs_at, content_at, clear_item_at, in_clear, id_at, item_behind, so_many_items_at, clear_items_at, version_byte_at, version_at}
 
--- ---- the version
-
-byte-le : (most : ℕ) (bytes : List ℕ) (x : ℕ) (rest : List ℕ) → version_byte_at most bytes ≡ Ok (x, rest) → x ≤ most
-byte-le most [] x rest e = absurd cc
-byte-le most (b ∷ bytes) x rest e = at (ltb most b) refl e
-  where
-    at : (t : Bool) → ltb most b ≡ t → cond t (Err clear_fault.Version) (found b bytes) ≡ Ok (x, rest) → x ≤ most
-    at true p e = absurd cc
-    at false p e = subst (λ n. n ≤ most) (ap (λ (w : ℕ × List ℕ). w.0) (ok_is {F = ClearFault} (b, bytes) (x, rest) e)) (ltb-false most b p)
-
-minor-le : (bytes : List ℕ) (minor : ℕ) (rest : List ℕ) → version_at bytes ≡ Ok (minor, rest) → minor ≤ 1
-unfolding version_at
-minor-le bytes minor rest e =
-    let a = bind_ok (version_byte_at 0 bytes) (λ x. version_byte_at 1 x.1 >>= λ m. version_byte_at 0 m.1 >>= λ y. version_byte_at 0 y.1 >>= λ z. found {F = ClearFault} m.0 z.1) (minor, rest) e in
-    let b = bind_ok (version_byte_at 1 a.x.1) (λ m. version_byte_at 0 m.1 >>= λ y. version_byte_at 0 y.1 >>= λ z. found {F = ClearFault} m.0 z.1) (minor, rest) a.then_is in
-    let c = bind_ok (version_byte_at 0 b.x.1) (λ y. version_byte_at 0 y.1 >>= λ z. found {F = ClearFault} b.x.0 z.1) (minor, rest) b.then_is in
-    let d = bind_ok (version_byte_at 0 c.x.1) (λ z. found {F = ClearFault} b.x.0 z.1) (minor, rest) c.then_is in
-    let is : b.x.0 ≡ minor = ap (λ (w : ℕ × List ℕ). w.0) (ok_is {F = ClearFault} (b.x.0, d.x.1) (minor, rest) d.then_is) in
-    subst (λ n. n ≤ 1) is (byte-le 1 a.x.1 b.x.0 b.x.1 b.was)
-
 -- ---- the items
 
 module _ {A K F : Type 0} (k_at : List ℕ → Result (K × List ℕ) F) (same : K → K → Bool) (twice : F) (rest_at : K → List ℕ → Result (A × List ℕ) F) (P : A → Type 0) (each : (k : K) (bytes : List ℕ) (x : A) (rest : List ℕ) → rest_at k bytes ≡ Ok (x, rest) → P x) where
@@ -76,5 +56,5 @@ items-plain bytes items rest e =
     keyed-all id_at nat_eq clear_fault.DuplicateId (item_behind 0) IsPlain (λ k bs x r h. item-plain k bs x r (field_ok (clear_item_at 0 k bs) (x, r) h)) a.x.0 [] a.x.1 items rest a.then_is
 
 -- what the type of a clear part keeps
-pub of_version : (minor : ℕ) (before behind bytes : List ℕ) (items : List ClearItem) (rest : List ℕ) → version_at before ≡ Ok (minor, behind) → clear_items_at minor bytes ≡ Ok (items, rest) → IsOfVersion minor items
-of_version minor before behind bytes items rest v e = record { known = minor-le before minor behind v; plain = λ z. items-plain bytes items rest (subst (λ m. clear_items_at m bytes ≡ Ok (items, rest)) z e) }
+pub of_version : (minor : ℕ) (bytes : List ℕ) (items : List ClearItem) (rest : List ℕ) → minor ≤ 1 → clear_items_at minor bytes ≡ Ok (items, rest) → IsOfVersion minor items
+of_version minor bytes items rest known e = record { known = known; plain = λ z. items-plain bytes items rest (subst (λ m. clear_items_at m bytes ≡ Ok (items, rest)) z e) }

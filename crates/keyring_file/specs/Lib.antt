@@ -3,6 +3,7 @@ pub mod ClearText
 pub mod AreaText
 pub mod Canonical
 pub mod Gathered
+pub mod Known
 pub mod Names
 pub mod Numbers
 pub mod Reading

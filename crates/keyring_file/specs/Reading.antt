@@ -123,16 +123,21 @@ version_at bytes = do
   hash ← version_byte_at 0 crypto.1
   Ok (minor.0, hash.1)
 
+-- the flags, the timeout and the iterations, which follow the name and the two times
+unfoldable pub numbers_after : List ℕ → ℕ → ℕ → List ℕ → Result (Front × List ℕ) FieldFault
+numbers_after name created modified bytes = do
+  flags ← number_at bytes
+  timeout ← number_at flags.1
+  iterations ← number_at timeout.1
+  Ok (record { name = name; created = created; modified = modified; flags = flags.0; timeout = timeout.0; iterations = iterations.0 }, iterations.1)
+
 -- the name, the two times, the flags, the timeout, and the iterations before they are tested
 unfoldable pub front_at : List ℕ → Result (Front × List ℕ) FieldFault
 front_at bytes = do
   name ← text_at bytes
   created ← time_at name.1
   modified ← time_at created.1
-  flags ← number_at modified.1
-  timeout ← number_at flags.1
-  iterations ← number_at timeout.1
-  Ok (record { name = name.0; created = created.0; modified = modified.0; flags = flags.0; timeout = timeout.0; iterations = iterations.0 }, iterations.1)
+  numbers_after name.0 created.0 modified.0 modified.1
 
 -- the same, where the iterations aren't too many
 unfoldable pub limited_at : List ℕ → Result (Front × List ℕ) ClearFault
@@ -145,28 +150,25 @@ salt_at bytes = do
   reserved ← span_at 16 salt.1
   Ok (salt.0, reserved.1)
 
+-- a clear part of these fields
+abbrev pub clear_of : ℕ → Front → List ℕ → List ClearItem → ClearPart
+clear_of minor front salt items =
+    record { name = front.name; created = front.created; modified = front.modified; flags = front.flags; timeout = front.timeout; iterations = front.iterations; salt = salt; items = items; minor = minor }
+
+-- the salt and the items, which follow the version and the front
+unfoldable pub items_after : ℕ → Front → List ℕ → Result (ClearPart × List ℕ) ClearFault
+items_after minor front bytes = do
+  salt ← in_clear (salt_at bytes)
+  items ← clear_items_at minor salt.1
+  Ok (clear_of minor front salt.0 items.0, items.1)
+
 -- all of the clear part but the length of the area
 unfoldable pub clear_at : List ℕ → Result (ClearPart × List ℕ) ClearFault
 clear_at bytes = do
   behind ← magic_at bytes
   minor ← version_at behind.1
   front ← limited_at minor.1
-  salt ← in_clear (salt_at front.1)
-  items ← clear_items_at minor.0 salt.1
-  Ok (
-    record {
-      name = front.0.name;
-      created = front.0.created;
-      modified = front.0.modified;
-      flags = front.0.flags;
-      timeout = front.0.timeout;
-      iterations = front.0.iterations;
-      salt = salt.0;
-      items = items.0;
-      minor = minor.0;
-    },
-    items.1,
-  )
+  items_after minor.0 front.0 front.1
 
 -- whether bytes of this number can't be an area
 abbrev pub is_no_area_length : ℕ → Bool
@@ -244,15 +246,20 @@ attributes_at bytes = do
   pairs ← listed_attributes_at bytes
   Ok (gathered pairs.0, pairs.1)
 
+-- the reserved string and the reserved number, which end an access entry
+unfoldable pub reserved_after : Access → List ℕ → Result (Access × List ℕ) FieldFault
+reserved_after access bytes = do
+  string ← string_at bytes
+  reserved ← span_at 4 string.1
+  Ok (access, reserved.1)
+
 -- an access entry
 unfoldable pub access_at : List ℕ → Result (Access × List ℕ) FieldFault
 access_at bytes = do
   allowed ← number_at bytes
   display ← text_at allowed.1
   path ← text_at display.1
-  string ← string_at path.1
-  reserved ← span_at 4 string.1
-  Ok (record { allowed = allowed.0; display = display.0; path = path.0 }, reserved.1)
+  reserved_after (record { allowed = allowed.0; display = display.0; path = path.0 }) path.1
 
 -- so many access entries
 unfoldable pub so_many_accesses_at : ℕ → List ℕ → Result (List Access × List ℕ) FieldFault
@@ -271,6 +278,14 @@ lists_at bytes = do
   access ← accesses_at attributes.1
   Ok ((attributes.0, access.0), access.1)
 
+-- the reserved fields and the lists, which follow an item's label, secret and times
+unfoldable pub lists_after : List ℕ → List ℕ → ℕ → ℕ → List ℕ → Result (FullItem × List ℕ) FieldFault
+lists_after label secret created modified bytes = do
+  string ← string_at bytes
+  reserved ← span_at 16 string.1
+  lists ← lists_at reserved.1
+  Ok (record { label = label; value = secret; created = created; modified = modified; attributes = lists.0.0; access = lists.0.1 }, lists.1)
+
 -- an item
 unfoldable pub item_at : List ℕ → Result (FullItem × List ℕ) FieldFault
 item_at bytes = do
@@ -278,10 +293,7 @@ item_at bytes = do
   secret ← string_at label.1
   created ← time_at secret.1
   modified ← time_at created.1
-  string ← string_at modified.1
-  reserved ← span_at 16 string.1
-  lists ← lists_at reserved.1
-  Ok (record { label = label.0; value = secret.0; created = created.0; modified = modified.0; attributes = lists.0.0; access = lists.0.1 }, lists.1)
+  lists_after label.0 secret.0 created.0 modified.0 modified.1
 
 -- so many items, and then padding
 unfoldable pub items_read : ℕ → List ℕ → Result (List FullItem) FieldFault

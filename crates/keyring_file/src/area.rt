@@ -2,7 +2,7 @@ use kr_base::{Attributes, Bytes, Text};
 use kr_items::Items;
 
 /// A program that may use an item, as GNOME keyring has kept it. It is kept as it was read.
-#[derive(Debug, Drop, PartialEq, Eq)]
+#[derive(Drop, PartialEq, Eq)]
 pub struct Access {
     /// The types of access that are allowed.
     pub allowed: u32,
@@ -13,7 +13,7 @@ pub struct Access {
 }
 
 /// An item as the encrypted area tells it.
-#[derive(Debug, Drop, PartialEq, Eq)]
+#[derive(Drop, PartialEq, Eq)]
 pub struct FullItem {
     /// The item's label.
     pub label: Text,

@@ -11,7 +11,7 @@ use crate::{Access, AreaFault, FullItem};
 use keyring_text::{
     FieldFault, ReadRefused, name_at, number_at, slice_at, span_at, string_at, text_at, time_at,
 };
-use kr_base::{AttrValue, Attributes, OutOfMemory, Text};
+use kr_base::{AttrValue, Attributes, Bytes, OutOfMemory, Text};
 use kr_items::Items;
 use md5::{Digest, Md5};
 use std::alloc::Global;
@@ -108,6 +108,16 @@ fn attributes_at(
     Ok((attributes, rest))
 }
 
+/// The reserved fields that end an access entry.
+#[tactic(auto, unfolding(crate::specs::Reading::reserved_after))]
+fn reserved_after(access: Access, bytes: &[u8]) -> Result<(Access, &[u8]), ReadRefused<FieldFault>>
+    ensures { Gives (λ x. (x.0, x.1.now)) result (reading.reserved_after access bytes.now) }
+{
+    let (_, rest) = slice_at(bytes)?;
+    let (_, rest) = span_at(rest, 4)?;
+    Ok((access, rest))
+}
+
 /// An access entry.
 #[tactic(auto, unfolding(crate::specs::Reading::access_at))]
 fn access_at(alloc: Global, bytes: &[u8]) -> Result<(Access, &[u8]), ReadRefused<FieldFault>>
@@ -116,16 +126,14 @@ fn access_at(alloc: Global, bytes: &[u8]) -> Result<(Access, &[u8]), ReadRefused
     let (allowed, rest) = number_at(bytes)?;
     let (display, rest) = text_at(alloc, rest)?;
     let (path, rest) = text_at(alloc, rest)?;
-    let (_, rest) = slice_at(rest)?;
-    let (_, rest) = span_at(rest, 4)?;
-    Ok((
+    reserved_after(
         Access {
             allowed,
             display,
             path,
         },
         rest,
-    ))
+    )
 }
 
 /// So many access entries.
@@ -170,16 +178,20 @@ fn lists_at(
     Ok((attributes, entries, rest))
 }
 
-/// An item.
-#[tactic(auto, unfolding(crate::specs::Reading::item_at))]
-fn item_at(alloc: Global, bytes: &[u8]) -> Result<(FullItem, &[u8]), ReadRefused<FieldFault>>
-    ensures { Gives (λ x. (x.0, x.1.now)) result (reading.item_at bytes.now) }
+/// The reserved fields and the lists, which follow an item's label, secret and times.
+#[tactic(auto, unfolding(crate::specs::Reading::lists_after))]
+fn lists_after(
+    alloc: Global,
+    label: Text,
+    value: Bytes,
+    created: u64,
+    modified: u64,
+    bytes: &[u8],
+) -> Result<(FullItem, &[u8]), ReadRefused<FieldFault>>
+    ensures { Gives (λ x. (x.0, x.1.now)) result
+        (reading.lists_after label value created modified bytes.now) }
 {
-    let (label, rest) = text_at(alloc, bytes)?;
-    let (value, rest) = string_at(alloc, rest)?;
-    let (created, rest) = time_at(rest)?;
-    let (modified, rest) = time_at(rest)?;
-    let (_, rest) = slice_at(rest)?;
+    let (_, rest) = slice_at(bytes)?;
     let (_, rest) = span_at(rest, 16)?;
     let (attributes, entries, rest) = lists_at(alloc, rest)?;
     let access = Items::new(entries);
@@ -194,6 +206,18 @@ fn item_at(alloc: Global, bytes: &[u8]) -> Result<(FullItem, &[u8]), ReadRefused
         },
         rest,
     ))
+}
+
+/// An item.
+#[tactic(auto, unfolding(crate::specs::Reading::item_at))]
+fn item_at(alloc: Global, bytes: &[u8]) -> Result<(FullItem, &[u8]), ReadRefused<FieldFault>>
+    ensures { Gives (λ x. (x.0, x.1.now)) result (reading.item_at bytes.now) }
+{
+    let (label, rest) = text_at(alloc, bytes)?;
+    let (value, rest) = string_at(alloc, rest)?;
+    let (created, rest) = time_at(rest)?;
+    let (modified, rest) = time_at(rest)?;
+    lists_after(alloc, label, value, created, modified, rest)
 }
 
 /// So many items, and then padding.

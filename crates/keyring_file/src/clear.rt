@@ -3,7 +3,7 @@ use kr_items::Items;
 use std::marker::Model;
 
 /// An item as the clear part of a file tells it.
-#[derive(Debug, Drop, PartialEq, Eq)]
+#[derive(Drop, PartialEq, Eq)]
 pub struct ClearItem {
     /// The item's number within its collection.
     pub id: ItemId,
@@ -17,7 +17,7 @@ pub struct ClearItem {
 
 /// The clear part of a keyring file. Its type keeps that the version is 0.0 or 0.1, and that in
 /// version 0.0 every item has the content type `text/plain`.
-#[derive(Debug, Drop)]
+#[derive(Drop)]
 pub struct Clear {
     /// The collection's label.
     pub name: Text,

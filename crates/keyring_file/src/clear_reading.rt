@@ -2,7 +2,7 @@ ghost use Rattle.std.specs.Prelude.{◌≡◌, ◌+◌, ◌*◌, ◌<◌, ◌≤
 ghost use Rattle.keyring_text.specs.Reading.{Gives};
 ghost use Rattle.keyring_file.specs.Reading as reading;
 ghost use Rattle.keyring_file.specs.declared.fault.ClearFault.TheVariants as clear_fault;
-ghost use Rattle.keyring_file.specs.Clear.{ClearPart, plain_content, pairs_in};
+ghost use Rattle.keyring_file.specs.Clear.{ClearPart, IsOfVersion, plain_content, pairs_in};
 ghost use Rattle.keyring_file.specs.ClearText.{ClearText};
 ghost use Rattle.keyring_file.specs.Names.{has_name, AddsName};
 ghost use Rattle.keyring_file.specs.Numbers.{Keeps, has_number};
@@ -267,7 +267,8 @@ fn magic_at(bytes: &[u8]) -> Result<&[u8], ReadRefused<ClearFault>>
 
 /// One byte of the version, which is at most so much.
 fn version_byte_at(bytes: &[u8], most: u8) -> Result<(u8, &[u8]), ReadRefused<ClearFault>>
-    ensures { Gives (λ x. (x.0, x.1.now)) result (reading.version_byte_at most bytes.now) }
+    ensures read { Gives (λ x. (x.0, x.1.now)) result (reading.version_byte_at most bytes.now) }
+    ensures few { IfOk result (λ x. x.0 ≤ most) }
 {
     match bytes {
         [] => Err(ReadRefused::Fault(ClearFault::Short)),
@@ -283,7 +284,8 @@ fn version_byte_at(bytes: &[u8], most: u8) -> Result<(u8, &[u8]), ReadRefused<Cl
 /// The minor number of the version.
 #[tactic(auto, unfolding(crate::specs::Reading::version_at))]
 fn version_at(bytes: &[u8]) -> Result<(u8, &[u8]), ReadRefused<ClearFault>>
-    ensures { Gives (λ x. (x.0, x.1.now)) result (reading.version_at bytes.now) }
+    ensures read { Gives (λ x. (x.0, x.1.now)) result (reading.version_at bytes.now) }
+    ensures known { IfOk result (λ x. x.0 ≤ 1) }
 {
     let (_, rest) = version_byte_at(bytes, 0)?;
     let (minor, rest) = version_byte_at(rest, 1)?;
@@ -303,14 +305,18 @@ struct Front {
     iterations: u32,
 }
 
-#[tactic(auto, unfolding(crate::specs::Reading::front_at))]
-fn front_at(alloc: Global, bytes: &[u8]) -> Result<(Front, &[u8]), ReadRefused<FieldFault>>
-    ensures { Gives (λ x. (x.0, x.1.now)) result (reading.front_at bytes.now) }
+/// The three numbers that follow the name and the two times.
+#[tactic(auto, unfolding(crate::specs::Reading::numbers_after))]
+fn numbers_after(
+    name: Text,
+    created: u64,
+    modified: u64,
+    bytes: &[u8],
+) -> Result<(Front, &[u8]), ReadRefused<FieldFault>>
+    ensures { Gives (λ x. (x.0, x.1.now)) result
+        (reading.numbers_after name created modified bytes.now) }
 {
-    let (name, rest) = text_at(alloc, bytes)?;
-    let (created, rest) = time_at(rest)?;
-    let (modified, rest) = time_at(rest)?;
-    let (flags, rest) = number_at(rest)?;
+    let (flags, rest) = number_at(bytes)?;
     let (timeout, rest) = number_at(rest)?;
     let (iterations, rest) = number_at(rest)?;
     Ok((
@@ -324,6 +330,16 @@ fn front_at(alloc: Global, bytes: &[u8]) -> Result<(Front, &[u8]), ReadRefused<F
         },
         rest,
     ))
+}
+
+#[tactic(auto, unfolding(crate::specs::Reading::front_at))]
+fn front_at(alloc: Global, bytes: &[u8]) -> Result<(Front, &[u8]), ReadRefused<FieldFault>>
+    ensures { Gives (λ x. (x.0, x.1.now)) result (reading.front_at bytes.now) }
+{
+    let (name, rest) = text_at(alloc, bytes)?;
+    let (created, rest) = time_at(rest)?;
+    let (modified, rest) = time_at(rest)?;
+    numbers_after(name, created, modified, rest)
 }
 
 /// The same, where the iterations aren't too many.
@@ -374,6 +390,42 @@ fn eight_of(bytes: &[u8]) -> [u8; 8]
     eight
 }
 
+/// A clear part of these fields.
+fn clear_of(minor: u8, front: Front, salt: [u8; 8], items: Items<ClearItem>) -> Clear
+    requires { IsOfVersion minor items }
+    ensures { result ≡ reading.clear_of minor front salt items }
+{
+    Clear {
+        name: front.name,
+        created: front.created,
+        modified: front.modified,
+        flags: front.flags,
+        timeout: front.timeout,
+        iterations: front.iterations,
+        salt,
+        items,
+        minor,
+    }
+}
+
+/// The salt and the items, which follow the version and the front.
+#[tactic(auto, unfolding(crate::specs::Reading::items_after))]
+fn items_after(
+    alloc: Global,
+    minor: u8,
+    front: Front,
+    bytes: &[u8],
+) -> Result<(Clear, &[u8]), ReadRefused<ClearFault>>
+    requires { minor ≤ 1 }
+    ensures { Gives (λ x. (x.0, x.1.now)) result (reading.items_after minor front bytes.now) }
+{
+    let (salt, rest) = clear_salt_at(bytes)?;
+    let salt = eight_of(salt);
+    let (items, rest) = clear_items_at(alloc, minor, rest)?;
+    let clear = clear_of(minor, front, salt, Items::new(items));
+    Ok((clear, rest))
+}
+
 /// All of the clear part but the length of the area.
 #[tactic(auto, unfolding(crate::specs::Reading::clear_at))]
 fn clear_at(alloc: Global, file: &[u8]) -> Result<(Clear, &[u8]), ReadRefused<ClearFault>>
@@ -382,23 +434,7 @@ fn clear_at(alloc: Global, file: &[u8]) -> Result<(Clear, &[u8]), ReadRefused<Cl
     let rest = magic_at(file)?;
     let (minor, rest) = version_at(rest)?;
     let (front, rest) = limited_at(alloc, rest)?;
-    let (front_salt, rest) = clear_salt_at(rest)?;
-    let salt = eight_of(front_salt);
-    let (items, rest) = clear_items_at(alloc, minor, rest)?;
-    Ok((
-        Clear {
-            name: front.name,
-            created: front.created,
-            modified: front.modified,
-            flags: front.flags,
-            timeout: front.timeout,
-            iterations: front.iterations,
-            salt,
-            items: Items::new(items),
-            minor,
-        },
-        rest,
-    ))
+    items_after(alloc, minor, front, rest)
 }
 
 /// The area, which is all that is left, and has its length in front.

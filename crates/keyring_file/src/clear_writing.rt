@@ -49,8 +49,9 @@ fn put_pairs(out: &mut Vec<u8>, pairs: &[HashedPair]) -> Result<(), OutOfMemory>
     Ok(())
 }
 
-/// Writes an item of the clear part.
-fn put_clear_item(out: &mut Vec<u8>, minor: u8, item: &ClearItem) -> Result<(), OutOfMemory>
+/// Writes an item of the clear part at the end (GNOME keyring file format). Version 0.0 leaves the content
+/// type out.
+pub fn put_clear_item(out: &mut Vec<u8>, minor: u8, item: &ClearItem) -> Result<(), OutOfMemory>
     requires { IsShortClearItem item.now }
     ensures { OnOk result (out.new.items ≡ out.old.items ++ clear_item_text minor item.now) }
 {

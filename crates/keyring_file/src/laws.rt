@@ -9,7 +9,8 @@ ghost use Rattle.keyring_file.specs.Clear.{ClearPart};
 ghost use Rattle.keyring_file.specs.ClearText.{ClearText, IsAreaLength};
 ghost use Rattle.keyring_file.specs.Canonical.{clear_text, area_text};
 ghost use Rattle.keyring_file.specs.Short.{IsShortClear, IsShortItem};
-ghost use Rattle.keyring_file.specs.Sound.{IsSoundClear, IsSoundItem};
+ghost use Rattle.keyring_file.specs.Known.{IsKnownItem};
+ghost use Rattle.keyring_file.specs.Sound.{IsSoundClear};
 ghost use Rattle.keyring_file.specs.Reading.{clear_read, area_read};
 
 /// A file that is read is a text of what was read.
@@ -43,8 +44,10 @@ pub fn a_canonical_clear_part_is_spelled_so()
         → ClearText (clear_text clear (length area) ++ area) clear area }
 {}
 
-/// What is written of items is a text of them.
+/// What is written of items is bytes, and a text of them.
 pub fn a_canonical_area_is_spelled_so()
-    ensures { (items : List FullItem) → AllByRecursion IsSoundItem items
+    ensures text { (items : List FullItem) → AllByRecursion IsKnownItem items
         → AllByRecursion IsShortItem items → AreaText (area_text items) items }
+    ensures bytes { (items : List FullItem) → AllByRecursion IsKnownItem items
+        → IsBytes (area_text items) }
 {}

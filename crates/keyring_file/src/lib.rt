@@ -10,19 +10,19 @@ mod clear;
 mod clear_reading;
 mod clear_writing;
 mod fault;
+mod known;
 mod laws;
 mod names;
 mod numbers;
-#[cfg(test)]
-mod tests;
 
 pub use area::{Access, FullItem};
 pub use area_reading::read_area;
 pub use area_writing::{close_area, put_item, write_area};
 pub use clear::{Clear, ClearItem};
 pub use clear_reading::read_clear;
-pub use clear_writing::{put_front, write_clear};
+pub use clear_writing::{put_clear_item, put_front, write_clear};
 pub use fault::{AreaFault, ClearFault};
+pub use known::{known_clear, known_clear_item, known_clear_items, known_item, known_items};
 pub use laws::{
     a_canonical_area_is_spelled_so, a_canonical_clear_part_is_spelled_so,
     a_file_that_is_read_is_spelled_so, a_file_that_is_spelled_so_is_read,

@@ -31,7 +31,7 @@ module _ {A B : Type 0} (number : A × B → ℕ) where
       let other : drop i ys ≡ y ∷ drop (i + 1) ys = drop_more ys i y (omega arith) ∙ ap (λ h. h ∷ drop (i + 1) ys) (sym ey) in
       λ j. entered number es (zip (one j) (other j))
 
-map-map : {X Y Z : Type 0} (f : Y → Z) (g : X → Y) (xs : List X) → map f (map g xs) ≡ map (λ x. f (g x)) xs
+pub map-map : {X Y Z : Type 0} (f : Y → Z) (g : X → Y) (xs : List X) → map f (map g xs) ≡ map (λ x. f (g x)) xs
 map-map f g [] = refl
 map-map f g (x ∷ xs) = ap (λ t. f (g x) ∷ t) (map-map f g xs)
 

@@ -3,11 +3,13 @@ pub mod OrderLemmas
 pub mod RoomLemmas
 pub mod SealLemmas
 pub mod ShapeLemmas
-pub mod KnownLemmas
-pub mod CanonicalLemmas
+pub mod HashLemmas
 pub mod FileLemmas
 pub mod WholeLemmas
 pub mod ShortLemmas
 pub mod RowLemmas
 pub mod SealedLemmas
 pub mod RisingLemmas
+pub mod ArrangedLemmas
+pub mod LentLemmas
+pub mod OnlyLemmas

@@ -4,15 +4,41 @@ use Rattle.std.specs.declared.cmp.Ordering.{Ordering}
 use Rattle.std.specs.declared.cmp.Ordering.TheVariants.{Less, Equal, Greater}
 use Rattle.std.specs.BTreeMap.{insert_entry}
 use Rattle.std.specs.List.{AllByRecursion, zip}
+use Rattle.std.specs.List.Sorted.{IsStrictlyIncreasing, IsStrictlySortedBy}
 use Rattle.std.specs.Map.{values_of}
 use Rattle.std.specs.Ordering.{nat_cmp, match_ordering, MatchOrdering}
 use Rattle.std.proofs.lemmas.Cmp.{ranked}
 use Rattle.std.proofs.lemmas.List.{append-nil, map-append, drop_more}
+use Rattle.std.proofs.lemmas.Map.Keys.{sorted_from_strictly_increasing}
 use Rattle.keyring_file.specs.declared.clear.ClearItem.{ClearItem}
 use Rattle.keyring_file.specs.declared.area.FullItem.{FullItem}
 use Rattle.keyring_seal.specs.Arranged.{row_number}
-use Rattle.keyring_seal.specs.Order.{IsRising, entered, by_number}
+use Rattle.keyring_seal.specs.Order.{entered, by_number}
 use Rattle.keyring_seal.proofs.ArrangeLemmas.{Lent, see}
+
+-- each number is below the next one, one after another
+abbrev pub IsRising : {X : Type 0} → (X → ℕ) → List X → Type 0
+IsRising number [] = Unit {0}
+IsRising number (x ∷ []) = Unit {0}
+IsRising number (x ∷ y ∷ more) = (number x < number y) × IsRising number (y ∷ more)
+
+less : (a b : ℕ) → nat_cmp a b ≡ Less → a < b
+less a b e = ranked a b Less (sym e)
+
+rising_by_order : {X : Type 0} (number : X → ℕ) (xs : List X) → IsStrictlySortedBy nat_cmp (map number xs) → IsRising number xs
+unfolding IsStrictlySortedBy
+rising_by_order number [] order = tt
+rising_by_order number (x ∷ []) order = tt
+rising_by_order number (x ∷ y ∷ more) order = (less (number x) (number y) order.0.0, rising_by_order number (y ∷ more) order.1)
+
+pub rising_by_place : {X : Type 0} (number : X → ℕ) (xs : List X) → IsStrictlyIncreasing (map number xs) → IsRising number xs
+rising_by_place number xs up = rising_by_order number xs (sorted_from_strictly_increasing (map number xs) up)
+
+pub place_by_rising : {X : Type 0} (number : X → ℕ) (xs : List X) → IsRising number xs → IsStrictlyIncreasing (map number xs)
+place_by_rising number [] rising k lt = absurd (omega (arith, lt))
+place_by_rising number (x ∷ []) rising k lt = absurd (omega (arith, lt))
+place_by_rising number (x ∷ y ∷ more) rising zero lt = rising.0
+place_by_rising number (x ∷ y ∷ more) rising (suc k) lt = let e : suc k + 1 ≡ suc (k + 1) = omega arith in rw e (place_by_rising number (y ∷ more) rising.1 k (omega (arith, lt)))
 
 -- ---- the test
 
@@ -71,11 +97,11 @@ module _ {X : Type 0} (number : X → ℕ) where
   none_before [] = tt
   none_before (x ∷ more) = tt
 
-  rising_by_number : (rows : List X) → IsRising number rows → by_number number rows ≡ rows
+  pub rising_by_number : (rows : List X) → IsRising number rows → by_number number rows ≡ rows
   unfolding by_number
   rising_by_number rows rising = entered_rising [] rows rising (none_before rows)
 
-zip_rising : (clear : List ClearItem) (full : List FullItem) → IsRising (λ (item : ClearItem). item.id.0) clear → IsRising row_number (zip clear full)
+pub zip_rising : (clear : List ClearItem) (full : List FullItem) → IsRising (λ (item : ClearItem). item.id.0) clear → IsRising row_number (zip clear full)
 zip_rising [] full rising = tt
 zip_rising (x ∷ clear) [] rising = tt
 zip_rising (x ∷ []) (y ∷ full) rising = tt
@@ -83,8 +109,8 @@ zip_rising (x ∷ w ∷ clear) (y ∷ []) rising = tt
 zip_rising (x ∷ w ∷ clear) (y ∷ z ∷ full) rising = (rising.0, zip_rising (w ∷ clear) (z ∷ full) rising.1)
 
 -- the items as they stand
-pub as_they_stand : (clear : List ClearItem) (full : List FullItem) → IsRising (λ (item : ClearItem). item.id.0) clear → zip clear full ≡ by_number row_number (zip clear full)
-as_they_stand clear full rising = sym (rising_by_number row_number (zip clear full) (zip_rising clear full rising))
+pub as_they_stand : (clear : List ClearItem) (full : List FullItem) → IsStrictlyIncreasing (map (λ (item : ClearItem). item.id.0) clear) → zip clear full ≡ by_number row_number (zip clear full)
+as_they_stand clear full up = sym (rising_by_number row_number (zip clear full) (zip_rising clear full (rising_by_place (λ (item : ClearItem). item.id.0) clear up)))
 
 -- ---- the loop that takes them
 

@@ -5,8 +5,8 @@ use Rattle.std.specs.List.Sorted.{IsPermutation}
 use Rattle.std.proofs.lemmas.List.{length-append, length-replicate}
 use Rattle.std.proofs.lemmas.List.Concat.{length-flat_map}
 use Rattle.std.proofs.lemmas.List.Sorted.{sum_by-IsPermutation}
+use Rattle.aes_cbc.specs.Cbc.{encrypted}
 use Rattle.aes_cbc.proofs.CbcLemmas.{length-encrypted}
-use Rattle.key_derivation.specs.Kdf.{Inputs, key_of, vector_of}
 use Rattle.md5.specs.Md5.{md5}
 use Rattle.md5.proofs.StandardFacts.{length-md5}
 use Rattle.keyring_text.specs.Fields.{number}
@@ -17,7 +17,7 @@ use Rattle.keyring_seal.specs.declared.content.Content.{Content}
 use Rattle.keyring_seal.specs.Arranged.{Row, row_number, rows, hashed_row, arranged, IsSealable}
 use Rattle.keyring_seal.specs.Order.{by_number}
 use Rattle.keyring_seal.specs.Room.{row_text, items_measure, measure}
-use Rattle.keyring_seal.specs.Whole.{most_bytes, sealed, sealed_area}
+use Rattle.keyring_seal.specs.Whole.{most_bytes, sealed}
 use Rattle.keyring_seal.proofs.OrderLemmas.{by_number-permutation}
 use Rattle.keyring_seal.proofs.RoomLemmas.{length_number, length_list_text, flat_map-map}
 
@@ -75,15 +75,15 @@ length_area_text items = length_checked (flat_map item_text items)
 pub whole_blocks : (items : List FullItem) → length (area_text items) % 16 ≡ 0
 whole_blocks items = blocks (flat_map item_text items)
 
-module _ (content : Content) (key : Inputs) (can : IsSealable content) where
+module _ (content : Content) (key vector : List ℕ) (can : IsSealable content) where
   -- the measure of a content is the length of its file
-  pub length-sealed : length (sealed content key) ≡ measure content
+  pub length-sealed : length (sealed content key vector) ≡ measure content
   unfolding sealed
   length-sealed =
       let made = arranged content in
       let area = area_text made.items in
-      let whole = length-append (clear_text made.clear (length area)) (sealed_area key area) in
-      let same = length-encrypted (key_of key) (vector_of key) area (whole_blocks made.items) in
+      let whole = length-append (clear_text made.clear (length area)) (encrypted key vector area) in
+      let same = length-encrypted key vector area (whole_blocks made.items) in
       let area_long = length_area_text made.items in
       let items = items_long content can in
       let behind = length-append (front_text made.clear) (list_text (clear_item_text made.clear.minor) made.clear.items ++ number (length area)) in
@@ -95,5 +95,5 @@ module _ (content : Content) (key : Inputs) (can : IsSealable content) where
       omega (arith, whole, same, area_long, items, behind, listed, list, told, last, padded)
 
 -- what was measured within the bytes that a file may have isn't over them
-pub never_over : (content : Content) (key : Inputs) → IsSealable content → measure content ≤ most_bytes → most_bytes < length (sealed content key) → ⊥
-never_over content key can within over = let long = length-sealed content key can in omega (arith, within, over, long)
+pub never_over : (content : Content) (key vector : List ℕ) → IsSealable content → measure content ≤ most_bytes → most_bytes < length (sealed content key vector) → ⊥
+never_over content key vector can within over = let long = length-sealed content key vector can in omega (arith, within, over, long)

@@ -3,7 +3,6 @@ use Rattle.std.proofs.Common.{◌≡◌, ℕ, ◌+◌, List, [], ◌∷◌, ◌+
 use Rattle.std.specs.List.{flat_map, zip}
 use Rattle.std.proofs.lemmas.List.{length-append}
 use Rattle.std.proofs.lemmas.List.Concat.{flat_map-append}
-use Rattle.key_derivation.specs.Kdf.{Inputs}
 use Rattle.keyring_text.specs.Fields.{number, time, string, none_length}
 use Rattle.keyring_file.specs.Canonical.{access_text, attribute_text, clear_item_text, front_text, item_text, list_text, padding, zeros}
 use Rattle.keyring_file.specs.Clear.{ClearPart}
@@ -91,5 +90,5 @@ module _ (one two : Content) (alike : DiffersInOneValue one two) where
       let padded = ap padding items_alike in
       omega (arith, front, rows_two, rows_one, rows_alike, items_alike, padded)
 
-pub same_length : (one two : Content) (key : Inputs) → IsSealable one → IsSealable two → DiffersInOneValue one two → length (sealed two key) ≡ length (sealed one key)
-same_length one two key can_one can_two alike = length-sealed two key can_two ∙ same_measure one two alike ∙ sym (length-sealed one key can_one)
+pub same_length : (one two : Content) (key vector : List ℕ) → IsSealable one → IsSealable two → DiffersInOneValue one two → length (sealed two key vector) ≡ length (sealed one key vector)
+same_length one two key vector can_one can_two alike = length-sealed two key vector can_two ∙ same_measure one two alike ∙ sym (length-sealed one key vector can_one)

@@ -13,12 +13,25 @@ use Rattle.keyring_file.specs.declared.area.Access.{Access}
 use Rattle.keyring_file.specs.declared.area.FullItem.{FullItem}
 use Rattle.keyring_file.specs.declared.clear.ClearItem.{ClearItem}
 use Rattle.keyring_file.specs.Canonical.{access_text, area_text, attribute_text, body_text, clear_item_text, clear_text, content_text, front_text, hashed_text, item_text, list_text, padding, pair_text, value_text, zeros}
-use Rattle.keyring_file.specs.Clear.{ClearPart, plain_content}
+use Rattle.keyring_file.specs.Clear.{ClearPart, IsPlain, plain_content}
 use Rattle.keyring_file.specs.ClearText.{magic, version}
 use Rattle.keyring_file.specs.Short.{IsShort, IsShortAccess, IsShortAttribute, IsShortClear, IsShortClearItem, IsShortHashed, IsShortItem, IsShortList, IsShortPair, IsShortValue}
 use Rattle.md5.specs.Md5.{md5}
 use Rattle.keyring_seal.specs.Whole.{most_bytes}
-use Rattle.keyring_seal.proofs.CanonicalLemmas.{IsWritten, back_small, front_small, some_behind, some_string}
+use Rattle.keyring_seal.proofs.RoomLemmas.{length_number}
+
+front_small : (a b : List ℕ) → length (a ++ b) ≤ most_bytes → length a ≤ most_bytes
+front_small a b h = omega (arith, length-append a b, h)
+
+back_small : (a b : List ℕ) → length (a ++ b) ≤ most_bytes → length b ≤ most_bytes
+back_small a b h = omega (arith, length-append a b, h)
+
+-- a string has at least its length, and so has what begins with a number
+some_behind : (n : ℕ) (rest : List ℕ) → 1 ≤ length (number n ++ rest)
+some_behind n rest = omega (arith, length-append (number n) rest, length_number n)
+
+some_string : (s rest : List ℕ) → 1 ≤ length (string s ++ rest)
+some_string s rest = let whole = length-append (string s) rest in let front = some_behind (length s) s in omega (arith, whole, front)
 
 short_string : (s : List ℕ) → length (string s) ≤ most_bytes → IsShort s
 short_string s h = let sum = length-append (number (length s)) s in omega (arith, sum, h)
@@ -65,19 +78,29 @@ short_content true minor content e plain h =
     omega (arith, long)
 short_content false minor content e plain h = short_string content h
 
-short_clear_item : (minor : ℕ) (item : ClearItem) → IsWritten minor item → length (clear_item_text minor item) ≤ most_bytes → IsShortClearItem item
-short_clear_item minor item w h =
+-- an item that is plain in version 0.0
+PlainIn : ℕ → ClearItem → Type 0
+PlainIn minor item = minor ≡ 0 → IsPlain item
+
+plain_in : (minor : ℕ) (items : List ClearItem) → (minor ≡ 0 → AllByRecursion IsPlain items) → AllByRecursion (PlainIn minor) items
+unfolding PlainIn
+plain_in minor [] plain = tt
+plain_in minor (x ∷ items) plain = (λ e. (plain e).0, plain_in minor items (λ e. (plain e).1))
+
+short_clear_item : (minor : ℕ) (item : ClearItem) → PlainIn minor item → length (clear_item_text minor item) ≤ most_bytes → IsShortClearItem item
+unfolding PlainIn
+short_clear_item minor item plain h =
     let last = content_text minor item.content in
     let pairs = list_text pair_text item.hashed in
     let behind = back_small (number item.kind) (pairs ++ last) (back_small (number item.id.0) (number item.kind ++ (pairs ++ last)) h) in
     record {
       hashed = short_list pair_text IsShortPair Nothing short_pair (λ pair. some_string pair.name (hashed_text pair.value)) item.hashed (nothing item.hashed) (front_small pairs last behind);
-      content = short_content (nat_eq minor 0) minor item.content refl w.plain (back_small pairs last behind);
+      content = short_content (nat_eq minor 0) minor item.content refl plain (back_small pairs last behind);
     }
 
 -- what is written of a clear part is short
-pub short_clear : (clear : ClearPart) (n : ℕ) → AllByRecursion (IsWritten clear.minor) clear.items → length (clear_text clear n) ≤ most_bytes → IsShortClear clear
-short_clear clear n written small =
+pub short_clear : (clear : ClearPart) (n : ℕ) → (clear.minor ≡ 0 → AllByRecursion IsPlain clear.items) → length (clear_text clear n) ≤ most_bytes → IsShortClear clear
+short_clear clear n plain small =
     let text = clear_item_text clear.minor in
     let items = list_text text clear.items in
     let behind = back_small (front_text clear) (items ++ number n) small in
@@ -86,7 +109,7 @@ short_clear clear n written small =
     let name = front_small (string clear.name) s4 (back_small (version clear.minor) (string clear.name ++ s4) (back_small magic (version clear.minor ++ (string clear.name ++ s4)) front)) in
     record {
       name = short_string clear.name name;
-      items = short_list text IsShortClearItem (IsWritten clear.minor) (short_clear_item clear.minor) (λ item. some_behind item.id.0 (number item.kind ++ (list_text pair_text item.hashed ++ content_text clear.minor item.content))) clear.items written (front_small items (number n) behind);
+      items = short_list text IsShortClearItem (PlainIn clear.minor) (short_clear_item clear.minor) (λ item. some_behind item.id.0 (number item.kind ++ (list_text pair_text item.hashed ++ content_text clear.minor item.content))) clear.items (plain_in clear.minor clear.items plain) (front_small items (number n) behind);
     }
 
 short_value : (v : AttrValue) → length (value_text v) ≤ most_bytes → IsShortValue v

@@ -1,7 +1,7 @@
 -- Opening, and what a file is a file of.
 use Rattle.std.proofs.Common.{◌≡◌, ℕ, List, length, Result, Ok, Err, refl, subst}
 use Rattle.std.specs.Prelude.{IfOk}
-use Rattle.key_derivation.specs.Kdf.{Inputs}
+use Rattle.aes_cbc.specs.Cbc.{decrypted}
 use Rattle.keyring_file.specs.AreaText.{AreaText}
 use Rattle.keyring_file.specs.Clear.{ClearPart}
 use Rattle.keyring_file.specs.ClearText.{ClearText}
@@ -9,19 +9,19 @@ use Rattle.keyring_file.specs.Reading.{area_read, clear_read}
 use Rattle.keyring_file.specs.declared.area.FullItem.{FullItem}
 use Rattle.keyring_seal.specs.declared.content.Content.{Content}
 use Rattle.keyring_seal.specs.Arranged.{IsSealable}
-use Rattle.keyring_seal.specs.Whole.{IsFileOf, clear_area, opened}
+use Rattle.keyring_seal.specs.Whole.{IsFileOf, opened}
 
 -- what both texts are texts of is opened
 pub opened_again : ((file area : List ℕ) (clear : ClearPart) → ClearText file clear area → clear_read file ≡ Ok (clear, area)) → ((area : List ℕ) (items : List FullItem) → AreaText area items → area_read (length items) area ≡ Ok items)
-    → (file : List ℕ) (key : Inputs) (content : Content) → IsFileOf file key content → opened file key ≡ Ok content
+    → (file : List ℕ) (key vector : List ℕ) (content : Content) → IsFileOf file key vector content → opened file key vector ≡ Ok content
 unfolding opened
-opened_again clear_again area_again file key content is =
-    let items : area_read (length content.clear.items) (clear_area key is.area) ≡ Ok content.items = subst (λ (n : ℕ). area_read n (clear_area key is.area) ≡ Ok content.items) is.counted (area_again (clear_area key is.area) content.items is.items) in
+opened_again clear_again area_again file key vector content is =
+    let items : area_read (length content.clear.items) (decrypted key vector is.area) ≡ Ok content.items = subst (λ (n : ℕ). area_read n (decrypted key vector is.area) ≡ Ok content.items) is.counted (area_again (decrypted key vector is.area) content.items is.items) in
     rw (clear_again file is.area content.clear is.clear, items) refl
 
 -- what a file is a file of can be sealed
-pub sealable : (file : List ℕ) (key : Inputs) (content : Content) → IsFileOf file key content → IsSealable content
-sealable file key content is =
+pub sealable : (file : List ℕ) (key vector : List ℕ) (content : Content) → IsFileOf file key vector content → IsSealable content
+sealable file key vector content is =
     let behind_version = is.clear.text.is_first.is_second.is_second in
     record {
       counted = is.counted;

@@ -1,10 +1,14 @@
 -- A content as it is sealed: its items by rising number, with the hashes of their attributes.
 use Rattle.std.specs.Prelude.{◌≡◌, ℕ, ◌≤◌, List, ◌∷◌, ◌++◌, length, map, nat_eq}
-use Rattle.std.specs.List.{zip, IsDistinct}
+use denote.Ref.{Bor}
+use Rattle.std.specs.List.{zip, AllByRecursion, IsDistinct}
+use Rattle.std.specs.List.Sorted.{IsPermutation, IsStrictlyIncreasing}
 use Rattle.attribute_hash.specs.Hash.{hashes}
+use Rattle.keyring_file.specs.Clear.{ClearPart}
 use Rattle.keyring_file.specs.ClearText.{most_iterations}
 use Rattle.keyring_file.specs.declared.area.FullItem.{FullItem}
 use Rattle.keyring_file.specs.declared.clear.ClearItem.{ClearItem}
+use Rattle.keyring_file.specs.Known.{IsKnownClear, IsKnownClearItem, IsKnownItem}
 use Rattle.keyring_seal.specs.declared.content.Content.{Content}
 use Rattle.keyring_seal.specs.Order.{by_number}
 
@@ -28,16 +32,38 @@ hashed_row row = (record row.0 { hashed = hashes row.1.attributes }, row.1)
 abbrev pub arranged_rows : Content → List Row
 arranged_rows content = map hashed_row (by_number row_number (rows content))
 
--- the content with these items
-abbrev pub with_rows : Content → List Row → Content
-with_rows content these = record {
-  clear = record content.clear { items = map (λ row. row.0) these };
+-- the content of a front and of rows; what items the front has doesn't matter
+abbrev pub of_rows : ClearPart → List Row → Content
+of_rows front these = record {
+  clear = record front { items = map (λ row. row.0) these };
   items = map (λ row. row.1) these;
 }
 
+-- the content of a front and of rows that are lent
+abbrev pub of_lent : ClearPart → List (Bor ClearItem × Bor FullItem) → Content
+of_lent front lent = of_rows front (map (λ row. (row.0.now, row.1.now)) lent)
+
 -- the content as it is sealed
 abbrev pub arranged : Content → Content
-arranged content = with_rows content (arranged_rows content)
+arranged content = of_rows content.clear (arranged_rows content)
+
+-- The same content with its items by rising numbers, each with the hashes of its own attributes. All else is as it was.
+pub record IsArrangement (content made : Content) : Type 0 where
+  pub rest : made.clear ≡ record content.clear { items = made.clear.items }
+  pub counted : length made.items ≡ length made.clear.items
+  pub same : IsPermutation (map hashed_row (rows content)) (rows made)
+  pub rising : IsStrictlyIncreasing (map (λ item. item.id.0) made.clear.items)
+
+-- what the types of a content keep of its values
+pub record IsKnown (content : Content) : Type 0 where
+  pub clear : IsKnownClear content.clear
+  pub clear_items : AllByRecursion IsKnownClearItem content.clear.items
+  pub items : AllByRecursion IsKnownItem content.items
+
+-- what the types of both parts of a row that is lent keep
+pub record IsKnownLent (row : Bor ClearItem × Bor FullItem) : Type 0 where
+  pub clear : IsKnownClearItem row.0.now
+  pub item : IsKnownItem row.1.now
 
 -- what can be sealed
 pub record IsSealable (content : Content) : Type 0 where

@@ -1,5 +1,5 @@
 pub mod Arranged
-pub mod Known
+pub mod Laws
 pub mod Order
 pub mod Room
 pub mod Whole

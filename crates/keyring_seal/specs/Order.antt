@@ -1,5 +1,5 @@
 -- Rows in the order of rising numbers.
-use Rattle.std.specs.Prelude.{ℕ, ◌<◌, List, [], ◌∷◌}
+use Rattle.std.specs.Prelude.{ℕ, List, [], ◌∷◌}
 use Rattle.std.specs.BTreeMap.{insert_entry}
 use Rattle.std.specs.Map.{values_of}
 use Rattle.std.specs.Ordering.{nat_cmp}
@@ -12,9 +12,3 @@ entered number standing (row ∷ more) = entered number (insert_entry nat_cmp st
 -- the rows by rising numbers
 unfoldable pub by_number : {X : Type 0} → (X → ℕ) → List X → List X
 by_number number rows = values_of (entered number [] rows)
-
--- each number is below the next one
-abbrev pub IsRising : {X : Type 0} → (X → ℕ) → List X → Type 0
-IsRising number [] = Unit {0}
-IsRising number (x ∷ []) = Unit {0}
-IsRising number (x ∷ y ∷ more) = (number x < number y) × IsRising number (y ∷ more)

@@ -27,7 +27,12 @@ measure content =
     + items_measure content
     + (16 + padding (items_measure content))
 
--- the bytes of the area, and those of the whole file where they are within the room; none where they aren't
+-- The bytes of the area, and those of the whole file where they are within the room; none where they aren't. Given are the bytes of
+-- the clear part and those of the items in the area.
+abbrev pub AreSizesOf : ℕ → ℕ → ℕ → Option (ℕ × ℕ) → Type 0
+AreSizesOf clear items room None = room < clear + items + (16 + padding items)
+AreSizesOf clear items room (Some (area, whole)) = (area ≡ items + (16 + padding items)) × (whole ≡ clear + items + (16 + padding items)) × (clear + items + (16 + padding items) ≤ room)
+
+-- those of a content
 abbrev pub AreSizes : Content → ℕ → Option (ℕ × ℕ) → Type 0
-AreSizes content room None = room < measure content
-AreSizes content room (Some (area, whole)) = (area ≡ items_measure content + (16 + padding (items_measure content))) × (whole ≡ measure content) × (measure content ≤ room)
+AreSizes content = AreSizesOf ((length (front_text content.clear) + 8) + length (flat_map (row_text content.clear.minor) (rows content))) (items_measure content)

@@ -1,7 +1,6 @@
 -- Whole keyring files under a key.
 use Rattle.std.specs.Prelude.{◌≡◌, ℕ, List, ◌++◌, length, Result, Ok, Err}
 use Rattle.aes_cbc.specs.Cbc.{encrypted, decrypted}
-use Rattle.key_derivation.specs.Kdf.{Inputs, key_of, vector_of}
 use Rattle.keyring_text.specs.Reading.{◌>>=◌}
 use Rattle.keyring_file.specs.AreaText.{AreaText}
 use Rattle.keyring_file.specs.Canonical.{area_text, clear_text}
@@ -15,19 +14,11 @@ use Rattle.keyring_seal.specs.declared.opening.OpenFault.{OpenFault}
 use Rattle.keyring_seal.specs.declared.opening.OpenFault.TheVariants as fault
 use Rattle.keyring_seal.specs.Arranged.{arranged}
 
--- an encrypted area, decrypted under a key
-abbrev pub clear_area : Inputs → List ℕ → List ℕ
-clear_area key area = decrypted (key_of key) (vector_of key) area
-
--- an area, encrypted under a key
-abbrev pub sealed_area : Inputs → List ℕ → List ℕ
-sealed_area key area = encrypted (key_of key) (vector_of key) area
-
--- the file is one of this content: the clear part and the area, once it is decrypted, are the texts of both halves
-pub record IsFileOf (file : List ℕ) (key : Inputs) (content : Content) : Type 0 where
+-- the file is one of this content under a key and a vector: the clear part and the area, once it is decrypted, are the texts of both halves
+pub record IsFileOf (file key vector : List ℕ) (content : Content) : Type 0 where
   pub area : List ℕ
   pub clear : ClearText file content.clear area
-  pub items : AreaText (clear_area key area) content.items
+  pub items : AreaText (decrypted key vector area) content.items
   pub counted : length content.items ≡ length content.clear.items
 
 -- the clear part, or its fault
@@ -40,18 +31,18 @@ abbrev pub in_area_part : {A : Type 0} → Result A AreaFault → Result A OpenF
 in_area_part (Ok x) = Ok x
 in_area_part (Err e) = Err (fault.Area e)
 
--- what opening a file under a key gives: its content, or the first fault
-unfoldable pub opened : List ℕ → Inputs → Result Content OpenFault
-opened file key = do
+-- what opening a file under a key and a vector gives: its content, or the first fault
+unfoldable pub opened : List ℕ → List ℕ → List ℕ → Result Content OpenFault
+opened file key vector = do
   part ← in_clear_part (clear_read file)
-  items ← in_area_part (area_read (length part.0.items) (clear_area key part.1))
+  items ← in_area_part (area_read (length part.0.items) (decrypted key vector part.1))
   Ok (record { clear = part.0; items = items })
 
--- the one file that a content is sealed to
-unfoldable pub sealed : Content → Inputs → List ℕ
-sealed content key =
+-- the one file that a content is sealed to under a key and a vector
+unfoldable pub sealed : Content → List ℕ → List ℕ → List ℕ
+sealed content key vector =
     let area = area_text (arranged content).items in
-    clear_text (arranged content).clear (length area) ++ sealed_area key area
+    clear_text (arranged content).clear (length area) ++ encrypted key vector area
 
 -- how many bytes a file may have
 abbrev pub most_bytes : ℕ

@@ -1,25 +1,42 @@
 // Laws of the definitions. The functions compute nothing.
 
-ghost use Rattle.std.specs.Prelude.{◌≡◌, ◌≤◌, ℕ, List, length, Ok};
+ghost use Rattle.std.specs.Prelude.{◌≡◌, ◌≤◌, length};
+ghost use Rattle.key_derivation.specs.Kdf.{key_of, vector_of};
 ghost use Rattle.keyring_seal.specs.Arranged.{DiffersInOneValue, IsSealable};
-ghost use Rattle.keyring_seal.specs.Whole.{HaveOneClearPart, IsFileOf, most_bytes, opened, sealed};
-ghost use Rattle.keyring_seal.specs.declared.content.Content.{Content as Whole};
-ghost use Rattle.key_derivation.specs.Kdf.{Inputs};
+ghost use Rattle.keyring_seal.specs.Laws.{ArrangedAlone, ArrangedAreArrangements, ArrangedStay, FilesOpen, SealedAreFiles, SealedOpen};
+ghost use Rattle.keyring_seal.specs.Whole.{HaveOneClearPart, most_bytes, sealed};
 
-use crate::content::Content;
-use crate::known::known;
+use crate::content::{Content, known_content};
 use key_derivation::Derived;
 use keyring_file::{a_file_that_is_spelled_so_is_read, an_area_that_is_spelled_so_is_read};
 
 /// A law that the contract states: a file of a content opens to that content, and so to no other. The
 /// call does nothing.
 pub fn a_file_of_a_content_opens_to_it()
-    ensures { (file : List ℕ) (key : Inputs) (content : Whole)
-        → IsFileOf file key content → opened file key ≡ Ok content }
+    ensures { FilesOpen }
 {
     a_file_that_is_spelled_so_is_read();
     an_area_that_is_spelled_so_is_read();
 }
+
+/// Two laws that the contract states, of every content that can be sealed, key and vector: where the
+/// sealed file is no larger than a file may be, it is a file of the content as it is arranged, and opens
+/// to that. The call does nothing.
+pub fn what_is_sealed_opens()
+    ensures file { SealedAreFiles }
+    ensures opens { SealedOpen }
+{
+    a_file_of_a_content_opens_to_it();
+}
+
+/// Laws that the contract states: a content is arranged to the same items by rising numbers, with the
+/// hashes of their attributes, there is no other such content, and what was arranged stays as it is. The
+/// call does nothing.
+pub fn what_is_arranged_rises()
+    ensures same { ArrangedAreArrangements }
+    ensures only { ArrangedAlone }
+    ensures stays { ArrangedStay }
+{}
 
 /// A law that the contract states: where two contents are equal but for the value of one item, which
 /// is as long in both, a reader of their sealed files who doesn't know the key sees files of one
@@ -28,10 +45,12 @@ pub fn same_shape(one: &Content, two: &Content, key: &Derived)
     requires first { IsSealable one.now }
     requires second { IsSealable two.now }
     requires alike { DiffersInOneValue one.now two.now }
-    ensures as_long { length (sealed two.now key.now) ≡ length (sealed one.now key.now) }
-    ensures one_clear_part { length (sealed one.now key.now) ≤ most_bytes
-        → HaveOneClearPart (sealed one.now key.now) (sealed two.now key.now) }
+    ensures as_long { length (sealed two.now (key_of key.now) (vector_of key.now))
+        ≡ length (sealed one.now (key_of key.now) (vector_of key.now)) }
+    ensures clear_part { length (sealed one.now (key_of key.now) (vector_of key.now)) ≤ most_bytes
+        → HaveOneClearPart (sealed one.now (key_of key.now) (vector_of key.now))
+        (sealed two.now (key_of key.now) (vector_of key.now)) }
 {
-    known(one);
-    known(two);
+    known_content(one);
+    known_content(two);
 }

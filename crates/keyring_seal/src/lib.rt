@@ -6,19 +6,16 @@
 #![tactic(auto)]
 
 mod content;
-#[cfg(test)]
-mod files;
-mod known;
 mod laws;
 mod opening;
 mod order;
 mod room;
 mod sealing;
-#[cfg(test)]
-mod tests;
 mod writing;
 
-pub use content::Content;
-pub use laws::{a_file_of_a_content_opens_to_it, same_shape};
+pub use content::{Content, known_content};
+pub use laws::{
+    a_file_of_a_content_opens_to_it, same_shape, what_is_arranged_rises, what_is_sealed_opens,
+};
 pub use opening::{OpenFault, open_file as open};
-pub use sealing::{SealRefused, seal};
+pub use sealing::{SealRefused, seal, seal_rows};

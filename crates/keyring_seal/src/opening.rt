@@ -1,8 +1,9 @@
 ghost use Rattle.std.specs.Prelude.{◌≡◌, ◌%◌, length, IfOk, Ok};
-ghost use Rattle.keyring_text.specs.Fields.{IsBytes};
+ghost use Rattle.aes_cbc.specs.Cbc.{decrypted};
+ghost use Rattle.key_derivation.specs.Kdf.{key_of, vector_of};
 ghost use Rattle.keyring_text.specs.Reading.{Gives};
 ghost use Rattle.keyring_seal.specs.Arranged.{IsSealable};
-ghost use Rattle.keyring_seal.specs.Whole.{IsFileOf, clear_area, opened};
+ghost use Rattle.keyring_seal.specs.Whole.{IsFileOf, opened};
 ghost use Rattle.keyring_seal.specs.declared.content.Content.{Content as Whole};
 
 use crate::content::Content;
@@ -13,13 +14,13 @@ use keyring_file::{
     AreaFault, ClearFault, a_file_that_is_read_is_spelled_so, an_area_that_is_read_is_spelled_so,
     read_area, read_clear,
 };
-use keyring_text::ReadRefused;
+use keyring_text::{ReadRefused, known_bytes};
 use kr_base::OutOfMemory;
 use kr_items::Items;
 use std::alloc::Global;
 
 /// What is wrong with a file under a key: the first fault from the left.
-#[derive(Clone, Copy, Debug, Drop, PartialEq, Eq)]
+#[derive(Clone, Copy, Drop, PartialEq, Eq)]
 pub enum OpenFault {
     /// The clear part, or the length of the area, isn't as it should be.
     Clear(ClearFault),
@@ -27,15 +28,11 @@ pub enum OpenFault {
     Area(AreaFault),
 }
 
-/// What the type of bytes keeps: that they are bytes. The call does nothing.
-fn known_bytes(_bytes: &[u8])
-    ensures { IsBytes _bytes.now }
-{}
-
 /// The blocks, decrypted under the key in a copy.
 fn decrypted_copy(alloc: Global, blocks: &[u8], key: &Derived) -> Result<Vec<u8>, OutOfMemory>
     requires { length blocks.now % 16 ≡ 0 }
-    ensures { IfOk result (λ area. area.items ≡ clear_area key.now blocks.now) }
+    ensures { IfOk result (λ area. area.items
+        ≡ decrypted (key_of key.now) (vector_of key.now) blocks.now) }
 {
     let mut area = Vec::from_slice(alloc, blocks)?;
     let cipher = Key::new(key.key());
@@ -46,8 +43,9 @@ fn decrypted_copy(alloc: Global, blocks: &[u8], key: &Derived) -> Result<Vec<u8>
 /// The content of a whole file under a key.
 #[tactic(auto, unfolding(crate::specs::Whole::opened))]
 fn content_of(alloc: Global, file: &[u8], key: &Derived) -> Result<Content, ReadRefused<OpenFault>>
-    ensures exact { Gives (λ content. content) result (opened file.now key.now) }
-    ensures found { IfOk result (IsFileOf file.now key.now) }
+    ensures exact { Gives (λ content. content) result
+        (opened file.now (key_of key.now) (vector_of key.now)) }
+    ensures found { IfOk result (IsFileOf file.now (key_of key.now) (vector_of key.now)) }
 {
     a_file_that_is_read_is_spelled_so();
     an_area_that_is_read_is_spelled_so();
@@ -83,14 +81,16 @@ pub fn open_file(
     key: &Derived,
 ) -> Result<Content, ReadRefused<OpenFault>>
     // What is opened is what the file is a file of.
-    ensures found { IfOk result (IsFileOf file.now key.now) }
+    ensures found { IfOk result (IsFileOf file.now (key_of key.now) (vector_of key.now)) }
     // What the file is a file of is opened, unless memory runs out.
-    ensures only { (content : Whole) → IsFileOf file.now key.now content
+    ensures only { (content : Whole)
+        → IsFileOf file.now (key_of key.now) (vector_of key.now) content
         → Gives (λ opened. opened) result (Ok content) }
     // It can be sealed again.
     ensures sealable { IfOk result IsSealable }
     // Which fault it is.
-    ensures exact { Gives (λ content. content) result (opened file.now key.now) }
+    ensures exact { Gives (λ content. content) result
+        (opened file.now (key_of key.now) (vector_of key.now)) }
 {
     a_file_of_a_content_opens_to_it();
     content_of(alloc, file, key)

@@ -1,7 +1,8 @@
 ghost use Rattle.std.specs.Prelude.{◌≡◌, ◌↔◌, length, map, IfOk, IsTrue};
 ghost use Rattle.std.specs.List.{zip};
+ghost use Rattle.std.specs.List.Sorted.{IsStrictlyIncreasing};
 ghost use Rattle.keyring_seal.specs.Arranged.{row_number};
-ghost use Rattle.keyring_seal.specs.Order.{by_number, IsRising};
+ghost use Rattle.keyring_seal.specs.Order.{by_number};
 
 use keyring_file::{ClearItem, FullItem};
 use kr_base::OutOfMemory;
@@ -10,7 +11,8 @@ use std::collections::BTreeMap;
 
 /// Whether each number is below the next one.
 fn is_rising(clear: &[ClearItem]) -> bool
-    ensures { IsTrue result ↔ IsRising (λ item. item.id.0) clear.now }
+    ensures { IsTrue result
+        ↔ IsStrictlyIncreasing (map (λ item. item.id.0) clear.now) }
 {
     for i in 0..clear.len().saturating_sub(1) {
         if clear[i].id.0 >= clear[i + 1].id.0 {

@@ -5,7 +5,7 @@ ghost use Rattle.std.specs.Prelude.{◌≡◌, ◌+◌, length};
 ghost use Rattle.attribute_hash.specs.Hash.{hashes, pair_hash, value_hash};
 ghost use Rattle.std.specs.List.{flat_map, zip};
 ghost use Rattle.keyring_file.specs.Canonical.{access_text, attribute_text, content_text, front_text, hashed_text, item_text, list_text, padding, pair_text, value_text};
-ghost use Rattle.keyring_seal.specs.Room.{AreSizes, Takes, row_text};
+ghost use Rattle.keyring_seal.specs.Room.{AreSizes, AreSizesOf, Takes, row_text};
 
 use crate::content::Content;
 use keyring_file::{Access, Clear, ClearItem, FullItem};
@@ -199,6 +199,48 @@ pub fn sizes(room: usize, content: &Content) -> Option<(usize, usize)>
     let behind_front = front_room(room, clear)?;
     let behind_clear = clear_items_room(behind_front, clear.minor, clear.items.as_slice(), items)?;
     let left = items_room(behind_clear, items)?;
+    let end = ending_room(left, behind_clear - left)?;
+    Some((behind_clear - end, room - end))
+}
+
+/// What is left behind the rows in the clear part.
+fn clear_rows_room(room: usize, minor: u8, rows: &[(&ClearItem, &FullItem)]) -> Option<usize>
+    ensures { Takes room
+        (length (flat_map (λ row. row_text minor (row.0.now, row.1.now)) rows.now)) result }
+{
+    let mut left = room;
+    for row in rows {
+        left = clear_item_room(left, minor, row.0, row.1)?;
+    }
+    Some(left)
+}
+
+/// What is left behind the rows in the area.
+fn full_rows_room(room: usize, rows: &[(&ClearItem, &FullItem)]) -> Option<usize>
+    ensures { Takes room (length (flat_map (λ row. item_text row.1.now) rows.now)) result }
+{
+    let mut left = room;
+    for row in rows {
+        left = item_room(left, row.1)?;
+    }
+    Some(left)
+}
+
+/// How many bytes the area and the whole file of a front and rows have. None where the file has more than
+/// there is room.
+#[tactic(auto, using(crate::proofs::RoomLemmas::sizes))]
+pub fn row_sizes(
+    room: usize,
+    front: &Clear,
+    rows: &[(&ClearItem, &FullItem)],
+) -> Option<(usize, usize)>
+    ensures { AreSizesOf ((length (front_text front.now) + 8)
+        + length (flat_map (λ row. row_text front.now.minor (row.0.now, row.1.now)) rows.now))
+        (length (flat_map (λ row. item_text row.1.now) rows.now)) room result }
+{
+    let behind_front = front_room(room, front)?;
+    let behind_clear = clear_rows_room(behind_front, front.minor, rows)?;
+    let left = full_rows_room(behind_clear, rows)?;
     let end = ending_room(left, behind_clear - left)?;
     Some((behind_clear - end, room - end))
 }

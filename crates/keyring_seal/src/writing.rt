@@ -10,7 +10,7 @@ ghost use Rattle.keyring_seal.specs.Arranged.{hashed_row};
 ghost use Rattle.keyring_seal.specs.Room.{row_text};
 
 use attribute_hash::{number_hash, text_hash};
-use keyring_file::{Clear, ClearItem, FullItem, close_area, put_front, put_item};
+use keyring_file::{Clear, ClearItem, FullItem, close_area, put_clear_item, put_front, put_item};
 use keyring_text::{put_number, put_string};
 use kr_base::{AttrValue, Attributes, OutOfMemory, Text};
 
@@ -156,5 +156,56 @@ pub fn put_clear(
 {
     put_front(file, clear)?;
     put_row_list(file, clear.minor, rows)?;
+    put_number(file, area_length)
+}
+
+/// Writes the items of the clear part with the hashes that they have, without their number.
+fn put_kept_items(
+    out: &mut Vec<u8>,
+    minor: u8,
+    rows: &[(&ClearItem, &FullItem)],
+) -> Result<(), OutOfMemory>
+    requires { AllByRecursion (λ row. IsShortClearItem row.0.now) rows.now }
+    ensures { OnOk result (out.new.items ≡ out.old.items
+        ++ flat_map (λ row. clear_item_text minor row.0.now) rows.now) }
+{
+    for row in rows {
+        put_clear_item(out, minor, row.0)?;
+    }
+    Ok(())
+}
+
+/// Writes the number of the items, and the items of the clear part with the hashes that they have.
+fn put_kept_list(
+    out: &mut Vec<u8>,
+    minor: u8,
+    rows: &[(&ClearItem, &FullItem)],
+) -> Result<(), OutOfMemory>
+    requires few { length rows.now < 2 ^ 32 }
+    requires short { AllByRecursion (λ row. IsShortClearItem row.0.now) rows.now }
+    ensures { OnOk result (out.new.items ≡ out.old.items
+        ++ list_text (clear_item_text minor) (map (λ row. row.0.now) rows.now)) }
+{
+    put_number(out, rows.len() as u32)?;
+    put_kept_items(out, minor, rows)
+}
+
+/// Writes the clear part with these items, which keep the hashes that they have, and the length of the
+/// area.
+pub fn put_kept_clear(
+    file: &mut Vec<u8>,
+    clear: &Clear,
+    rows: &[(&ClearItem, &FullItem)],
+    area_length: u32,
+) -> Result<(), OutOfMemory>
+    requires name { IsShort clear.now.name }
+    requires few { length rows.now < 2 ^ 32 }
+    requires short { AllByRecursion (λ row. IsShortClearItem row.0.now) rows.now }
+    ensures { OnOk result (file.new.items ≡ file.old.items ++ clear_text (record clear.now {
+      items = map (λ row. row.0.now) rows.now;
+    }) area_length) }
+{
+    put_front(file, clear)?;
+    put_kept_list(file, clear.minor, rows)?;
     put_number(file, area_length)
 }

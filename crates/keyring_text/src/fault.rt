@@ -4,7 +4,7 @@ ghost use Rattle.keyring_text.specs.declared.fault.ReadRefused.TheVariants.{OutO
 use std::alloc::{AllocError, AllocFailed};
 
 /// What may be wrong with the fields of a keyring file.
-#[derive(Clone, Copy, Debug, PartialEq, Eq)]
+#[derive(Clone, Copy, PartialEq, Eq)]
 pub enum FieldFault {
     /// A field passes the end.
     Short,
@@ -17,7 +17,7 @@ pub enum FieldFault {
 }
 
 /// Why bytes weren't read: the first fault from the left, or want of memory.
-#[derive(Clone, Copy, Debug, Drop, PartialEq, Eq)]
+#[derive(Clone, Copy, Drop, PartialEq, Eq)]
 pub enum ReadRefused<F> {
     /// The fault that was met.
     Fault(F),

@@ -1,10 +1,16 @@
 ghost use Rattle.std.specs.Prelude.{◌≡◌, List, ℕ, length, option_map, IfOk, Some, None, if◌then◌else◌};
+ghost use Rattle.keyring_text.specs.Fields.{IsBytes};
 ghost use Rattle.keyring_text.specs.Reading as reading;
 ghost use Rattle.keyring_text.specs.Reading.{Gives, is_text};
 
 use crate::{FieldFault, ReadRefused};
 use kr_base::{Bytes, OutOfMemory, Text};
 use std::alloc::Global;
+
+/// A law that the contract states: what the type of bytes keeps. The call does nothing.
+pub fn known_bytes(_bytes: &[u8])
+    ensures { IsBytes _bytes.now }
+{}
 
 /// So many bytes, and those behind them. `Short` where fewer are there.
 pub fn span_at(bytes: &[u8], len: usize) -> Result<(&[u8], &[u8]), ReadRefused<FieldFault>>

@@ -1,5 +1,5 @@
 use Rattle.std.proofs.Common.{drop}
-use Rattle.keyring_seal.specs.Order.{IsRising}
+use Rattle.keyring_seal.proofs.RisingLemmas.{IsRising}
 use Rattle.keyring_seal.proofs.order.is_rising.Given as goal
 
 abbrev pub invariant-loop-i : goal.invariant-loop-i

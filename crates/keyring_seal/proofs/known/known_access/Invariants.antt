@@ -1,7 +1,0 @@
-use Rattle.std.proofs.Common.{take}
-use Rattle.std.specs.List.{AllByRecursion}
-use Rattle.keyring_seal.specs.Known.{IsKnownAccess}
-use Rattle.keyring_seal.proofs.known.known_access.Given as goal
-
-abbrev pub invariant-loop-entry : goal.invariant-loop-entry
-invariant-loop-entry l = AllByRecursion IsKnownAccess (take l.entry-index l.entries)

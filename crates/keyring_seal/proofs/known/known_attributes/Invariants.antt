@@ -1,7 +1,0 @@
-use Rattle.std.proofs.Common.{take}
-use Rattle.std.specs.List.{AllByRecursion}
-use Rattle.keyring_seal.specs.Known.{IsKnownPair}
-use Rattle.keyring_seal.proofs.known.known_attributes.Given as goal
-
-abbrev pub invariant-loop-pair : goal.invariant-loop-pair
-invariant-loop-pair l = AllByRecursion IsKnownPair (take l.pair-index l.pair-items)

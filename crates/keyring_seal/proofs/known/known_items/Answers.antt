@@ -1,9 +1,0 @@
-use Rattle.keyring_seal.specs.Known.{IsKnownItem}
-use Rattle.keyring_seal.proofs.KnownLemmas.{all_more, all_of_taken}
-use Rattle.keyring_seal.proofs.known.known_items.Goals as goal
-
-pub loop-item-preserved : goal.loop-item-preserved
-loop-item-preserved c = all_more IsKnownItem c.args.items.now c.loop-item.item-index c.item-item.result c.loop-item-test.true c.item-item.is c.loop-item.invariant c.known_item.ensures
-
-pub returns : goal.returns
-returns c = all_of_taken IsKnownItem c.args.items.now c.loop-item.item-index c.loop-item-test.false c.loop-item.invariant
