@@ -6,7 +6,5 @@
 
 mod line;
 mod pairs;
-#[cfg(test)]
-mod tests;
 
 pub use pairs::{LONGEST, read_aliases};

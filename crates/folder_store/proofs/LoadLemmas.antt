@@ -13,7 +13,7 @@ use Rattle.folder_store.specs.declared.loading.Loaded.{Loaded}
 use Rattle.folder_store.specs.Names.{aliases}
 use Rattle.folder_store.specs.Opened.{Opens, GivesAliases}
 use Rattle.folder_store.specs.Loads.{Loads, opening_of}
-use Rattle.folder_store.specs.Ring.{AreLikeFolder, IsLikeFolder, ShowsAliases, rows_of}
+use Rattle.folder_store.specs.Ring.{HandsBack, ShowsAliases, rows_of}
 use Rattle.folder_store.specs.Walk.{OpeningState, plain, Walk}
 use Rattle.folder_store.proofs.NameLemmas.{aliases_no_ring}
 use Rattle.folder_store.proofs.OpenedLemmas.{AreTold, all_found, cons_cases}
@@ -27,9 +27,9 @@ told_same : (images other : List ℕ → Image) → ((name : List ℕ) → image
 told_same images other same [] told = tt
 told_same images other same (file ∷ files) (here, told) = (sym (same file.0) ∙ here, told_same images other same files told)
 
-module _ {F S : Type 0} (limits : Limits) (honest steady : Bool) (images : F → List ℕ → Image) (may_leave : F → List ℕ → Image → Type 0) (made : F → List (List ℕ)) (is_honest is_steady : S → Bool) where
+module _ {F S : Type 0} (limits : Limits) (found : Image → S → Type 0) (honest : Bool) (images : F → List ℕ → Image) (may_leave : F → List ℕ → Image → Type 0) (made : F → List (List ℕ)) where
   -- no slot of `aliases` was made on the way
-  off_way : (one two : F) (names : List (List ℕ)) (opening : OpeningState S) → Walk limits honest images may_leave made one two names (plain opening) → ¬ (Contains (made two) aliases)
+  pub off_way : (one two : F) (names : List (List ℕ)) (opening : OpeningState S) → Walk limits honest images may_leave made one two names (plain opening) → ¬ (Contains (made two) aliases)
   off_way one two names opening walk has = aliases_no_ring (walk.slots aliases has).1.0 (walk.slots aliases has).1.1
 
   -- what load_aliases asks for
@@ -40,19 +40,19 @@ module _ {F S : Type 0} (limits : Limits) (honest steady : Bool) (images : F →
       (off, subst (λ (i : Image). Only i (may_leave two aliases)) (sym (walk.same is aliases off)) (walk.settled is aliases off))
 
   pub Loads-made : (zero one two three : F) (names : List (List ℕ)) (opening : OpeningState S) (loaded : Loaded S)
-      → loaded.rings.items ≡ opening.rings → loaded.used.items ≡ opening.used
+      → loaded.rings.items ≡ opening.rings → loaded.used.items ≡ opening.used → loaded.left_alone.items ≡ opening.left
       → IsStrictlySortedBy (slice_cmp nat_cmp) names
       → (IsTrue honest → (name : List ℕ) → Contains names name ↔ IsSome (images one name))
       → (IsTrue honest → (name : List ℕ) → images one name ≡ images zero name)
       → Walk limits honest images may_leave made one two names (plain opening)
-      → AreLikeFolder is_honest is_steady honest steady opening.rings
+      → HandsBack found (images zero) (made two) opening.rings opening.left
       → (IsTrue honest → loaded.aliases.cell.file ≡ Known (images two aliases))
       → ShowsAliases loaded.aliases.cell.file loaded.aliases.pairs
-      → IsLikeFolder is_honest is_steady honest steady loaded.aliases.cell.slot
+      → found (images zero aliases) loaded.aliases.cell.slot
       → made three ≡ aliases ∷ made two
       → (IsTrue honest → Stays images may_leave (made three) two three)
-      → Loads limits honest steady images may_leave made is_honest is_steady zero three loaded
-  Loads-made zero one two three names opening loaded rings used sorted listed before walk alike known shown slot made_one stays =
+      → Loads limits found honest images may_leave made zero three loaded
+  Loads-made zero one two three names opening loaded rings used left sorted listed before walk handed known shown slot made_one stays =
       let plain_is : plain opening ≡ opening_of loaded = λ i. record { rings = rows_of (sym rings i); used = sym used i } in
       let opens : Opens limits walk.files (opening_of loaded) = subst (λ o. Opens limits walk.files o) plain_is walk.opens in
       let ordered : IsInOrder walk.files = subst (λ l. IsStrictlySortedBy (slice_cmp nat_cmp) l) (sym walk.keys) sorted in
@@ -68,8 +68,11 @@ module _ {F S : Type 0} (limits : Limits) (honest steady : Bool) (images : F →
         alias_image = image;
         some = record { files = walk.files; ordered = ordered; opens = opens };
         shown = shown;
-        rings = subst (λ l. AreLikeFolder is_honest is_steady honest steady l) (sym rings) alike;
-        alias_slot = slot;
+        rest = made two;
+        made_all = made_one;
+        handed = subst (λ l. HandsBack found (images zero) (made two) loaded.rings.items l) (sym left)
+            (subst (λ r. HandsBack found (images zero) (made two) r opening.left) (sym rings) handed);
+        alias_found = slot;
         made_of = λ name has. ⊎_elim
             (λ same. inl same)
             (λ earlier. let by = (walk.slots name earlier).1 in inr (by.0, by.1, subst (λ l. Contains l by.0) (sym used) by.2))

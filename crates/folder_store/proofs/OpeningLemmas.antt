@@ -1,6 +1,5 @@
 -- The sums over the collections that are listed.
 use Rattle.std.proofs.Common.{◌≡◌, ℕ, ◌+◌, List, [], ◌∷◌, ◌++◌, length, refl, sym, ◌∙◌, ap, subst, arith, Result, Ok, Err, OnOk, Some}
-use Rattle.std.specs.List.{AllByRecursion}
 use Rattle.keyring_file.specs.Clear.{ClearPart}
 use Rattle.keyring_file.specs.ClearText.{ClearText}
 use Rattle.keyring_file.specs.declared.fault.ClearFault.{ClearFault}
@@ -21,10 +20,6 @@ bytes_push (first ∷ rings) ring = let more = bytes_push rings ring in omega (a
 pub rows_push : {S : Type 0} (rings : List (RingState S)) (ring : RingState S) → rows_of (rings ++ ring ∷ []) ≡ rows_of rings ++ row_of ring ∷ []
 rows_push [] ring = refl
 rows_push (first ∷ rings) ring = ap (λ l. row_of first ∷ l) (rows_push rings ring)
-
-pub all_push : {X : Type 0} (P : X → Type 0) (xs : List X) (x : X) → AllByRecursion P xs → P x → AllByRecursion P (xs ++ x ∷ [])
-all_push P [] x all last = (last, tt)
-all_push P (y ∷ xs) x (first, rest) last = (first, all_push P xs x rest last)
 
 pub items_rows : {S : Type 0} (rings : List (RingState S)) (ring : RingState S) → items_in (rows_of (rings ++ ring ∷ [])) ≡ items_in (rows_of rings) + length ring.clear.items
 items_rows rings ring = ap items_in (rows_push rings ring) ∙ items_push (rows_of rings) (row_of ring)

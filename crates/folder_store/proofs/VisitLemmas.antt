@@ -1,15 +1,19 @@
 -- What one file makes of what stands open, at each exit of the call that takes it.
-use Rattle.std.proofs.Common.{◌≡◌, ◌⊎◌, inl, inr, ℕ, ◌+◌, List, [], ◌∷◌, ◌++◌, Bool, true, false, IsTrue, None, Some, IsSome, length, refl, sym, ◌∙◌, ap, subst, arith}
+use Rattle.std.proofs.Common.{◌≡◌, ◌⊎◌, ⊎_elim, inl, inr, ℕ, ◌+◌, ◌<◌, Option, List, [], ◌∷◌, ◌++◌, Bool, true, false, IsTrue, None, Some, IsSome, length, refl, sym, ◌∙◌, ap, subst, arith}
 use Rattle.std.specs.List.{Contains}
 use Rattle.std.proofs.lemmas.List.{length-append}
 use Rattle.std.proofs.lemmas.List.Elements.{Contains-push}
-use Rattle.kr_outside.specs.RenameDisk.{Image, Only, LeavesAnyBytes, LeavesNoMore}
+use Rattle.kr_outside.specs.Faults.{Rose, KeepsSteady, last_count}
+use Rattle.kr_outside.specs.declared.slot.DeviceCall.{DeviceCall}
+use Rattle.kr_outside.specs.Moments.{LeavesOnly}
+use Rattle.kr_outside.specs.RenameDisk.{Image, Temporary, Unknown, Only, LeavesAnyBytes, LeavesNoMore}
 use Rattle.keyring_file.specs.Clear.{ClearPart}
 use Rattle.folder_store.specs.declared.limits.Limits.{Limits}
 use Rattle.folder_store.specs.Names.{IsRingName}
 use Rattle.folder_store.specs.Opened.{Takes, other, left_alone, ReadsAs, Fits, leaves_alone}
-use Rattle.folder_store.specs.Ring.{rows_of}
-use Rattle.folder_store.specs.Walk.{OpeningState, plain, MakesAtMost, none, one, Visits}
+use Rattle.folder_store.specs.declared.opening.LeftAlone.{LeftAlone}
+use Rattle.folder_store.specs.Ring.{RingState, rows_of, IsAsFound, HandsBack, with_ring, alone, IsLook, HasFailedSlot}
+use Rattle.folder_store.specs.Walk.{OpeningState, plain, MakesAtMost, none, one, Visits, Keeps, in_ring, by_itself}
 
 -- an empty file is no keyring file
 no_keyring : (clear : ClearPart) → ReadsAs [] clear → ⊥
@@ -71,3 +75,73 @@ pub known_alone : (image got seen : Image) (folder before now : Image → Type 0
 known_alone image got seen folder before now only fewer (inr settled) same left may = settled left may ∙ sym same
 known_alone image got seen folder before now only fewer (inl any) same left may =
     absurd (differ image (sym (only (Some []) (fewer (Some []) (any [])))) (sym (only (Some (0 ∷ [])) (fewer (Some (0 ∷ [])) (any (0 ∷ []))))))
+
+-- a slot that was made of a settled name and looked at is as it was found
+pub found_there : {S : Type 0} (seen : S → Image) (temporary : S → Temporary) (may_leave : S → Image → Type 0) (left_since : S → ℕ → Image → Type 0) (is_honest is_steady : S → Bool) (moment : S → ℕ)
+    (honest steady : Bool) (image there : Image) (folder : Image → Type 0) (made now : S)
+    → is_honest made ≡ honest → is_steady made ≡ steady → is_honest now ≡ is_honest made → is_steady now ≡ is_steady made
+    → (IsTrue honest → image ≡ there) → (IsTrue honest → Only there folder)
+    → (IsTrue honest → seen made ≡ there) → (IsTrue honest → LeavesNoMore folder (may_leave made)) → (IsTrue honest → LeavesNoMore folder (left_since made 0)) → (IsTrue honest → temporary made ≡ Unknown)
+    → (IsTrue (is_honest made) → seen now ≡ seen made) → (IsTrue (is_honest made) → LeavesNoMore (may_leave made) (may_leave now))
+    → (IsTrue (is_honest made) → LeavesOnly moment left_since made now (may_leave made)) → (IsTrue (is_honest made) → temporary now ≡ temporary made)
+    → IsAsFound seen temporary may_leave left_since is_honest is_steady honest steady image now
+found_there seen temporary may_leave left_since is_honest is_steady moment honest steady image there folder made now made_honest made_steady now_honest now_steady same only made_seen made_crash made_since made_temporary now_seen now_crash now_since now_temporary = record {
+  as_honest = now_honest ∙ made_honest;
+  as_steady = now_steady ∙ made_steady;
+  same = λ is. now_seen (was is) ∙ made_seen is ∙ sym (same is);
+  crash = λ is left may. only is left (made_crash is left (now_crash (was is) left may)) ∙ sym (same is);
+  any_moment = λ is left since. ⊎_elim
+      (λ earlier. only is left (made_since is left earlier) ∙ sym (same is))
+      (λ may. only is left (made_crash is left may) ∙ sym (same is))
+      ((now_since (was is)).before 0 left (omega arith) since);
+  untouched = λ is. now_temporary (was is) ∙ made_temporary is;
+}
+  where
+    was : IsTrue honest → IsTrue (is_honest made)
+    was is = subst (λ b. IsTrue b) (sym made_honest) is
+
+-- of another image that is the same where the folder is honest
+pub found_same : {S : Type 0} (seen : S → Image) (temporary : S → Temporary) (may_leave : S → Image → Type 0) (left_since : S → ℕ → Image → Type 0) (is_honest is_steady : S → Bool)
+    (honest steady : Bool) (image later : Image) (slot : S) → (IsTrue honest → image ≡ later)
+    → IsAsFound seen temporary may_leave left_since is_honest is_steady honest steady image slot
+    → IsAsFound seen temporary may_leave left_since is_honest is_steady honest steady later slot
+found_same seen temporary may_leave left_since is_honest is_steady honest steady image later slot same found = record {
+  as_honest = found.as_honest;
+  as_steady = found.as_steady;
+  same = λ is. found.same is ∙ same is;
+  crash = λ is left may. found.crash is left may ∙ same is;
+  any_moment = λ is left since. found.any_moment is left since ∙ same is;
+  untouched = found.untouched;
+}
+
+-- one slot more is handed back
+pub keeps_handed : {S : Type 0} (found : Image → S → Type 0) (images : List ℕ → Image) (made made_new : List (List ℕ)) (name stem : List ℕ) (slot : S) (old new : OpeningState S)
+    → made_new ≡ name ∷ made → IsRingName name stem → found (images name) slot → HandsBack found images made old.rings old.left
+    → Keeps stem slot old new → HandsBack found images made_new new.rings new.left
+keeps_handed found images made made_new name stem slot old new is named as_found before (in_ring ring of_stem of_slot rings left) =
+    subst (λ m. HandsBack found images m new.rings new.left) (sym is)
+    (subst (λ r. HandsBack found images (name ∷ made) r new.left) (sym rings)
+    (subst (λ l. HandsBack found images (name ∷ made) (old.rings ++ ring ∷ []) l) (sym left)
+    (with_ring made old.rings old.left name ring before (subst (λ s. IsRingName name s) (sym of_stem) named) (subst (λ s. found (images name) s) (sym of_slot) as_found))))
+keeps_handed found images made made_new name stem slot old new is named as_found before (by_itself file of_stem of_slot rings left) =
+    subst (λ m. HandsBack found images m new.rings new.left) (sym is)
+    (subst (λ r. HandsBack found images (name ∷ made) r new.left) (sym rings)
+    (subst (λ l. HandsBack found images (name ∷ made) old.rings l) (sym left)
+    (alone made old.rings old.left name file before (subst (λ s. IsRingName name s) (sym of_stem) named) (subst (λ s. found (images name) s) (sym of_slot) as_found))))
+
+-- a slot that was made of this name, looked at, and failed in that
+pub failed_slot : {S : Type 0} (found : Image → S → Type 0) (images : List ℕ → Image) (made before : List (List ℕ)) (faults : S → ℕ) (failed : S → Option DeviceCall) (is_steady : S → Bool) (steady : Bool) (name : List ℕ) (start slot : S)
+    → made ≡ name ∷ before → found (images name) slot → faults start ≡ 0 → Rose (faults start) (faults slot) → IsLook (failed slot)
+    → is_steady start ≡ steady → KeepsSteady (is_steady start) (is_steady slot) (faults start) (faults slot)
+    → HasFailedSlot found images made faults failed steady
+failed_slot found images made before faults failed is_steady steady name start slot is as_found fresh rose look steady_start keeps = record {
+  name = name;
+  slot = slot;
+  here = subst (λ l. Contains l name) (sym is) (0, omega arith, refl);
+  as_found = as_found;
+  rose = subst (λ n. Rose n (faults slot)) fresh rose;
+  look = look;
+  unsteady = λ s.
+      let same : faults slot ≡ faults start = keeps.still (subst (λ b. IsTrue b) (sym steady_start) s) in
+      ⊎_elim (λ (more : faults start < faults slot). omega (arith, same, more)) (λ (last : faults slot ≡ last_count). omega (arith, same, fresh, last)) rose;
+}

@@ -1,5 +1,5 @@
 -- What a call of `load` says of the folder, of what was loaded, and of the folder behind it.
-use Rattle.std.specs.Prelude.{◌≡◌, ℕ, ◌⊎◌, Bool, IsTrue, List, Contains}
+use Rattle.std.specs.Prelude.{◌≡◌, ℕ, ◌⊎◌, ◌∷◌, Bool, IsTrue, List, Contains}
 use Rattle.kr_base.specs.Attributes.{IsInOrder}
 use Rattle.kr_outside.specs.Folder.{IsSettled}
 use Rattle.kr_outside.specs.RenameDisk.{Image}
@@ -8,7 +8,7 @@ use Rattle.folder_store.specs.declared.limits.Limits.{Limits}
 use Rattle.folder_store.specs.declared.loading.Loaded.{Loaded}
 use Rattle.folder_store.specs.Names.{aliases, IsRingName}
 use Rattle.folder_store.specs.Opened.{Opening, Opens, Opened}
-use Rattle.folder_store.specs.Ring.{rows_of, ShowsAliases, IsLikeFolder, AreLikeFolder}
+use Rattle.folder_store.specs.Ring.{rows_of, ShowsAliases, HandsBack}
 
 -- what stands open, without slots
 abbrev pub opening_of : {S : Type 0} → Loaded S → Opening
@@ -21,15 +21,18 @@ pub record OpensSome (limits : Limits) (opening : Opening) : Type 0 where
   pub opens : Opens limits files opening
 
 -- the call, over a folder of which no slot was made before
-pub record Loads {F S : Type 0} (limits : Limits) (honest steady : Bool) (images : F → List ℕ → Image) (may_leave : F → List ℕ → Image → Type 0) (made : F → List (List ℕ)) (is_honest is_steady : S → Bool) (old new : F) (loaded : Loaded S) : Type 0 where
+pub record Loads {F S : Type 0} (limits : Limits) (found : Image → S → Type 0) (honest : Bool) (images : F → List ℕ → Image) (may_leave : F → List ℕ → Image → Type 0) (made : F → List (List ℕ)) (old new : F) (loaded : Loaded S) : Type 0 where
   -- of an honest folder what was loaded is what a start makes of its images, that of the aliases' file included
   pub opened : IsTrue honest → Opened limits (images old) (opening_of loaded) loaded.aliases.pairs
   pub alias_image : IsTrue honest → loaded.aliases.cell.file ≡ Known (images old aliases)
   -- whatever the folder is
   pub some : OpensSome limits (opening_of loaded)
   pub shown : ShowsAliases loaded.aliases.cell.file loaded.aliases.pairs
-  pub rings : AreLikeFolder is_honest is_steady honest steady loaded.rings.items
-  pub alias_slot : IsLikeFolder is_honest is_steady honest steady loaded.aliases.cell.slot
+  -- each slot that was made is handed back as it was found: one of `aliases`, and those of keyring files
+  pub rest : List (List ℕ)
+  pub made_all : made new ≡ aliases ∷ rest
+  pub handed : HandsBack found (images old) rest loaded.rings.items loaded.left_alone.items
+  pub alias_found : found (images old aliases) loaded.aliases.cell.slot
   -- a slot was made of no name but `aliases` and those whose stems are used; every other name is as it
   -- was, and settled
   pub made_of : (name : List ℕ) → Contains (made new) name → (name ≡ aliases) ⊎ ((stem : List ℕ) × IsRingName name stem × Contains loaded.used.items stem)

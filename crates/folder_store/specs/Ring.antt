@@ -1,10 +1,14 @@
 -- What was loaded, as contracts see it.
-use Rattle.std.specs.Prelude.{◌≡◌, ℕ, List, [], map, None, Some, Bool, IsTrue, Result, IsErrOf, ◌≤◌}
-use Rattle.std.specs.List.{AllByRecursion}
+use Rattle.std.specs.Prelude.{◌≡◌, ℕ, ◌⊎◌, List, [], ◌∷◌, ◌++◌, map, Contains, Option, None, Some, Bool, IsTrue, Result, IsErrOf, ◌≤◌}
 use Rattle.kr_outside.specs.Faults.{Rose}
+use Rattle.kr_outside.specs.RenameDisk.{Image, Temporary, Unknown, Only}
+use Rattle.kr_outside.specs.declared.slot.DeviceCall.{DeviceCall}
+use Rattle.kr_outside.specs.declared.slot.DeviceCall.TheVariants.{Size, Read, SyncFolder}
 use Rattle.keyring_file.specs.Clear.{ClearPart}
 use Rattle.replace_slot.specs.Cell.{CellState, File, Known, Doubt}
 use Rattle.folder_store.specs.Opened.{RingRow, ReadsAs, GivesAliases}
+use Rattle.folder_store.specs.Names.{IsRingName}
+use Rattle.folder_store.specs.declared.opening.LeftAlone.{LeftAlone}
 use Rattle.folder_store.specs.declared.refused.LoadRefused.{LoadRefused}
 use Rattle.folder_store.specs.declared.refused.LoadRefused.TheVariants.{Folder}
 
@@ -44,24 +48,44 @@ row_of ring = record { stem = ring.stem; clear = ring.clear; image = bytes_of ri
 abbrev pub rows_of : {S : Type 0} → List (RingState S) → List RingRow
 rows_of rings = map row_of rings
 
--- a slot of a folder that isn't steady failed: its count, which was 0, rose
-pub record HasFailedSlot {S : Type 0} (faults : S → ℕ) (is_steady : S → Bool) (steady : Bool) : Type 0 where
-  pub slot : S
-  pub rose : Rose 0 (faults slot)
-  pub same : is_steady slot ≡ steady
-  pub unsteady : ¬ (IsTrue steady)
-
 -- the count never falls, and a fault of the folder is answered only where it rose
 pub record HasLoadCause {T : Type 0} (old new : ℕ) (result : Result T LoadRefused) : Type 0 where
   pub later : old ≤ new
   pub failed : IsErrOf result Folder → Rose old new
 
--- the slot is honest just where the folder is, and steady just where the folder is
-pub record IsLikeFolder {S : Type 0} (is_honest is_steady : S → Bool) (honest steady : Bool) (slot : S) : Type 0 where
+-- A slot that a load made of a name and looked at: it is honest just where the folder is, and steady just
+-- where the folder is. Of an honest folder the name stands for the image that it stood for, no crash might
+-- have left another at any moment of the slot's clock, and its temporary file wasn't touched.
+pub record IsAsFound {S : Type 0} (seen : S → Image) (temporary : S → Temporary) (may_leave : S → Image → Type 0) (left_since : S → ℕ → Image → Type 0) (is_honest is_steady : S → Bool) (honest steady : Bool) (image : Image) (slot : S) : Type 0 where
   pub as_honest : is_honest slot ≡ honest
   pub as_steady : is_steady slot ≡ steady
+  pub same : IsTrue honest → seen slot ≡ image
+  pub crash : IsTrue honest → Only image (may_leave slot)
+  pub any_moment : IsTrue honest → Only image (left_since slot 0)
+  pub untouched : IsTrue honest → temporary slot ≡ Unknown
 
--- so are the slots of all these collections
-abbrev pub AreLikeFolder : {S : Type 0} → (S → Bool) → (S → Bool) → Bool → Bool → List (RingState S) → Type 0
-AreLikeFolder is_honest is_steady honest steady rings =
-    AllByRecursion (λ ring. IsLikeFolder is_honest is_steady honest steady ring.cell.slot) rings
+-- each slot that was made of these names, the newest first, is handed back, with a listed collection or with
+-- a file that was left alone, and is as it was found
+pub data HandsBack {S : Type 0} (found : Image → S → Type 0) (images : List ℕ → Image) : List (List ℕ) → List (RingState S) → List (LeftAlone S) → Type 0 where
+  nothing : HandsBack found images [] [] []
+  with_ring : (made : List (List ℕ)) (rings : List (RingState S)) (left : List (LeftAlone S)) (name : List ℕ) (ring : RingState S)
+      → HandsBack found images made rings left → IsRingName name ring.stem → found (images name) ring.cell.slot
+      → HandsBack found images (name ∷ made) (rings ++ ring ∷ []) left
+  alone : (made : List (List ℕ)) (rings : List (RingState S)) (left : List (LeftAlone S)) (name : List ℕ) (file : LeftAlone S)
+      → HandsBack found images made rings left → IsRingName name file.stem → found (images name) file.slot
+      → HandsBack found images (name ∷ made) rings (left ++ file ∷ [])
+
+-- the call that failed is one of the three that a load makes of a slot
+abbrev pub IsLook : Option DeviceCall → Type 0
+IsLook failed = (failed ≡ Some SyncFolder) ⊎ (failed ≡ Some Size) ⊎ (failed ≡ Some Read)
+
+-- a slot that was made in this call, over a folder that isn't steady, failed in a look at its file: its count,
+-- which was 0, rose, and it is as it was found
+pub record HasFailedSlot {S : Type 0} (found : Image → S → Type 0) (images : List ℕ → Image) (made : List (List ℕ)) (faults : S → ℕ) (failed : S → Option DeviceCall) (steady : Bool) : Type 0 where
+  pub name : List ℕ
+  pub slot : S
+  pub here : Contains made name
+  pub as_found : found (images name) slot
+  pub rose : Rose 0 (faults slot)
+  pub look : IsLook (failed slot)
+  pub unsteady : ¬ (IsTrue steady)

@@ -1,5 +1,5 @@
 -- What is known on the way over the names of a folder.
-use Rattle.std.specs.Prelude.{◌≡◌, ℕ, ◌<◌, Bool, IsTrue, List, ◌∷◌, length, Contains, Option, None, Some, IsSome, Vec}
+use Rattle.std.specs.Prelude.{◌≡◌, ℕ, ◌<◌, Bool, IsTrue, List, [], ◌∷◌, ◌++◌, length, Contains, Option, None, Some, IsSome, Vec}
 use Rattle.std.specs.List.{AllByRecursion}
 use Rattle.std.specs.Map.{keys_of}
 use Rattle.std.specs.declared.alloc.Global.{Global}
@@ -8,16 +8,19 @@ use Rattle.folder_store.specs.declared.limits.Limits.{Limits}
 use Rattle.folder_store.specs.Names.{IsRingName}
 use Rattle.folder_store.specs.Opened.{Opening, Opens, Takes}
 use Rattle.folder_store.specs.Ring.{RingState, rows_of}
+use Rattle.folder_store.specs.declared.opening.LeftAlone.{LeftAlone}
 
 -- a read of what a slot gives, of at most so many bytes: it gave the file, or there is none of so few
 abbrev pub ReadsWithin : ℕ → Image → Option (Vec ℕ Global) → Type 0
 ReadsWithin room seen None = (bytes : List ℕ) → seen ≡ Some bytes → room < length bytes
 ReadsWithin room seen (Some bytes) = seen ≡ Some bytes.items
 
--- the collections that are listed so far, with their cells, and the stems that are used
+-- the collections that are listed so far, with their cells, the stems that are used, and the slots of the
+-- files that were left alone
 pub record OpeningState (S : Type 0) : Type 0 where
   pub rings : List (RingState S)
   pub used : List (List ℕ)
+  pub left : List (LeftAlone S)
 
 -- the same without the slots
 abbrev pub plain : {S : Type 0} → OpeningState S → Opening
@@ -47,3 +50,10 @@ pub record Walk {F : Type 0} (limits : Limits) (honest : Bool) (images : F → L
   -- every other name is as it was
   pub same : IsTrue honest → (name : List ℕ) → ¬ (Contains (made new) name) → images new name ≡ images old name
   pub settled : IsTrue honest → (name : List ℕ) → ¬ (Contains (made new) name) → Only (images old name) (may_leave new name)
+
+-- the slot of a file with this stem is kept, with a collection that is listed or by itself
+pub data Keeps {S : Type 0} (stem : List ℕ) (slot : S) (old new : OpeningState S) : Type 0 where
+  in_ring : (ring : RingState S) → ring.stem ≡ stem → ring.cell.slot ≡ slot
+      → new.rings ≡ old.rings ++ ring ∷ [] → new.left ≡ old.left → Keeps stem slot old new
+  by_itself : (file : LeftAlone S) → file.stem ≡ stem → file.slot ≡ slot
+      → new.rings ≡ old.rings → new.left ≡ old.left ++ file ∷ [] → Keeps stem slot old new

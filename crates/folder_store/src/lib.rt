@@ -13,11 +13,10 @@ mod opening;
 mod reading;
 mod refused;
 mod ring;
-#[cfg(test)]
-mod tests;
 
 pub use alias_file::AliasFile;
 pub use limits::{Limits, MOST};
-pub use loading::{Loaded, load};
+pub use loading::{Loaded, load, load_within};
+pub use opening::LeftAlone;
 pub use refused::LoadRefused;
 pub use ring::Ring;

@@ -1,5 +1,5 @@
 /// How much of a folder is listed.
-#[derive(Clone, Copy, Debug, PartialEq, Eq)]
+#[derive(Clone, Copy, PartialEq, Eq)]
 pub struct Limits {
     /// The bytes of one keyring file.
     pub one_file: usize,

@@ -1,4 +1,4 @@
-ghost use Rattle.std.specs.Prelude.{◌≡◌, ◌≤◌, ◌⊎◌, ◌↔◌, ◌∷◌, ℕ, List, [], IsTrue, Contains, IsSome, IfOk, OnOk, IsErrOf};
+ghost use Rattle.std.specs.Prelude.{◌≡◌, ◌≤◌, ◌⊎◌, ◌↔◌, ◌∷◌, ℕ, List, Option, [], IsTrue, Contains, IsSome, IfOk, OnOk, IsErrOf};
 ghost use Rattle.std.specs.Cmp.Lexicographic.{slice_cmp};
 ghost use Rattle.std.specs.List.Sorted.{IsStrictlySortedBy};
 ghost use Rattle.std.specs.Ordering.{nat_cmp};
@@ -9,13 +9,13 @@ ghost use Rattle.replace_slot.specs.Cell.{Known};
 ghost use Rattle.folder_store.specs.Limits.{the_limits};
 ghost use Rattle.folder_store.specs.Loads.{Loads};
 ghost use Rattle.folder_store.specs.Names.{aliases, IsRingName};
-ghost use Rattle.folder_store.specs.Ring.{HasFailedSlot, HasLoadCause, IsLikeFolder, AreLikeFolder, ShowsAliases};
+ghost use Rattle.folder_store.specs.Ring.{HasFailedSlot, HasLoadCause, IsAsFound, HandsBack, ShowsAliases};
 ghost use Rattle.folder_store.specs.Walk.{Visits, Walk, plain};
 
 use crate::alias_file::AliasFile;
 use crate::limits::{Limits, MOST};
 use crate::names::{in_order, stem_of_name};
-use crate::opening::Opening;
+use crate::opening::{LeftAlone, Opening};
 use crate::reading::{read_settled, read_within};
 use crate::refused::LoadRefused;
 use crate::ring::Ring;
@@ -30,18 +30,23 @@ pub struct Loaded<S: Slot> {
     pub rings: Vec<Ring<S>>,
     /// The stems of all keyring files' names, in that order, also of those that were left alone.
     pub used: Vec<Stem>,
+    /// The keyring files that were looked at and left alone, in that order.
+    pub left_alone: Vec<LeftAlone<S>>,
     /// The file of the aliases.
     pub aliases: AliasFile<S>,
 }
 
 /// Loads a folder of which no slot was made yet: settles it, and then each keyring file and the file of
-/// the aliases, and reads each once. No file is changed, made or removed.
+/// the aliases, and reads each once. No file is changed, made or removed, at any moment, and each slot
+/// that was made is handed back.
 ///
 /// Refused with `Folder` only where a count of the folder or of a slot rose, and with `OutOfMemory`.
 pub fn load<F: Folder>(alloc: Global, folder: &mut F) -> Result<Loaded<F::Cell>, LoadRefused>
     requires fresh { F.made folder.old ≡ [] }
-    ensures loaded { IfOk result (Loads the_limits (F.is_honest folder.old) (F.is_steady folder.old)
-        F.images F.may_leave F.made F.Cell.is_honest F.Cell.is_steady folder.old folder.new) }
+    ensures loaded { IfOk result (Loads the_limits (IsAsFound F.Cell.seen F.Cell.temporary
+        F.Cell.may_leave F.Cell.left_since F.Cell.is_honest F.Cell.is_steady
+        (F.is_honest folder.old) (F.is_steady folder.old))
+        (F.is_honest folder.old) F.images F.may_leave F.made folder.old folder.new) }
 
     ensures honest { F.is_honest folder.new ≡ F.is_honest folder.old }
     ensures steady { KeepsSteady (F.is_steady folder.old) (F.is_steady folder.new)
@@ -49,21 +54,27 @@ pub fn load<F: Folder>(alloc: Global, folder: &mut F) -> Result<Loaded<F::Cell>,
     ensures later { F.faults folder.old ≤ F.faults folder.new }
     ensures cause { IsErrOf result LoadRefused.Folder
         → Rose (F.faults folder.old) (F.faults folder.new)
-        ⊎ HasFailedSlot F.Cell.faults F.Cell.is_steady (F.is_steady folder.old) }
+        ⊎ HasFailedSlot (IsAsFound F.Cell.seen F.Cell.temporary
+        F.Cell.may_leave F.Cell.left_since F.Cell.is_honest F.Cell.is_steady
+        (F.is_honest folder.old) (F.is_steady folder.old))
+        (F.images folder.old) (F.made folder.new) F.Cell.faults F.Cell.failed
+        (F.is_steady folder.old) }
     ensures never { IsTrue (F.is_steady folder.old) → ¬ (IsErrOf result LoadRefused.Folder) }
 {
     load_within(alloc, folder, &MOST)
 }
 
-/// The same with other limits.
+/// Loads a folder as `load` does, with other limits.
 pub fn load_within<F: Folder>(
     alloc: Global,
     folder: &mut F,
     limits: &Limits,
 ) -> Result<Loaded<F::Cell>, LoadRefused>
     requires fresh { F.made folder.old ≡ [] }
-    ensures loaded { IfOk result (Loads limits.now (F.is_honest folder.old) (F.is_steady folder.old)
-        F.images F.may_leave F.made F.Cell.is_honest F.Cell.is_steady folder.old folder.new) }
+    ensures loaded { IfOk result (Loads limits.now (IsAsFound F.Cell.seen F.Cell.temporary
+        F.Cell.may_leave F.Cell.left_since F.Cell.is_honest F.Cell.is_steady
+        (F.is_honest folder.old) (F.is_steady folder.old))
+        (F.is_honest folder.old) F.images F.may_leave F.made folder.old folder.new) }
 
     ensures honest { F.is_honest folder.new ≡ F.is_honest folder.old }
     ensures steady { KeepsSteady (F.is_steady folder.old) (F.is_steady folder.new)
@@ -71,15 +82,21 @@ pub fn load_within<F: Folder>(
     ensures later { F.faults folder.old ≤ F.faults folder.new }
     ensures cause { IsErrOf result LoadRefused.Folder
         → Rose (F.faults folder.old) (F.faults folder.new)
-        ⊎ HasFailedSlot F.Cell.faults F.Cell.is_steady (F.is_steady folder.old) }
+        ⊎ HasFailedSlot (IsAsFound F.Cell.seen F.Cell.temporary
+        F.Cell.may_leave F.Cell.left_since F.Cell.is_honest F.Cell.is_steady
+        (F.is_honest folder.old) (F.is_steady folder.old))
+        (F.images folder.old) (F.made folder.new) F.Cell.faults F.Cell.failed
+        (F.is_steady folder.old) }
+    ensures never { IsTrue (F.is_steady folder.old) → ¬ (IsErrOf result LoadRefused.Folder) }
 {
     let names = settled_names(alloc, folder)?;
     let opening = walk(alloc, folder, limits, &names)?;
     let aliases = load_aliases(alloc, folder)?;
-    let (rings, used) = opening.into_parts();
+    let (rings, used, left_alone) = opening.into_parts();
     Ok(Loaded {
         rings,
         used,
+        left_alone,
         aliases,
     })
 }
@@ -127,14 +144,23 @@ fn walk<F: Folder>(
         → IsSettled [] (F.images folder.old) (F.may_leave folder.old) }
     ensures walked { IfOk result (λ opening. Walk limits.now (F.is_honest folder.old)
         F.images F.may_leave F.made folder.old folder.new names.now (plain opening)) }
-    ensures slots { IfOk result (λ opening. AreLikeFolder F.Cell.is_honest F.Cell.is_steady
-        (F.is_honest folder.old) (F.is_steady folder.old) opening.rings) }
+    ensures handed { (images : List ℕ → Option (List ℕ)) → (IsTrue (F.is_honest folder.old)
+        → (name : List ℕ) → images name ≡ F.images folder.old name)
+        → IfOk result (λ opening. HandsBack (IsAsFound F.Cell.seen F.Cell.temporary
+        F.Cell.may_leave F.Cell.left_since F.Cell.is_honest F.Cell.is_steady
+        (F.is_honest folder.old) (F.is_steady folder.old))
+        images (F.made folder.new) opening.rings opening.left) }
 
     ensures honest { F.is_honest folder.new ≡ F.is_honest folder.old }
     ensures count { F.faults folder.new ≡ F.faults folder.old }
     ensures steady { F.is_steady folder.new ≡ F.is_steady folder.old }
-    ensures cause { IsErrOf result LoadRefused.Folder
-        → HasFailedSlot F.Cell.faults F.Cell.is_steady (F.is_steady folder.old) }
+    ensures cause { (images : List ℕ → Option (List ℕ)) → (IsTrue (F.is_honest folder.old)
+        → (name : List ℕ) → images name ≡ F.images folder.old name)
+        → IsErrOf result LoadRefused.Folder → HasFailedSlot (IsAsFound F.Cell.seen F.Cell.temporary
+        F.Cell.may_leave F.Cell.left_since F.Cell.is_honest F.Cell.is_steady
+        (F.is_honest folder.old) (F.is_steady folder.old))
+        images (F.made folder.new) F.Cell.faults F.Cell.failed
+        (F.is_steady folder.old) }
 {
     let mut opening = Opening::new(alloc);
     for name in names {
@@ -158,16 +184,27 @@ fn visit<F: Folder>(
         opening.old opening.new) }
     ensures stays { IsTrue (F.is_honest folder.old)
         → Stays F.images F.may_leave (F.made folder.new) folder.old folder.new }
-    ensures slots { AreLikeFolder F.Cell.is_honest F.Cell.is_steady
-        (F.is_honest folder.old) (F.is_steady folder.old) opening.old.rings
-        → OnOk result (AreLikeFolder F.Cell.is_honest F.Cell.is_steady
-        (F.is_honest folder.old) (F.is_steady folder.old) opening.new.rings) }
+    ensures handed { (images : List ℕ → Option (List ℕ)) → (IsTrue (F.is_honest folder.old)
+        → images name.now ≡ F.images folder.old name.now)
+        → HandsBack (IsAsFound F.Cell.seen F.Cell.temporary
+        F.Cell.may_leave F.Cell.left_since F.Cell.is_honest F.Cell.is_steady
+        (F.is_honest folder.old) (F.is_steady folder.old))
+        images (F.made folder.old) opening.old.rings opening.old.left
+        → OnOk result (HandsBack (IsAsFound F.Cell.seen F.Cell.temporary
+        F.Cell.may_leave F.Cell.left_since F.Cell.is_honest F.Cell.is_steady
+        (F.is_honest folder.old) (F.is_steady folder.old))
+        images (F.made folder.new) opening.new.rings opening.new.left) }
 
     ensures honest { F.is_honest folder.new ≡ F.is_honest folder.old }
     ensures count { F.faults folder.new ≡ F.faults folder.old }
     ensures steady { F.is_steady folder.new ≡ F.is_steady folder.old }
-    ensures cause { IsErrOf result LoadRefused.Folder
-        → HasFailedSlot F.Cell.faults F.Cell.is_steady (F.is_steady folder.old) }
+    ensures cause { (images : List ℕ → Option (List ℕ)) → (IsTrue (F.is_honest folder.old)
+        → images name.now ≡ F.images folder.old name.now) → IsErrOf result LoadRefused.Folder
+        → HasFailedSlot (IsAsFound F.Cell.seen F.Cell.temporary
+        F.Cell.may_leave F.Cell.left_since F.Cell.is_honest F.Cell.is_steady
+        (F.is_honest folder.old) (F.is_steady folder.old))
+        images (F.made folder.new) F.Cell.faults F.Cell.failed
+        (F.is_steady folder.old) }
 {
     match stem_of_name(alloc, name)? {
         Some(stem) => take_file(alloc, folder, limits, name, stem, opening),
@@ -192,16 +229,27 @@ fn take_file<F: Folder>(
         opening.old opening.new) }
     ensures stays { IsTrue (F.is_honest folder.old)
         → Stays F.images F.may_leave (F.made folder.new) folder.old folder.new }
-    ensures slots { AreLikeFolder F.Cell.is_honest F.Cell.is_steady
-        (F.is_honest folder.old) (F.is_steady folder.old) opening.old.rings
-        → OnOk result (AreLikeFolder F.Cell.is_honest F.Cell.is_steady
-        (F.is_honest folder.old) (F.is_steady folder.old) opening.new.rings) }
+    ensures handed { (images : List ℕ → Option (List ℕ)) → (IsTrue (F.is_honest folder.old)
+        → images name.now ≡ F.images folder.old name.now)
+        → HandsBack (IsAsFound F.Cell.seen F.Cell.temporary
+        F.Cell.may_leave F.Cell.left_since F.Cell.is_honest F.Cell.is_steady
+        (F.is_honest folder.old) (F.is_steady folder.old))
+        images (F.made folder.old) opening.old.rings opening.old.left
+        → OnOk result (HandsBack (IsAsFound F.Cell.seen F.Cell.temporary
+        F.Cell.may_leave F.Cell.left_since F.Cell.is_honest F.Cell.is_steady
+        (F.is_honest folder.old) (F.is_steady folder.old))
+        images (F.made folder.new) opening.new.rings opening.new.left) }
 
     ensures honest { F.is_honest folder.new ≡ F.is_honest folder.old }
     ensures count { F.faults folder.new ≡ F.faults folder.old }
     ensures steady { F.is_steady folder.new ≡ F.is_steady folder.old }
-    ensures cause { IsErrOf result LoadRefused.Folder
-        → HasFailedSlot F.Cell.faults F.Cell.is_steady (F.is_steady folder.old) }
+    ensures cause { (images : List ℕ → Option (List ℕ)) → (IsTrue (F.is_honest folder.old)
+        → images name.now ≡ F.images folder.old name.now) → IsErrOf result LoadRefused.Folder
+        → HasFailedSlot (IsAsFound F.Cell.seen F.Cell.temporary
+        F.Cell.may_leave F.Cell.left_since F.Cell.is_honest F.Cell.is_steady
+        (F.is_honest folder.old) (F.is_steady folder.old))
+        images (F.made folder.new) F.Cell.faults F.Cell.failed
+        (F.is_steady folder.old) }
 {
     let Some(room) = opening.room(limits) else {
         return opening.leave(stem);
@@ -209,7 +257,7 @@ fn take_file<F: Folder>(
     let mut slot = folder.slot(name)?;
     match read_within(alloc, &mut slot, room)? {
         Some(image) => opening.take(alloc, limits, stem, slot, image),
-        None => opening.leave(stem),
+        None => opening.leave_slot(stem, slot),
     }
 }
 
@@ -220,8 +268,10 @@ fn load_aliases<F: Folder>(alloc: Global, folder: &mut F) -> Result<AliasFile<F:
     ensures image { IsTrue (F.is_honest folder.old) → IfOk result (λ file.
         file.cell.file ≡ Known (F.images folder.old aliases)) }
     ensures shown { IfOk result (λ file. ShowsAliases file.cell.file file.pairs) }
-    ensures slot { IfOk result (λ file. IsLikeFolder F.Cell.is_honest F.Cell.is_steady
-        (F.is_honest folder.old) (F.is_steady folder.old) file.cell.slot) }
+    ensures slot { IfOk result (λ file. IsAsFound F.Cell.seen F.Cell.temporary
+        F.Cell.may_leave F.Cell.left_since F.Cell.is_honest F.Cell.is_steady
+        (F.is_honest folder.old) (F.is_steady folder.old)
+        (F.images folder.old aliases) file.cell.slot) }
     ensures made { OnOk result (F.made folder.new ≡ aliases ∷ F.made folder.old) }
     ensures stays { IsTrue (F.is_honest folder.old)
         → Stays F.images F.may_leave (F.made folder.new) folder.old folder.new }
@@ -229,8 +279,13 @@ fn load_aliases<F: Folder>(alloc: Global, folder: &mut F) -> Result<AliasFile<F:
     ensures honest { F.is_honest folder.new ≡ F.is_honest folder.old }
     ensures count { F.faults folder.new ≡ F.faults folder.old }
     ensures steady { F.is_steady folder.new ≡ F.is_steady folder.old }
-    ensures cause { IsErrOf result LoadRefused.Folder
-        → HasFailedSlot F.Cell.faults F.Cell.is_steady (F.is_steady folder.old) }
+    ensures cause { (images : List ℕ → Option (List ℕ)) → (IsTrue (F.is_honest folder.old)
+        → images aliases ≡ F.images folder.old aliases)
+        → IsErrOf result LoadRefused.Folder → HasFailedSlot (IsAsFound F.Cell.seen F.Cell.temporary
+        F.Cell.may_leave F.Cell.left_since F.Cell.is_honest F.Cell.is_steady
+        (F.is_honest folder.old) (F.is_steady folder.old))
+        images (F.made folder.new) F.Cell.faults F.Cell.failed
+        (F.is_steady folder.old) }
 {
     let mut slot = folder.slot("aliases")?;
     let image = read_settled(alloc, &mut slot)?;

@@ -1,11 +1,11 @@
 // What stands open on the way over the names of a folder.
-ghost use Rattle.std.specs.Prelude.{◌≡◌, ◌<◌, ◌≤◌, ◌↔◌, ◌+◌, ◌^◌, ◌++◌, ◌∷◌, [], Bool, IsTrue, Some, IfOk, IfErr, IfSome, IsNone, OnOk, length, List, ℕ};
+ghost use Rattle.std.specs.Prelude.{◌≡◌, ◌<◌, ◌≤◌, ◌↔◌, ◌+◌, ◌^◌, ◌++◌, ◌∷◌, [], IsTrue, Some, IfOk, IfErr, IfSome, IsNone, OnOk, length, List, ℕ};
 ghost use Rattle.kr_outside.specs.RenameDisk.{Only};
 ghost use Rattle.keyring_file.specs.Clear.{ClearPart};
 ghost use Rattle.folder_store.specs.Names.{IsRingName};
 ghost use Rattle.folder_store.specs.Opened.{Fits, Takes, items_in, bytes_in, leaves_alone};
-ghost use Rattle.folder_store.specs.Ring.{IsLikeFolder, AreLikeFolder, rows_of, bytes_of};
-ghost use Rattle.folder_store.specs.Walk.{plain};
+ghost use Rattle.folder_store.specs.Ring.{rows_of, bytes_of};
+ghost use Rattle.folder_store.specs.Walk.{plain, Keeps};
 
 use crate::limits::Limits;
 use crate::refused::LoadRefused;
@@ -18,11 +18,22 @@ use replace_slot::FileCell;
 use std::alloc::Global;
 use std::marker::Model;
 
-/// The collections that are listed so far, and the stems that are used, both in the order of the names.
+/// A keyring file that was looked at and left alone: its stem, and its slot.
+#[derive(Drop)]
+pub struct LeftAlone<S: Slot> {
+    /// The stem.
+    pub stem: Stem,
+    /// The slot.
+    pub slot: S,
+}
+
+/// The collections that are listed so far, the stems that are used, and the files that were looked at and
+/// left alone, all in the order of the names.
 #[derive(Drop)]
 pub struct Opening<S: Slot> {
     rings: Vec<Ring<S>>,
     used: Vec<Stem>,
+    left: Vec<LeftAlone<S>>,
     items: usize,
     bytes: usize,
 }
@@ -35,7 +46,11 @@ impl<S: Slot> Model for Opening<S> {
 
     ghost Value = { OpeningState S };
 
-    ghost view = { λ o. record { rings = o.rings.items; used = o.used.items } };
+    ghost view = { λ o. record {
+      rings = o.rings.items;
+      used = o.used.items;
+      left = o.left.items;
+    } };
 
     ghost invariant = { λ o. (o.items ≡ items_in (rows_of o.rings.items))
         × (o.bytes ≡ bytes_in (rows_of o.rings.items)) };
@@ -44,22 +59,24 @@ impl<S: Slot> Model for Opening<S> {
 impl<S: Slot> Opening<S> {
     /// Nothing stands open.
     pub fn new(alloc: Global) -> Opening<S>
-        ensures { result ≡ record { rings = []; used = [] } }
+        ensures { result ≡ record { rings = []; used = []; left = [] } }
     {
         Opening {
             rings: Vec::new(alloc),
             used: Vec::new(alloc),
+            left: Vec::new(alloc),
             items: 0,
             bytes: 0,
         }
     }
 
-    /// The collections and the used stems.
-    pub fn into_parts(self) -> (Vec<Ring<S>>, Vec<Stem>)
+    /// The collections, the used stems, and the files that were left alone.
+    pub fn into_parts(self) -> (Vec<Ring<S>>, Vec<Stem>, Vec<LeftAlone<S>>)
         ensures rings { result.0.items ≡ self.rings }
         ensures used { result.1.items ≡ self.used }
+        ensures left { result.2.items ≡ self.left }
     {
-        (self.rings, self.used)
+        (self.rings, self.used, self.left)
     }
 
     /// The most bytes that a further file may have; None where no further file can be listed.
@@ -91,13 +108,29 @@ impl<S: Slot> Opening<S> {
             && has_room(self.bytes, image.len(), limits.all_files)
     }
 
-    /// Leaves a file alone: its stem is used.
+    /// Leaves a file alone of which no slot was made: its stem is used.
     pub fn leave(&mut self, stem: Stem) -> Result<(), LoadRefused>
         ensures left { OnOk result (plain self.new ≡ leaves_alone stem (plain self.old)) }
         ensures rings { self.new.rings ≡ self.old.rings }
+        ensures slots { self.new.left ≡ self.old.left }
         ensures memory { IfErr result (λ refused. refused ≡ LoadRefused.OutOfMemory) }
     {
         self.used.push(stem)?;
+        Ok(())
+    }
+
+    /// Leaves a file alone that was looked at: its stem is used, and its slot is kept.
+    pub fn leave_slot(&mut self, stem: Stem, slot: S) -> Result<(), LoadRefused>
+        ensures left { OnOk result (plain self.new ≡ leaves_alone stem (plain self.old)) }
+        ensures used { OnOk result (self.new.used ≡ self.old.used ++ stem ∷ []) }
+        ensures rings { self.new.rings ≡ self.old.rings }
+        ensures slots { OnOk result
+            (self.new.left ≡ self.old.left ++ (record { stem = stem; slot = slot }) ∷ []) }
+        ensures memory { IfErr result (λ refused. refused ≡ LoadRefused.OutOfMemory) }
+    {
+        let used = stem.copy()?;
+        self.used.push(used)?;
+        self.left.push(LeftAlone { stem, slot })?;
         Ok(())
     }
 
@@ -108,6 +141,7 @@ impl<S: Slot> Opening<S> {
             < 2 ^ 64 }
         ensures rings { OnOk result (self.new.rings ≡ self.old.rings ++ ring ∷ []) }
         ensures used { OnOk result (self.new.used ≡ self.old.used ++ stem ∷ []) }
+        ensures left { self.new.left ≡ self.old.left }
         ensures memory { IfErr result (λ refused. refused ≡ LoadRefused.OutOfMemory) }
     {
         let clear = ring.clear().items.len();
@@ -120,7 +154,7 @@ impl<S: Slot> Opening<S> {
     }
 
     /// Takes one more keyring file: lists it where it is one and the limits let it be, and else leaves
-    /// it alone.
+    /// it alone. Its slot is kept.
     pub fn take(
         &mut self,
         alloc: Global,
@@ -133,23 +167,20 @@ impl<S: Slot> Opening<S> {
         ensures taken { (name : List ℕ) → IsRingName name stem → OnOk result
             (Takes limits.now name image.items (plain self.old) (plain self.new)) }
         ensures used { OnOk result (self.new.used ≡ self.old.used ++ stem ∷ []) }
-        ensures slots { (honest steady : Bool)
-            → IsLikeFolder S.is_honest S.is_steady honest steady slot
-            → AreLikeFolder S.is_honest S.is_steady honest steady self.old.rings
-            → OnOk result (AreLikeFolder S.is_honest S.is_steady honest steady self.new.rings) }
+        ensures kept { OnOk result (Keeps stem slot self.old self.new) }
         ensures memory { IfErr result (λ refused. refused ≡ LoadRefused.OutOfMemory) }
     {
         match read_clear(alloc, &image) {
             Ok((clear, _)) => {
                 if !self.fits(limits, &clear, &image) {
-                    return self.leave(stem);
+                    return self.leave_slot(stem, slot);
                 }
                 let used = stem.copy()?;
                 let cell = FileCell::known(slot, Some(image));
                 self.list(used, Ring::new(stem, cell, clear))
             }
             Err(ReadRefused::OutOfMemory) => Err(LoadRefused::OutOfMemory),
-            Err(ReadRefused::Fault(_)) => self.leave(stem),
+            Err(ReadRefused::Fault(_)) => self.leave_slot(stem, slot),
         }
     }
 }

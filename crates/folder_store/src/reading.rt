@@ -1,9 +1,10 @@
 // One file is settled, measured and read.
-ghost use Rattle.std.specs.Prelude.{◌≡◌, ◌⊎◌, IsTrue, Some, IfOk, OnOk};
+ghost use Rattle.std.specs.Prelude.{◌≡◌, ◌⊎◌, IsTrue, Some, IfOk, OnOk, IsErr, IsErrOf};
 ghost use Rattle.kr_outside.specs.Faults.{HasCause, KeepsSteady};
+ghost use Rattle.kr_outside.specs.Moments.{LeavesOnly};
 ghost use Rattle.kr_outside.specs.RenameDisk.{Only, LeavesAnyBytes, LeavesNoMore, size_of};
 ghost use Rattle.replace_slot.specs.Cell.{image_of};
-ghost use Rattle.folder_store.specs.Ring.{HasLoadCause};
+ghost use Rattle.folder_store.specs.Ring.{HasLoadCause, IsLook};
 ghost use Rattle.folder_store.specs.Walk.{ReadsWithin};
 
 use crate::refused::LoadRefused;
@@ -20,10 +21,15 @@ pub fn settled_size<S: Slot>(slot: &mut S) -> Result<Option<u64>, Failed>
         ⊎ Only (S.seen slot.new) (S.may_leave slot.new)) }
 
     ensures same { IsTrue (S.is_honest slot.old) → S.seen slot.new ≡ S.seen slot.old }
+    ensures same_temporary { IsTrue (S.is_honest slot.old)
+        → S.temporary slot.new ≡ S.temporary slot.old }
     ensures crash { IsTrue (S.is_honest slot.old)
         → LeavesNoMore (S.may_leave slot.old) (S.may_leave slot.new) }
+    ensures any_moment { IsTrue (S.is_honest slot.old)
+        → LeavesOnly S.moment S.left_since slot.old slot.new (S.may_leave slot.old) }
     ensures honest { S.is_honest slot.new ≡ S.is_honest slot.old }
     ensures cause { HasCause (S.faults slot.old) (S.faults slot.new) result }
+    ensures look { IsErr result → IsLook (S.failed slot.new) }
     ensures steady { KeepsSteady (S.is_steady slot.old) (S.is_steady slot.new)
         (S.faults slot.old) (S.faults slot.new) }
 {
@@ -43,10 +49,15 @@ pub fn read_sized<S: Slot>(
         → IfOk result (λ found. image_of found ≡ S.seen slot.new) }
 
     ensures same { IsTrue (S.is_honest slot.old) → S.seen slot.new ≡ S.seen slot.old }
+    ensures same_temporary { IsTrue (S.is_honest slot.old)
+        → S.temporary slot.new ≡ S.temporary slot.old }
     ensures crash { IsTrue (S.is_honest slot.old)
         → LeavesNoMore (S.may_leave slot.old) (S.may_leave slot.new) }
+    ensures any_moment { IsTrue (S.is_honest slot.old)
+        → LeavesOnly S.moment S.left_since slot.old slot.new (S.may_leave slot.old) }
     ensures honest { S.is_honest slot.new ≡ S.is_honest slot.old }
     ensures cause { HasLoadCause (S.faults slot.old) (S.faults slot.new) result }
+    ensures look { IsErrOf result LoadRefused.Folder → IsLook (S.failed slot.new) }
     ensures steady { KeepsSteady (S.is_steady slot.old) (S.is_steady slot.new)
         (S.faults slot.old) (S.faults slot.new) }
 {
@@ -75,8 +86,15 @@ pub fn read_within<S: Slot>(
         ⊎ Only (S.seen slot.new) (S.may_leave slot.new)) }
 
     ensures same { IsTrue (S.is_honest slot.old) → S.seen slot.new ≡ S.seen slot.old }
+    ensures same_temporary { IsTrue (S.is_honest slot.old)
+        → S.temporary slot.new ≡ S.temporary slot.old }
+    ensures crash { IsTrue (S.is_honest slot.old)
+        → LeavesNoMore (S.may_leave slot.old) (S.may_leave slot.new) }
+    ensures any_moment { IsTrue (S.is_honest slot.old)
+        → LeavesOnly S.moment S.left_since slot.old slot.new (S.may_leave slot.old) }
     ensures honest { S.is_honest slot.new ≡ S.is_honest slot.old }
     ensures cause { HasLoadCause (S.faults slot.old) (S.faults slot.new) result }
+    ensures look { IsErrOf result LoadRefused.Folder → IsLook (S.failed slot.new) }
     ensures steady { KeepsSteady (S.is_steady slot.old) (S.is_steady slot.new)
         (S.faults slot.old) (S.faults slot.new) }
 {
@@ -101,8 +119,15 @@ pub fn read_settled<S: Slot>(alloc: Global, slot: &mut S) -> Result<Option<Vec<u
         ⊎ Only (S.seen slot.new) (S.may_leave slot.new)) }
 
     ensures same { IsTrue (S.is_honest slot.old) → S.seen slot.new ≡ S.seen slot.old }
+    ensures same_temporary { IsTrue (S.is_honest slot.old)
+        → S.temporary slot.new ≡ S.temporary slot.old }
+    ensures crash { IsTrue (S.is_honest slot.old)
+        → LeavesNoMore (S.may_leave slot.old) (S.may_leave slot.new) }
+    ensures any_moment { IsTrue (S.is_honest slot.old)
+        → LeavesOnly S.moment S.left_since slot.old slot.new (S.may_leave slot.old) }
     ensures honest { S.is_honest slot.new ≡ S.is_honest slot.old }
     ensures cause { HasLoadCause (S.faults slot.old) (S.faults slot.new) result }
+    ensures look { IsErrOf result LoadRefused.Folder → IsLook (S.failed slot.new) }
     ensures steady { KeepsSteady (S.is_steady slot.old) (S.is_steady slot.new)
         (S.faults slot.old) (S.faults slot.new) }
 {

@@ -1,5 +1,5 @@
 -- What a crash leaves of a cell's file.
-use Rattle.std.proofs.Common.{◌≡◌, ◌⊎◌, Option, None, Some}
+use Rattle.std.proofs.Common.{None, Some}
 use Rattle.kr_outside.specs.RenameDisk.{Image, Only}
 use Rattle.replace_slot.specs.Cell.{File, Known, Doubt, IsKnown, HasFile, old_image, LeavesFile}
 

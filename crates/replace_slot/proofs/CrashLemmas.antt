@@ -1,5 +1,5 @@
 -- What a crash leaves once the folder is synced behind a rename or a removal.
-use Rattle.std.proofs.Common.{◌≡◌, ◌⊎◌, ⊎_elim, inl, inr, ℕ, List, Option, None, Some, sym, ◌∙◌, subst, Result, OnOk}
+use Rattle.std.proofs.Common.{◌≡◌, ◌⊎◌, ⊎_elim, inl, inr, ℕ, List, None, Some, subst, Result, OnOk}
 use Rattle.std.proofs.lemmas.Result.{on_ok_weaker}
 use Rattle.kr_outside.specs.RenameDisk.{Image, Temporary, Synced, GivesTemporary, LeavesTemporary, Only, LeavesAnyBytes, LeavesAlso}
 use Rattle.kr_outside.proofs.RenameDiskLemmas.{LeavesAnyBytes-pair}

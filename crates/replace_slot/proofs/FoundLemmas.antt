@@ -1,10 +1,10 @@
 -- What a read of a file in doubt shows, over an honest slot.
-use Rattle.std.proofs.Common.{◌≡◌, ◌≢◌, ◌⊎◌, ⊎_elim, inl, inr, ℕ, ◌<◌, max, List, take, length, Option, None, Some, refl, sym, ◌∙◌, ap, arith}
-use Rattle.kr_outside.specs.RenameDisk.{Image, Only, LeavesAnyBytes, LeavesNoMore, Reads}
+use Rattle.std.proofs.Common.{◌≡◌, ◌≢◌, ◌⊎◌, ⊎_elim, inl, inr, ℕ, ◌<◌, max, List, length, refl, sym, ◌∙◌, ap, arith}
+use Rattle.kr_outside.specs.RenameDisk.{Image, Only, LeavesAnyBytes, Reads}
 use Rattle.kr_outside.specs.declared.slot.Seen.{Seen}
 use Rattle.kr_outside.specs.declared.slot.Seen.TheVariants.{Missing, Whole, Longer}
 use Rattle.kr_outside.proofs.RenameDiskLemmas.{LeavesAnyBytes-pair}
-use Rattle.replace_slot.specs.Cell.{File, Known, Doubt, IsKnown, IsOneOf, LeavesFile, length_of, longest_of}
+use Rattle.replace_slot.specs.Cell.{File, Known, Doubt, IsKnown, LeavesFile, length_of, longest_of}
 use Rattle.replace_slot.specs.Found.{Gave, IsFound, found_file}
 use Rattle.replace_slot.specs.declared.images.Found.{Found}
 use Rattle.replace_slot.specs.declared.images.Found.TheVariants.{Old, New, Other}

@@ -1,8 +1,10 @@
 -- A file that is replaced whole (docs/DECISIONS.md, "What a crash claim rests on").
-use Rattle.std.specs.Prelude.{◌≡◌, ℕ, ◌⊎◌, max, List, length, Option, None, Some, Vec, IsTrue, Bool}
+use Rattle.std.specs.Prelude.{◌≡◌, ℕ, ◌⊎◌, max, length, Option, None, Some, Vec}
 use Rattle.std.specs.Option.{option_map, option_map_or}
 use Rattle.std.specs.declared.alloc.Global.{Global}
 use Rattle.kr_outside.specs.RenameDisk.{Image}
+use Rattle.kr_outside.specs.declared.slot.DeviceCall.{DeviceCall}
+use Rattle.kr_outside.specs.declared.slot.DeviceCall.TheVariants.{PutTemp, SyncTemp, SyncFolder, Read}
 
 -- the image that a vector is, and no file for none
 abbrev pub image_of : Option (Vec ℕ Global) → Image
@@ -56,3 +58,16 @@ pub record CellState (S : Type 0) : Type 0 where
 abbrev pub file_of : Option (Vec ℕ Global) → Option (Option (Vec ℕ Global)) → File
 file_of image None = Known (image_of image)
 file_of image (Some newer) = Doubt (image_of image) (image_of newer)
+
+-- the new file couldn't be prepared: one of the two calls failed that write the temporary file
+abbrev pub FailedBefore : Option DeviceCall → Type 0
+FailedBefore failed = (failed ≡ Some PutTemp) ⊎ (failed ≡ Some SyncTemp)
+
+-- the call failed that changes what the name stands for, or else, once this was done, the sync of the
+-- folder that follows it
+abbrev pub FailedAfter : DeviceCall → Type 0 → Option DeviceCall → Type 0
+FailedAfter change done failed = (failed ≡ Some change) ⊎ ((failed ≡ Some SyncFolder) × done)
+
+-- one of the two calls failed that end a doubt
+abbrev pub FailedRead : Option DeviceCall → Type 0
+FailedRead failed = (failed ≡ Some SyncFolder) ⊎ (failed ≡ Some Read)

@@ -1,6 +1,6 @@
 -- What a read says of a file that is in doubt.
 use Rattle.std.specs.Prelude.{◌≡◌, ℕ, List, take, length, Option, None, Some}
-use Rattle.kr_outside.specs.RenameDisk.{Image}
+use Rattle.kr_outside.specs.RenameDisk.{Image, FitsIn}
 use Rattle.kr_outside.specs.declared.slot.Seen.{Seen}
 use Rattle.kr_outside.specs.declared.slot.Seen.TheVariants.{Missing, Whole, Longer}
 use Rattle.replace_slot.specs.Cell.{File, Known, Doubt}
@@ -39,3 +39,10 @@ IsFound seen buffer found (Known image) = Unit {0}
 IsFound seen buffer Old (Doubt old new) = Gave seen buffer old
 IsFound seen buffer New (Doubt old new) = ¬ (Gave seen buffer old) × Gave seen buffer new
 IsFound seen buffer Other (Doubt old new) = ¬ (Gave seen buffer old) × ¬ (Gave seen buffer new)
+
+-- this was found by what the last read answered, into this buffer
+pub record IsFoundBy (answered : Option Seen) (buffer : List ℕ) (found : Found) (file : File) : Type 0 where
+  pub answer : Seen
+  pub told : answered ≡ Some answer
+  pub fits : FitsIn (length buffer) answer
+  pub decided : IsFound answer buffer found file

@@ -3,12 +3,12 @@ ghost use Rattle.std.specs.Option.{option_map};
 ghost use Rattle.kr_outside.specs.Faults.{HasCause, KeepsSteady};
 ghost use Rattle.kr_outside.specs.Moments.{LeavesOnly};
 ghost use Rattle.kr_outside.specs.RenameDisk.{Only, FitsIn};
-ghost use Rattle.replace_slot.specs.Cell.{Known, Doubt, IsKnown, HasFile, image_of, old_image, IsOneOf, LeavesFile, length_of, longest_of};
-ghost use Rattle.replace_slot.specs.Found.{Gave, found_file, Shows};
+ghost use Rattle.replace_slot.specs.Cell.{Known, Doubt, IsKnown, HasFile, image_of, old_image, IsOneOf, LeavesFile, length_of, longest_of, FailedBefore, FailedAfter, FailedRead};
+ghost use Rattle.replace_slot.specs.Found.{Gave, found_file, Shows, IsFoundBy};
 
 use crate::images::{Found, Images};
 use crate::steps::{prepare, publish, retire, settle};
-use kr_outside::Slot;
+use kr_outside::{DeviceCall, Slot};
 use std::marker::Model;
 use thiserror::Error;
 
@@ -124,8 +124,14 @@ impl<S: Slot> FileCell<S> {
             → LeavesOnly S.moment S.left_since self.old.slot self.new.slot
             (IsOneOf self.old.file) }
 
-        // Each fault has its cause, and two steps succeed before one that leaves a doubt.
+        // Each fault has its cause, which is a call of the device, and two calls succeed before one
+        // that leaves a doubt.
         ensures cause { HasCause (S.faults self.old.slot) (S.faults self.new.slot) result }
+        ensures before_call { IsErrOf result ReplaceFault.FaultBefore
+            → FailedBefore (S.failed self.new.slot) }
+        ensures unsure_call { IsErrOf result ReplaceFault.FaultUnsure
+            → FailedAfter DeviceCall.Rename (IsTrue (S.is_honest self.old.slot)
+            → S.seen self.new.slot ≡ Some image.items) (S.failed self.new.slot) }
         ensures staged { IsTrue (S.is_honest self.old.slot)
             → IsErrOf result ReplaceFault.FaultUnsure
             → S.moment self.old.slot + 2 ≤ S.moment self.new.slot }
@@ -194,6 +200,8 @@ impl<S: Slot> FileCell<S> {
         requires room { longest_of self.old.file < length buffer.old }
 
         ensures found { IfOk result (λ found. self.new.file ≡ found_file found self.old.file) }
+        ensures by_read { IfOk result (λ found.
+            IsFoundBy (S.answered self.new.slot) buffer.new found self.old.file) }
         ensures shown { IfOk result (λ found. Shows found self.old.file buffer.new) }
         ensures one { IsTrue (S.is_honest self.old.slot)
             → IfOk result (λ found. found ≢ Found.Other) }

@@ -8,7 +8,7 @@ use kr_outside::Seen;
 use std::marker::Model;
 
 /// Which image a file in doubt turned out to have.
-#[derive(Clone, Copy, Debug, PartialEq, Eq)]
+#[derive(Clone, Copy, PartialEq, Eq)]
 pub enum Found {
     /// The older of the two.
     Old,

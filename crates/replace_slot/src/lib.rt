@@ -9,8 +9,6 @@
 mod cell;
 mod images;
 mod steps;
-#[cfg(test)]
-mod tests;
 
 pub use cell::{FaultRead, FileCell, RemoveFault, ReplaceFault};
 pub use images::Found;

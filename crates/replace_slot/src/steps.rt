@@ -1,9 +1,10 @@
 ghost use Rattle.std.specs.Prelude.{◌≡◌, ℕ, ◌+◌, ◌≤◌, ◌⊎◌, IsTrue, List, Option, None, Some, length, IfOk, OnOk, IsErr};
 ghost use Rattle.kr_outside.specs.Faults.{HasCause, KeepsSteady};
 ghost use Rattle.kr_outside.specs.Moments.{LeavesOnly};
-ghost use Rattle.kr_outside.specs.RenameDisk.{Synced, Only, LeavesAnyBytes, LeavesNoMore, FitsIn, Reads};
+ghost use Rattle.replace_slot.specs.Cell.{FailedBefore, FailedAfter, FailedRead};
+ghost use Rattle.kr_outside.specs.RenameDisk.{Synced, GivesTemporary, Only, LeavesAnyBytes, LeavesNoMore, FitsIn, Reads};
 
-use kr_outside::{Failed, Seen, Slot};
+use kr_outside::{DeviceCall, Failed, Seen, Slot};
 
 /// Puts the bytes into the temporary file, and the temporary file on the disk.
 pub fn prepare<S: Slot>(slot: &mut S, bytes: &[u8]) -> Result<(), Failed>
@@ -20,6 +21,7 @@ pub fn prepare<S: Slot>(slot: &mut S, bytes: &[u8]) -> Result<(), Failed>
 
     ensures honest { S.is_honest slot.new ≡ S.is_honest slot.old }
     ensures cause { HasCause (S.faults slot.old) (S.faults slot.new) result }
+    ensures call { IsErr result → FailedBefore (S.failed slot.new) }
     ensures steady { KeepsSteady (S.is_steady slot.old) (S.is_steady slot.new)
         (S.faults slot.old) (S.faults slot.new) }
 {
@@ -45,6 +47,8 @@ pub fn publish<S: Slot>(slot: &mut S) -> Result<(), Failed>
 
     ensures honest { S.is_honest slot.new ≡ S.is_honest slot.old }
     ensures cause { HasCause (S.faults slot.old) (S.faults slot.new) result }
+    ensures call { IsErr result → FailedAfter DeviceCall.Rename (IsTrue (S.is_honest slot.old)
+        → GivesTemporary (S.temporary slot.old) (S.seen slot.new)) (S.failed slot.new) }
     ensures steady { KeepsSteady (S.is_steady slot.old) (S.is_steady slot.new)
         (S.faults slot.old) (S.faults slot.new) }
 {
@@ -68,6 +72,11 @@ pub fn retire<S: Slot>(slot: &mut S) -> Result<(), Failed>
 
     ensures honest { S.is_honest slot.new ≡ S.is_honest slot.old }
     ensures cause { HasCause (S.faults slot.old) (S.faults slot.new) result }
+    ensures call { IsErr result → FailedAfter DeviceCall.Remove (IsTrue (S.is_honest slot.old)
+        → S.seen slot.new ≡ None) (S.failed slot.new) }
+    ensures rises { IsTrue (S.is_honest slot.old) → IsErr result
+        → S.failed slot.new ≡ Some DeviceCall.SyncFolder
+        → S.moment slot.old + 1 ≤ S.moment slot.new }
     ensures steady { KeepsSteady (S.is_steady slot.old) (S.is_steady slot.new)
         (S.faults slot.old) (S.faults slot.new) }
 {
@@ -80,6 +89,7 @@ pub fn settle<S: Slot>(slot: &mut S, buffer: &mut [u8]) -> Result<Seen, Failed>
     ensures fits { IfOk result (FitsIn (length buffer.new)) }
     ensures answer { IsTrue (S.is_honest slot.old)
         → IfOk result (Reads (S.seen slot.new) buffer.new) }
+    ensures told { IfOk result (λ seen. S.answered slot.new ≡ Some seen) }
     ensures settled { IsTrue (S.is_honest slot.old)
         → OnOk result (LeavesAnyBytes (S.may_leave slot.old)
         ⊎ Only (S.seen slot.new) (S.may_leave slot.new)) }
@@ -92,6 +102,7 @@ pub fn settle<S: Slot>(slot: &mut S, buffer: &mut [u8]) -> Result<Seen, Failed>
 
     ensures honest { S.is_honest slot.new ≡ S.is_honest slot.old }
     ensures cause { HasCause (S.faults slot.old) (S.faults slot.new) result }
+    ensures call { IsErr result → FailedRead (S.failed slot.new) }
     ensures steady { KeepsSteady (S.is_steady slot.old) (S.is_steady slot.new)
         (S.faults slot.old) (S.faults slot.new) }
 {

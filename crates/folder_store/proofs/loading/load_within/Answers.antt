@@ -1,10 +1,13 @@
-use Rattle.std.proofs.Common.{◌≡◌, ◌↔◌, ℕ, List, Contains, IsTrue, IsSome, sym, subst, ◌∙◌}
+use Rattle.std.proofs.Common.{◌≡◌, ◌↔◌, ℕ, List, Contains, IsTrue, IsErrOf, inr, rules, refl, IsSome, sym, subst, ◌∙◌}
 use Rattle.std.specs.Cmp.Lexicographic.{slice_cmp}
 use Rattle.std.specs.List.Sorted.{IsStrictlySortedBy}
 use Rattle.std.specs.Ordering.{nat_cmp}
-use Rattle.folder_store.specs.Ring.{AreLikeFolder, IsLikeFolder}
+use Rattle.folder_store.specs.declared.refused.LoadRefused.TheVariants.{Folder}
+use Rattle.folder_store.specs.Names.{aliases}
+use Rattle.folder_store.specs.Ring.{IsAsFound, HandsBack, HasFailedSlot}
 use Rattle.folder_store.specs.Walk.{Walk, plain}
-use Rattle.folder_store.proofs.LoadLemmas.{aliases_alone, Loads-made}
+use Rattle.folder_store.proofs.LoadLemmas.{aliases_alone, off_way, Loads-made}
+use Rattle.folder_store.proofs.VisitLemmas.{found_same}
 use Rattle.folder_store.proofs.loading.load_within.Goals as goal
 
 pub load_aliases-requires : goal.load_aliases-requires
@@ -13,7 +16,8 @@ load_aliases-requires g c = record {
       let folder = g.F.Folder in
       let slot = g.F.Cell.Slot in
       let one = c.settled_names.new.folder in
-      aliases_alone c.args.limits.now (folder.is_honest one) (folder.is_steady one) folder.images folder.may_leave folder.made slot.is_honest slot.is_steady
+      let found = IsAsFound slot.seen slot.temporary slot.may_leave slot.left_since slot.is_honest slot.is_steady (folder.is_honest one) (folder.is_steady one) in
+      aliases_alone c.args.limits.now found (folder.is_honest one) folder.images folder.may_leave folder.made
       one c.walk.new.folder c.deref.result.now c.in_ok-opening.opening c.in_ok-opening.ensures.walked
       (subst (λ b. IsTrue b) c.in_ok-opening.ensures.honest honest);
 }
@@ -30,18 +34,87 @@ returns-clause-loaded g c =
     let steady_one : folder.is_steady one ≡ folder.is_steady zero = c.in_ok-names.ensures.steady.same in
     let honest_two : folder.is_honest two ≡ folder.is_honest zero = c.in_ok-opening.ensures.honest ∙ honest_one in
     let steady_two : folder.is_steady two ≡ folder.is_steady zero = c.in_ok-opening.ensures.steady ∙ steady_one in
-    Loads-made c.args.limits.now (folder.is_honest zero) (folder.is_steady zero) folder.images folder.may_leave folder.made slot.is_honest slot.is_steady
-    zero one two c.load_aliases.new.folder c.deref.result.now c.in_ok-opening.opening _
-    c.into_parts-rings.ensures.rings c.into_parts-rings.ensures.used
+    let found = IsAsFound slot.seen slot.temporary slot.may_leave slot.left_since slot.is_honest slot.is_steady in
+    let now = found (folder.is_honest zero) (folder.is_steady zero) in
+    let first : IsTrue (folder.is_honest zero) → (name : List ℕ) → folder.images one name ≡ folder.images zero name = λ is name. c.in_ok-names.ensures.same is name in
+    let opening = c.in_ok-opening.opening in
+    let walked = subst (λ b. Walk c.args.limits.now b folder.images folder.may_leave folder.made one two c.deref.result.now (plain opening)) honest_one c.in_ok-opening.ensures.walked in
+    let off = off_way c.args.limits.now now (folder.is_honest zero) folder.images folder.may_leave folder.made one two c.deref.result.now opening walked in
+    Loads-made c.args.limits.now now (folder.is_honest zero) folder.images folder.may_leave folder.made
+    zero one two c.load_aliases.new.folder c.deref.result.now opening _
+    c.into_parts-rings.ensures.rings c.into_parts-rings.ensures.used c.into_parts-rings.ensures.left
     (subst (λ l. IsStrictlySortedBy (slice_cmp nat_cmp) l) (sym names) c.in_ok-names.ensures.sorted)
     (λ is. subst (λ l. (name : List ℕ) → Contains l name ↔ IsSome (folder.images one name)) (sym names) (c.in_ok-names.ensures.listed is))
-    (λ is name. c.in_ok-names.ensures.same is name)
-    (subst (λ b. Walk c.args.limits.now b folder.images folder.may_leave folder.made one two c.deref.result.now (plain c.in_ok-opening.opening)) honest_one c.in_ok-opening.ensures.walked)
-    (subst (λ b. AreLikeFolder slot.is_honest slot.is_steady (folder.is_honest zero) b c.in_ok-opening.opening.rings) steady_one
-    (subst (λ b. AreLikeFolder slot.is_honest slot.is_steady b (folder.is_steady one) c.in_ok-opening.opening.rings) honest_one c.in_ok-opening.ensures.slots))
+    first
+    walked
+    (subst (λ b. HandsBack (found (folder.is_honest zero) b) (folder.images zero) (folder.made two) opening.rings opening.left) steady_one
+    (subst (λ b. HandsBack (found b (folder.is_steady one)) (folder.images zero) (folder.made two) opening.rings opening.left) honest_one
+    (c.in_ok-opening.ensures.handed (folder.images zero) (λ is name. sym (first (subst (λ b. IsTrue b) honest_one is) name)))))
     (λ is. c.in_ok-aliases.ensures.image (subst (λ b. IsTrue b) (sym honest_two) is))
     c.in_ok-aliases.ensures.shown
-    (subst (λ b. IsLikeFolder slot.is_honest slot.is_steady (folder.is_honest zero) b c.in_ok-aliases.aliases.cell.slot) steady_two
-    (subst (λ b. IsLikeFolder slot.is_honest slot.is_steady b (folder.is_steady two) c.in_ok-aliases.aliases.cell.slot) honest_two c.in_ok-aliases.ensures.slot))
+    (found_same slot.seen slot.temporary slot.may_leave slot.left_since slot.is_honest slot.is_steady (folder.is_honest zero) (folder.is_steady zero)
+    (folder.images two aliases) (folder.images zero aliases) c.in_ok-aliases.aliases.cell.slot
+    (λ is. walked.same is aliases off ∙ first is aliases)
+    (subst (λ b. found (folder.is_honest zero) b (folder.images two aliases) c.in_ok-aliases.aliases.cell.slot) steady_two
+    (subst (λ b. found b (folder.is_steady two) (folder.images two aliases) c.in_ok-aliases.aliases.cell.slot) honest_two c.in_ok-aliases.ensures.slot)))
     c.in_ok-aliases.ensures.made
     (λ is. c.in_ok-aliases.ensures.stays (subst (λ b. IsTrue b) (sym honest_two) is))
+
+-- a slot failed on the way over the names
+pub returns-in_err-opening-clause-cause : goal.returns-in_err-opening-clause-cause
+returns-in_err-opening-clause-cause g c is =
+    let folder = g.F.Folder in
+    let slot = g.F.Cell.Slot in
+    let zero = c.args.folder.now in
+    let one = c.settled_names.new.folder in
+    let two = c.walk.new.folder in
+    let honest_one : folder.is_honest one ≡ folder.is_honest zero = c.in_ok-names.ensures.honest in
+    let steady_one : folder.is_steady one ≡ folder.is_steady zero = c.in_ok-names.ensures.steady.same in
+    let found = IsAsFound slot.seen slot.temporary slot.may_leave slot.left_since slot.is_honest slot.is_steady in
+    let failed : IsErrOf c.walk.result Folder = search rules in
+    inr (subst (λ b. HasFailedSlot (found (folder.is_honest zero) b) (folder.images zero) (folder.made two) slot.faults slot.failed b) steady_one
+    (subst (λ b. HasFailedSlot (found b (folder.is_steady one)) (folder.images zero) (folder.made two) slot.faults slot.failed (folder.is_steady one)) honest_one
+    (c.walk.ensures.cause (folder.images zero) (λ honest name. sym (c.in_ok-names.ensures.same (subst (λ b. IsTrue b) honest_one honest) name)) failed)))
+
+-- or that of the aliases did
+pub returns-in_err-aliases-clause-cause : goal.returns-in_err-aliases-clause-cause
+returns-in_err-aliases-clause-cause g c is =
+    let folder = g.F.Folder in
+    let slot = g.F.Cell.Slot in
+    let zero = c.args.folder.now in
+    let one = c.settled_names.new.folder in
+    let two = c.walk.new.folder in
+    let three = c.load_aliases.new.folder in
+    let honest_one : folder.is_honest one ≡ folder.is_honest zero = c.in_ok-names.ensures.honest in
+    let honest_two : folder.is_honest two ≡ folder.is_honest zero = c.in_ok-opening.ensures.honest ∙ honest_one in
+    let steady_two : folder.is_steady two ≡ folder.is_steady zero = c.in_ok-opening.ensures.steady ∙ c.in_ok-names.ensures.steady.same in
+    let found = IsAsFound slot.seen slot.temporary slot.may_leave slot.left_since slot.is_honest slot.is_steady in
+    let opening = c.in_ok-opening.opening in
+    let walked = subst (λ b. Walk c.args.limits.now b folder.images folder.may_leave folder.made one two c.deref.result.now (plain opening)) honest_one c.in_ok-opening.ensures.walked in
+    let off = off_way c.args.limits.now (found (folder.is_honest zero) (folder.is_steady zero)) (folder.is_honest zero) folder.images folder.may_leave folder.made one two c.deref.result.now opening walked in
+    let failed : IsErrOf c.load_aliases.result Folder = search rules in
+    inr (subst (λ b. HasFailedSlot (found (folder.is_honest zero) b) (folder.images zero) (folder.made three) slot.faults slot.failed b) steady_two
+    (subst (λ b. HasFailedSlot (found b (folder.is_steady two)) (folder.images zero) (folder.made three) slot.faults slot.failed (folder.is_steady two)) honest_two
+    (c.load_aliases.ensures.cause (folder.images zero)
+    (λ honest. let was = subst (λ b. IsTrue b) honest_two honest in sym (walked.same was aliases off ∙ c.in_ok-names.ensures.same was aliases)) failed)))
+
+-- no slot of a steady folder fails
+pub returns-in_err-opening-clause-never : goal.returns-in_err-opening-clause-never
+returns-in_err-opening-clause-never g c steady is =
+    let folder = g.F.Folder in
+    let zero = c.args.folder.now in
+    let one = c.settled_names.new.folder in
+    let honest_one : folder.is_honest one ≡ folder.is_honest zero = c.in_ok-names.ensures.honest in
+    let steady_one : folder.is_steady one ≡ folder.is_steady zero = c.in_ok-names.ensures.steady.same in
+    let failed : IsErrOf c.walk.result Folder = search rules in
+    (c.walk.ensures.cause (folder.images zero) (λ honest name. sym (c.in_ok-names.ensures.same (subst (λ b. IsTrue b) honest_one honest) name)) failed).unsteady
+    (subst (λ b. IsTrue b) (sym steady_one) steady)
+
+pub returns-in_err-aliases-clause-never : goal.returns-in_err-aliases-clause-never
+returns-in_err-aliases-clause-never g c steady is =
+    let folder = g.F.Folder in
+    let two = c.walk.new.folder in
+    let zero = c.args.folder.now in
+    let steady_two : folder.is_steady two ≡ folder.is_steady zero = c.in_ok-opening.ensures.steady ∙ c.in_ok-names.ensures.steady.same in
+    let failed : IsErrOf c.load_aliases.result Folder = search rules in
+    (c.load_aliases.ensures.cause (λ _. folder.images two aliases) (λ _. refl) failed).unsteady (subst (λ b. IsTrue b) (sym steady_two) steady)

@@ -1,8 +1,9 @@
-use Rattle.std.proofs.Common.{◌≡◌, ◌+◌, ◌∷◌, ◌++◌, [], IsTrue, Contains, suc, take, get_or, refl, sym, subst, ap, ◌∙◌, arith}
+use Rattle.std.proofs.Common.{◌≡◌, ◌+◌, ◌∷◌, ◌++◌, [], IsTrue, IsErrOf, rules, Contains, suc, take, get_or, refl, sym, subst, ap, ◌∙◌, arith}
 use Rattle.std.proofs.lemmas.List.{take_all}
 use Rattle.std.proofs.Math.Seq.{take-suc}
 use Rattle.kr_outside.specs.RenameDisk.{Image, Only}
-use Rattle.folder_store.specs.Ring.{AreLikeFolder}
+use Rattle.folder_store.specs.declared.refused.LoadRefused.TheVariants.{Folder}
+use Rattle.folder_store.specs.Ring.{IsAsFound, HandsBack, HasFailedSlot, nothing}
 use Rattle.folder_store.specs.Walk.{Walk, Visits, plain}
 use Rattle.folder_store.proofs.WalkLemmas.{Walk-none, Walk-more, not_before}
 use Rattle.folder_store.proofs.loading.walk.Goals as goal
@@ -29,7 +30,10 @@ loop-name-init g c =
       subst (λ o. Walk c.args.limits.now (folder.is_honest c.args.folder.now) folder.images folder.may_leave folder.made c.args.folder.now c.args.folder.now [] (plain o))
           (sym c.new-opening.ensures)
           (Walk-none c.args.limits.now (folder.is_honest c.args.folder.now) folder.images folder.may_leave folder.made c.args.folder.now c.requires.fresh c.requires.settled),
-      subst (λ o. AreLikeFolder slot.is_honest slot.is_steady (folder.is_honest c.args.folder.now) (folder.is_steady c.args.folder.now) o.rings) (sym c.new-opening.ensures) tt,
+      λ images same.
+          let found = IsAsFound slot.seen slot.temporary slot.may_leave slot.left_since slot.is_honest slot.is_steady (folder.is_honest c.args.folder.now) (folder.is_steady c.args.folder.now) in
+          subst (λ m. HandsBack found images m c.new-opening.result.rings c.new-opening.result.left) (sym c.requires.fresh)
+          (subst (λ o. HandsBack found images [] o.rings o.left) (sym c.new-opening.ensures) nothing),
       refl,
       refl,
       refl,
@@ -51,7 +55,8 @@ loop-name-preserved g c =
     let longer : take (index + 1) names ≡ take index names ++ name ∷ [] =
     ap (λ n. take n names) up ∙ take-suc names index name c.loop-name-test.true ∙ ap (λ n. take index names ++ n ∷ []) here in
     let as_honest = c.loop-name.invariant.2 in
-    let as_steady = c.loop-name.invariant.3 in (
+    let as_steady = c.loop-name.invariant.3 in
+    let found = IsAsFound slot.seen slot.temporary slot.may_leave slot.left_since slot.is_honest slot.is_steady in (
       subst (λ l. Walk c.args.limits.now (folder.is_honest old) folder.images folder.may_leave folder.made old new l (plain c.visit.new.opening)) (sym longer)
           (Walk-more c.args.limits.now (folder.is_honest old) folder.images folder.may_leave folder.made old mid new (take index names) name c.loop-name.opening c.visit.new.opening
           c.loop-name.invariant.0
@@ -59,11 +64,17 @@ loop-name-preserved g c =
           (not_before names index name c.requires.sorted c.loop-name-test.true here)
           (subst (λ b. Visits c.args.limits.now b (folder.images mid name) name (folder.made mid) (folder.made new) c.loop-name.opening c.visit.new.opening) as_honest c.in_ok-visit.ensures.visited)
           (λ is. c.in_ok-visit.ensures.stays (subst (λ b. IsTrue b) (sym as_honest) is))),
-      subst (λ b. AreLikeFolder slot.is_honest slot.is_steady (folder.is_honest old) b c.visit.new.opening.rings) as_steady
-          (subst (λ b. AreLikeFolder slot.is_honest slot.is_steady b (folder.is_steady mid) c.visit.new.opening.rings) as_honest
-          (c.in_ok-visit.ensures.slots
-          (subst (λ b. AreLikeFolder slot.is_honest slot.is_steady b (folder.is_steady mid) c.loop-name.opening.rings) (sym as_honest)
-          (subst (λ b. AreLikeFolder slot.is_honest slot.is_steady (folder.is_honest old) b c.loop-name.opening.rings) (sym as_steady) c.loop-name.invariant.1)))),
+      λ images same.
+          let off = not_before names index name c.requires.sorted c.loop-name-test.true here in
+          let walk = c.loop-name.invariant.0 in
+          let still : IsTrue (folder.is_honest mid) → images name ≡ folder.images mid name =
+          λ is. let was : IsTrue (folder.is_honest old) = subst (λ b. IsTrue b) as_honest is in
+          same was name ∙ sym (walk.same was name (λ has. off (walk.slots name has).0)) in
+          subst (λ b. HandsBack (found (folder.is_honest old) b) images (folder.made new) c.visit.new.opening.rings c.visit.new.opening.left) as_steady
+          (subst (λ b. HandsBack (found b (folder.is_steady mid)) images (folder.made new) c.visit.new.opening.rings c.visit.new.opening.left) as_honest
+          (c.in_ok-visit.ensures.handed images still
+          (subst (λ b. HandsBack (found b (folder.is_steady mid)) images (folder.made mid) c.loop-name.opening.rings c.loop-name.opening.left) (sym as_honest)
+          (subst (λ b. HandsBack (found (folder.is_honest old) b) images (folder.made mid) c.loop-name.opening.rings c.loop-name.opening.left) (sym as_steady) (c.loop-name.invariant.1 images same))))),
       c.in_ok-visit.ensures.honest ∙ as_honest,
       c.in_ok-visit.ensures.steady ∙ as_steady,
       c.in_ok-visit.ensures.count ∙ c.loop-name.invariant.4,
@@ -74,3 +85,28 @@ returns-clause-walked g c =
     let folder = g.F.Folder in
     subst (λ l. Walk c.args.limits.now (folder.is_honest c.args.folder.now) folder.images folder.may_leave folder.made c.args.folder.now c.loop-name.folder l (plain c.loop-name.opening))
     (take_all c.loop-name.name-index c.args.names.now c.loop-name-test.false) c.loop-name.invariant.0
+
+-- a slot of this turn failed
+pub returns-in_err-visit-clause-cause : goal.returns-in_err-visit-clause-cause
+returns-in_err-visit-clause-cause g c images same is =
+    let folder = g.F.Folder in
+    let slot = g.F.Cell.Slot in
+    let names = c.args.names.now in
+    let index = c.loop-name.name-index in
+    let old = c.args.folder.now in
+    let mid = c.loop-name.folder in
+    let new = c.visit.new.folder in
+    let name = c.as_str.result.now in
+    let here : get_or names index name ≡ name = subst (λ r. get_or names index r ≡ r) (sym c.as_str.ensures.value) (sym c.name-item.is) in
+    let as_honest = c.loop-name.invariant.2 in
+    let as_steady = c.loop-name.invariant.3 in
+    let found = IsAsFound slot.seen slot.temporary slot.may_leave slot.left_since slot.is_honest slot.is_steady in
+    let off = not_before names index name c.requires.sorted c.loop-name-test.true here in
+    let walk = c.loop-name.invariant.0 in
+    let still : IsTrue (folder.is_honest mid) → images name ≡ folder.images mid name =
+    λ honest. let was : IsTrue (folder.is_honest old) = subst (λ b. IsTrue b) as_honest honest in
+    same was name ∙ sym (walk.same was name (λ has. off (walk.slots name has).0)) in
+    let failed : IsErrOf c.visit.result Folder = search rules in
+    subst (λ b. HasFailedSlot (found (folder.is_honest old) b) images (folder.made new) slot.faults slot.failed b) as_steady
+    (subst (λ b. HasFailedSlot (found b (folder.is_steady mid)) images (folder.made new) slot.faults slot.failed (folder.is_steady mid)) as_honest
+    (c.visit.ensures.cause images still failed))

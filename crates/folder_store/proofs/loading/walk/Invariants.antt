@@ -1,5 +1,6 @@
-use Rattle.std.proofs.Common.{◌≡◌, take}
-use Rattle.folder_store.specs.Ring.{AreLikeFolder}
+use Rattle.std.proofs.Common.{◌≡◌, ℕ, List, IsTrue, take}
+use Rattle.kr_outside.specs.RenameDisk.{Image}
+use Rattle.folder_store.specs.Ring.{IsAsFound, HandsBack}
 use Rattle.folder_store.specs.Walk.{Walk, plain}
 use Rattle.folder_store.proofs.loading.walk.Given as goal
 
@@ -9,7 +10,8 @@ invariant-loop-name g l =
     let folder = g.F.Folder in
     let slot = g.F.Cell.Slot in
     Walk l.limits (folder.is_honest l.fn.folder) folder.images folder.may_leave folder.made l.fn.folder l.folder (take l.name-index l.names) (plain l.opening)
-    × AreLikeFolder slot.is_honest slot.is_steady (folder.is_honest l.fn.folder) (folder.is_steady l.fn.folder) l.opening.rings
+    × ((images : List ℕ → Image) → (IsTrue (folder.is_honest l.fn.folder) → (name : List ℕ) → images name ≡ folder.images l.fn.folder name)
+    → HandsBack (IsAsFound slot.seen slot.temporary slot.may_leave slot.left_since slot.is_honest slot.is_steady (folder.is_honest l.fn.folder) (folder.is_steady l.fn.folder)) images (folder.made l.folder) l.opening.rings l.opening.left)
     × (folder.is_honest l.folder ≡ folder.is_honest l.fn.folder)
     × (folder.is_steady l.folder ≡ folder.is_steady l.fn.folder)
     × (folder.faults l.folder ≡ folder.faults l.fn.folder)

@@ -3,9 +3,9 @@ use Rattle.std.proofs.lemmas.Result.{on_ok_weaker}
 use Rattle.keyring_file.specs.ClearText.{ClearText}
 use Rattle.replace_slot.specs.Cell.{Known}
 use Rattle.folder_store.specs.Opened.{Takes, left_alone, listed, Fits, items_in, bytes_in}
-use Rattle.folder_store.specs.Ring.{ShowsClear, AreLikeFolder, IsLikeFolder, rows_of, bytes_of}
-use Rattle.folder_store.specs.Walk.{plain}
-use Rattle.folder_store.proofs.OpeningLemmas.{all_push, both, row_known, plain_lists, one_clear, no_both, left_out}
+use Rattle.folder_store.specs.Ring.{ShowsClear, rows_of, bytes_of}
+use Rattle.folder_store.specs.Walk.{plain, in_ring, by_itself}
+use Rattle.folder_store.proofs.OpeningLemmas.{both, row_known, plain_lists, one_clear, no_both, left_out}
 use Rattle.folder_store.proofs.opening.Opening.take.Goals as goal
 
 -- the limits don't let the file be listed, by whatever clear part it reads as
@@ -13,13 +13,13 @@ pub returns-then-not-fits-clause-taken : goal.returns-then-not-fits-clause-taken
 returns-then-not-fits-clause-taken g c name named =
     let text : c.deref.result.now ≡ c.args.image.items = c.deref.ensures.value in
     let text-2 : c.deref-in-Ok.result.now ≡ c.args.image.items = c.deref-in-Ok.ensures.value in
-    on_ok_weaker c.leave.result
+    on_ok_weaker c.leave_slot.result
     (λ left. subst (Takes c.args.limits.now name c.args.image.items (plain c.args.self.now)) (sym left)
     (left_alone c.args.stem named
     (left_out c.args.limits.now (rows_of c.args.self.now.rings) c.args.image.items c.in-Ok.clear
     (λ other area is. one_clear _ (other, area) _ refl (c.in-Ok.ensures.only other area (subst (λ t. ClearText t other area) (sym text) is)))
     (λ fits. let wrong = c.if-not-fits.ensures.fits.1 (subst (λ t. Fits c.args.limits.now (rows_of c.args.self.now.rings) c.in-Ok.clear t) (sym text-2) fits) in cc))))
-    c.leave.ensures.left
+    c.leave_slot.ensures.left
 
 pub new-requires : goal.new-requires
 new-requires g c =
@@ -58,22 +58,29 @@ returns-in_ok-used-in-Ok-clause-taken g c name named =
     fits))
     c.list.ensures.rings c.list.ensures.used
 
-pub returns-in_ok-used-in-Ok-clause-slots : goal.returns-in_ok-used-in-Ok-clause-slots
-returns-in_ok-used-in-Ok-clause-slots g c honest steady like all =
+pub returns-in_ok-used-in-Ok-clause-kept : goal.returns-in_ok-used-in-Ok-clause-kept
+returns-in_ok-used-in-Ok-clause-kept g c =
     let slot : c.new.result.cell.slot ≡ c.args.slot = ap (λ r. r.cell.slot) c.new.ensures ∙ ap (λ r. r.slot) c.known-cell.ensures in
     on_ok_weaker c.list.result
-    (λ rings. subst (λ l. AreLikeFolder g.S.Slot.is_honest g.S.Slot.is_steady honest steady l) (sym rings)
-    (all_push (λ ring. IsLikeFolder g.S.Slot.is_honest g.S.Slot.is_steady honest steady ring.cell.slot) c.args.self.now.rings c.new.result all
-    (subst (λ s. IsLikeFolder g.S.Slot.is_honest g.S.Slot.is_steady honest steady s) (sym slot) like)))
+    (λ rings. in_ring c.new.result (ap (λ r. r.stem) c.new.ensures) slot rings c.list.ensures.left)
     c.list.ensures.rings
+
+-- a file that is left alone has its slot by itself
+pub returns-then-not-fits-clause-kept : goal.returns-then-not-fits-clause-kept
+returns-then-not-fits-clause-kept g c = on_ok_weaker c.leave_slot.result
+    (λ left. by_itself (record { stem = c.args.stem; slot = c.args.slot }) refl refl c.leave_slot.ensures.rings left) c.leave_slot.ensures.slots
+
+pub returns-in-Err-Fault-clause-kept : goal.returns-in-Err-Fault-clause-kept
+returns-in-Err-Fault-clause-kept g c = on_ok_weaker c.leave_slot-in-Err-Fault.result
+    (λ left. by_itself (record { stem = c.args.stem; slot = c.args.slot }) refl refl c.leave_slot-in-Err-Fault.ensures.rings left) c.leave_slot-in-Err-Fault.ensures.slots
 
 -- no clear part has this text
 pub returns-in-Err-Fault-clause-taken : goal.returns-in-Err-Fault-clause-taken
 returns-in-Err-Fault-clause-taken g c name named =
     let text : c.deref.result.now ≡ c.args.image.items = c.deref.ensures.value in
-    on_ok_weaker c.leave-in-Err-Fault.result
+    on_ok_weaker c.leave_slot-in-Err-Fault.result
     (λ left. subst (Takes c.args.limits.now name c.args.image.items (plain c.args.self.now)) (sym left)
     (left_alone c.args.stem named
     (λ other reads fits. no_both (other, reads.0) c.in-Err-Fault.field-0-0
     (rw c.in-Err-Fault.field-0-is at (c.in-Err-Fault.ensures.only other reads.0 (subst (λ t. ClearText t other reads.0) (sym text) reads.1))))))
-    c.leave-in-Err-Fault.ensures.left
+    c.leave_slot-in-Err-Fault.ensures.left

@@ -1,7 +1,7 @@
-use Rattle.std.proofs.Common.{◌≡◌, Some, inl, refl, sym, ◌∙◌, ap, subst, arith}
-use Rattle.kr_outside.specs.RenameDisk.{Only, Synced}
+use Rattle.std.proofs.Common.{◌≡◌, ⊎_elim, rules, inl, inr, sym, ◌∙◌, ap, subst, arith}
+use Rattle.kr_outside.specs.RenameDisk.{Synced, GivesTemporary}
 use Rattle.kr_outside.proofs.MomentLemmas.{LeavesOnly-behind}
-use Rattle.replace_slot.specs.Cell.{IsKnown, IsOneOf, Doubt, old_image}
+use Rattle.replace_slot.specs.Cell.{IsKnown, old_image}
 use Rattle.replace_slot.proofs.CellLemmas.{known_only}
 use Rattle.replace_slot.proofs.cell.FileCell.replace.Goals as goal
 
@@ -61,3 +61,16 @@ returns-in-Err-publish-clause-staged g c = rw (← c.self.view_is) (λ was _.
     let rises = c.in_default.ensures.rises was in
     let later = (c.publish.ensures.any_moment (old_image c.self.inside.file) c.args.image.items mid (λ left m. only left (c.prepare.ensures.crash was left m)) staged).later in
     omega (arith, rises, later))
+
+-- the name stands for the synced temporary file
+pub returns-in-Err-publish-clause-unsure_call : goal.returns-in-Err-publish-clause-unsure_call
+returns-in-Err-publish-clause-unsure_call g c = rw (← c.self.view_is) (λ _. ⊎_elim
+    (λ renamed. inl renamed)
+    (λ after. inr (
+      after.0,
+      λ was.
+          let mid = c.prepare.ensures.honest ∙ was in
+          let staged = subst (λ b. g.S.Slot.temporary c.prepare.new.slot ≡ Synced b) c.deref.ensures.value (c.in_default.ensures.staged was) in
+          subst (λ t. GivesTemporary t (g.S.Slot.seen c.publish.new.slot)) staged (after.1 mid),
+    ))
+    (c.publish.ensures.call (search rules)))

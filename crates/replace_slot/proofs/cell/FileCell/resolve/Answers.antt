@@ -1,6 +1,6 @@
 use Rattle.std.proofs.Common.{sym, ◌∙◌, ap, subst, ◌<◌, length, arith}
 use Rattle.replace_slot.specs.Cell.{IsKnown, longest_of}
-use Rattle.replace_slot.proofs.FoundLemmas.{found_alone, never_other_of}
+use Rattle.replace_slot.proofs.FoundLemmas.{found_alone}
 use Rattle.replace_slot.proofs.cell.FileCell.resolve.Goals as goal
 
 -- the image that was read is the one that is left
@@ -15,3 +15,12 @@ invariant_of-self g c honest =
 
 pub returns-in-Ok-clause-crash : goal.returns-in-Ok-clause-crash
 returns-in-Ok-clause-crash g c honest = invariant_of-self g c honest
+
+-- the answer of the read decides
+pub returns-in-Ok-clause-by_read : goal.returns-in-Ok-clause-by_read
+returns-in-Ok-clause-by_read g c = rw (← c.self.view_is) (record {
+  answer = c.in-Ok.seen;
+  told = c.in-Ok.ensures.told;
+  fits = c.in-Ok.ensures.fits;
+  decided = c.find.ensures.gave;
+})

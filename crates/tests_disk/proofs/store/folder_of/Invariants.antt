@@ -1,5 +1,5 @@
 use Rattle.std.proofs.Common.{◌≡◌, []}
-use Rattle.folder_store.proofs.tests.folder_of.Given as goal
+use Rattle.tests_disk.proofs.store.folder_of.Given as goal
 
 -- no slot was made
 abbrev pub invariant-loop-file : goal.invariant-loop-file

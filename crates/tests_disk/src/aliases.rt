@@ -1,4 +1,4 @@
-use super::*;
+use alias_text::read_aliases;
 use std::alloc::Global;
 use std::test::Fail;
 
@@ -40,7 +40,8 @@ a=my keyring;b=_C3_A9;c=_2f;d=_ff;e=_00;|
 ;^;=x;a=;a b=x;a-b=x; a=x;a=x^;|
 a==x;a=x=y;a=_3d;|a==;
 ~=x;a=~;A_1=x1;|A_1=x1;
-a123456789b123456789c123456789d123456789e123456789f1234567890123=x;|a123456789b123456789c123456789d123456789e123456789f1234567890123=x;
+a123456789b123456789c123456789d123456789e123456789f1234567890123=x;|\
+a123456789b123456789c123456789d123456789e123456789f1234567890123=x;
 a123456789b123456789c123456789d123456789e123456789f12345678901234=x;|
 ";
 
@@ -50,7 +51,7 @@ fn a_line_gives_an_alias_or_is_skipped(rt: HostRuntime) -> Result<(), Fail> {
     for row in TEXTS.lines() {
         let (text, want) = row.split_once('|').ok_or("a row")?;
         let bytes = bytes_of(alloc, text)?;
-        assert_eq!(rt; read(alloc, &bytes)?.as_str(), want);
+        assert_eq!(rt; read(alloc, &bytes)?.as_str(), want, "at {text}");
     }
     Ok(())
 }

@@ -2,8 +2,7 @@ ghost use Rattle.std.specs.Prelude.{◌≡◌, [], IfOk, OnOk, true, false};
 ghost use Rattle.std.proofs.Common.{rules};
 ghost use Rattle.kr_memory_disk.specs.Files.{image_in};
 
-use super::*;
-use crate::loading::load_within;
+use folder_store::{Limits, LoadRefused, Loaded, load, load_within};
 use kr_base::{Bytes, OutOfMemory, Text};
 use kr_memory_disk::{
     Files, MemoryFolder, MemorySlot, SlotCall, SlotPlan, SteadyFolder, SteadySlot,
@@ -96,10 +95,13 @@ const FOLDERS: &str = "\
 |/ /
 x.keyring=abc|/ x /
 x.keyring=k:Mine|x:Mine:104 / x /
-login.keyring=k:Login aliases=default=login;b=gone; login.keyring+=k:Other|login:Login:105 / login / b=gone default=login
+login.keyring=k:Login aliases=default=login;b=gone; login.keyring+=k:Other|\
+login:Login:105 / login / b=gone default=login
 a.keyring=k: a-b.keyring=k: a_b.keyring=k:|a-b::100 a::100 a_b::100 / a-b a a_b /
-.keyring=k:None keyring=k:None x.Keyring=k:None x.keyring+=k:None x.keyring~=k:None default=login|/ /
-a.b.keyring=k:A .x.keyring=k:X .keyring.keyring=k:K|.keyring:K:101 .x:X:101 a.b:A:101 / .keyring .x a.b /
+.keyring=k:None keyring=k:None x.Keyring=k:None x.keyring+=k:None x.keyring~=k:None default=login|\
+/ /
+a.b.keyring=k:A .x.keyring=k:X .keyring.keyring=k:K|\
+.keyring:K:101 .x:X:101 a.b:A:101 / .keyring .x a.b /
 a.keyring=k:A b.keyring= c.keyring=k2:C|a:A:101 c:C:125 / a b c /
 ";
 
@@ -110,7 +112,7 @@ fn a_folder_is_listed_in_order(rt: HostRuntime) -> Result<(), Fail> {
         let (files, want) = row.split_once('|').ok_or("a row")?;
         let mut folder = folder_of(alloc, files, Vec::new(alloc))?;
         let loaded = load(alloc, &mut folder)?;
-        assert_eq!(rt; told(alloc, &loaded)?.as_str(), want);
+        assert_eq!(rt; told(alloc, &loaded)?.as_str(), want, "at {files}");
     }
     Ok(())
 }
@@ -164,13 +166,13 @@ fn a_file_that_passes_a_limit_is_left_alone(rt: HostRuntime) -> Result<(), Fail>
         let limits = limits_of(limits).ok_or("limits")?;
         let mut folder = folder_of(alloc, files, Vec::new(alloc))?;
         let loaded = load_within(alloc, &mut folder, &limits)?;
-        assert_eq!(rt; told(alloc, &loaded)?.as_str(), want);
+        assert_eq!(rt; told(alloc, &loaded)?.as_str(), want, "at {files}");
     }
     Ok(())
 }
 
 #[test]
-fn a_file_behind_1024_collections_is_left_alone(rt: HostRuntime) -> Result<(), Fail> {
+fn a_file_after_1024_collections_is_left_alone(rt: HostRuntime) -> Result<(), Fail> {
     let alloc = rt.alloc();
     let mut files = String::new(alloc);
     for number in 1000..2025 {
@@ -249,8 +251,14 @@ fn calls_of(alloc: Global, slot: &MemorySlot) -> Result<Vec<u8>, Fail> {
 #[test]
 fn each_file_is_settled_and_read_once(rt: HostRuntime) -> Result<(), Fail> {
     let alloc = rt.alloc();
-    let mut folder = folder_of(alloc, "a.keyring=k:A b.keyring=k:B", Vec::new(alloc))?;
+    let files = "a.keyring=k:A b.keyring=k:B c.keyring=abc";
+    let mut folder = folder_of(alloc, files, Vec::new(alloc))?;
     let loaded = load(alloc, &mut folder)?;
+    for file in loaded.left_alone {
+        assert_eq!(rt; file.stem.as_str(), "c");
+        let calls = calls_of(alloc, &file.slot)?;
+        assert_eq!(rt; calls.as_slice(), b"ysr".as_slice());
+    }
     for ring in loaded.rings {
         let (_, cell, _) = ring.into_parts();
         let calls = calls_of(alloc, &cell.into_slot())?;
@@ -306,7 +314,7 @@ impl Folder for LateFolder {
 }
 
 #[test]
-fn the_names_are_read_behind_the_sync(rt: HostRuntime) -> Result<(), Fail> {
+fn the_names_are_read_after_the_sync(rt: HostRuntime) -> Result<(), Fail> {
     let alloc = rt.alloc();
     let mut files = Files::new(alloc);
     let bytes = Bytes::new(keyring(alloc, "A", 0)?);
