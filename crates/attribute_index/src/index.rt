@@ -1,0 +1,192 @@
+ghost use Rattle.std.specs.Prelude.{◌≡◌, ℕ, ◌+◌, ◌*◌, ◌<◌, ◌≤◌, List, [], IfOk, OnOk, OnErr, length, map, slice_index_or};
+ghost use Rattle.kr_base.specs.IdLists.{with_id, without_id};
+ghost use Rattle.attribute_match.specs.Match.{has_pair, text_of};
+ghost use Rattle.attribute_index.specs.Index.{IsAtJust, IsFound, IsMoved, IsPut, IsSame, IsTaken, ids_at, wanted_lists};
+
+use crate::finding::{all_of, in_all};
+use crate::names::{Texts, put_all, take_all};
+use kr_base::{AttrValue, Attributes, IdList, ItemId, OutOfMemory, Steps, Text};
+use std::alloc::{AllocError, Global};
+use std::collections::BTreeMap;
+use std::marker::Model;
+use std::sync::ledger::Ledger;
+
+/// From a pair of a name and a text to the rising ids of the items that have it, and all ids. A contract
+/// sees the ids at each name and text.
+#[derive(Drop)]
+pub struct AttributeIndex {
+    names: BTreeMap<Text, Texts>,
+    all: IdList,
+    none: IdList,
+    alloc: Global,
+}
+
+impl Model for AttributeIndex {
+    ghost use Rattle.std.specs.Prelude.{◌≡◌, []};
+    ghost use Rattle.attribute_index.specs.Index.{AllRise, Index};
+
+    ghost Value = { Index };
+
+    ghost view = { λ i. record { names = i.names.entries; all = i.all } };
+
+    ghost invariant = { λ i. AllRise i.names.entries × (i.none ≡ []) };
+}
+
+/// A number of 32 bits is below their count.
+fn fits(number: u32)
+    ensures { number < 4294967296 }
+{}
+
+impl AttributeIndex {
+    /// No ids. It takes no memory.
+    pub fn new(alloc: Global) -> AttributeIndex
+        ensures names { result.names ≡ [] }
+        ensures all { result.all ≡ [] }
+    {
+        AttributeIndex {
+            names: BTreeMap::new(alloc),
+            all: IdList::new(alloc),
+            none: IdList::new(alloc),
+            alloc,
+        }
+    }
+
+    /// Puts an id, which is nowhere yet, at the pairs of the attributes and among all ids.
+    pub fn add(&mut self, id: ItemId, attributes: &Attributes) -> Result<(), OutOfMemory>
+        requires { IsAtJust [] id.0 self.old.names }
+        ensures put { OnOk result (IsPut
+            (λ name text. has_pair name text attributes.now) id.0 self.old.names self.new.names) }
+        ensures all { OnOk result (self.new.all ≡ with_id id.0 self.old.all) }
+
+        // After a refusal each list is as before.
+        ensures unchanged { OnErr result (IsSame self.old.names self.new.names) }
+        ensures all_unchanged { OnErr result (self.new.all ≡ self.old.all) }
+    {
+        fits(id.0);
+        let none = Attributes::new(self.alloc);
+        if let Err(_) = put_all(
+            self.alloc,
+            &mut self.names,
+            attributes.as_slice(),
+            &none,
+            id,
+        ) {
+            return Err(AllocError);
+        }
+        if let Err(_) = self.all.insert(self.alloc, id) {
+            take_all(
+                self.alloc,
+                &mut self.names,
+                attributes.as_slice(),
+                &none,
+                id,
+            );
+            return Err(AllocError);
+        }
+        Ok(())
+    }
+
+    /// Takes an id out at the pairs of the attributes and among all ids. It takes no memory.
+    pub fn take_out(&mut self, id: ItemId, attributes: &Attributes)
+        ensures taken { IsTaken
+            (λ name text. has_pair name text attributes.now) id.0 self.old.names self.new.names }
+        ensures all { self.new.all ≡ without_id id.0 self.old.all }
+    {
+        let none = Attributes::new(self.alloc);
+        take_all(
+            self.alloc,
+            &mut self.names,
+            attributes.as_slice(),
+            &none,
+            id,
+        );
+        self.all.remove(self.alloc, id);
+    }
+
+    /// Moves an id from the pairs of the attributes before to those of the attributes after.
+    pub fn change(
+        &mut self,
+        id: ItemId,
+        before: &Attributes,
+        after: &Attributes,
+    ) -> Result<(), OutOfMemory>
+        requires { IsAtJust before.now id.0 self.old.names }
+        ensures moved { OnOk result (IsMoved before.now after.now id.0
+            self.old.names self.new.names) }
+        ensures unchanged { OnErr result (IsSame self.old.names self.new.names) }
+        ensures all { self.new.all ≡ self.old.all }
+    {
+        fits(id.0);
+        if let Err(_) = put_all(self.alloc, &mut self.names, after.as_slice(), before, id) {
+            return Err(AllocError);
+        }
+        take_all(self.alloc, &mut self.names, before.as_slice(), after, id);
+        Ok(())
+    }
+
+    /// All ids, lent.
+    pub fn all(&self) -> &IdList
+        ensures { result.now ≡ self.now.all }
+    {
+        &self.all
+    }
+
+    /// The ids at a name with the text of a value, lent.
+    pub fn ids(&self, name: &Text, value: &AttrValue) -> &IdList
+        ensures { result.now ≡ ids_at self.now name.now (text_of value.now) }
+    {
+        match value {
+            AttrValue::Text(text) => self.at_text(name, text),
+            AttrValue::Number(number) => self.at_text(name, &Text::of_number(*number)),
+        }
+    }
+
+    /// The ids at a name and a text, lent.
+    fn at_text(&self, name: &Text, text: &Text) -> &IdList
+        ensures { result.now ≡ ids_at self.now name.now text.now }
+    {
+        match self.names.get(name) {
+            Some(texts) => match texts.get(text) {
+                Some(list) => list,
+                None => &self.none,
+            },
+            None => &self.none,
+        }
+    }
+
+    /// The ids at each wanted pair, lent.
+    fn wanted_lists(&self, wanted: &[(Text, AttrValue)]) -> Result<Vec<&IdList>, OutOfMemory>
+        ensures { IfOk result (λ lists. map (λ l. l.now) lists.items
+            ≡ wanted_lists self.now wanted.now) }
+    {
+        let mut lists = Vec::with_capacity(self.alloc, wanted.len())?;
+        for (name, value) in wanted {
+            lists.push(self.ids(name, value))?;
+        }
+        Ok(lists)
+    }
+
+    /// The ids that have each wanted pair, in rising order; all ids where none is wanted. A number is found
+    /// by its decimal text.
+    ///
+    /// A step is one id read or looked up. There are as many steps at most as the rarest wanted pair has
+    /// ids, times the number of wanted pairs, and with none wanted as many as there are ids.
+    pub fn find<L: Ledger>(
+        &self,
+        wanted: &Attributes,
+        steps: &mut Steps<L>,
+    ) -> Result<Vec<ItemId>, OutOfMemory>
+        ensures found { IfOk result (λ found. IsFound self.now wanted.now (map
+            (λ id. id.0) found.items)) }
+        ensures few { (pair : ℕ) → pair < length wanted.now → steps.new
+            ≤ steps.old + length (slice_index_or (wanted_lists self.now wanted.now) pair [])
+            * length wanted.now }
+        ensures few_of_all { wanted.now ≡ [] → steps.new ≤ steps.old + length self.now.all }
+    {
+        if wanted.is_empty() {
+            return all_of(self.alloc, &self.all, steps);
+        }
+        let lists = self.wanted_lists(wanted.as_slice())?;
+        in_all(self.alloc, lists.as_slice(), steps)
+    }
+}

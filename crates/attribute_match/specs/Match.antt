@@ -1,0 +1,50 @@
+-- Secret Service API, "Lookup Attributes": an item matches where it has each wanted attribute. GNOME keyring file format: while a
+-- file is locked, its items are found by the hashes of their attributes.
+use Rattle.std.specs.Prelude.{ℕ, ◌&&◌, Bool, false, cond, nat_lt, nat_eq, List, Option, Some, None, decimal}
+use Rattle.std.specs.List.{list_any, list_all}
+use Rattle.std.specs.Str.Parse.{digits_value}
+use Rattle.kr_base.specs.Attributes.{is_name}
+use Rattle.kr_base.specs.declared.attributes.AttrValue.{AttrValue}
+use Rattle.kr_base.specs.declared.attributes.AttrValue.TheVariants as value
+use Rattle.kr_base.specs.declared.hashed.HashedPair.{HashedPair}
+use Rattle.kr_base.specs.declared.hashed.HashedValue.{HashedValue}
+use Rattle.kr_base.specs.declared.hashed.HashedValue.TheVariants as hash
+use Rattle.attribute_hash.specs.Hash.{number_hash, text_hash}
+
+-- the text that the API shows of a value: a number is shown as its decimal text
+abbrev pub text_of : AttrValue → List ℕ
+text_of (value.Text text) = text
+text_of (value.Number number) = decimal number
+
+-- one of the attributes has the name and is shown as the text
+abbrev pub has_pair : List ℕ → List ℕ → List (List ℕ × AttrValue) → Bool
+has_pair name text attributes = list_any (λ pair. is_name name pair.0 && is_name text (text_of pair.1)) attributes
+
+-- for each wanted attribute, the item has that name with that text
+abbrev pub matches : List (List ℕ × AttrValue) → List (List ℕ × AttrValue) → Bool
+matches wanted attributes = list_all (λ pair. has_pair pair.0 (text_of pair.1) attributes) wanted
+
+-- the number of 32 bits of which this is the decimal text, without leading zeros
+abbrev pub number_of : List ℕ → Option ℕ
+number_of text =
+    cond (nat_lt (digits_value 10 text) 4294967296 && is_name (decimal (digits_value 10 text)) text)
+    (Some (digits_value 10 text))
+    None
+
+-- the hash could be that of a number
+abbrev pub is_number_hash : Option ℕ → ℕ → Bool
+is_number_hash None found = false
+is_number_hash (Some number) found = nat_eq (number_hash number) found
+
+-- the hash is that of the text, or of the number of which it is the decimal text
+abbrev pub is_hash_of : List ℕ → HashedValue → Bool
+is_hash_of text (hash.Text found) = is_name (text_hash text) found
+is_hash_of text (hash.Number found) = is_number_hash (number_of text) found
+
+-- one of the hashed attributes has the name and a hash of the text
+abbrev pub has_hash : List ℕ → List ℕ → List HashedPair → Bool
+has_hash name text hashed = list_any (λ pair. is_name name pair.name && is_hash_of text pair.value) hashed
+
+-- for each wanted attribute, the locked item has that name with a hash of that text
+abbrev pub hashed_matches : List (List ℕ × AttrValue) → List HashedPair → Bool
+hashed_matches wanted hashed = list_all (λ pair. has_hash pair.0 (text_of pair.1) hashed) wanted

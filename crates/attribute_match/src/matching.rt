@@ -1,0 +1,90 @@
+ghost use Rattle.std.specs.Prelude.{◌≡◌};
+ghost use Rattle.kr_base.specs.Attributes.{is_name};
+ghost use Rattle.attribute_match.specs.Match.{has_hash as has_hash_of, has_pair as has_pair_of, hashed_matches as matches_by_hashes, is_hash_of as is_hash, matches as matches_by_texts, text_of};
+
+use crate::shown::{number_of, shown};
+use attribute_hash::{number_hash, text_hash};
+use itoa::Buffer;
+use kr_base::{AttrValue, Attributes, HashedPair, HashedValue, Text};
+
+/// Whether the two texts have the same bytes.
+fn is_same(one: &[u8], other: &[u8]) -> bool
+    ensures { result ≡ is_name one.now other.now }
+{
+    one == other
+}
+
+/// Whether the two values are shown as one text.
+fn is_shown_alike(one: &AttrValue, other: &AttrValue) -> bool
+    ensures { result ≡ is_name (text_of one.now) (text_of other.now) }
+{
+    let mut digits = Buffer::new();
+    let mut more_digits = Buffer::new();
+    let one = shown(one, &mut digits);
+    let other = shown(other, &mut more_digits);
+    is_same(one.as_bytes(), other.as_bytes())
+}
+
+/// Whether the item has the name with a value that is shown as this one is. It takes no memory.
+pub fn has_pair(name: &Text, value: &AttrValue, item: &Attributes) -> bool
+    ensures { result ≡ has_pair_of name.now (text_of value.now) item.now }
+{
+    // The search stands on the order of names, which reading the item shows.
+    let _pairs = item.as_slice();
+    match item.get(name.as_str()) {
+        Some(found) => is_shown_alike(value, found),
+        None => false,
+    }
+}
+
+/// Whether the item has each wanted name with the wanted text (Secret Service API, "Lookup
+/// Attributes"). A number is shown as its decimal text. With none wanted each item matches.
+pub fn matches(wanted: &Attributes, item: &Attributes) -> bool
+    ensures { result ≡ matches_by_texts wanted.now item.now }
+{
+    wanted
+        .as_slice()
+        .iter()
+        .all(|pair| has_pair(&pair.0, &pair.1, item))
+}
+
+/// Whether the hash is that of the text, or of the number of which the text is the decimal text.
+fn is_hash_of(found: &HashedValue, text: &str) -> bool
+    ensures { result ≡ is_hash text.now found.now }
+{
+    match found {
+        HashedValue::Text(bytes) => is_same(&text_hash(text), bytes.as_slice()),
+        HashedValue::Number(hash) => match number_of(text) {
+            Some(number) => number_hash(number) == *hash,
+            None => false,
+        },
+    }
+}
+
+/// Whether the hashed attributes have the name with a hash of the text.
+fn has_hash(name: &Text, text: &str, hashed: &[HashedPair]) -> bool
+    ensures { result ≡ has_hash_of name.now text.now hashed.now }
+{
+    hashed.iter().any(|pair| is_same(name.as_bytes(), pair.name.as_bytes())
+        && is_hash_of(&pair.value, text))
+}
+
+/// Whether the hashed attributes have the name with a hash of the value's text.
+fn has_value_hash(name: &Text, value: &AttrValue, hashed: &[HashedPair]) -> bool
+    ensures { result ≡ has_hash_of name.now (text_of value.now) hashed.now }
+{
+    let mut digits = Buffer::new();
+    has_hash(name, shown(value, &mut digits), hashed)
+}
+
+/// Whether a locked item has each wanted name with the wanted text, as far as its hashes tell (GNOME
+/// keyring file format): the hash is that of the text, or that of the number of which the text is the
+/// decimal text without leading zeros. With none wanted each item matches.
+pub fn hashed_matches(wanted: &Attributes, hashed: &[HashedPair]) -> bool
+    ensures { result ≡ matches_by_hashes wanted.now hashed.now }
+{
+    wanted
+        .as_slice()
+        .iter()
+        .all(|pair| has_value_hash(&pair.0, &pair.1, hashed))
+}

@@ -1,0 +1,80 @@
+-- The items of one collection as rows by rising id (Secret Service API, interfaces Collection and Item), and the index beside them.
+use Rattle.std.specs.Prelude.{◌≡◌, ℕ, ◌+◌, Bool, false, if◌then◌else◌, List, [], ◌∷◌, Option, Some, None, length, map, filter, not, nat_eq, ◌&&◌}
+use Rattle.std.specs.List.Sorted.{IsStrictlySortedBy}
+use Rattle.std.specs.Map.{keys_of, lookup}
+use Rattle.std.specs.Ordering.{nat_cmp}
+use Rattle.kr_base.specs.declared.attributes.AttrValue.{AttrValue}
+use Rattle.item_store.specs.declared.rows.Row.{Row}
+use Rattle.attribute_match.specs.Match.{has_pair, matches, text_of}
+use Rattle.attribute_index.specs.Index.{Index, ids_at}
+
+-- each item's row, with its id
+abbrev pub Rows : Type 0
+Rows = List (ℕ × Row)
+
+-- the attributes of a row's item
+abbrev pub attributes_of : Row → List (List ℕ × AttrValue)
+attributes_of row = row.item.attributes
+
+-- the ids of the rows that pass
+abbrev pub ids_where : (Row → Bool) → Rows → List ℕ
+ids_where passes rows = map (λ row. row.0) (filter (λ row. passes row.1) rows)
+
+-- the row of an id
+abbrev pub row_at : ℕ → Rows → Option Row
+row_at id rows = lookup (nat_eq id) rows
+
+-- the rows without that of an id
+abbrev pub rows_without : ℕ → Rows → Rows
+rows_without id rows = filter (λ row. not (nat_eq row.0 id)) rows
+
+-- the rows with that of an id changed
+abbrev pub rows_changed : ℕ → (Row → Row) → Rows → Rows
+rows_changed id change rows = map (λ row. if nat_eq row.0 id then (row.0, change row.1) else row) rows
+
+-- the greatest id, or 0
+abbrev pub last_id : Rows → ℕ
+last_id [] = 0
+last_id (row ∷ []) = row.0
+last_id (row ∷ next ∷ more) = last_id (next ∷ more)
+
+-- the id of a new item, where there is one
+abbrev pub next_id : Rows → Option ℕ
+next_id rows = if nat_eq (last_id rows) 4294967295 then None else Some (last_id rows + 1)
+
+-- the index has, at each name and text, the ids of the rows that have the pair
+pub record IsIndexed (rows : Rows) (index : Index) : Type 0 where
+  pub pairs : (name text : List ℕ) → ids_at index name text ≡ ids_where (λ row. has_pair name text (attributes_of row)) rows
+  pub all : index.all ≡ keys_of rows
+
+-- the ids rise
+abbrev pub IsRising : Rows → Type 0
+IsRising rows = IsStrictlySortedBy nat_cmp (keys_of rows)
+
+-- what the type of the items keeps
+pub record IsKept (rows : Rows) (index : Index) : Type 0 where
+  pub rising : IsRising rows
+  pub indexed : IsIndexed rows index
+
+-- the attributes are the given ones, as texts: they have each of these and no other
+abbrev pub is_equal : List (List ℕ × AttrValue) → Row → Bool
+is_equal given row = nat_eq (length given) (length (attributes_of row)) && matches given (attributes_of row)
+
+-- whether the row of an id is there and passes
+abbrev pub passes_at : (Row → Bool) → Option Row → Bool
+passes_at passes None = false
+passes_at passes (Some row) = passes row
+
+-- the ids of the items that have the first of the attributes, or of all items where there is none
+abbrev pub candidates : List (List ℕ × AttrValue) → Index → List ℕ
+candidates [] index = index.all
+candidates (pair ∷ more) index = ids_at index pair.0 (text_of pair.1)
+
+-- the first id that is there
+abbrev pub first_id : List ℕ → Option ℕ
+first_id [] = None
+first_id (id ∷ more) = Some id
+
+-- the ids of the items that have each of the wanted pairs, pair by pair
+abbrev pub pair_lists : List (List ℕ × AttrValue) → Rows → List (List ℕ)
+pair_lists wanted rows = map (λ pair. ids_where (λ row. has_pair pair.0 (text_of pair.1) (attributes_of row)) rows) wanted

@@ -1,0 +1,10 @@
+//! The tests of matching, of the index and of the items of a collection, over what their crates give to
+//! all. They are in a crate of their own so that none of these is proved again for its tests.
+#![tactic(auto)]
+
+#[cfg(test)]
+mod finding;
+#[cfg(test)]
+mod items;
+#[cfg(test)]
+mod matching;
