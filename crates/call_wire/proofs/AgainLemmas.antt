@@ -21,8 +21,8 @@ use Rattle.secret_calls.specs.declared.out.ErrorName.TheVariants as name
 use Rattle.secret_calls.specs.declared.out.Out.{Out}
 use Rattle.secret_calls.specs.declared.out.Out.TheVariants as out
 use Rattle.secret_calls.specs.Message.{uint32, message, method_return, error}
-use Rattle.secret_calls.specs.Outs.{error_text, session_path, spelled_body, spelled}
-use Rattle.call_wire.specs.Said.{values_said, said, FitsOut, IsSendable}
+use Rattle.secret_calls.specs.Outs.{error_text, session_path, spelled_body, FitsOut, spelled}
+use Rattle.call_wire.specs.Said.{values_said, said, IsSendable}
 use Rattle.call_wire.proofs.PlainLemmas.{plain_text, plain_literal, path_plain, path_is}
 use Rattle.call_wire.proofs.SentLemmas.{nested, nested_is, Parted, is_message, serial_is}
 use Rattle.secret_calls.proofs.SizeLemmas.{session_body-length}
@@ -108,13 +108,13 @@ whole most type serial fields body array header values typed numbered serial_fit
 pub sent : (most serial : ℕ) (out : Out) → IsSendable most out serial → IsMessage most (spelled out serial) (said out serial)
 sent most serial (out.Return to body.Empty) is =
     whole most method_return serial (reply_field to) [] (return_array to) (return_header to) Vals.end (λ e. omega (arith, e)) is.numbered is.serial_fits (omega (arith, reply_long to)) (omega arith) is.short
-    (record { full = return_full to; spelled = return_array_spelled to is.answered_fits; are = return_are to is.answers; needed = refl; listed = refl; bodied = refl })
+    (record { full = return_full to; spelled = return_array_spelled to is.has.answered_fits; are = return_are to is.has.answers; needed = refl; listed = refl; bodied = refl })
 sent most serial (out.Return to (body.Session session)) is =
-    whole most method_return serial (session_fields to) (spelled_body (body.Session session)) (session_array to) (session_header to) (values_said (body.Session session)) (λ e. omega (arith, e)) is.numbered is.serial_fits (omega (arith, session_long to)) (omega (arith, session_body-length session, few_digits session.0 is.fits)) is.short
-    (record { full = session_full to; spelled = session_array_spelled to is.answered_fits; are = session_are to is.answers; needed = refl; listed = refl; bodied = session_bodied session is.fits (path_long session.0 is.fits) })
+    whole most method_return serial (session_fields to) (spelled_body (body.Session session)) (session_array to) (session_header to) (values_said (body.Session session)) (λ e. omega (arith, e)) is.numbered is.serial_fits (omega (arith, session_long to)) (omega (arith, session_body-length session, few_digits session.0 is.has.fits)) is.short
+    (record { full = session_full to; spelled = session_array_spelled to is.has.answered_fits; are = session_are to is.has.answers; needed = refl; listed = refl; bodied = session_bodied session is.has.fits (path_long session.0 is.has.fits) })
 sent most serial (out.Error to name) is =
     whole most error serial (error_fields name to) [] (error_array name to) (error_header name to) Vals.end (λ e. omega (arith, e)) is.numbered is.serial_fits (error_long name to) (omega arith) is.short
-    (record { full = error_full name to; spelled = error_array_spelled name to is.answered_fits; are = error_are name to is.answers; needed = refl; listed = refl; bodied = refl })
+    (record { full = error_full name to; spelled = error_array_spelled name to is.has.answered_fits; are = error_are name to is.has.answers; needed = refl; listed = refl; bodied = refl })
 
 -- ---- outputs that say the same are the same
 

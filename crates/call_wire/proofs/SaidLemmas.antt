@@ -50,7 +50,7 @@ unfolding uint32
 return_full to = refl
 
 return_fits : (to : ℕ) → to < 2 ^ 32 → HaveSpelling (return_array to)
-return_fits to fits = ((refl, (((refl, omega arith), ((refl, (refl, fits)), tt)), tt)), tt)
+return_fits to fits = ((refl, (((refl, omega arith), ((refl, (refl, fits)), tt)), tt), refl), tt)
 
 return_spelled : (to : ℕ) → uint32 (length (reply_field to)) ++ reply_field to ≡ all_spelled Little (return_array to) 4
 unfolding uint32 number_bytes
@@ -96,7 +96,7 @@ session_full to = refl
 
 session_fits : (to : ℕ) → to < 2 ^ 32 → HaveSpelling (session_array to)
 session_fits to fits =
-    ((refl, (((refl, omega arith), ((refl, (refl, fits)), tt)), (((refl, omega arith), ((refl, (refl, (session_types, refl, refl))), tt)), tt))), tt)
+    ((refl, (((refl, omega arith), ((refl, (refl, fits)), tt)), (((refl, omega arith), ((refl, (refl, (session_types, refl, refl))), tt)), tt)), refl), tt)
 
 session_spelled : (to : ℕ) → uint32 (length (session_fields to)) ++ session_fields to ≡ all_spelled Little (session_array to) 4
 unfolding uint32 number_bytes
@@ -164,7 +164,7 @@ is_short name.NoSession = omega arith
 
 error_fits : (name : ErrorName) (to : ℕ) → to < 2 ^ 32 → HaveSpelling (error_array name to)
 error_fits name to fits =
-    ((refl, (((refl, omega arith), ((refl, (refl, (plain_text (error_text name) (is_plain name), is_short name))), tt)), (((refl, omega arith), ((refl, (refl, fits)), tt)), tt))), tt)
+    ((refl, (((refl, omega arith), ((refl, (refl, (plain_text (error_text name) (is_plain name), is_short name))), tt)), (((refl, omega arith), ((refl, (refl, fits)), tt)), tt)), refl), tt)
 
 error_spelled : (name : ErrorName) (to : ℕ) → uint32 (length (error_fields name to)) ++ error_fields name to ≡ all_spelled Little (error_array name to) 4
 unfolding uint32 number_bytes

@@ -10,7 +10,7 @@ use Rattle.secret_calls.specs.declared.out.Body.TheVariants as body
 use Rattle.secret_calls.specs.declared.out.Out.{Out}
 use Rattle.secret_calls.specs.declared.out.Out.TheVariants as out
 use Rattle.secret_calls.specs.Message.{method_return, error}
-use Rattle.secret_calls.specs.Outs.{error_text, session_path, spelled}
+use Rattle.secret_calls.specs.Outs.{error_text, session_path, HasSpelling, spelled}
 
 -- the types of a return's values
 abbrev pub types_said : Body → Tys
@@ -56,26 +56,9 @@ said (out.Error to name) serial = record {
   size = length (spelled (out.Error to name) serial);
 }
 
--- the serial of the call that an output answers
-abbrev pub answered : Out → ℕ
-answered (out.Return to body) = to
-answered (out.Error to name) = to
-
--- the session of a return has a number of 64 bits
-abbrev pub FitsBody : Body → Type 0
-FitsBody body.Empty = Unit {0}
-FitsBody (body.Session session) = session.0 < 2 ^ 64
-
--- the numbers of an output are those of the program
-abbrev pub FitsOut : Out → Type 0
-FitsOut (out.Return to body) = FitsBody body
-FitsOut (out.Error to name) = Unit {0}
-
 -- the output can be sent with this serial to a reader of so many bytes: serials are numbers of 32 bits, and not 0
 pub record IsSendable (most : ℕ) (out : Out) (serial : ℕ) : Type 0 where
   pub numbered : serial ≢ 0
   pub serial_fits : serial < 2 ^ 32
-  pub answers : answered out ≢ 0
-  pub answered_fits : answered out < 2 ^ 32
-  pub fits : FitsOut out
+  pub has : HasSpelling out
   pub short : length (spelled out serial) ≤ most

@@ -2,9 +2,9 @@
 ghost use Rattle.std.specs.Prelude.{◌≡◌, ℕ};
 ghost use Rattle.secret_calls.specs.declared.call.Request.{Request};
 ghost use Rattle.secret_calls.specs.declared.out.Out.{Out};
-ghost use Rattle.secret_calls.specs.Outs.{spelled};
+ghost use Rattle.secret_calls.specs.Outs.{FitsOut, spelled};
 ghost use Rattle.dbus_framing.specs.Messages.{Parts, IsMessage};
-ghost use Rattle.call_wire.specs.Said.{said, FitsOut, IsSendable};
+ghost use Rattle.call_wire.specs.Said.{said, IsSendable};
 ghost use Rattle.call_wire.specs.CallOf.{CallOf};
 
 /// A message is one request: its call, or the fault that it has, is the only one, and so is what

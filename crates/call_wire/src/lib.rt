@@ -8,8 +8,6 @@ mod arguments;
 mod laws;
 mod members;
 mod reading;
-#[cfg(test)]
-mod tests;
 mod writing;
 
 pub use laws::{a_message_is_one_request, what_is_sent_is_read_again};

@@ -7,7 +7,7 @@ use kr_base::Text;
 use kr_names::ObjectName;
 
 /// An interface that a method is built of.
-#[derive(Clone, Copy, Debug, PartialEq, Eq)]
+#[derive(Clone, Copy, PartialEq, Eq)]
 pub enum Interface {
     /// `org.freedesktop.Secret.Service`.
     Service,
@@ -18,7 +18,7 @@ pub enum Interface {
 }
 
 /// A method.
-#[derive(Clone, Copy, Debug, PartialEq, Eq)]
+#[derive(Clone, Copy, PartialEq, Eq)]
 pub enum Method {
     /// `Service.OpenSession`.
     OpenSession,

@@ -1,5 +1,5 @@
 // Messages to calls.
-ghost use Rattle.std.specs.Prelude.{◌≡◌, None, IfOk, option_copied};
+ghost use Rattle.std.specs.Prelude.{◌≡◌, ◌≢◌, None, IfOk, option_copied};
 ghost use Rattle.std.specs.List.{list_any};
 ghost use Rattle.dbus_types.specs.SignatureViews.{types_in};
 ghost use Rattle.dbus_types.specs.ValueViews.{value_of, values_of};
@@ -165,6 +165,14 @@ fn call_of_object(
     }
 }
 
+// The serial of a message, which is a number of 32 bits and not 0.
+fn serial_of(message: &Message) -> u32
+    ensures value { result ≡ message.now.serial }
+    ensures some { result ≢ 0 }
+{
+    message.serial
+}
+
 /// The request that a method call is (D-Bus Specification, "Message Format"; docs/SERVICE.md,
 /// "Interfaces"). It keeps the message's serial and length, and whether a reply is wanted.
 ///
@@ -179,7 +187,7 @@ pub fn call_of(alloc: Global, message: &Message) -> Result<Request, OutOfMemory>
     let object = object_of(alloc, &message.path)?;
     let call = call_of_object(&object, message)?;
     Ok(Request {
-        serial: message.serial,
+        serial: serial_of(message),
         wants_reply: message.flags % 2 == 0,
         length: message.length,
         call,

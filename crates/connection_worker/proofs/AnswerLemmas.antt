@@ -26,7 +26,7 @@ use Rattle.service_machine.specs.SessionCalls.{is_plain}
 use Rattle.service_machine.specs.Step.{asked, sessions_of, plan_of, planned, performed, performed_all, message_of, replies, step}
 use Rattle.service_machine.specs.declared.event.Event.TheVariants as event
 use Rattle.service_machine.specs.Replay.{replay}
-use Rattle.service_desk.specs.Places.{Told}
+use Rattle.service_desk.specs.Places.{Told, Place}
 use Rattle.session_table.specs.Sessions.{is_full, rows_of}
 use Rattle.connection_worker.specs.Single.{Asked, arrival, taking}
 use Rattle.connection_worker.specs.Serving.{IsOwed, owed, HasGiven}
@@ -149,24 +149,26 @@ arrived-owed told new a is conn state =
       only = behind ∙ ap (λ c. row_with c (waiting_behind request.wants_reply out) is.taken ∷ []) (sym conn);
     })
 
--- behind what was given nothing is owed
-given-idle-by : (mid new : Told) (outs : List Out) → IsOwed mid outs → HasGiven mid new → IsOwed new []
+-- after what was given nothing is owed
+given-idle-by : (mid new : Place) (outs : List Out) → IsOwed mid.told outs → HasGiven mid new → IsOwed new.told []
 given-idle-by mid new [] is so =
-    let none : taking mid.conn mid.state ≡ [] = rw is.only (rw (same mid.conn.0) refl) in
-    let state : new.state ≡ mid.state = so.state ∙ ap (replay mid.state) none in
+    let conn = mid.told.conn in
+    let none : taking conn mid.told.state ≡ [] = rw is.only (rw (same conn.0) refl) in
+    let state : new.told.state ≡ mid.told.state = so.state ∙ ap (replay mid.told.state) none in
     record { taken = is.taken; only = ap (λ (s : Rows). s.connections) state ∙ is.only ∙ ap (λ c. row_with c [] is.taken ∷ []) (sym so.same.conn) }
 given-idle-by mid new (out ∷ outs) is so =
-    let some : taking mid.conn mid.state ≡ event.Take mid.conn ∷ [] =
-    rw is.only (rw (same mid.conn.0) (ap (λ b. cond b (event.Take mid.conn ∷ []) []) (lt-ltb 0 (length (out ∷ outs)) (omega arith)))) in
-    let state : new.state ≡ step mid.state (event.Take mid.conn) = so.state ∙ ap (replay mid.state) some in
-    let rows : new.state.connections ≡ changed mid.conn emptied (row_with mid.conn (out ∷ outs) is.taken ∷ []) =
-    ap (λ (s : Rows). s.connections) state ∙ ap (changed mid.conn emptied) is.only in
-    let row : changed mid.conn emptied (row_with mid.conn (out ∷ outs) is.taken ∷ []) ≡ row_with mid.conn [] (min (is.taken + length (out ∷ outs)) 18446744073709551615) ∷ [] =
-    rw (same mid.conn.0) refl in
+    let conn = mid.told.conn in
+    let some : taking conn mid.told.state ≡ event.Take conn ∷ [] =
+    rw is.only (rw (same conn.0) (ap (λ b. cond b (event.Take conn ∷ []) []) (lt-ltb 0 (length (out ∷ outs)) (omega arith)))) in
+    let state : new.told.state ≡ step mid.told.state (event.Take conn) = so.state ∙ ap (replay mid.told.state) some in
+    let rows : new.told.state.connections ≡ changed conn emptied (row_with conn (out ∷ outs) is.taken ∷ []) =
+    ap (λ (s : Rows). s.connections) state ∙ ap (changed conn emptied) is.only in
+    let row : changed conn emptied (row_with conn (out ∷ outs) is.taken ∷ []) ≡ row_with conn [] (min (is.taken + length (out ∷ outs)) 18446744073709551615) ∷ [] =
+    rw (same conn.0) refl in
     record {
       taken = min (is.taken + length (out ∷ outs)) 18446744073709551615;
       only = rows ∙ row ∙ ap (λ c. row_with c [] (min (is.taken + length (out ∷ outs)) 18446744073709551615) ∷ []) (sym so.same.conn);
     }
 
-pub given-idle : (mid new : Told) → IsOwed mid (owed mid) → HasGiven mid new → IsOwed new []
-given-idle mid new is so = given-idle-by mid new (owed mid) is so
+pub given-idle : (mid new : Place) → IsOwed mid.told (owed mid.told) → HasGiven mid new → IsOwed new.told []
+given-idle mid new is so = given-idle-by mid new (owed mid.told) is so

@@ -5,7 +5,7 @@ use Rattle.secret_calls.specs.declared.call.Request.{Request}
 use Rattle.secret_calls.specs.declared.out.Out.{Out}
 use Rattle.service_machine.specs.declared.rows.Rows.{Rows}
 use Rattle.service_machine.specs.Connections.{waiting_for}
-use Rattle.service_desk.specs.Places.{Told}
+use Rattle.service_desk.specs.Places.{Told, Place}
 use Rattle.dbus_framing.specs.Messages.{Parts}
 use Rattle.call_wire.specs.CallOf.{CallOf}
 use Rattle.connection_worker.specs.declared.ending.End.{End}
@@ -13,8 +13,8 @@ use Rattle.connection_worker.specs.declared.ending.End.TheVariants as end
 use Rattle.connection_worker.specs.Streams.{Output, Gave, GaveFront}
 use Rattle.connection_worker.specs.Sending.{AreBehind}
 use Rattle.connection_worker.specs.Single.{Asked, turns}
-use Rattle.connection_worker.specs.Written.{given_by, spelled_behind, written}
-use Rattle.connection_worker.specs.Serving.{World, IsOwed, owed, Asks, HasArrived, HasGiven, Gives, Recorded, EndsEarly}
+use Rattle.connection_worker.specs.Written.{given_by, spelled_behind}
+use Rattle.connection_worker.specs.Serving.{World, place_of, IsOwed, owed, Asks, HasArrived, HasGiven, Gives, Recorded, EndsEarly}
 use Rattle.connection_worker.specs.Answering.{IsOne, Answered, Broke, AnswersCall}
 use Rattle.connection_worker.proofs.StreamLemmas.{Gave-none, GaveFront-whole, GaveFront-more}
 use Rattle.connection_worker.proofs.AnswerLemmas.{arrived-owed, given-idle}
@@ -26,35 +26,37 @@ front-none o text = GaveFront-more o o [] text (GaveFront-whole o o [] (Gave-non
 
 -- there was no memory for the request
 pub unread : (parts : Parts) (w : World) (serials : ℕ) (o : Output) → IsOwed w.told [] → AnswersCall parts w w serials serials o o (Err end.Memory)
-unread parts w serials o idle = ([], tt, record { early = tt; refused = []; recorded = recorded-none w; idle = idle; wrote = λ taken behind. front-none o [] })
+unread parts w serials o idle = ([], record { early = tt; refused = []; few = omega arith; recorded = recorded-none w; idle = idle; wrote = λ taken behind. front-none o [] }, tt)
 
 -- the request wasn't recorded
-pub unasked : (parts : Parts) (request : Request) (old new : World) (serials : ℕ) (o : Output) (why : End) → IsOwed old.told [] → Asks request old new (Err why)
-    → AnswersCall parts old new serials serials o o (Err why)
-unasked parts request old new serials o end.EventsSpent idle asks =
+pub unasked : (parts : Parts) (request : Request) (old new : World) (serials : ℕ) (o : Output) (why : End) → CallOf parts request → IsOwed old.told []
+    → Asks request old new (Err why) → AnswersCall parts old new serials serials o o (Err why)
+unasked parts request old new serials o end.EventsSpent call idle asks =
     let told = asks.2.told in (
       [],
-      tt,
       record {
         early = tt;
         refused = asks.0 ∷ [];
+        few = omega arith;
         recorded = recorded-refused old new asks.0 asks.2;
         idle = rw told idle;
         wrote = λ taken behind. (omega (arith, asks.3, ap (λ (t : Told). t.count) told), Gave-none o);
       },
+      rw asks.1 call,
     )
-unasked parts request old new serials o end.Memory idle asks = (
+unasked parts request old new serials o end.Memory call idle asks = (
   [],
-  tt,
   record {
     early = tt;
     refused = asks.0 ∷ [];
+    few = omega arith;
     recorded = recorded-refused old new asks.0 asks.2;
     idle = rw asks.2.told idle;
     wrote = λ taken behind. front-none o [];
   },
+  rw asks.1 call,
 )
-unasked parts request old new serials o _ idle asks = absurd asks
+unasked parts request old new serials o _ call idle asks = absurd asks
 
 -- what a request gives is what is owed behind it
 given-owed : (old mid : World) (a : Asked) → HasArrived old mid a → given_by old.told.conn old.told.state (turns old.told.conn old.told.state (a ∷ [])) ≡ owed mid.told
@@ -63,9 +65,9 @@ given-owed old mid a so =
     ∙ ap (λ (s : Rows). waiting_for old.told.conn s.connections) (sym so.state) ∙ ap (λ c. waiting_for c mid.told.state.connections) (sym so.same.conn)
 
 -- what was owed for it was given, and written or not
-pub answers : (parts : Parts) (request : Request) (old mid : World) (new : Told) (serials behind : ℕ) (from to : Output) (result : Result Unit End) → CallOf parts request
-    → IsOwed mid.told (owed mid.told) → Asks request old mid (Ok tt) → Gives mid.told new serials behind from to result
-    → AnswersCall parts old (record { told = new; coming = mid.coming; salting = mid.salting }) serials behind from to result
+pub answers : (parts : Parts) (request : Request) (old mid : World) (new : Place) (serials behind : ℕ) (from to : Output) (result : Result Unit End) → CallOf parts request
+    → IsOwed mid.told (owed mid.told) → Asks request old mid (Ok tt) → Gives (place_of mid) new serials behind from to result
+    → AnswersCall parts old (record { told = new.told; has_seen = new.has_seen; coming = mid.coming; salting = mid.salting }) serials behind from to result
 answers parts request old mid new serials behind from to (Ok done) call all asks gives =
     let a = asks.0 in
     let e = given-owed old mid a asks.2 in (
@@ -73,7 +75,7 @@ answers parts request old mid new serials behind from to (Ok done) call all asks
       rw asks.1 call,
       record {
         recorded = recorded-one old mid new a asks.2 gives.0;
-        idle = given-idle mid.told new all gives.0;
+        idle = given-idle (place_of mid) new all gives.0;
         wrote = λ taken are. rw e (gives.1 taken are);
       },
     )
@@ -81,26 +83,28 @@ answers parts request old mid new serials behind from to (Err end.WriteFault) ca
     let a = asks.0 in
     let e = given-owed old mid a asks.2 in (
       a ∷ [],
-      rw asks.1 call,
       record {
         early = tt;
         refused = [];
+        few = refl;
         recorded = recorded-one old mid new a asks.2 gives.0;
-        idle = given-idle mid.told new all gives.0;
+        idle = given-idle (place_of mid) new all gives.0;
         wrote = λ taken are. rw e (gives.1, gives.2 taken are);
       },
+      rw asks.1 call,
     )
 answers parts request old mid new serials behind from to (Err end.Memory) call all asks gives =
     let a = asks.0 in
     let e = given-owed old mid a asks.2 in (
       a ∷ [],
-      rw asks.1 call,
       record {
         early = tt;
         refused = [];
+        few = omega arith;
         recorded = recorded-one old mid new a asks.2 gives.0;
-        idle = given-idle mid.told new all gives.0;
+        idle = given-idle (place_of mid) new all gives.0;
         wrote = λ taken are. rw e (gives.1 taken are);
       },
+      rw asks.1 call,
     )
 answers parts request old mid new serials behind from to (Err _) call all asks gives = absurd gives

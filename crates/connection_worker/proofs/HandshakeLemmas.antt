@@ -1,5 +1,5 @@
 -- A handshake goes on by turns: lines are answered, and more is read.
-use Rattle.std.proofs.Common.{◌≡◌, ℕ, ◌<◌, ◌≤◌, inl, inr, get_or, List, [], ◌∷◌, ◌++◌, length, drop, None, Result, Ok, Err, IfOk, OnErr, IsErrOf, refl, sym, ◌∙◌, ap, arith, append_assoc, append-nil, subst}
+use Rattle.std.proofs.Common.{◌≡◌, ℕ, ◌<◌, ◌≤◌, inl, inr, get_or, List, [], ◌∷◌, ◌++◌, length, drop, Result, Ok, Err, IfOk, OnErr, IsErrOf, refl, sym, ◌∙◌, ap, arith, append_assoc, append-nil, subst}
 use Rattle.std.proofs.lemmas.List.Folds.{concat-append}
 use Rattle.std.proofs.lemmas.Grind.{get_or_default_zero}
 use Rattle.std.specs.List.{concat}
@@ -14,10 +14,10 @@ use Rattle.dbus_auth.specs.Handshake as shaking
 use Rattle.dbus_auth.specs.Handshake.{Run, waiting, refused, opened, silent, run, handshake}
 use Rattle.dbus_auth.proofs.RunLemmas.{run-append}
 use Rattle.dbus_auth.proofs.HandshakeLemmas.{handshake-nothing, handshake-zero, handshake-other, run-refused}
-use Rattle.dbus_framing.specs.Framers.{Framing}
+use Rattle.dbus_framing.specs.Framers.{Framing, just_fed}
 use Rattle.connection_worker.specs.declared.ending.End.{End}
 use Rattle.connection_worker.specs.declared.ending.End.TheVariants as end
-use Rattle.connection_worker.specs.Streams.{Input, Output, Took, GaveFront}
+use Rattle.connection_worker.specs.Streams.{Input, Output, Took, IsStill, GaveFront}
 use Rattle.connection_worker.specs.Lines.{Answers}
 use Rattle.connection_worker.specs.Handshakes.{Both, most_bytes, IsRefusedFor, IsRefusedSo, EndsFor, Shakes, ReadsMore, Reached, ShakesOn}
 use Rattle.connection_worker.proofs.StreamLemmas.{Took-none, Took-trans, Gave-none, Gave-trans, GaveFront-whole, GaveFront-more, GaveFront-behind}
@@ -43,20 +43,21 @@ is_refused uid guid bytes input fault.BeginTooSoon (inr late) = let e = late.0 i
 is_refused uid guid bytes input fault.EndedEarly (inr late) = (late.1, late.2)
 
 -- an end, seen from before an earlier reading
-pub ends-from : (uid : ℕ) (guid bytes : List ℕ) (old mid : Input) (output : Output) (new : Both) (result : Result Framing End) → old.faults ≤ mid.faults
+pub ends-from : (uid : ℕ) (guid bytes : List ℕ) (old mid : Input) (output : Output) (new : Both) (result : Result Framing End) → old.faults ≤ mid.faults → IsStill old mid
     → EndsFor IsRefusedSo (run (fresh uid guid) bytes) (record { input = mid; output = output }) new result
     → EndsFor IsRefusedFor (run (fresh uid guid) bytes) (record { input = old; output = output }) new result
-ends-from uid guid bytes old mid output new (Ok framing) later ends = ends
-ends-from uid guid bytes old mid output new (Err (end.AuthRefused why)) later ends = (is_refused uid guid bytes new.input why ends.0, ends.1)
-ends-from uid guid bytes old mid output new (Err end.ReadFault) later ends = (ends.0, rose-later old.faults mid.faults new.input.faults later ends.1, ends.2)
-ends-from uid guid bytes old mid output new (Err end.WriteFault) later ends = ends
-ends-from uid guid bytes old mid output new (Err end.Memory) later ends = ends
-ends-from uid guid bytes old mid output new (Err _) later ends = absurd ends
+ends-from uid guid bytes old mid output new (Ok framing) later same ends = (ends.0, ends.1, ends.2, ends.3, ends.4 ∙ same)
+ends-from uid guid bytes old mid output new (Err (end.AuthRefused why)) later same ends = (is_refused uid guid bytes new.input why ends.0, ends.1, ends.2 ∙ same)
+ends-from uid guid bytes old mid output new (Err end.ReadFault) later same ends = (ends.0, rose-later old.faults mid.faults new.input.faults later ends.1, ends.2)
+ends-from uid guid bytes old mid output new (Err end.WriteFault) later same ends = (ends.0, ends.1, ends.2 ∙ same)
+ends-from uid guid bytes old mid output new (Err end.Memory) later same ends = (ends.0, ends.1 ∙ same)
+ends-from uid guid bytes old mid output new (Err _) later same ends = absurd ends
 
 pub reached-none : (at : Exchange) (held : List ℕ) (b : Both) → Reached at held b b (run at held)
 reached-none at held b = record {
   read = [];
   took = Took-none b.input;
+  still = refl;
   answers = [];
   gave = Gave-none b.output;
   goes = ap (run at) (append-nil held);
@@ -69,6 +70,7 @@ pub reached-turn : (at next : Exchange) (held left : List ℕ) (old : Both) (inp
 reached-turn at next held left old input mid new further so turn = record {
   read = so.read;
   took = so.took;
+  still = so.still;
   answers = so.answers ++ turn.answers;
   gave = rw (concat-append so.answers turn.answers) (Gave-trans old.output mid new (concat so.answers) (concat turn.answers) so.gave turn.gave);
   goes =
@@ -78,11 +80,12 @@ reached-turn at next held left old input mid new further so turn = record {
 
 -- more was read
 pub reached-more : (at next : Exchange) (held left rest more : List ℕ) (old : Both) (mid new : Input) (output : Output)
-    → Reached at held old (record { input = mid; output = output }) (silent (waiting next rest)) → Took mid new more → left ≡ rest ++ more
+    → Reached at held old (record { input = mid; output = output }) (silent (waiting next rest)) → Took mid new more → left ≡ rest ++ more → IsStill mid new
     → Reached at held old (record { input = new; output = output }) (run next left)
-reached-more at next held left rest more old mid new output so took is = record {
+reached-more at next held left rest more old mid new output so took is same = record {
   read = so.read ++ more;
   took = Took-trans old.input mid new so.read more so.took took;
+  still = same ∙ so.still;
   answers = so.answers;
   gave = so.gave;
   goes =
@@ -92,8 +95,8 @@ reached-more at next held left rest more old mid new output so took is = record 
 }
 
 -- a source that gave nothing more
-still : (a b c : Input) (x : List ℕ) → Took a b x → Took b c [] → Took a c x
-still a b c x p q = let e : x ++ [] ≡ x = append-nil x in rw (sym e) (Took-trans a b c x [] p q)
+no-more : (a b c : Input) (x : List ℕ) → Took a b x → Took b c [] → Took a c x
+no-more a b c x p q = let e : x ++ [] ≡ x = append-nil x in rw (sym e) (Took-trans a b c x [] p q)
 
 -- the run so far is this one, and its answers are written
 told-run : (at : Exchange) (held : List ℕ) (old new : Both) (how : Run) → how.answers ≡ [] → (so : Reached at held old new how)
@@ -104,24 +107,24 @@ told-run at held old new how none so =
 
 -- messages follow
 pub opens : (at : Exchange) (held rest : List ℕ) (old new : Both) (framing : Framing) → Reached at held old new (silent (opened rest))
-    → framing ≡ record { most = most_bytes; rest = rest; broken = None } → ShakesOn at held old new (Ok framing)
+    → framing ≡ just_fed most_bytes rest → ShakesOn at held old new (Ok framing)
 opens at held rest old new framing so is =
     let how = told-run at held old new (silent (opened rest)) refl so in
     record {
       read = so.read;
       took = so.took;
-      ends = rw how (rw is (refl, refl, refl, so.gave));
+      ends = rw how (rw is (refl, refl, refl, so.gave, so.still));
     }
 
 -- there was no memory for them
 pub no_room : (at : Exchange) (held rest : List ℕ) (old new : Both) → Reached at held old new (silent (opened rest)) → ShakesOn at held old new (Err end.Memory)
 no_room at held rest old new so =
     let how = told-run at held old new (silent (opened rest)) refl so in
-    record { read = so.read; took = so.took; ends = rw how (GaveFront-whole old.output new.output (concat so.answers) so.gave) }
+    record { read = so.read; took = so.took; ends = rw how (GaveFront-whole old.output new.output (concat so.answers) so.gave, so.still) }
 
 -- a framer was made for them, or there was no memory for it
 pub begins : (at : Exchange) (held rest : List ℕ) (old new : Both) (result : Result Framing End) → Reached at held old new (silent (opened rest))
-    → IfOk result (λ framing. framing ≡ record { most = most_bytes; rest = rest; broken = None }) → OnErr result (IsErrOf result end.Memory) → ShakesOn at held old new result
+    → IfOk result (λ framing. framing ≡ just_fed most_bytes rest) → OnErr result (IsErrOf result end.Memory) → ShakesOn at held old new result
 begins at held rest old new (Ok framing) so fed memory = opens at held rest old new framing so fed
 begins at held rest old new (Err why) so fed memory = rw memory (no_room at held rest old new so)
 
@@ -130,7 +133,7 @@ pub refuses : (at : Exchange) (held : List ℕ) (old new : Both) (why : AuthFaul
     → ShakesOn at held old new (Err (end.AuthRefused why))
 refuses at held old new why so =
     let how = told-run at held old new (silent (refused why)) refl so in
-    record { read = so.read; took = so.took; ends = rw how (inl refl, so.gave) }
+    record { read = so.read; took = so.took; ends = rw how (inl refl, so.gave, so.still) }
 
 -- the sink failed
 pub fails : (at next : Exchange) (held left : List ℕ) (old : Both) (input : Input) (mid new : Output)
@@ -142,7 +145,7 @@ fails at next held left old input mid new so rose front =
     record {
       read = so.read;
       took = so.took;
-      ends = (rose-later old.output.faults mid.faults new.faults so.gave.later rose, rw all (GaveFront-behind old.output mid new (concat so.answers) (concat (run next left).answers) so.gave front));
+      ends = (rose-later old.output.faults mid.faults new.faults so.gave.later rose, rw all (GaveFront-behind old.output mid new (concat so.answers) (concat (run next left).answers) so.gave front), so.still);
     }
 
 -- nothing more was read
@@ -153,24 +156,24 @@ reads_no_more at next held rest left old mid new output end.ReadFault so more =
     let how = told-run at held old (record { input = mid; output = output }) (silent (waiting next rest)) refl so in
     record {
       read = so.read;
-      took = still old.input mid new so.read so.took more.0;
+      took = no-more old.input mid new so.read so.took more.0;
       ends = rw how (tt, rose-later old.input.faults mid.faults new.faults so.took.later more.1, so.gave);
     }
 reads_no_more at next held rest left old mid new output (end.AuthRefused fault.EndedEarly) so more =
     let how = told-run at held old (record { input = mid; output = output }) (silent (waiting next rest)) refl so in
     record {
       read = so.read;
-      took = still old.input mid new so.read so.took more.0;
-      ends = rw how (inr (refl, tt, more.1), so.gave);
+      took = no-more old.input mid new so.read so.took more.0;
+      ends = rw how (inr (refl, tt, more.1), so.gave, more.2 ∙ so.still);
     }
 reads_no_more at next held rest left old mid new output end.Memory so more =
-    let on = reached-more at next held (rest ++ more.0) rest more.0 old mid new output so more.1 refl in
+    let on = reached-more at next held (rest ++ more.0) rest more.0 old mid new output so more.1 refl more.2 in
     let all : concat (run at (held ++ on.read)).answers ≡ concat on.answers ++ concat (run next (rest ++ more.0)).answers =
     ap (λ (r : Run). concat r.answers) on.goes ∙ concat-append on.answers (run next (rest ++ more.0)).answers in
     record {
       read = on.read;
       took = on.took;
-      ends = rw all (GaveFront-more old.output output (concat on.answers) (concat (run next (rest ++ more.0)).answers) (GaveFront-whole old.output output (concat on.answers) on.gave));
+      ends = (rw all (GaveFront-more old.output output (concat on.answers) (concat (run next (rest ++ more.0)).answers) (GaveFront-whole old.output output (concat on.answers) on.gave)), on.still);
     }
 reads_no_more at next held rest left old mid new output _ so more = absurd more
 
@@ -187,12 +190,12 @@ never_began uid guid left old new output end.ReadFault more = record {
 never_began uid guid left old new output (end.AuthRefused fault.EndedEarly) more = record {
   read = [];
   took = more.0;
-  ends = rw (handshake-nothing uid guid) ((tt, more.1), Gave-none output);
+  ends = rw (handshake-nothing uid guid) ((tt, more.1), Gave-none output, more.2);
 }
 never_began uid guid left old new output end.Memory more = record {
   read = more.0;
   took = more.1;
-  ends = GaveFront-more output output [] (concat (handshake uid guid more.0).answers) (GaveFront-whole output output [] (Gave-none output));
+  ends = (GaveFront-more output output [] (concat (handshake uid guid more.0).answers) (GaveFront-whole output output [] (Gave-none output)), more.2);
 }
 never_began uid guid left old new output _ more = absurd more
 
@@ -201,7 +204,7 @@ pub no_piece : (uid : ℕ) (guid : List ℕ) (b : Both) → Shakes uid guid b b 
 no_piece uid guid b = record {
   read = [];
   took = Took-none b.input;
-  ends = GaveFront-more b.output b.output [] (concat (handshake uid guid []).answers) (GaveFront-whole b.output b.output [] (Gave-none b.output));
+  ends = (GaveFront-more b.output b.output [] (concat (handshake uid guid []).answers) (GaveFront-whole b.output b.output [] (Gave-none b.output)), refl);
 }
 
 -- the first byte isn't zero
@@ -211,7 +214,7 @@ no_zero uid guid [] old new output more other = absurd (other refl)
 no_zero uid guid (first ∷ bytes) old new output more other = record {
   read = more.0;
   took = more.1;
-  ends = rw (sym more.2, handshake-other uid guid first bytes other) (refl, Gave-none output);
+  ends = rw (sym more.2, handshake-other uid guid first bytes other) (refl, Gave-none output, more.4);
 }
 
 -- it is, and lines follow
@@ -227,7 +230,7 @@ began uid guid (first ∷ bytes) old mid output new result more is on =
     record {
       read = more.0 ++ on.read;
       took = Took-trans old mid new.input more.0 on.read more.1 on.took;
-      ends = rw whole (ends-from uid guid (bytes ++ on.read) old mid output new result more.1.later on.ends);
+      ends = rw whole (ends-from uid guid (bytes ++ on.read) old mid output new result more.1.later more.4 on.ends);
     }
 
 -- the same of a handshake that is fresh

@@ -1,5 +1,5 @@
 -- The calls among the messages of a framer, one after the other.
-use Rattle.std.proofs.Common.{◌≡◌, ℕ, ◌+◌, ◌≤◌, ◌==◌, Bool, true, false, cond, List, [], ◌∷◌, ◌++◌, length, map, filter, Result, Ok, Err, refl, sym, ◌∙◌, ap, arith, subst, append-nil, length-append}
+use Rattle.std.proofs.Common.{◌≡◌, ℕ, ◌+◌, ◌≤◌, ◌==◌, Bool, true, false, cond, List, [], ◌∷◌, ◌++◌, length, map, filter, Result, Ok, Err, refl, sym, ◌∙◌, ap, arith, subst, append_assoc, append-nil, length-append}
 use Rattle.std.proofs.lemmas.Bool.Decides.{nat_tests}
 use Rattle.std.proofs.lemmas.List.{map-append}
 use Rattle.std.proofs.lemmas.List.Elements.{filter-append}
@@ -20,7 +20,7 @@ use Rattle.connection_worker.specs.Arrivals.{calls_in, AreRequests, FirstRequest
 use Rattle.connection_worker.specs.Streams.{Output, Gave, GaveFront}
 use Rattle.connection_worker.specs.Sending.{AreBehind}
 use Rattle.connection_worker.specs.Single.{Asked, requests_of, turns}
-use Rattle.connection_worker.specs.Written.{given_by, spelled_behind, written}
+use Rattle.connection_worker.specs.Written.{given_by, spelled_behind, written_after}
 use Rattle.connection_worker.specs.Serving.{World, IsOwed, Recorded, EndsEarly}
 use Rattle.connection_worker.specs.Answering.{IsOne, Answered, Broke, AnswersCall, AnswersMessage, Going, AnswersEarly, AnswersAll}
 use Rattle.connection_worker.proofs.HandshakeLemmas.{rose-later}
@@ -66,13 +66,13 @@ answered-more old mid new serials next behind from o to asked more p q =
     }
 
 -- an early end behind what was written
-ends-behind : (why : End) (count : ℕ) (from o to : Output) (x y : List ℕ) → Gave from o x → EndsEarly why count o to y → EndsEarly why count from to (x ++ y)
+pub ends-behind : (why : End) (count : ℕ) (from o to : Output) (x y : List ℕ) → Gave from o x → EndsEarly why count o to y → EndsEarly why count from to (x ++ y)
 ends-behind end.EventsSpent count from o to x y gave ends = (ends.0, Gave-trans from o to x y gave ends.1)
 ends-behind end.WriteFault count from o to x y gave ends = (rose-later from.faults o.faults to.faults gave.later ends.0, GaveFront-behind from o to x y gave ends.1)
 ends-behind end.Memory count from o to x y gave ends = GaveFront-behind from o to x y gave ends
 ends-behind _ count from o to x y gave ends = absurd ends
 
-pub broke-more : (old mid new : World) (serials next : ℕ) (from o to : Output) (asked more : List Asked) (why : End)
+unfoldable pub broke-more : (old mid new : World) (serials next : ℕ) (from o to : Output) (asked more : List Asked) (why : End)
     → Answered old mid serials next from o asked → Broke mid new next o to more why → Broke old new serials from to (asked ++ more) why
 broke-more old mid new serials next from o to asked more why p q =
     let one = given_by old.told.conn old.told.state (turns old.told.conn old.told.state asked) in
@@ -81,6 +81,7 @@ broke-more old mid new serials next from o to asked more why p q =
     record {
       early = q.early;
       refused = q.refused;
+      few = q.few;
       recorded = recorded-more old mid new asked more q.refused p.recorded q.recorded;
       idle = q.idle;
       wrote = λ taken are.
@@ -93,9 +94,10 @@ pub broke-memory : (old new : World) (serials behind : ℕ) (from to : Output) (
 broke-memory old new serials behind from to asked p = record {
   early = tt;
   refused = [];
+  few = omega arith;
   recorded = p.recorded;
   idle = p.idle;
-  wrote = λ taken are. GaveFront-whole from to (written old.told.conn taken old.told.state (turns old.told.conn old.told.state asked)) (p.wrote taken are).0;
+  wrote = λ taken are. GaveFront-whole from to (written_after old.told.conn taken old.told.state (turns old.told.conn old.told.state asked)) (p.wrote taken are).0;
 }
 
 -- ---- messages
@@ -116,7 +118,7 @@ answers-other parts w serials o idle isnt = ([], rw isnt tt, answered-none w ser
 pub answers-call : (parts : Parts) (old new : World) (serials behind : ℕ) (from to : Output) (result : Result Unit End) → (parts.kind == 1) ≡ true
     → AnswersCall parts old new serials behind from to result → AnswersMessage parts old new serials behind from to result
 answers-call parts old new serials behind from to (Ok done) is answers = (answers.0 ∷ [], rw is (answers.1, tt), answers.2)
-answers-call parts old new serials behind from to (Err why) is answers = (answers.0, is, answers.1, answers.2)
+answers-call parts old new serials behind from to (Err why) is answers = (answers.0, answers.1, is, answers.2)
 
 pub going-none : (most : ℕ) (bytes : List ℕ) (w : World) (serials : ℕ) (o : Output) → IsOwed w.told [] → Going most bytes bytes w w serials serials o o
 going-none most bytes w serials o idle = record { asked = []; messages = []; cut = cut_none most bytes; are = tt; answered = answered-none w serials o idle }
@@ -145,27 +147,43 @@ first-so most bytes rest old mid serials next from o so = record {
   are = rw (append-nil (requests_of so.asked)) so.are;
 }
 
--- a call at which the serving ended early
-pub broke-call : (most : ℕ) (bytes rest left : List ℕ) (old mid new : World) (serials next : ℕ) (from o to : Output) (parts : Parts) (asked : List Asked) (why : End)
-    → (so : Going most bytes rest old mid serials next from o) → Cut most rest (parts ∷ []) left → (parts.kind == 1) ≡ true → IsOne parts asked → Broke mid new next o to asked why
-    → FirstRequests most bytes (requests_of (so.asked ++ asked)) × Broke old new serials from to (so.asked ++ asked) why
-broke-call most bytes rest left old mid new serials next from o to parts [] why so cut is one broke = (
-  let e : so.asked ++ [] ≡ so.asked = append-nil so.asked in rw e (first-so most bytes rest old mid serials next from o so),
-  broke-more old mid new serials next from o to so.asked [] why so.answered broke,
-)
-broke-call most bytes rest left old mid new serials next from o to parts (a ∷ []) why so cut is one broke = (
-  record {
-    messages = so.messages ++ parts ∷ [];
-    rest = left;
-    cut = cut_then most bytes rest left so.messages (parts ∷ []) so.cut cut;
-    more = [];
-    are =
-        rw (append-nil (requests_of (so.asked ++ a ∷ [])), filter-append (λ (p : Parts). p.kind == 1) so.messages (parts ∷ []), map-append (λ (b : Asked). b.request) so.asked (a ∷ []))
-        (are-append (calls_in so.messages) (requests_of so.asked) (calls_in (parts ∷ [])) (a.request ∷ []) so.are (rw is (one, tt)));
-  },
-  broke-more old mid new serials next from o to so.asked (a ∷ []) why so.answered broke,
-)
-broke-call most bytes rest left old mid new serials next from o to parts (a ∷ b ∷ more) why so cut is one broke = absurd one
+-- the request of one more call is among the first of the bytes
+pub first-call : (most : ℕ) (bytes rest left : List ℕ) (old mid : World) (serials next : ℕ) (from o : Output) (parts : Parts) (more : List Asked)
+    → (so : Going most bytes rest old mid serials next from o) → Cut most rest (parts ∷ []) left → (parts.kind == 1) ≡ true → IsOne parts more
+    → FirstRequests most bytes (requests_of (so.asked ++ more))
+first-call most bytes rest left old mid serials next from o parts [] so cut is one =
+    let e : so.asked ++ [] ≡ so.asked = append-nil so.asked in rw e (first-so most bytes rest old mid serials next from o so)
+first-call most bytes rest left old mid serials next from o parts (a ∷ []) so cut is one = record {
+  messages = so.messages ++ parts ∷ [];
+  rest = left;
+  cut = cut_then most bytes rest left so.messages (parts ∷ []) so.cut cut;
+  more = [];
+  are =
+      rw (append-nil (requests_of (so.asked ++ a ∷ [])), filter-append (λ (p : Parts). p.kind == 1) so.messages (parts ∷ []), map-append (λ (b : Asked). b.request) so.asked (a ∷ []))
+      (are-append (calls_in so.messages) (requests_of so.asked) (calls_in (parts ∷ [])) (a.request ∷ []) so.are (rw is (one, tt)));
+}
+first-call most bytes rest left old mid serials next from o parts (a ∷ b ∷ more) so cut is one = absurd one
+
+-- the first requests are so too without the last of them
+pub first-fewer : (most : ℕ) (bytes : List ℕ) (asked last : List Asked) → FirstRequests most bytes (requests_of (asked ++ last)) → FirstRequests most bytes (requests_of asked)
+first-fewer most bytes asked last first = record {
+  messages = first.messages;
+  rest = first.rest;
+  cut = first.cut;
+  more = requests_of last ++ first.more;
+  are =
+      let e : requests_of (asked ++ last) ++ first.more ≡ requests_of asked ++ (requests_of last ++ first.more) =
+      ap (λ l. l ++ first.more) (map-append (λ (b : Asked). b.request) asked last) ∙ append_assoc (requests_of asked) (requests_of last) first.more in
+      subst (λ l. AreRequests (calls_in first.messages) l) e first.are;
+}
+
+-- memory ran out before a message
+pub memory-early : (has : Framing) (rest : List ℕ) (old mid : World) (serials next : ℕ) (from o : Output) → Going has.most has.rest rest old mid serials next from o
+    → AnswersEarly has old mid serials from o end.Memory
+unfolding broke-memory
+memory-early has rest old mid serials next from o so =
+    let e : so.asked ++ [] ≡ so.asked = append-nil so.asked in
+    (so.asked, broke-memory old mid serials next from o so.asked so.answered, rw e (first-so has.most has.rest rest old mid serials next from o so))
 
 -- the stream of all the bytes
 pub all-stream : (most : ℕ) (bytes rest left : List ℕ) (messages : List Parts) → Cut most bytes messages rest → Stream most rest [] left → Stream most bytes messages left
@@ -184,9 +202,14 @@ going-last most bytes rest left old mid serials next from o so stream =
 pub broke-message : (most : ℕ) (bytes rest left : List ℕ) (old mid new : World) (serials next behind : ℕ) (from o to : Output) (parts : Parts) (why : End) (has : Framing)
     → has.most ≡ most → has.rest ≡ bytes → Going most bytes rest old mid serials next from o → Cut most rest (parts ∷ []) left → AnswersMessage parts mid new next behind o to (Err why)
     → AnswersEarly has old new serials from to why
+unfolding broke-more
 broke-message most bytes rest left old mid new serials next behind from o to parts why has is_most is_bytes so cut answers =
-    let both = broke-call most bytes rest left old mid new serials next from o to parts answers.0 why so cut answers.1 answers.2 answers.3 in
-    (so.asked ++ answers.0, rw (is_most, is_bytes) both.0, both.1)
+    let last = answers.1.refused in (
+      so.asked ++ answers.0,
+      broke-more old mid new serials next from o to so.asked answers.0 why so.answered answers.1,
+      rw (is_most, is_bytes, append_assoc so.asked answers.0 last)
+          (first-call most bytes rest left old mid serials next from o parts (answers.0 ++ last) so cut answers.2 answers.3),
+    )
 
 -- an early end is one of these
 pub early : (has remaining : Framing) (old new : World) (serials behind : ℕ) (from to : Output) (why : End) → AnswersEarly has old new serials from to why
@@ -194,7 +217,7 @@ pub early : (has remaining : Framing) (old new : World) (serials behind : ℕ) (
 early has remaining old new serials behind from to end.EventsSpent so = so
 early has remaining old new serials behind from to end.WriteFault so = so
 early has remaining old new serials behind from to end.Memory so = so
-early has remaining old new serials behind from to (end.Violation cause) so = absurd so.2.early
+early has remaining old new serials behind from to (end.Violation cause) so = absurd so.1.early
 early has remaining old new serials behind from to _ so = so
 
 -- a number that is 1, and one that isn't

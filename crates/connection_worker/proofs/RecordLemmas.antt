@@ -12,10 +12,12 @@ use Rattle.service_machine.specs.Connections.{waiting_for}
 use Rattle.service_machine.specs.Step.{step, Fits}
 use Rattle.service_machine.specs.Replay.{replay, Legal}
 use Rattle.service_machine.proofs.ReplayLemmas.{replay-append, Legal-append}
-use Rattle.service_desk.specs.Places.{Told, IsSame}
+use Rattle.service_desk.specs.Places.{Told, Place, IsSame}
+use Rattle.service_desk.specs.Views.{View, with_own, with_all_own}
+use Rattle.service_desk.proofs.ViewLemmas.{with-all-append}
 use Rattle.connection_worker.specs.Salts.{Salting, words_at}
 use Rattle.connection_worker.specs.Single.{Asked, arrival, is_owed, taking, turn, turns}
-use Rattle.connection_worker.specs.Serving.{World, GivesMoments, GivesSalts, behind_salt, Recorded, HasArrived, HasAsked, HasGiven}
+use Rattle.connection_worker.specs.Serving.{World, place_of, GivesMoments, GivesSalts, behind_salt, Recorded, HasArrived, HasAsked, HasGiven}
 use Rattle.connection_worker.specs.Written.{given, given_by}
 use Rattle.connection_worker.proofs.ServingLemmas.{same}
 
@@ -44,11 +46,19 @@ GivesSalts-append a b c (salt ∷ one) more p q = (p.0, GivesSalts-append (behin
 IsSame-refl : (told : Told) → IsSame told told
 IsSame-refl told = record { conn = refl; alone = refl; steady = refl; waiting = refl }
 
-IsSame-trans : (a b c : Told) → IsSame a b → IsSame b c → IsSame a c
+pub IsSame-trans : (a b c : Told) → IsSame a b → IsSame b c → IsSame a c
 IsSame-trans a b c p q = record { conn = q.conn ∙ p.conn; alone = q.alone ∙ p.alone; steady = q.steady ∙ p.steady; waiting = q.waiting ∙ p.waiting }
 
 pub recorded-none : (w : World) → Recorded w w [] []
-recorded-none w = record { same = IsSame-refl w.told; legal = tt; state = refl; count = omega arith; moments = refl; salts = refl }
+recorded-none w = record {
+  same = IsSame-refl w.told;
+  legal = tt;
+  state = refl;
+  count = omega arith;
+  views = λ view seen. seen;
+  moments = refl;
+  salts = refl;
+}
 
 -- more requests behind some
 pub recorded-more : (old mid new : World) (asked more refused : List Asked) → Recorded old mid asked [] → Recorded mid new more refused → Recorded old new (asked ++ more) refused
@@ -64,6 +74,7 @@ recorded-more old mid new asked more refused p q =
       legal = rw all (Legal-append old.told.state first (turns mid.told.conn mid.told.state more) p.legal (rw (sym p.state) q.legal));
       state = rw all (q.state ∙ ap (λ s. replay s (turns mid.told.conn mid.told.state more)) p.state ∙ sym (replay-append old.told.state first (turns mid.told.conn mid.told.state more)));
       count = rw all (omega (arith, q.count, p.count, length-append first (turns mid.told.conn mid.told.state more)));
+      views = λ view seen. rw (all, with-all-append first (turns mid.told.conn mid.told.state more) view) (q.views (with_all_own first view) (p.views view seen));
       moments =
           let e : map (λ (a : Asked). a.now) ((asked ++ more) ++ refused) ≡ map (λ (a : Asked). a.now) (asked ++ []) ++ map (λ (a : Asked). a.now) (more ++ refused) =
           ap (map (λ (a : Asked). a.now)) (append_assoc asked more refused ∙ ap (λ l. l ++ (more ++ refused)) (sym (append-nil asked))) ∙ map-append (λ (a : Asked). a.now) (asked ++ []) (more ++ refused) in
@@ -75,8 +86,8 @@ recorded-more old mid new asked more refused p q =
     }
 
 -- one request whose answer was given
-pub recorded-one : (old mid : World) (new : Told) (a : Asked) → HasArrived old mid a → HasGiven mid.told new
-    → Recorded old (record { told = new; coming = mid.coming; salting = mid.salting }) (a ∷ []) []
+pub recorded-one : (old mid : World) (new : Place) (a : Asked) → HasArrived old mid a → HasGiven (place_of mid) new
+    → Recorded old (record { told = new.told; has_seen = new.has_seen; coming = mid.coming; salting = mid.salting }) (a ∷ []) []
 recorded-one old mid new a p q =
     let conn = old.told.conn in
     let behind = step old.told.state (arrival conn a) in
@@ -84,10 +95,13 @@ recorded-one old mid new a p q =
     let all : turns conn old.told.state (a ∷ []) ≡ arrival conn a ∷ taking mid.told.conn mid.told.state =
     append-nil (turn conn old.told.state a) ∙ ap (λ l. arrival conn a ∷ l) (sym take) in
     record {
-      same = IsSame-trans old.told mid.told new p.same q.same;
+      same = IsSame-trans old.told mid.told new.told p.same q.same;
       legal = let P : List Event → Type 0 = λ l. Legal old.told.state l in subst P (sym all) (p.fits, rw (sym p.state) q.legal);
       state = q.state ∙ ap (λ s. replay s (taking mid.told.conn mid.told.state)) p.state ∙ ap (replay old.told.state) (sym all);
       count = omega (arith, q.count, p.count, ap length all);
+      views = λ view seen.
+          let P : List Event → Type 0 = λ l. new.has_seen (with_all_own l view) in
+          subst P (sym all) (q.views (with_own (arrival conn a) view) (p.views view seen));
       moments = (mid.coming, p.moment, refl);
       salts = (p.salt, p.salting);
     }
@@ -99,6 +113,7 @@ recorded-refused old new a p = record {
   legal = tt;
   state = ap (λ (t : Told). t.state) p.told;
   count = omega (arith, ap (λ (t : Told). t.count) p.told);
+  views = p.views;
   moments = (new.coming, p.moment, refl);
   salts = (p.salt, p.salting);
 }

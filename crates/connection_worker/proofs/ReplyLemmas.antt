@@ -9,7 +9,7 @@ use Rattle.service_machine.specs.declared.event.Event.TheVariants as event
 use Rattle.service_machine.specs.Connections.{waiting_for, Sent}
 use Rattle.service_machine.specs.Step.{planned, message_of, step}
 use Rattle.service_machine.specs.Replay.{replay, Legal}
-use Rattle.service_desk.specs.Places.{Told}
+use Rattle.service_desk.specs.Places.{Told, Place}
 use Rattle.connection_worker.specs.Replies.{reply_to, replies_to}
 use Rattle.connection_worker.specs.Serving.{IsOwed, HasGiven}
 use Rattle.connection_worker.specs.Single.{Asked, arrival, taking, turn, turns, single}
@@ -34,8 +34,16 @@ idle-turn told a idle =
     let mid : Told = record told { state = step told.state (arrival told.conn a) } in
     let owes = arrived-owed told mid a idle refl refl in
     let new : Told = record mid { state = replay mid.state (taking mid.conn mid.state); count = mid.count + length (taking mid.conn mid.state) } in
-    let gives : HasGiven mid new = record { same = record { conn = refl; alone = refl; steady = refl; waiting = refl }; legal = taking-legal mid (waiting_for mid.conn mid.state.connections) owes; state = refl; count = refl } in
-    let behind = given-idle mid new owes gives in
+    let before : Place = record { told = mid; has_seen = λ view. Unit {0} } in
+    let after : Place = record { told = new; has_seen = λ view. Unit {0} } in
+    let gives : HasGiven before after = record {
+      legal = taking-legal mid (waiting_for mid.conn mid.state.connections) owes;
+      state = refl;
+      count = refl;
+      same = record { conn = refl; alone = refl; steady = refl; waiting = refl };
+      views = λ view seen. tt;
+    } in
+    let behind = given-idle before after owes gives in
     record { taken = behind.taken; only = behind.only }
 
 -- the outputs of what is sent to one connection

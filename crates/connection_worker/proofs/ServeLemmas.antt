@@ -1,5 +1,5 @@
 -- Calls are served, and more bytes come, turn after turn.
-use Rattle.std.proofs.Common.{◌≡◌, ℕ, ◌+◌, ◌≤◌, ◌⊎◌, inl, inr, List, [], ◌∷◌, ◌++◌, length, map, filter, Result, Ok, Err, refl, sym, ◌∙◌, ap, arith, append_assoc, append-nil, ◌==◌}
+use Rattle.std.proofs.Common.{◌≡◌, ℕ, ◌+◌, ◌≤◌, ◌⊎◌, inl, inr, List, [], ◌∷◌, ◌++◌, length, map, filter, Result, Ok, Err, refl, sym, ◌∙◌, ap, arith, subst, append_assoc, append-nil, ◌==◌}
 use Rattle.std.proofs.lemmas.List.{map-append}
 use Rattle.std.proofs.lemmas.List.Elements.{filter-append}
 use Rattle.kr_outside.specs.Faults.{Rose}
@@ -8,19 +8,23 @@ use Rattle.dbus_framing.specs.declared.violation.Violation.TheVariants as violat
 use Rattle.dbus_framing.specs.Framers.{Framing}
 use Rattle.dbus_framing.specs.Messages.{Parts}
 use Rattle.dbus_framing.specs.Streams.{Cut, Stream, Breaks}
+use Rattle.dbus_auth.specs.Handshake.{Run, silent, opened}
+use Rattle.dbus_framing.proofs.Ends.{never_ends}
 use Rattle.dbus_framing.proofs.Cuts.{cut_then, cut_more, stream_then}
 use Rattle.connection_worker.specs.declared.ending.End.{End}
 use Rattle.connection_worker.specs.declared.ending.End.TheVariants as end
 use Rattle.connection_worker.specs.Arrivals.{calls_in, AreRequests, AllRequests, FirstRequests}
-use Rattle.connection_worker.specs.Streams.{Input, Output, Took, Gave, GaveFront}
+use Rattle.connection_worker.specs.Streams.{Input, Output, Took, IsStill, Gave, GaveFront}
 use Rattle.connection_worker.specs.Sending.{AreBehind}
 use Rattle.connection_worker.specs.Single.{Asked, requests_of, turns}
-use Rattle.connection_worker.specs.Written.{written}
+use Rattle.connection_worker.specs.Written.{written_after}
 use Rattle.connection_worker.specs.Serving.{World, IsOwed, EndsEarly}
-use Rattle.connection_worker.specs.Answering.{Answered, Broke, Going, AnswersEarly, AnswersAll}
-use Rattle.connection_worker.specs.ServingOn.{FeedsMore, IsViolatedBy, ServingEnds, ServesOn, IsAmid, IsThrough}
+use Rattle.connection_worker.specs.Answering.{Answered, IsEarly, MayRefuse, Broke, Going, AnswersEarly, AnswersAll}
+use Rattle.connection_worker.specs.ServingOn.{FeedsMore, ServesOn, IsAmid, IsThrough}
+use Rattle.connection_worker.specs.Causes.{AllServed, FirstServed, IsViolated, HasCause, HasWritten, HasRefused}
+use Rattle.connection_worker.specs.Handshakes.{most_bytes}
 use Rattle.connection_worker.proofs.HandshakeLemmas.{rose-later}
-use Rattle.connection_worker.proofs.MessageLemmas.{answered-more, broke-more, broke-memory, are-append, first-so, going-none}
+use Rattle.connection_worker.proofs.MessageLemmas.{answered-more, broke-more, are-append, first-so, first-fewer, going-none}
 use Rattle.connection_worker.proofs.RecordLemmas.{recorded-none}
 use Rattle.connection_worker.proofs.StreamLemmas.{Took-none, Took-trans, Gave-none, GaveFront-whole, GaveFront-more}
 
@@ -41,6 +45,7 @@ pub amid-none : (has : Framing) (from : Input) (w : World) (sink : Output) → I
 amid-none has from w sink idle = record {
   read = [];
   took = Took-none from;
+  still = refl;
   most = refl;
   going = let e : has.rest ++ [] ≡ has.rest = append-nil has.rest in rw e (going-none has.most has.rest w 0 sink idle);
 }
@@ -62,6 +67,7 @@ through has from now left more old mid new next behind sink o to so going stream
       amid = record {
         read = so.read;
         took = so.took;
+        still = so.still;
         most = most ∙ so.most;
         going = going-then has.most (has.rest ++ so.read) left.rest more.rest old mid new 0 next behind sink o to so.going g;
       };
@@ -77,6 +83,7 @@ amid-more has from now later left fed old new behind sink o so more =
     record {
       read = was.read ++ more.0;
       took = Took-trans from now later was.read more.0 was.took more.1;
+      still = more.4 ∙ was.still;
       most = more.3 ∙ was.most;
       going = rw (bytes, more.2) (record {
         asked = was.going.asked;
@@ -87,7 +94,7 @@ amid-more has from now later left fed old new behind sink o so more =
       });
     }
 
--- ---- the ends
+-- ---- what stands whole
 
 -- all requests that stand whole were recorded
 all-so : (has : Framing) (from now : Input) (left : Framing) (old new : World) (behind : ℕ) (sink o : Output) → (so : IsThrough has from now left old new behind sink o)
@@ -96,7 +103,7 @@ all-so has from now left old new behind sink o so = record { messages = so.amid.
 
 -- all that they gave was written
 gave-so : (has : Framing) (from now : Input) (left : Framing) (old new : World) (behind : ℕ) (sink o : Output) → (so : IsAmid has from now left old new behind sink o)
-    → Gave sink o (written old.told.conn 0 old.told.state (turns old.told.conn old.told.state so.going.asked))
+    → Gave sink o (written_after old.told.conn 0 old.told.state (turns old.told.conn old.told.state so.going.asked))
 gave-so has from now left old new behind sink o so = (so.going.answered.wrote 0 refl).0
 
 -- the first requests of all the bytes
@@ -116,36 +123,82 @@ first-then has from now left old mid next sink o so asked first = record {
       (are-append (calls_in so.going.messages) (requests_of so.going.asked) (calls_in first.messages) (requests_of asked ++ first.more) so.going.are first.are);
 }
 
--- why an early end comes
-early-ends : (why : End) (most : ℕ) (bytes : List ℕ) (asked : List Asked) (text : List ℕ) (count : ℕ) (from to : Input) (sink behind : Output) → FirstRequests most bytes (requests_of asked)
-    → EndsEarly why count sink behind text → ServingEnds why most bytes asked text count from to sink behind
-early-ends end.EventsSpent most bytes asked text count from to sink behind first ends = (ends.0, first, ends.1)
-early-ends end.WriteFault most bytes asked text count from to sink behind first ends = (ends.0, first, ends.1)
-early-ends end.Memory most bytes asked text count from to sink behind first ends = (first, ends)
-early-ends _ most bytes asked text count from to sink behind first ends = absurd ends
+-- ---- the ends, by the bytes after the handshake
 
-broke-end : (has : Framing) (from now : Input) (left : Framing) (old mid new : World) (next : ℕ) (sink o to : Output) (why : End) → IsAmid has from now left old mid next sink o
-    → AnswersEarly left mid new next o to why → ServesOn has from now old new sink to why
-broke-end has from now left old mid new next sink o to why so early =
+-- all requests that stand whole were recorded
+all-served : (has : Framing) (from now : Input) (left : Framing) (old new : World) (behind : ℕ) (sink o : Output) → has.most ≡ most_bytes
+    → (so : IsThrough has from now left old new behind sink o) → AllServed (silent (opened (has.rest ++ so.amid.read))) so.amid.going.asked left.rest
+all-served has from now left old new behind sink o most so = record {
+  behind = has.rest ++ so.amid.read;
+  opened = refl;
+  all = subst (λ m. AllRequests m (has.rest ++ so.amid.read) (requests_of so.amid.going.asked) left.rest) most (all-so has from now left old new behind sink o so);
+}
+
+-- the first of them were
+first-served : (has : Framing) (bytes : List ℕ) (asked : List Asked) → has.most ≡ most_bytes → FirstRequests has.most bytes (requests_of asked) → FirstServed (silent (opened bytes)) asked
+first-served has bytes asked most first = inr (bytes, refl, subst (λ m. FirstRequests m bytes (requests_of asked)) most first)
+
+-- no request was refused
+none-refused : (run : Run) (asked : List Asked) → FirstServed run asked → HasRefused end.Memory run asked []
+none-refused run asked first = let e : asked ++ [] ≡ asked = append-nil asked in (omega arith, rw e first)
+
+-- why an early end comes, and what was written by then
+early-ends : (why : End) (has : Framing) (bytes : List ℕ) (asked : List Asked) (text : List ℕ) (count : ℕ) (from to : Input) (sink after : Output) → has.most ≡ most_bytes → IsStill from to
+    → FirstRequests has.most bytes (requests_of asked) → EndsEarly why count sink after text → HasCause why (silent (opened bytes)) asked count from to sink after × HasWritten why sink after text
+early-ends end.EventsSpent has bytes asked text count from to sink after most same first ends = ((ends.0, first-served has bytes asked most first, same), ends.1)
+early-ends end.WriteFault has bytes asked text count from to sink after most same first ends = ((ends.0, first-served has bytes asked most first, same), ends.1)
+early-ends end.Memory has bytes asked text count from to sink after most same first ends = ((first-served has bytes asked most first, same), ends)
+early-ends _ has bytes asked text count from to sink after most same first ends = absurd ends
+
+-- the request that was refused is the next one
+early-refused : (why : End) (has : Framing) (bytes : List ℕ) (asked refused : List Asked) → has.most ≡ most_bytes → IsEarly why → MayRefuse why refused
+    → FirstRequests has.most bytes (requests_of (asked ++ refused)) → HasRefused why (silent (opened bytes)) asked refused
+early-refused end.EventsSpent has bytes asked refused most early few first = (few, first-served has bytes (asked ++ refused) most first)
+early-refused end.WriteFault has bytes asked refused most early few first = few
+early-refused end.Memory has bytes asked refused most early few first = (few, first-served has bytes (asked ++ refused) most first)
+early-refused _ has bytes asked refused most early few first = absurd early
+
+broke-end : (has : Framing) (from now : Input) (left : Framing) (old mid new : World) (next : ℕ) (sink o to : Output) (why : End) → has.most ≡ most_bytes
+    → IsAmid has from now left old mid next sink o → AnswersEarly left mid new next o to why → ServesOn has from now old new sink to why
+unfolding broke-more
+broke-end has from now left old mid new next sink o to why most so early =
     let all = so.going.asked ++ early.0 in
-    let broke = broke-more old mid new 0 next sink o to so.going.asked early.0 why so.going.answered early.2 in
+    let refused = early.1.refused in
+    let bytes = has.rest ++ so.read in
+    let broke = broke-more old mid new 0 next sink o to so.going.asked early.0 why so.going.answered early.1 in
+    let next_so : FirstRequests has.most bytes (requests_of (all ++ refused)) =
+    rw (append_assoc so.going.asked early.0 refused) (first-then has from now left old mid next sink o so (early.0 ++ refused) early.2) in
+    let ends = early-ends why has bytes all (written_after old.told.conn 0 old.told.state (turns old.told.conn old.told.state all)) new.told.count from now sink to most so.still
+    (first-fewer has.most bytes all refused next_so) (broke.wrote 0 refl) in
     record {
       read = so.read;
       took = so.took;
       asked = all;
-      refused = broke.refused;
+      refused = refused;
       recorded = broke.recorded;
       idle = broke.idle;
-      ends =
-          early-ends why has.most (has.rest ++ so.read) all (written old.told.conn 0 old.told.state (turns old.told.conn old.told.state all)) new.told.count from now sink to
-          (first-then has from now left old mid next sink o so early.0 early.1) (broke.wrote 0 refl);
+      few = early-refused why has bytes all refused most broke.early early.1.few next_so;
+      cause = ends.0;
+      wrote = ends.1;
     }
 
+-- a violation that bytes show isn't that the input ended
+shown : (cause : Violation) (to : Input) (rest : List ℕ) → Breaks most_bytes rest cause → IsViolated cause to rest
+shown violation.EndInside to rest breaks = absurd (never_ends most_bytes rest breaks)
+shown violation.Endian to rest breaks = breaks
+shown violation.Version to rest breaks = breaks
+shown violation.ZeroSerial to rest breaks = breaks
+shown violation.TooLarge to rest breaks = breaks
+shown violation.BadHeader to rest breaks = breaks
+shown violation.MissingField to rest breaks = breaks
+shown violation.BadBody to rest breaks = breaks
+shown violation.InvalidType to rest breaks = breaks
+
 -- the serving of the messages that stand whole ended the whole
-pub answers-end : (has : Framing) (from now : Input) (left more : Framing) (old mid new : World) (next behind : ℕ) (sink o to : Output) (why : End) → IsAmid has from now left old mid next sink o
-    → AnswersAll left more mid new next behind o to (Err why) → ServesOn has from now old new sink to why
+pub answers-end : (has : Framing) (from now : Input) (left more : Framing) (old mid new : World) (next behind : ℕ) (sink o to : Output) (why : End) → has.most ≡ most_bytes
+    → IsAmid has from now left old mid next sink o → AnswersAll left more mid new next behind o to (Err why) → ServesOn has from now old new sink to why
 unfolding going-then
-answers-end has from now left more old mid new next behind sink o to (end.Violation cause) so answers =
+answers-end has from now left more old mid new next behind sink o to (end.Violation cause) most so answers =
     let g : Going has.most left.rest more.rest mid new next behind o to = record {
       asked = answers.0.asked;
       messages = answers.0.messages;
@@ -154,6 +207,16 @@ answers-end has from now left more old mid new next behind sink o to (end.Violat
       answered = answers.0.answered;
     } in
     let going = going-then has.most (has.rest ++ so.read) left.rest more.rest old mid new 0 next behind sink o to so.going g in
+    let all : AllRequests has.most (has.rest ++ so.read) (requests_of going.asked) more.rest = record {
+      messages = going.messages;
+      stream = stream_then has.most (has.rest ++ so.read) left.rest more.rest so.going.messages answers.0.messages so.going.cut (rw (sym so.most) answers.1);
+      are = going.are;
+    } in
+    let served : AllServed (silent (opened (has.rest ++ so.read))) going.asked more.rest = record {
+      behind = has.rest ++ so.read;
+      opened = refl;
+      all = subst (λ m. AllRequests m (has.rest ++ so.read) (requests_of going.asked) more.rest) most all;
+    } in
     record {
       read = so.read;
       took = so.took;
@@ -161,94 +224,84 @@ answers-end has from now left more old mid new next behind sink o to (end.Violat
       refused = [];
       recorded = going.answered.recorded;
       idle = going.answered.idle;
-      ends = (
-        (
-          more.rest,
-          record {
-            messages = going.messages;
-            stream = stream_then has.most (has.rest ++ so.read) left.rest more.rest so.going.messages answers.0.messages so.going.cut (rw (sym so.most) answers.1);
-            are = going.are;
-          },
-          inl (rw (sym so.most) answers.2),
-        ),
-        (going.answered.wrote 0 refl).0,
-      );
+      few = refl;
+      cause = ((more.rest, served, shown cause now more.rest (subst (λ m. Breaks m more.rest cause) (so.most ∙ most) answers.2)), so.still);
+      wrote = (going.answered.wrote 0 refl).0;
     }
-answers-end has from now left more old mid new next behind sink o to end.EventsSpent so answers = broke-end has from now left old mid new next sink o to end.EventsSpent so answers
-answers-end has from now left more old mid new next behind sink o to end.WriteFault so answers = broke-end has from now left old mid new next sink o to end.WriteFault so answers
-answers-end has from now left more old mid new next behind sink o to end.Memory so answers = broke-end has from now left old mid new next sink o to end.Memory so answers
-answers-end has from now left more old mid new next behind sink o to _ so answers = absurd answers.2.early
+answers-end has from now left more old mid new next behind sink o to end.EventsSpent most so answers = broke-end has from now left old mid new next sink o to end.EventsSpent most so answers
+answers-end has from now left more old mid new next behind sink o to end.WriteFault most so answers = broke-end has from now left old mid new next sink o to end.WriteFault most so answers
+answers-end has from now left more old mid new next behind sink o to end.Memory most so answers = broke-end has from now left old mid new next sink o to end.Memory most so answers
+answers-end has from now left more old mid new next behind sink o to _ most so answers = absurd answers.1.early
 
 -- no more bytes came
 stays : (a b c : Input) (x : List ℕ) → Took a b x → Took b c [] → Took a c x
 stays a b c x p q = let e : x ++ [] ≡ x = append-nil x in rw (sym e) (Took-trans a b c x [] p q)
 
-pub feeds-end : (has : Framing) (from now later : Input) (left fed : Framing) (old new : World) (behind : ℕ) (sink o : Output) (why : End) → IsThrough has from now left old new behind sink o
-    → FeedsMore left fed now later (Err why) → ServesOn has from later old new sink o why
-feeds-end has from now later left fed old new behind sink o end.ReadFault so feeds = record {
+pub feeds-end : (has : Framing) (from now later : Input) (left fed : Framing) (old new : World) (behind : ℕ) (sink o : Output) (why : End) → has.most ≡ most_bytes
+    → IsThrough has from now left old new behind sink o → FeedsMore left fed now later (Err why) → ServesOn has from later old new sink o why
+feeds-end has from now later left fed old new behind sink o end.ReadFault most so feeds = record {
   read = so.amid.read;
   took = stays from now later so.amid.read so.amid.took feeds.0;
   asked = so.amid.going.asked;
   refused = [];
   recorded = so.amid.going.answered.recorded;
   idle = so.amid.going.answered.idle;
-  ends = (
-    rose-later from.faults now.faults later.faults so.amid.took.later feeds.1,
-    (left.rest, all-so has from now left old new behind sink o so),
-    gave-so has from now left old new behind sink o so.amid,
-  );
+  few = refl;
+  cause = (rose-later from.faults now.faults later.faults so.amid.took.later feeds.1, inr (left.rest, all-served has from now left old new behind sink o most so));
+  wrote = gave-so has from now left old new behind sink o so.amid;
 }
-feeds-end has from now later left fed old new behind sink o end.Done so feeds = record {
+feeds-end has from now later left fed old new behind sink o end.Done most so feeds = record {
   read = so.amid.read;
   took = stays from now later so.amid.read so.amid.took feeds.0;
   asked = so.amid.going.asked;
   refused = [];
   recorded = so.amid.going.answered.recorded;
   idle = so.amid.going.answered.idle;
-  ends = (
-    rw (sym feeds.2) (all-so has from now left old new behind sink o so),
-    feeds.1,
-    gave-so has from now left old new behind sink o so.amid,
-  );
+  few = refl;
+  cause = (rw (sym feeds.2) (all-served has from now left old new behind sink o most so), feeds.1, feeds.3 ∙ so.amid.still);
+  wrote = gave-so has from now left old new behind sink o so.amid;
 }
-feeds-end has from now later left fed old new behind sink o (end.Violation violation.EndInside) so feeds = record {
+feeds-end has from now later left fed old new behind sink o (end.Violation violation.EndInside) most so feeds = record {
   read = so.amid.read;
   took = stays from now later so.amid.read so.amid.took feeds.0;
   asked = so.amid.going.asked;
   refused = [];
   recorded = so.amid.going.answered.recorded;
   idle = so.amid.going.answered.idle;
-  ends = (
-    (left.rest, all-so has from now left old new behind sink o so, inr (refl, feeds.2, feeds.1)),
-    gave-so has from now left old new behind sink o so.amid,
-  );
+  few = refl;
+  cause = ((left.rest, all-served has from now left old new behind sink o most so, (feeds.2, feeds.1)), feeds.3 ∙ so.amid.still);
+  wrote = gave-so has from now left old new behind sink o so.amid;
 }
-feeds-end has from now later left fed old new behind sink o end.Memory so feeds =
+feeds-end has from now later left fed old new behind sink o end.Memory most so feeds =
     let bytes : has.rest ++ (so.amid.read ++ feeds.0) ≡ (has.rest ++ so.amid.read) ++ feeds.0 = sym (append_assoc has.rest so.amid.read feeds.0) in
+    let asked = so.amid.going.asked in
+    let first : FirstRequests has.most (has.rest ++ (so.amid.read ++ feeds.0)) (requests_of asked) =
+    rw bytes (record {
+      messages = so.amid.going.messages;
+      rest = left.rest ++ feeds.0;
+      cut = cut_more has.most (has.rest ++ so.amid.read) feeds.0 left.rest so.amid.going.messages so.amid.going.cut;
+      more = [];
+      are = rw (append-nil (requests_of asked)) so.amid.going.are;
+    }) in
+    let served = first-served has (has.rest ++ (so.amid.read ++ feeds.0)) asked most first in
     record {
       read = so.amid.read ++ feeds.0;
       took = Took-trans from now later so.amid.read feeds.0 so.amid.took feeds.1;
-      asked = so.amid.going.asked;
+      asked = asked;
       refused = [];
       recorded = so.amid.going.answered.recorded;
       idle = so.amid.going.answered.idle;
-      ends = (
-        rw bytes (record {
-          messages = so.amid.going.messages;
-          rest = left.rest ++ feeds.0;
-          cut = cut_more has.most (has.rest ++ so.amid.read) feeds.0 left.rest so.amid.going.messages so.amid.going.cut;
-          more = [];
-          are = rw (append-nil (requests_of so.amid.going.asked)) so.amid.going.are;
-        }),
-        GaveFront-whole sink o (written old.told.conn 0 old.told.state (turns old.told.conn old.told.state so.amid.going.asked)) (gave-so has from now left old new behind sink o so.amid),
-      );
+      few = none-refused (silent (opened (has.rest ++ (so.amid.read ++ feeds.0)))) asked served;
+      cause = (served, feeds.2 ∙ so.amid.still);
+      wrote = GaveFront-whole sink o (written_after old.told.conn 0 old.told.state (turns old.told.conn old.told.state asked)) (gave-so has from now left old new behind sink o so.amid);
     }
-feeds-end has from now later left fed old new behind sink o _ so feeds = absurd feeds
+feeds-end has from now later left fed old new behind sink o _ most so feeds = absurd feeds
 
 -- there was no memory to begin
-pub never-served : (has : Framing) (from : Input) (w : World) (sink : Output) → IsOwed w.told [] → ServesOn has from from w w sink sink end.Memory
-never-served has from w sink idle =
+pub never-served : (has : Framing) (from : Input) (w : World) (sink : Output) → has.most ≡ most_bytes → IsOwed w.told [] → ServesOn has from from w w sink sink end.Memory
+never-served has from w sink most idle =
     let so = amid-none has from w sink idle in
+    let served = first-served has (has.rest ++ so.read) so.going.asked most (first-so has.most (has.rest ++ so.read) has.rest w w 0 0 sink sink so.going) in
     record {
       read = so.read;
       took = so.took;
@@ -256,8 +309,7 @@ never-served has from w sink idle =
       refused = [];
       recorded = so.going.answered.recorded;
       idle = so.going.answered.idle;
-      ends = (
-        first-so has.most (has.rest ++ so.read) has.rest w w 0 0 sink sink so.going,
-        GaveFront-whole sink sink (written w.told.conn 0 w.told.state (turns w.told.conn w.told.state so.going.asked)) (gave-so has from from has w w 0 sink sink so),
-      );
+      few = none-refused (silent (opened (has.rest ++ so.read))) so.going.asked served;
+      cause = (served, so.still);
+      wrote = GaveFront-whole sink sink (written_after w.told.conn 0 w.told.state (turns w.told.conn w.told.state so.going.asked)) (gave-so has from from has w w 0 sink sink so);
     }

@@ -2,41 +2,40 @@
 use Rattle.std.proofs.Common.{◌≡◌, ℕ, ◌+◌, ◌≤◌, ◌⊎◌, inl, inr, List, [], ◌∷◌, ◌++◌, length, map, Result, Ok, Err, IsTrue, true, false, refl, sym, ◌∙◌, ap, arith, subst, append_assoc, append-nil, length-append}
 use Rattle.std.specs.List.{concat}
 use Rattle.kr_base.specs.declared.ids.ConnId.{ConnId}
-use Rattle.kr_outside.specs.Faults.{Rose}
-use Rattle.dbus_auth.specs.declared.auth.AuthFault.{AuthFault}
 use Rattle.dbus_auth.specs.Handshake as shaking
 use Rattle.dbus_auth.specs.Conversation.{continued}
 use Rattle.dbus_auth.proofs.HandshakeLemmas.{handshake-nothing, handshake-append}
 use Rattle.dbus_framing.specs.Framers.{Framing}
 use Rattle.service_machine.specs.declared.rows.Rows.{Rows}
-use Rattle.service_machine.specs.declared.event.Event.{Event}
 use Rattle.service_machine.specs.declared.event.Event.TheVariants as event
 use Rattle.service_machine.specs.declared.event.Output.TheVariants as output
 use Rattle.service_machine.specs.Connections.{has}
 use Rattle.service_machine.specs.Step.{step, Fits}
 use Rattle.service_machine.specs.Replay.{replay, Legal}
 use Rattle.service_machine.proofs.ReplayLemmas.{replay-append, Legal-append}
-use Rattle.service_desk.specs.Places.{Told, Place, IsSame, Looks, Extends}
+use Rattle.service_desk.specs.Places.{Told, Place, Looks, Extends, Records}
+use Rattle.service_desk.specs.Views.{View, with_own, with_all_own}
 use Rattle.service_desk.specs.Calls.{IsMissing, Goes}
+use Rattle.service_desk.proofs.ViewLemmas.{with-all-append}
 use Rattle.connection_worker.specs.declared.ending.End.{End}
 use Rattle.connection_worker.specs.declared.ending.End.TheVariants as end
-use Rattle.connection_worker.specs.Arrivals.{AllRequests, FirstRequests}
-use Rattle.connection_worker.specs.Handshakes.{Both, most_bytes, Awaits, IsRefusedFor, EndsFor, Shakes}
-use Rattle.connection_worker.specs.Streams.{Input, Output, Took, Gave, GaveFront}
-use Rattle.connection_worker.specs.Single.{Asked, requests_of, turns, single}
-use Rattle.connection_worker.specs.Written.{given_by, spelled_behind, written}
-use Rattle.connection_worker.specs.Serving.{World, IsOwed, Recorded, GivesMoments, GivesSalts}
-use Rattle.connection_worker.specs.ServingOn.{IsViolatedBy, ServingEnds, ServesOn}
-use Rattle.connection_worker.specs.OneThread.{AllServed, FirstServed, OneThreadEnds, IsServed}
+use Rattle.connection_worker.specs.Causes.{AllServed, FirstServed, HasCause, HasWritten, HasRefused}
+use Rattle.connection_worker.specs.Handshakes.{Both, Awaits, IsRefusedFor, EndsFor, Shakes}
+use Rattle.connection_worker.specs.Streams.{Input, Output, Took, IsStill, Gave, GaveFront}
+use Rattle.connection_worker.specs.Single.{Asked, turns, single}
+use Rattle.connection_worker.specs.Written.{given_by, spelled_behind, written_after, taken_by, written}
+use Rattle.connection_worker.specs.Serving.{World, place_of, HasJoined, IsOwed, Recorded}
+use Rattle.connection_worker.specs.ServingOn.{ServesOn}
+use Rattle.connection_worker.specs.OneThread.{IsServed}
 use Rattle.connection_worker.proofs.HandshakeLemmas.{rose-later}
-use Rattle.connection_worker.proofs.RecordLemmas.{recorded-none, given_by-append}
-use Rattle.connection_worker.proofs.ServingLemmas.{Alone, alone-extends, alone-looks, only-there}
-use Rattle.connection_worker.proofs.StreamLemmas.{Took-none, Took-trans, Gave-none, Gave-trans, GaveFront-behind}
+use Rattle.connection_worker.proofs.RecordLemmas.{IsSame-trans, recorded-none, given_by-append}
+use Rattle.connection_worker.proofs.ServingLemmas.{same, Alone, alone-extends, alone-looks, only-there}
+use Rattle.connection_worker.proofs.StreamLemmas.{Took-trans, Gave-trans, GaveFront-behind}
 
 -- ---- the desk's last call
 
 -- a connection that is there goes
-pub goes-alone : (old new : Place) → IsTrue old.told.is_alone → IsOwed old.told [] → Goes old new → Alone old.told new.told (event.Gone old.told.conn) output.Gone
+pub goes-alone : (old new : Place) → IsTrue old.told.is_alone → IsOwed old.told [] → Goes old new → Alone old new (event.Gone old.told.conn) output.Gone
 goes-alone old new alone idle (inl gone) = alone-extends old new (event.Gone old.told.conn) output.Gone alone gone
 goes-alone old new alone idle (inr (looks, missing)) =
     let it = alone-looks old new alone looks in
@@ -44,30 +43,45 @@ goes-alone old new alone idle (inr (looks, missing)) =
     ap (λ c. has c new.told.state.connections) looks.same.conn ∙ ap (λ (s : Rows). has old.told.conn s.connections) it.0 ∙ only-there old.told [] idle in
     let e : true ≡ false = sym there ∙ missing in cc
 
--- the events of the whole, and the state behind them
-single-legal : (old mid : World) (asked refused : List Asked) (new : Told) → Recorded old mid asked refused → Alone mid.told new (event.Gone mid.told.conn) output.Gone
-    → Legal old.told.state (single old.told.conn old.told.state asked)
-single-legal old mid asked refused new so gone =
-    let first = turns old.told.conn old.told.state asked in
-    let fits : Fits (replay old.told.state first) (event.Gone old.told.conn) =
-    let P : Rows → Type 0 = λ s. Fits s (event.Gone old.told.conn) in
+-- a connection that has just joined is owed nothing, and has taken nothing
+pub joined-idle : (told : Told) → HasJoined told → IsOwed told []
+joined-idle told joined = record { taken = 0; only = joined }
+
+taken-none : (told : Told) → HasJoined told → taken_by told.conn told.state.connections ≡ 0
+taken-none told joined = rw joined (rw (same told.conn.0) refl)
+
+-- the events of the whole
+single-records : (old mid : World) (asked refused : List Asked) (new : Place) → Recorded old mid asked refused → Alone (place_of mid) new (event.Gone mid.told.conn) output.Gone
+    → Records (place_of old) new (single old.told.conn old.told.state asked)
+single-records old mid asked refused new so gone =
+    let conn = old.told.conn in
+    let first = turns conn old.told.state asked in
+    let last = event.Gone conn ∷ [] in
+    let fits : Fits (replay old.told.state first) (event.Gone conn) =
+    let P : Rows → Type 0 = λ s. Fits s (event.Gone conn) in
     let Q : ConnId → Type 0 = λ c. Fits mid.told.state (event.Gone c) in
     subst P so.state (subst Q so.same.conn gone.fits) in
-    Legal-append old.told.state first (event.Gone old.told.conn ∷ []) so.legal (fits, tt)
-
-single-state : (old mid : World) (asked refused : List Asked) (new : Told) → Recorded old mid asked refused → Alone mid.told new (event.Gone mid.told.conn) output.Gone
-    → new.state ≡ replay old.told.state (single old.told.conn old.told.state asked)
-single-state old mid asked refused new so gone =
-    let first = turns old.told.conn old.told.state asked in
-    gone.state ∙ ap (λ c. step mid.told.state (event.Gone c)) so.same.conn ∙ ap (λ s. step s (event.Gone old.told.conn)) so.state
-    ∙ sym (replay-append old.told.state first (event.Gone old.told.conn ∷ []))
+    record {
+      legal = Legal-append old.told.state first last so.legal (fits, tt);
+      state =
+          gone.state ∙ ap (λ c. step mid.told.state (event.Gone c)) so.same.conn ∙ ap (λ s. step s (event.Gone conn)) so.state
+          ∙ sym (replay-append old.told.state first last);
+      count = omega (arith, gone.count, so.count, length-append first last);
+      same = IsSame-trans old.told mid.told new.told so.same gone.same;
+      views = λ view seen.
+          let on = gone.views (with_all_own first view) (so.views view seen) in
+          rw (with-all-append first last view) (subst (λ c. new.has_seen (with_own (event.Gone c) (with_all_own first view))) so.same.conn on);
+    }
 
 -- going gives nothing, so the text is that of the requests
-single-text : (old : World) (asked : List Asked) → written old.told.conn 0 old.told.state (single old.told.conn old.told.state asked)
-    ≡ written old.told.conn 0 old.told.state (turns old.told.conn old.told.state asked)
-single-text old asked =
-    let first = turns old.told.conn old.told.state asked in
-    ap (spelled_behind 0) (given_by-append old.told.conn old.told.state first (event.Gone old.told.conn ∷ []) ∙ append-nil (given_by old.told.conn old.told.state first))
+single-text : (old : World) (asked : List Asked) → HasJoined old.told → written old.told.conn old.told.state (single old.told.conn old.told.state asked)
+    ≡ written_after old.told.conn 0 old.told.state (turns old.told.conn old.told.state asked)
+single-text old asked joined =
+    let conn = old.told.conn in
+    let state = old.told.state in
+    let first = turns conn state asked in
+    ap (λ n. spelled_behind n (given_by conn state (single conn state asked))) (taken-none old.told joined)
+    ∙ ap (spelled_behind 0) (given_by-append conn state first (event.Gone conn ∷ []) ∙ append-nil (given_by conn state first))
 
 -- ---- behind an open handshake
 
@@ -79,71 +93,99 @@ opened-more uid guid (first ∷ bytes) more rest is =
     handshake-append uid guid first bytes more
     ∙ ap (λ (e : shaking.End). continued (record { answers = (shaking.handshake uid guid (first ∷ bytes)).answers; end = e }) more) is
 
--- why the whole ended, where the calls behind the handshake did
-pub serving-ends : (how : End) (answers : List (List ℕ)) (behind : List ℕ) (asked : List Asked) (text : List ℕ) (count : ℕ) (from mid to : Input) (sink o out : Output)
-    → from.faults ≤ mid.faults → Gave sink o (concat answers) → ServingEnds how most_bytes behind asked text count mid to o out
-    → OneThreadEnds how (record { answers = answers; end = shaking.opened behind }) asked (concat answers ++ text) count from to sink out
-serving-ends end.Done answers behind asked text count from mid to sink o out later gave ends =
-    (record { behind = behind; opened = refl; all = ends.0 }, ends.1, Gave-trans sink o out (concat answers) text gave ends.2)
-serving-ends (end.Violation cause) answers behind asked text count from mid to sink o out later gave ends =
-    ((ends.0.0, record { behind = behind; opened = refl; all = ends.0.1 }, ends.0.2), Gave-trans sink o out (concat answers) text gave ends.1)
-serving-ends end.ReadFault answers behind asked text count from mid to sink o out later gave ends =
-    (rose-later from.faults mid.faults to.faults later ends.0, inr (ends.1.0, record { behind = behind; opened = refl; all = ends.1.1 }), Gave-trans sink o out (concat answers) text gave ends.2)
-serving-ends end.WriteFault answers behind asked text count from mid to sink o out later gave ends =
-    (rose-later sink.faults o.faults out.faults gave.later ends.0, inr (behind, refl, ends.1), GaveFront-behind sink o out (concat answers) text gave ends.2)
-serving-ends end.EventsSpent answers behind asked text count from mid to sink o out later gave ends =
-    (ends.0, inr (behind, refl, ends.1), Gave-trans sink o out (concat answers) text gave ends.2)
-serving-ends end.Memory answers behind asked text count from mid to sink o out later gave ends =
-    (inr (behind, refl, ends.0), GaveFront-behind sink o out (concat answers) text gave ends.1)
-serving-ends _ answers behind asked text count from mid to sink o out later gave ends = absurd ends
+-- what was served of bytes after an open handshake
+all-run : (run : shaking.Run) (bytes : List ℕ) (asked : List Asked) (rest : List ℕ) → run.end ≡ shaking.opened bytes → AllServed (shaking.silent (shaking.opened bytes)) asked rest → AllServed run asked rest
+all-run run bytes asked rest is all = record { behind = all.behind; opened = is ∙ all.opened; all = all.all }
 
--- why it ended, where the handshake did
-pub shaking-ends : (how : End) (run : shaking.Run) (count : ℕ) (from to : Input) (sink out : Output)
+first-run : (run : shaking.Run) (bytes : List ℕ) (asked : List Asked) → run.end ≡ shaking.opened bytes → FirstServed (shaking.silent (shaking.opened bytes)) asked → FirstServed run asked
+first-run run bytes asked is (inl none) = inl none
+first-run run bytes asked is (inr some) = inr (some.0, is ∙ some.1, some.2)
+
+-- why the whole ended, where the calls after the handshake did
+cause-after : (how : End) (run : shaking.Run) (bytes : List ℕ) (asked : List Asked) (count : ℕ) (from mid to : Input) (sink o out : Output) → run.end ≡ shaking.opened bytes
+    → from.faults ≤ mid.faults → IsStill from mid → sink.faults ≤ o.faults → HasCause how (shaking.silent (shaking.opened bytes)) asked count mid to o out → HasCause how run asked count from to sink out
+cause-after end.Done run bytes asked count from mid to sink o out is later same put cause = (all-run run bytes asked [] is cause.0, cause.1, cause.2 ∙ same)
+cause-after (end.Violation why) run bytes asked count from mid to sink o out is later same put cause = ((cause.0.0, all-run run bytes asked cause.0.0 is cause.0.1, cause.0.2), cause.1 ∙ same)
+cause-after (end.AuthRefused why) run bytes asked count from mid to sink o out is later same put cause = (subst (λ e. IsRefusedFor e to why) (sym is) cause.0, cause.1, cause.2 ∙ same)
+cause-after end.ReadFault run bytes asked count from mid to sink o out is later same put cause = (
+  rose-later from.faults mid.faults to.faults later cause.0,
+  elim cause.1 [
+    | inl none ↦ absurd none.0
+    | inr all ↦ inr (all.0, all-run run bytes asked all.0 is all.1)
+  ],
+)
+cause-after end.WriteFault run bytes asked count from mid to sink o out is later same put cause =
+    (rose-later sink.faults o.faults out.faults put cause.0, first-run run bytes asked is cause.1, cause.2 ∙ same)
+cause-after end.EventsSpent run bytes asked count from mid to sink o out is later same put cause = (cause.0, first-run run bytes asked is cause.1, cause.2 ∙ same)
+cause-after end.Memory run bytes asked count from mid to sink o out is later same put cause = (first-run run bytes asked is cause.0, cause.1 ∙ same)
+cause-after _ run bytes asked count from mid to sink o out is later same put cause = absurd cause
+
+-- the request that was refused
+refused-after : (how : End) (run : shaking.Run) (bytes : List ℕ) (asked refused : List Asked) → run.end ≡ shaking.opened bytes → HasRefused how (shaking.silent (shaking.opened bytes)) asked refused
+    → HasRefused how run asked refused
+refused-after end.EventsSpent run bytes asked refused is few = (few.0, first-run run bytes (asked ++ refused) is few.1)
+refused-after end.Memory run bytes asked refused is few = (few.0, first-run run bytes (asked ++ refused) is few.1)
+refused-after _ run bytes asked refused is few = few
+
+-- what was written, after the answers of the handshake
+written-behind : (how : End) (sink o out : Output) (x y : List ℕ) → Gave sink o x → HasWritten how o out y → HasWritten how sink out (x ++ y)
+written-behind end.WriteFault sink o out x y gave wrote = GaveFront-behind sink o out x y gave wrote
+written-behind end.Memory sink o out x y gave wrote = GaveFront-behind sink o out x y gave wrote
+written-behind _ sink o out x y gave wrote = Gave-trans sink o out x y gave wrote
+
+-- why it ended, where the handshake did, and what was written
+shaking-ends : (how : End) (run : shaking.Run) (count : ℕ) (from to : Input) (sink out : Output)
     → EndsFor IsRefusedFor run (record { input = from; output = sink }) (record { input = to; output = out }) (Err how)
-    → OneThreadEnds how run [] (concat run.answers ++ []) count from to sink out
-shaking-ends (end.AuthRefused why) run count from to sink out ends = (ends.0, refl, rw (append-nil (concat run.answers)) ends.1)
-shaking-ends end.ReadFault run count from to sink out ends = (ends.1, inl (ends.0, refl), rw (append-nil (concat run.answers)) ends.2)
-shaking-ends end.WriteFault run count from to sink out ends = (ends.0, inl refl, rw (append-nil (concat run.answers)) ends.1)
-shaking-ends end.Memory run count from to sink out ends = (inl refl, rw (append-nil (concat run.answers)) ends)
+    → HasCause how run [] count from to sink out × HasWritten how sink out (concat run.answers ++ []) × HasRefused how run [] []
+shaking-ends (end.AuthRefused why) run count from to sink out ends = ((ends.0, refl, ends.2), rw (append-nil (concat run.answers)) ends.1, refl)
+shaking-ends end.ReadFault run count from to sink out ends = ((ends.1, inl (ends.0, refl)), rw (append-nil (concat run.answers)) ends.2, refl)
+shaking-ends end.WriteFault run count from to sink out ends = ((ends.0, inl refl, ends.2), rw (append-nil (concat run.answers)) ends.1, refl)
+shaking-ends end.Memory run count from to sink out ends = ((inl refl, ends.1), rw (append-nil (concat run.answers)) ends.0, (omega arith, inl refl))
 shaking-ends _ run count from to sink out ends = absurd ends
 
 -- ---- the whole
 
-pub served-behind : (uid : ℕ) (guid : List ℕ) (from mid to : Input) (sink o out : Output) (old served : World) (new : Told) (framing : Framing) (how : End)
-    → Shakes uid guid (record { input = from; output = sink }) (record { input = mid; output = o }) (Ok framing) → ServesOn framing mid to old served o out how
-    → Alone served.told new (event.Gone served.told.conn) output.Gone
-    → IsServed uid guid from to sink out old (record { told = new; coming = served.coming; salting = served.salting }) how
-served-behind uid guid from mid to sink o out old served new framing how shakes serves gone =
+pub served-behind : (uid : ℕ) (guid : List ℕ) (from mid to : Input) (sink o out : Output) (old served : World) (new : Place) (framing : Framing) (how : End)
+    → Shakes uid guid (record { input = from; output = sink }) (record { input = mid; output = o }) (Ok framing) → HasJoined old.told → ServesOn framing mid to old served o out how
+    → Alone (place_of served) new (event.Gone served.told.conn) output.Gone
+    → IsServed uid guid from to sink out old (record { told = new.told; has_seen = new.has_seen; coming = served.coming; salting = served.salting }) how
+served-behind uid guid from mid to sink o out old served new framing how shakes joined serves gone =
     let run = shaking.handshake uid guid shakes.read in
-    let behind = framing.rest ++ serves.read in
-    let whole : shaking.handshake uid guid (shakes.read ++ serves.read) ≡ record { answers = run.answers; end = shaking.opened behind } =
+    let bytes = framing.rest ++ serves.read in
+    let whole : shaking.handshake uid guid (shakes.read ++ serves.read) ≡ record { answers = run.answers; end = shaking.opened bytes } =
     opened-more uid guid shakes.read serves.read framing.rest shakes.ends.0 in
+    let all : shaking.Run = record { answers = run.answers; end = shaking.opened bytes } in
     let count : served.told.count ≡ old.told.count + length (turns old.told.conn old.told.state serves.asked) = serves.recorded.count in
-    let ends = serving-ends how run.answers behind serves.asked (written old.told.conn 0 old.told.state (turns old.told.conn old.told.state serves.asked)) served.told.count from mid to sink o out
-    shakes.took.later shakes.ends.3 (rw shakes.ends.1 at serves.ends) in
     record {
       read = shakes.read ++ serves.read;
       took = Took-trans from mid to shakes.read serves.read shakes.took serves.took;
       asked = serves.asked;
+      recorded = single-records old served serves.asked serves.refused new serves.recorded gone;
       refused = serves.refused;
-      legal = single-legal old served serves.asked serves.refused new serves.recorded gone;
-      state = single-state old served serves.asked serves.refused new serves.recorded gone;
+      few = rw whole (refused-after how all bytes serves.asked serves.refused refl serves.few);
       moments = serves.recorded.moments;
       salts = serves.recorded.salts;
-      ends = rw (whole, single-text old serves.asked, sym count) ends;
+      cause = rw (whole, sym count) (cause-after how all bytes serves.asked served.told.count from mid to sink o out refl shakes.took.later shakes.ends.4 shakes.ends.3.later serves.cause);
+      wrote =
+          rw (whole, single-text old serves.asked joined)
+          (written-behind how sink o out (concat run.answers) (written_after old.told.conn 0 old.told.state (turns old.told.conn old.told.state serves.asked)) shakes.ends.3 serves.wrote);
     }
 
-pub served-not : (uid : ℕ) (guid : List ℕ) (from to : Input) (sink out : Output) (old : World) (new : Told) (how : End)
+pub served-not : (uid : ℕ) (guid : List ℕ) (from to : Input) (sink out : Output) (old : World) (new : Place) (how : End)
     → Shakes uid guid (record { input = from; output = sink }) (record { input = to; output = out }) (Err how)
-    → Alone old.told new (event.Gone old.told.conn) output.Gone → IsServed uid guid from to sink out old (record { told = new; coming = old.coming; salting = old.salting }) how
-served-not uid guid from to sink out old new how shakes gone = record {
-  read = shakes.read;
-  took = shakes.took;
-  asked = [];
-  refused = [];
-  legal = single-legal old old [] [] new (recorded-none old) gone;
-  state = single-state old old [] [] new (recorded-none old) gone;
-  moments = refl;
-  salts = refl;
-  ends = shaking-ends how (shaking.handshake uid guid shakes.read) (old.told.count + 0) from to sink out shakes.ends;
-}
+    → Alone (place_of old) new (event.Gone old.told.conn) output.Gone
+    → IsServed uid guid from to sink out old (record { told = new.told; has_seen = new.has_seen; coming = old.coming; salting = old.salting }) how
+served-not uid guid from to sink out old new how shakes gone =
+    let ends = shaking-ends how (shaking.handshake uid guid shakes.read) (old.told.count + 0) from to sink out shakes.ends in
+    record {
+      read = shakes.read;
+      took = shakes.took;
+      asked = [];
+      recorded = single-records old old [] [] new (recorded-none old) gone;
+      refused = [];
+      few = ends.2;
+      moments = refl;
+      salts = refl;
+      cause = ends.0;
+      wrote = ends.1;
+    }

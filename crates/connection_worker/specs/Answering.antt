@@ -1,5 +1,5 @@
 -- One method call that is served, and those of a framer.
-use Rattle.std.specs.Prelude.{◌≡◌, ℕ, ◌+◌, ◌==◌, true, List, [], ◌∷◌, ◌++◌, length, Result, Ok, Err}
+use Rattle.std.specs.Prelude.{◌≡◌, ℕ, ◌+◌, ◌≤◌, ◌==◌, true, List, [], ◌∷◌, ◌++◌, length, Result, Ok, Err}
 use Rattle.dbus_framing.specs.Framers.{Framing}
 use Rattle.dbus_framing.specs.Messages.{Parts}
 use Rattle.dbus_framing.specs.Streams.{Cut, Stream, Breaks}
@@ -11,7 +11,7 @@ use Rattle.connection_worker.specs.Sending.{AreBehind}
 use Rattle.connection_worker.specs.Serving.{World, IsOwed, Recorded, EndsEarly}
 use Rattle.connection_worker.specs.Single.{Asked, requests_of, turns}
 use Rattle.connection_worker.specs.Streams.{Output, Gave}
-use Rattle.connection_worker.specs.Written.{given_by, written}
+use Rattle.connection_worker.specs.Written.{given_by, written_after}
 
 -- the request of this message, or none
 abbrev pub IsOne : Parts → List Asked → Type 0
@@ -24,7 +24,7 @@ pub record Answered (old new : World) (serials behind : ℕ) (from to : Output) 
   pub recorded : Recorded old new asked []
   pub idle : IsOwed new.told []
   pub wrote : (taken : ℕ) → AreBehind taken serials
-      → Gave from to (written old.told.conn taken old.told.state (turns old.told.conn old.told.state asked))
+      → Gave from to (written_after old.told.conn taken old.told.state (turns old.told.conn old.told.state asked))
       × AreBehind (taken + length (given_by old.told.conn old.told.state (turns old.told.conn old.told.state asked))) behind
 
 -- the ends at which requests that stand whole may be left
@@ -34,26 +34,34 @@ IsEarly end.WriteFault = Unit {0}
 IsEarly end.Memory = Unit {0}
 IsEarly _ = ⊥
 
--- These requests were recorded, and then the serving ended early.
+-- at which of these ends a request may have been refused
+abbrev pub MayRefuse : End → List Asked → Type 0
+MayRefuse end.EventsSpent refused = length refused ≤ 1
+MayRefuse end.Memory refused = length refused ≤ 1
+MayRefuse _ refused = refused ≡ []
+
+-- These requests were recorded, and then the serving ended early, perhaps at a request that was refused.
 pub record Broke (old new : World) (serials : ℕ) (from to : Output) (asked : List Asked) (why : End) : Type 0 where
   pub early : IsEarly why
   pub refused : List Asked
+  pub few : MayRefuse why refused
   pub recorded : Recorded old new asked refused
   pub idle : IsOwed new.told []
   pub wrote : (taken : ℕ) → AreBehind taken serials
-      → EndsEarly why new.told.count from to (written old.told.conn taken old.told.state (turns old.told.conn old.told.state asked))
+      → EndsEarly why new.told.count from to (written_after old.told.conn taken old.told.state (turns old.told.conn old.told.state asked))
 
 -- the call was answered, or the serving ended early
 abbrev pub AnswersCall : Parts → World → World → ℕ → ℕ → Output → Output → Result Unit End → Type 0
 AnswersCall parts old new serials behind from to (Ok done) = (asked : Asked) × CallOf parts asked.request × Answered old new serials behind from to (asked ∷ [])
-AnswersCall parts old new serials behind from to (Err why) = (asked : List Asked) × IsOne parts asked × Broke old new serials from to asked why
+AnswersCall parts old new serials behind from to (Err why) =
+    (asked : List Asked) × (broke : Broke old new serials from to asked why) × IsOne parts (asked ++ broke.refused)
 
 -- a message was served, which gives the requests of the calls in it; or the serving ended early at a call
 abbrev pub AnswersMessage : Parts → World → World → ℕ → ℕ → Output → Output → Result Unit End → Type 0
 AnswersMessage parts old new serials behind from to (Ok done) =
     (asked : List Asked) × AreRequests (calls_in (parts ∷ [])) (requests_of asked) × Answered old new serials behind from to asked
 AnswersMessage parts old new serials behind from to (Err why) =
-    (asked : List Asked) × ((parts.kind == 1) ≡ true) × IsOne parts asked × Broke old new serials from to asked why
+    (asked : List Asked) × (broke : Broke old new serials from to asked why) × ((parts.kind == 1) ≡ true) × IsOne parts (asked ++ broke.refused)
 
 -- So far: a front of the bytes is messages, whose requests were recorded and answered; this rest is left.
 pub record Going (most : ℕ) (bytes rest : List ℕ) (old new : World) (serials behind : ℕ) (from to : Output) : Type 0 where
@@ -63,10 +71,10 @@ pub record Going (most : ℕ) (bytes rest : List ℕ) (old new : World) (serials
   pub are : AreRequests (calls_in messages) (requests_of asked)
   pub answered : Answered old new serials behind from to asked
 
--- the serving ended early, behind the first requests
+-- the serving ended early, after the first requests
 abbrev pub AnswersEarly : Framing → World → World → ℕ → Output → Output → End → Type 0
 AnswersEarly has old new serials from to why =
-    (asked : List Asked) × FirstRequests has.most has.rest (requests_of asked) × Broke old new serials from to asked why
+    (asked : List Asked) × (broke : Broke old new serials from to asked why) × FirstRequests has.most has.rest (requests_of (asked ++ broke.refused))
 
 -- The messages that stand whole were served, and no more stands whole; or behind them a violation shows; or the serving ended
 -- early.

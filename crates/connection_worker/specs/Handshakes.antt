@@ -10,7 +10,7 @@ use Rattle.dbus_auth.specs.Handshake as shaking
 use Rattle.dbus_framing.specs.Framers.{Framing}
 use Rattle.connection_worker.specs.declared.ending.End.{End}
 use Rattle.connection_worker.specs.declared.ending.End.TheVariants as end
-use Rattle.connection_worker.specs.Streams.{Input, Output, Took, Gave, GaveFront}
+use Rattle.connection_worker.specs.Streams.{Input, Output, Took, IsStill, Gave, GaveFront}
 
 -- a source and a sink
 pub record Both : Type 0 where
@@ -40,14 +40,14 @@ IsRefusedSo how input why = (how ≡ shaking.refused why) ⊎ ((why ≡ fault.En
 
 -- A run over the bytes read, and how the call ended: open, with the bytes behind BEGIN in the framer; or refused; or by a
 -- fault of the source, or of the sink, or for want of memory. All answers were written, or a front of them where the sink
--- failed or memory ran out.
+-- failed or memory ran out. The source's count stands still, but where the source failed.
 abbrev pub EndsFor : (shaking.End → Input → AuthFault → Type 0) → shaking.Run → Both → Both → Result Framing End → Type 0
 EndsFor RefusedFor run old new (Ok framing) =
-    (run.end ≡ shaking.opened framing.rest) × (framing.most ≡ most_bytes) × (framing.broken ≡ None) × Gave old.output new.output (concat run.answers)
-EndsFor RefusedFor run old new (Err (end.AuthRefused why)) = RefusedFor run.end new.input why × Gave old.output new.output (concat run.answers)
+    (run.end ≡ shaking.opened framing.rest) × (framing.most ≡ most_bytes) × (framing.broken ≡ None) × Gave old.output new.output (concat run.answers) × IsStill old.input new.input
+EndsFor RefusedFor run old new (Err (end.AuthRefused why)) = RefusedFor run.end new.input why × Gave old.output new.output (concat run.answers) × IsStill old.input new.input
 EndsFor RefusedFor run old new (Err end.ReadFault) = Awaits run.end × Rose old.input.faults new.input.faults × Gave old.output new.output (concat run.answers)
-EndsFor RefusedFor run old new (Err end.WriteFault) = Rose old.output.faults new.output.faults × GaveFront old.output new.output (concat run.answers)
-EndsFor RefusedFor run old new (Err end.Memory) = GaveFront old.output new.output (concat run.answers)
+EndsFor RefusedFor run old new (Err end.WriteFault) = Rose old.output.faults new.output.faults × GaveFront old.output new.output (concat run.answers) × IsStill old.input new.input
+EndsFor RefusedFor run old new (Err end.Memory) = GaveFront old.output new.output (concat run.answers) × IsStill old.input new.input
 EndsFor RefusedFor run old new (Err _) = ⊥
 
 -- what a handshake read, and how it ended
@@ -58,10 +58,10 @@ pub record Shakes (uid : ℕ) (guid : List ℕ) (old new : Both) (result : Resul
 
 -- more bytes were read behind those that are held; or the source failed, or ended, or no memory was left
 abbrev pub ReadsMore : List ℕ → List ℕ → Input → Input → Result Unit End → Type 0
-ReadsMore old new from to (Ok done) = (more : List ℕ) × Took from to more × (new ≡ old ++ more) × (0 < length more)
+ReadsMore old new from to (Ok done) = (more : List ℕ) × Took from to more × (new ≡ old ++ more) × (0 < length more) × IsStill from to
 ReadsMore old new from to (Err end.ReadFault) = Took from to [] × Rose from.faults to.faults
-ReadsMore old new from to (Err (end.AuthRefused fault.EndedEarly)) = Took from to [] × IsAtEnd to.left
-ReadsMore old new from to (Err end.Memory) = (more : List ℕ) × Took from to more
+ReadsMore old new from to (Err (end.AuthRefused fault.EndedEarly)) = Took from to [] × IsAtEnd to.left × IsStill from to
+ReadsMore old new from to (Err end.Memory) = (more : List ℕ) × Took from to more × IsStill from to
 ReadsMore old new from to (Err _) = ⊥
 
 -- Behind bytes that are held, these were read; the answers so far are written, and the run over all of them goes on with
@@ -69,6 +69,7 @@ ReadsMore old new from to (Err _) = ⊥
 pub record Reached (at : Exchange) (held : List ℕ) (old new : Both) (further : shaking.Run) : Type 0 where
   pub read : List ℕ
   pub took : Took old.input new.input read
+  pub still : IsStill old.input new.input
   pub answers : List (List ℕ)
   pub gave : Gave old.output new.output (concat answers)
   pub goes : shaking.run at (held ++ read) ≡ record { answers = answers ++ further.answers; end = further.end }

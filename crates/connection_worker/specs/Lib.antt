@@ -1,5 +1,6 @@
 pub mod Answering
 pub mod Arrivals
+pub mod Causes
 pub mod Handshakes
 pub mod Lines
 pub mod OneThread

@@ -6,29 +6,40 @@ use Rattle.kr_outside.specs.Faults.{Rose}
 use Rattle.service_machine.specs.declared.rows.Rows.{Rows}
 use Rattle.service_machine.specs.declared.event.Event.{Event}
 use Rattle.service_machine.specs.declared.event.Event.TheVariants as event
+use Rattle.service_machine.specs.Connections.{new_row, waiting_for}
+use Rattle.service_machine.specs.Limits.{most_events}
 use Rattle.service_machine.specs.Step.{step, Fits}
 use Rattle.service_machine.specs.Replay.{replay, Legal}
 use Rattle.secret_calls.specs.declared.call.Request.{Request}
 use Rattle.secret_calls.specs.declared.out.Out.{Out}
-use Rattle.service_desk.specs.Places.{Told, IsSame}
+use Rattle.service_desk.specs.Places.{Told, Place, IsSame, Records}
+use Rattle.service_desk.specs.Views.{View, with_own, with_all_own}
 use Rattle.connection_worker.specs.declared.ending.End.{End}
 use Rattle.connection_worker.specs.declared.ending.End.TheVariants as end
 use Rattle.connection_worker.specs.Salts.{Salting, words_at}
-use Rattle.service_machine.specs.Connections.{waiting_for}
 use Rattle.connection_worker.specs.Sending.{AreBehind}
 use Rattle.connection_worker.specs.Single.{Asked, arrival, taking, turns}
 use Rattle.connection_worker.specs.Written.{spelled_behind}
 use Rattle.connection_worker.specs.Streams.{Output, Gave, GaveFront}
 
--- what the serving of requests changes beside the sink: the desk, the clock, the salts
-pub record World : Type 0 where
+-- what the serving of requests changes beside the sink: the desk, which has a place in the history, the clock, the salts
+pub record World : Type 1 where
   pub told : Told
+  pub has_seen : View → Type 0
   pub coming : Option (ℕ → ℕ)
   pub salting : Salting
 
+-- the place of the desk
+abbrev pub place_of : World → Place
+place_of world = record { told = world.told; has_seen = world.has_seen }
+
 -- the world of a desk, a clock and a generator of salts, by the meanings of their types
-abbrev pub world : {D C : Type 0} → (D → Told) → (C → Option (ℕ → ℕ)) → D → C → Salting → World
-world told coming desk clock salting = record { told = told desk; coming = coming clock; salting = salting }
+abbrev pub world : {D C : Type 0} → (D → Told) → (D → View → Type 0) → (C → Option (ℕ → ℕ)) → D → C → Salting → World
+world told has_seen coming desk clock salting = record { told = told desk; has_seen = has_seen desk; coming = coming clock; salting = salting }
+
+-- the connection is the only one, and has just joined: nothing waits for it, and it has taken nothing
+abbrev pub HasJoined : Told → Type 0
+HasJoined told = told.state.connections ≡ new_row told.conn ∷ []
 
 -- The connection is the only one; what waits for it is this, it has lost no output, and it isn't leaving.
 pub record IsOwed (told : Told) (outs : List Out) : Type 0 where
@@ -60,13 +71,14 @@ pub record Recorded (old new : World) (asked refused : List Asked) : Type 0 wher
   pub legal : Legal old.told.state (turns old.told.conn old.told.state asked)
   pub state : new.told.state ≡ replay old.told.state (turns old.told.conn old.told.state asked)
   pub count : new.told.count ≡ old.told.count + length (turns old.told.conn old.told.state asked)
+  pub views : (view : View) → old.has_seen view → new.has_seen (with_all_own (turns old.told.conn old.told.state asked) view)
   pub moments : GivesMoments old.coming (map (λ (a : Asked). a.now) (asked ++ refused)) new.coming
   pub salts : GivesSalts old.salting (map (λ (a : Asked). a.salt) (asked ++ refused)) new.salting
 
 -- Why the serving ended early, and what was then written of this text: all of it where no further event can be counted; a
 -- front of it where the sink failed or memory ran out.
 abbrev pub EndsEarly : End → ℕ → Output → Output → List ℕ → Type 0
-EndsEarly end.EventsSpent count from to text = (18446744073709000000 ≤ count) × Gave from to text
+EndsEarly end.EventsSpent count from to text = (most_events ≤ count) × Gave from to text
 EndsEarly end.WriteFault count from to text = Rose from.faults to.faults × GaveFront from to text
 EndsEarly end.Memory count from to text = GaveFront from to text
 EndsEarly _ count from to text = ⊥
@@ -77,6 +89,7 @@ pub record HasArrived (old new : World) (asked : Asked) : Type 0 where
   pub fits : Fits old.told.state (arrival old.told.conn asked)
   pub state : new.told.state ≡ step old.told.state (arrival old.told.conn asked)
   pub count : new.told.count ≡ old.told.count + 1
+  pub views : (view : View) → old.has_seen view → new.has_seen (with_own (arrival old.told.conn asked) view)
   pub moment : GivesFirst old.coming asked.now new.coming
   pub salt : asked.salt ≡ words_at old.salting.key old.salting.stream old.salting.place
   pub salting : new.salting ≡ behind_salt old.salting
@@ -84,6 +97,7 @@ pub record HasArrived (old new : World) (asked : Asked) : Type 0 where
 -- A moment and a salt were taken for a request that wasn't recorded.
 pub record HasAsked (old new : World) (asked : Asked) : Type 0 where
   pub told : new.told ≡ old.told
+  pub views : (view : View) → old.has_seen view → new.has_seen view
   pub moment : GivesFirst old.coming asked.now new.coming
   pub salt : asked.salt ≡ words_at old.salting.key old.salting.stream old.salting.place
   pub salting : new.salting ≡ behind_salt old.salting
@@ -91,23 +105,20 @@ pub record HasAsked (old new : World) (asked : Asked) : Type 0 where
 -- the request was recorded; or it was refused, for its cause
 abbrev pub Asks : Request → World → World → Result Unit End → Type 0
 Asks request old new (Ok done) = (asked : Asked) × (asked.request ≡ request) × HasArrived old new asked
-Asks request old new (Err end.EventsSpent) = (asked : Asked) × (asked.request ≡ request) × HasAsked old new asked × (18446744073709000000 ≤ old.told.count)
+Asks request old new (Err end.EventsSpent) = (asked : Asked) × (asked.request ≡ request) × HasAsked old new asked × (most_events ≤ old.told.count)
 Asks request old new (Err end.Memory) = (asked : Asked) × (asked.request ≡ request) × HasAsked old new asked
 Asks request old new (Err _) = ⊥
 
 -- the desk gave what was owed: a Take was recorded where anything was
-pub record HasGiven (old new : Told) : Type 0 where
-  pub same : IsSame old new
-  pub legal : Legal old.state (taking old.conn old.state)
-  pub state : new.state ≡ replay old.state (taking old.conn old.state)
-  pub count : new.count ≡ old.count + length (taking old.conn old.state)
+abbrev pub HasGiven : Place → Place → Type 0
+HasGiven old new = Records old new (taking old.told.conn old.told.state)
 
 -- what was owed was given and written; or it was given, and a front of it was written
-abbrev pub Gives : Told → Told → ℕ → ℕ → Output → Output → Result Unit End → Type 0
+abbrev pub Gives : Place → Place → ℕ → ℕ → Output → Output → Result Unit End → Type 0
 Gives old new serials behind from to (Ok done) =
-    HasGiven old new × ((taken : ℕ) → AreBehind taken serials → Gave from to (spelled_behind taken (owed old)) × AreBehind (taken + length (owed old)) behind)
+    HasGiven old new × ((taken : ℕ) → AreBehind taken serials → Gave from to (spelled_behind taken (owed old.told)) × AreBehind (taken + length (owed old.told)) behind)
 Gives old new serials behind from to (Err end.WriteFault) =
-    HasGiven old new × Rose from.faults to.faults × ((taken : ℕ) → AreBehind taken serials → GaveFront from to (spelled_behind taken (owed old)))
+    HasGiven old new × Rose from.faults to.faults × ((taken : ℕ) → AreBehind taken serials → GaveFront from to (spelled_behind taken (owed old.told)))
 Gives old new serials behind from to (Err end.Memory) =
-    HasGiven old new × ((taken : ℕ) → AreBehind taken serials → GaveFront from to (spelled_behind taken (owed old)))
+    HasGiven old new × ((taken : ℕ) → AreBehind taken serials → GaveFront from to (spelled_behind taken (owed old.told)))
 Gives old new serials behind from to (Err _) = ⊥

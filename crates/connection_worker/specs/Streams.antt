@@ -1,5 +1,5 @@
 -- What was read from a source and written to a sink between two moments.
-use Rattle.std.specs.Prelude.{ℕ, ◌≤◌, Bool, List, Option}
+use Rattle.std.specs.Prelude.{◌≡◌, ℕ, ◌≤◌, Bool, List, Option}
 use Rattle.std.specs.Io.KnownBytes.{Appends, Consumes}
 use Rattle.kr_outside.specs.Faults.{KeepsSteady}
 use Rattle.kr_outside.specs.Written.{AppendsFront}
@@ -29,6 +29,10 @@ pub record Took (old new : Input) (bytes : List ℕ) : Type 0 where
   pub consumed : Consumes old.left new.left bytes
   pub later : old.faults ≤ new.faults
   pub steady : KeepsSteady old.is_steady new.is_steady old.faults new.faults
+
+-- no read failed: the source's count of faults stands still
+abbrev pub IsStill : Input → Input → Type 0
+IsStill old new = new.faults ≡ old.faults
 
 -- these bytes were written
 pub record Gave (old new : Output) (bytes : List ℕ) : Type 0 where

@@ -4,9 +4,10 @@ use Rattle.kr_base.specs.declared.ids.ConnId.{ConnId}
 use Rattle.secret_calls.specs.declared.out.Out.{Out}
 use Rattle.secret_calls.specs.Outs.{spelled}
 use Rattle.service_machine.specs.declared.rows.Rows.{Rows}
+use Rattle.service_machine.specs.declared.rows.ConnRow.{ConnRow}
 use Rattle.service_machine.specs.declared.event.Event.{Event}
 use Rattle.service_machine.specs.declared.event.Event.TheVariants as event
-use Rattle.service_machine.specs.Connections.{waiting_for}
+use Rattle.service_machine.specs.Connections.{is_row, waiting_for}
 use Rattle.service_machine.specs.Step.{step}
 
 -- what an event gives to the connection
@@ -22,15 +23,24 @@ abbrev pub given_by : ConnId → Rows → List Event → List Out
 given_by conn state [] = []
 given_by conn state (event ∷ events) = given conn state event ++ given_by conn (step state event) events
 
--- the serial of an output behind so many: 1, 2 and so on up to the last number, then 1 again
+-- the serial of an output after so many: 1, 2 and so on up to the last number, then 1 again
 abbrev pub serial_behind : ℕ → ℕ
 serial_behind taken = taken % 4294967295 + 1
 
--- outputs as they are written, behind so many
+-- outputs as they are written, after so many
 abbrev pub spelled_behind : ℕ → List Out → List ℕ
 spelled_behind taken [] = []
 spelled_behind taken (out ∷ outs) = spelled out (serial_behind taken) ++ spelled_behind (taken + 1) outs
 
--- all that is written of what events give to the connection, whose outputs before were so many
-abbrev pub written : ConnId → ℕ → Rows → List Event → List ℕ
-written conn taken state events = spelled_behind taken (given_by conn state events)
+-- what is written of what events give to the connection, after so many outputs
+abbrev pub written_after : ConnId → ℕ → Rows → List Event → List ℕ
+written_after conn taken state events = spelled_behind taken (given_by conn state events)
+
+-- how many outputs the connection has taken, as its row counts them; none where it isn't there
+abbrev pub taken_by : ConnId → List ConnRow → ℕ
+taken_by conn [] = 0
+taken_by conn (row ∷ rows) = if is_row conn row then row.taken else taken_by conn rows
+
+-- all that is written of what events give to the connection: its serials go on from the outputs that it has taken
+abbrev pub written : ConnId → Rows → List Event → List ℕ
+written conn state events = written_after conn (taken_by conn state.connections) state events

@@ -14,11 +14,9 @@ mod salts;
 mod serials;
 mod serving;
 mod single;
-#[cfg(test)]
-mod tests;
 
 pub use ending::End;
 pub use laws::each_request_is_answered_at_once;
 pub use opening::handshake;
-pub use salts::Salts;
+pub use salts::{Salts, next_cells};
 pub use single::one_thread;

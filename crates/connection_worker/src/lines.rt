@@ -7,7 +7,7 @@ use dbus_auth::{Answer, Auth, AuthFault, LINE_LIMIT, Step};
 use kr_outside::{Failed, Sink, write_all};
 
 /// What the first line brings.
-#[derive(Debug, Drop)]
+#[derive(Drop)]
 pub enum Line {
     /// It hasn't ended yet.
     Unfinished,
@@ -20,7 +20,7 @@ pub enum Line {
 }
 
 /// Where all lines that have ended lead.
-#[derive(Clone, Copy, Debug, PartialEq, Eq)]
+#[derive(Clone, Copy, PartialEq, Eq)]
 pub enum Turn {
     /// They have so many bytes; more are awaited.
     Waits(usize),

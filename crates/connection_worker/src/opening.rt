@@ -1,5 +1,6 @@
 // The handshake over a source and a sink.
-ghost use Rattle.std.specs.Prelude.{◌≡◌, ◌≤◌, ◌<◌, ℕ, IfOk, OnErr, IsErrOf, None, List, drop, length, vec_len};
+ghost use Rattle.std.specs.Prelude.{◌≡◌, ◌≤◌, ◌<◌, ℕ, IfOk, OnErr, IsErrOf, List, drop, length, vec_len};
+ghost use Rattle.dbus_framing.specs.Framers.{just_fed};
 ghost use Rattle.connection_worker.specs.Streams.{input_of, output_of};
 ghost use Rattle.connection_worker.specs.Handshakes.{Shakes, ShakesOn, ReadsMore, most_bytes};
 
@@ -48,7 +49,7 @@ fn remove_front(bytes: &mut Vec<u8>, count: usize)
 fn framer_behind(bytes: &Vec<u8>, count: usize) -> Result<Framer, End>
     requires { count ≤ vec_len bytes.now }
     ensures fed { IfOk result (λ framer.
-        framer ≡ record { most = most_bytes; rest = drop count bytes.now.items; broken = None }) }
+        framer ≡ just_fed most_bytes (drop count bytes.now.items)) }
     ensures memory { OnErr result (IsErrOf result End.Memory) }
 {
     let mut framer = Framer::new(*bytes.allocator(), MOST);

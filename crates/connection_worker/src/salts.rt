@@ -27,9 +27,9 @@ impl Model for Salts {
     } };
 }
 
-// The next word of the generator, in its four bytes, the least significant first.
+/// The next word of the generator, in its four bytes, the least significant first.
 #[tactic(auto, unfolding(crate::specs::Salts::word_of))]
-fn next_cells(words: &mut ChaCha20Rng) -> [u8; 4]
+pub fn next_cells(words: &mut ChaCha20Rng) -> [u8; 4]
     ensures cells { let was = words.old in result ≡ word_of was.key was.stream was.word_pos }
     ensures next { let was = words.old in
         words.new ≡ record was { word_pos = (was.word_pos + 1) % 2 ^ 68 } }

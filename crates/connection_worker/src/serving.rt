@@ -1,7 +1,9 @@
 // Requests that are served on one thread.
 ghost use Rattle.std.specs.Prelude.{◌≡◌, ◌<◌, IsTrue, [], length};
+ghost use Rattle.service_desk.specs.Places.{place};
 ghost use Rattle.connection_worker.specs.Serving.{world, owed, IsOwed, Asks, Gives};
 ghost use Rattle.connection_worker.specs.Answering.{AnswersCall, AnswersMessage, AnswersAll};
+ghost use Rattle.connection_worker.specs.Handshakes.{most_bytes};
 ghost use Rattle.connection_worker.specs.Streams.{input_of, output_of};
 ghost use Rattle.connection_worker.specs.ServingOn.{FeedsMore, ServesOn};
 ghost use Rattle.dbus_framing.specs.Messages.{parts_of};
@@ -31,8 +33,8 @@ fn ask<D: ReadDesk, C: Clock>(
 ) -> Result<(), End>
     requires alone { IsTrue (D.told desk.old).is_alone }
     requires idle { IsOwed (D.told desk.old) [] }
-    ensures { Asks request (world D.told C.coming desk.old clock.old salts.old)
-        (world D.told C.coming desk.new clock.new salts.new) result }
+    ensures { Asks request (world D.told D.has_seen C.coming desk.old clock.old salts.old)
+        (world D.told D.has_seen C.coming desk.new clock.new salts.new) result }
 {
     let now = clock.now();
     match desk.arrive(request, now, salts.next()) {
@@ -52,7 +54,8 @@ fn give<O: Sink, D: WriteDesk>(
 ) -> Result<(), End>
     requires alone { IsTrue (D.told desk.old).is_alone }
     requires owed { IsOwed (D.told desk.old) (owed (D.told desk.old)) }
-    ensures { Gives (D.told desk.old) (D.told desk.new) serials.old serials.new
+    ensures { Gives (place D.told D.has_seen desk.old) (place D.told D.has_seen desk.new)
+        serials.old serials.new
         (output_of O.written O.faults O.is_steady output.old)
         (output_of O.written O.faults O.is_steady output.new) result }
 {
@@ -78,8 +81,8 @@ fn answer_call<O: Sink, D: ReadDesk + WriteDesk, C: Clock>(
     requires alone { IsTrue (D.told desk.old).is_alone }
     requires idle { IsOwed (D.told desk.old) [] }
     ensures { AnswersCall (parts_of message.now)
-        (world D.told C.coming desk.old clock.old salts.old)
-        (world D.told C.coming desk.new clock.new salts.new)
+        (world D.told D.has_seen C.coming desk.old clock.old salts.old)
+        (world D.told D.has_seen C.coming desk.new clock.new salts.new)
         serials.old serials.new
         (output_of O.written O.faults O.is_steady output.old)
         (output_of O.written O.faults O.is_steady output.new) result }
@@ -106,8 +109,8 @@ fn answer_message<O: Sink, D: ReadDesk + WriteDesk, C: Clock>(
     requires alone { IsTrue (D.told desk.old).is_alone }
     requires idle { IsOwed (D.told desk.old) [] }
     ensures { AnswersMessage (parts_of message.now)
-        (world D.told C.coming desk.old clock.old salts.old)
-        (world D.told C.coming desk.new clock.new salts.new)
+        (world D.told D.has_seen C.coming desk.old clock.old salts.old)
+        (world D.told D.has_seen C.coming desk.new clock.new salts.new)
         serials.old serials.new
         (output_of O.written O.faults O.is_steady output.old)
         (output_of O.written O.faults O.is_steady output.new) result }
@@ -131,8 +134,8 @@ fn answer_messages<R: AllocGlobal + Wait, O: Sink, D: ReadDesk + WriteDesk, C: C
     requires alone { IsTrue (D.told desk.old).is_alone }
     requires idle { IsOwed (D.told desk.old) [] }
     ensures { AnswersAll framer.old framer.new
-        (world D.told C.coming desk.old clock.old salts.old)
-        (world D.told C.coming desk.new clock.new salts.new)
+        (world D.told D.has_seen C.coming desk.old clock.old salts.old)
+        (world D.told D.has_seen C.coming desk.new clock.new salts.new)
         serials.old serials.new
         (output_of O.written O.faults O.is_steady output.old)
         (output_of O.written O.faults O.is_steady output.new) result }
@@ -188,12 +191,13 @@ fn serve_by<R: AllocGlobal + Wait, I: Source, O: Sink, D: ReadDesk + WriteDesk, 
 ) -> End
     requires alone { IsTrue (D.told desk.old).is_alone }
     requires idle { IsOwed (D.told desk.old) [] }
+    requires most { framer.most ≡ most_bytes }
     requires room { 0 < length piece.old }
     ensures { ServesOn framer
         (input_of I.left I.faults I.is_steady input.old)
         (input_of I.left I.faults I.is_steady input.new)
-        (world D.told C.coming desk.old clock.old salts.old)
-        (world D.told C.coming desk.new clock.new salts.new)
+        (world D.told D.has_seen C.coming desk.old clock.old salts.old)
+        (world D.told D.has_seen C.coming desk.new clock.new salts.new)
         (output_of O.written O.faults O.is_steady output.old)
         (output_of O.written O.faults O.is_steady output.new) result }
 {
@@ -228,11 +232,12 @@ pub fn serve<R: AllocGlobal + Wait, I: Source, O: Sink, D: ReadDesk + WriteDesk,
 ) -> End
     requires alone { IsTrue (D.told desk.old).is_alone }
     requires idle { IsOwed (D.told desk.old) [] }
+    requires most { framer.most ≡ most_bytes }
     ensures { ServesOn framer
         (input_of I.left I.faults I.is_steady input.old)
         (input_of I.left I.faults I.is_steady input.new)
-        (world D.told C.coming desk.old clock.old salts.old)
-        (world D.told C.coming desk.new clock.new salts.new)
+        (world D.told D.has_seen C.coming desk.old clock.old salts.old)
+        (world D.told D.has_seen C.coming desk.new clock.new salts.new)
         (output_of O.written O.faults O.is_steady output.old)
         (output_of O.written O.faults O.is_steady output.new) result }
 {

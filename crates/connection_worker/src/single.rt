@@ -1,7 +1,7 @@
 // One connection on one thread.
-ghost use Rattle.std.specs.Prelude.{◌≡◌, IsTrue, []};
+ghost use Rattle.std.specs.Prelude.{◌≡◌, IsTrue};
 ghost use Rattle.connection_worker.specs.OneThread.{IsServed};
-ghost use Rattle.connection_worker.specs.Serving.{world, IsOwed};
+ghost use Rattle.connection_worker.specs.Serving.{world, HasJoined};
 ghost use Rattle.connection_worker.specs.Streams.{input_of, output_of};
 
 use crate::ending::End;
@@ -20,11 +20,11 @@ use std::sync::Wait;
 ///
 /// Ends with `AuthRefused` where the bytes show a fault of the handshake, or the input ended before
 /// BEGIN (`EndedEarly`); with `Done` where the input ended between two messages; with `Violation`
-/// where the bytes behind BEGIN break a rule of messages, or the input ended inside one
+/// where the bytes after BEGIN break a rule of messages, or the input ended inside one
 /// (`EndInside`); with `ReadFault` and `WriteFault` only where the count of the source, of the sink,
-/// rose; with `EventsSpent` where all events of the run are 18,446,744,073,709,000,000 or more; and
-/// with `Memory`. It never ends with `OtherEnded` or `Overrun`. All that was recorded is answered
-/// before, but after `WriteFault` and `Memory`.
+/// rose; with `EventsSpent` where all events that can be counted are recorded; and with `Memory`. It
+/// never ends with `OtherEnded` or `Overrun`. All that was recorded is answered before, but after
+/// `WriteFault` and `Memory`. No fault of a read is passed over.
 pub fn one_thread<R: AllocGlobal + Wait, I: Source, O: Sink, D: ReadDesk + WriteDesk, C: Clock>(
     rt: &R,
     auth: Auth,
@@ -36,14 +36,14 @@ pub fn one_thread<R: AllocGlobal + Wait, I: Source, O: Sink, D: ReadDesk + Write
 ) -> End
     requires fresh { auth.state ≡ State.WaitingForAuth }
     requires alone { IsTrue (D.told desk.old).is_alone }
-    requires idle { IsOwed (D.told desk.old) [] }
+    requires joined { HasJoined (D.told desk.old) }
     ensures { IsServed auth.uid auth.guid
         (input_of I.left I.faults I.is_steady input.old)
         (input_of I.left I.faults I.is_steady input.new)
         (output_of O.written O.faults O.is_steady output.old)
         (output_of O.written O.faults O.is_steady output.new)
-        (world D.told C.coming desk.old clock.old salts.old)
-        (world D.told C.coming desk.new clock.new salts.new) result }
+        (world D.told D.has_seen C.coming desk.old clock.old salts.old)
+        (world D.told D.has_seen C.coming desk.new clock.new salts.new) result }
 {
     let framer = match handshake(rt, auth, input, output) {
         Ok(framer) => framer,

@@ -1,5 +1,5 @@
 -- What a service records, as a desk over it tells it.
-use Rattle.std.proofs.Common.{◌≡◌, ℕ, ◌+◌, ◌<◌, ◌≤◌, Bool, true, false, List, [], ◌∷◌, Option, Some, None, Result, Ok, Err, IfOk, refl, ap, ◌∙◌, sym, arith, inl, inr}
+use Rattle.std.proofs.Common.{◌≡◌, ℕ, ◌+◌, ◌<◌, ◌≤◌, Bool, true, false, List, [], ◌∷◌, Option, Some, None, Result, Ok, Err, IfOk, refl, ap, ◌∙◌, sym, subst, arith, inl, inr}
 use Rattle.std.proofs.lemmas.List.{length_push}
 use Rattle.std.proofs.lemmas.Bool.{or_right}
 use Rattle.kr_base.specs.declared.ids.ConnId.{ConnId}
@@ -11,6 +11,7 @@ use Rattle.service_machine.specs.declared.event.Output.{Output}
 use Rattle.service_machine.specs.declared.event.Output.TheVariants as output
 use Rattle.service_machine.specs.declared.event.Incoming.TheVariants as incoming
 use Rattle.service_machine.specs.Connections.{is_row, has, desk_of}
+use Rattle.service_machine.specs.Limits.{most_events}
 use Rattle.service_machine.specs.Step.{step, output_of, Fits}
 use Rattle.secret_calls.specs.declared.call.Request.{Request}
 use Rattle.service_machine.specs.Machine.{Records}
@@ -18,7 +19,7 @@ use Rattle.service_history.specs.declared.service.EventRefused.{EventRefused}
 use Rattle.service_history.specs.declared.service.EventRefused.TheVariants as refused
 use Rattle.service_history.specs.History.{History, total, is_due, cut_where_due, with_event, IsRecorded, given_for, taken_by, left_by, gone_by}
 use Rattle.service_desk.specs.Places.{Place, Looks, Extends}
-use Rattle.service_desk.specs.Views.{IsView, with_others}
+use Rattle.service_desk.specs.Views.{View, IsView, with_others, with_own}
 use Rattle.service_desk.specs.Calls.{Arrives, Leaves, Goes, Takes}
 use Rattle.service_desk.proofs.ViewLemmas.{view-others, view-own}
 
@@ -26,7 +27,7 @@ use Rattle.service_desk.proofs.ViewLemmas.{view-others, view-own}
 abbrev pub spot : ConnId → History → Place
 spot conn history = record {
   told = record { conn = conn; state = history.state; count = total history; is_alone = true; is_steady = true; is_waiting = false };
-  has_seen = λ view. IsView history.state view;
+  has_seen = λ view. IsView history.state (total history) view;
 }
 
 -- a connection of which something is told is there
@@ -51,6 +52,12 @@ has-none conn (row ∷ rows) told =
     ] in
     pass (is_row conn row) refl
 
+-- a view is the same after no events of others
+seen-none : (old : History) (view : View) → IsView old.state (total old) view → IsView old.state (total old) (with_others [] view)
+seen-none old view is =
+    let none : total old + 0 ≡ total old = omega arith in
+    subst (λ n. IsView old.state n (with_others [] view)) none (view-others old.state (total old) view [] is tt)
+
 -- nothing was recorded
 pub looks : (conn : ConnId) (old : History) → Looks (spot conn old) (spot conn old)
 looks conn old = record {
@@ -60,7 +67,7 @@ looks conn old = record {
   state = refl;
   count = omega arith;
   same = record { conn = refl; alone = refl; steady = refl; waiting = refl };
-  views = λ view is. view-others old.state view [] is tt;
+  views = λ view is. seen-none old view is;
 }
 
 -- one event was recorded
@@ -77,7 +84,10 @@ extends conn old new event answer fits answers state counted = record {
   state = state;
   count = omega (arith, counted);
   same = record { conn = refl; alone = refl; steady = refl; waiting = refl };
-  views = λ view is. rw state (view-own old.state (with_others [] view) event (view-others old.state view [] is tt) fits);
+  views = λ view is.
+      let own = view-own old.state (total old) (with_others [] view) event (seen-none old view is) fits in
+      subst (λ s. IsView s (total new) (with_own event (with_others [] view))) (sym state)
+      (subst (λ n. IsView (step old.state event) n (with_own event (with_others [] view))) (sym counted) own);
 }
 
 pub total-with : (event : Event) (old : History) → total (with_event event old) ≡ total old + 1
@@ -102,7 +112,7 @@ total-cut old =
 
 pub arrives : (conn : ConnId) (old new : History) (came : Event) (event : Event) (answer : Output) → event ≡ came
     → Fits old.state event → answer ≡ output_of old.state event → new ≡ with_event event (cut_where_due old) → output_of old.state came ≡ output.Arrived
-    → total old < 18446744073709000000 → Arrives (spot conn old) (spot conn new) came
+    → total old < most_events → Arrives (spot conn old) (spot conn new) came
 arrives conn old new came event answer is fits answers appends arrived left =
     let counted : total new ≡ total old + 1 = ap total appends ∙ total-with event (cut_where_due old) ∙ ap (λ n. n + 1) (total-cut old) in
     record {
@@ -150,10 +160,10 @@ request-is conn request now salt _ records = absurd records
 -- what the service says of a request that it answered
 pub arrives-recorded : (conn : ConnId) (old new : History) (request : Request) (now : ℕ) (salt : List ℕ) (result : Result Output EventRefused) (answer : Output)
     → result ≡ Ok answer → IfOk result (λ answer. IsRecorded old (incoming.Arrive conn request now salt) answer new)
-    → ((result ≡ Err refused.EventsSpent → ⊥) → 18446744073709000000 ≤ total old → ⊥)
+    → ((result ≡ Err refused.EventsSpent → ⊥) → most_events ≤ total old → ⊥)
     → Arrives (spot conn old) (spot conn new) (event.Arrive conn request now salt)
 arrives-recorded conn old new request now salt result answer is recorded left =
     let r : IsRecorded old (incoming.Arrive conn request now salt) answer new = rw is at recorded in
-    let not_spent : 18446744073709000000 ≤ total old → ⊥ = left (λ (spent : result ≡ Err refused.EventsSpent). let h : Ok answer ≡ Err refused.EventsSpent = sym is ∙ spent in cc) in
+    let not_spent : most_events ≤ total old → ⊥ = left (λ (spent : result ≡ Err refused.EventsSpent). let h : Ok answer ≡ Err refused.EventsSpent = sym is ∙ spent in cc) in
     arrives conn old new (event.Arrive conn request now salt) r.event answer (request-is conn request now salt r.event r.records) r.fits r.answers r.appends refl
     (omega (arith, not_spent))

@@ -17,6 +17,6 @@ told desk = record {
   is_waiting = false;
 }
 
--- it may have seen any events that lead to the service's state
+-- it may have seen any events that lead to the service's state, and that are as many as the service has recorded since then
 abbrev pub has_seen : LoneDesk → View → Type 0
-has_seen desk view = IsView desk.service.state view
+has_seen desk view = IsView desk.service.state (total desk.service) view

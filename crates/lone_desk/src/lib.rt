@@ -4,7 +4,5 @@
 #![tactic(auto)]
 
 mod lone;
-#[cfg(test)]
-mod tests;
 
 pub use lone::LoneDesk;

@@ -21,7 +21,7 @@ pub struct LoneDesk {
 impl LoneDesk {
     /// A connection joins the service, and gets its desk.
     ///
-    /// Refused with `EventsSpent` where all events of the run are 18,446,744,073,709,000,000 or more,
+    /// Refused with `EventsSpent` where all events that can be counted are recorded,
     /// then with `TooManyConnections` where 256 connections are there or no number is left;
     /// `OutOfMemory` may come in place of any.
     pub fn join(service: Service) -> Result<LoneDesk, JoinRefused>
@@ -53,11 +53,14 @@ impl LoneDesk {
 }
 
 impl Desk for LoneDesk {
+    ghost use Rattle.service_desk.proofs.ViewLemmas.{view-now};
     ghost use Rattle.lone_desk.specs.Lone.{told, has_seen};
 
     ghost told = { told };
 
     ghost has_seen = { has_seen };
+
+    ghost has_view = { λ desk. view-now desk.service.state (total desk.service) };
 
     ghost views_lead = { λ desk view seen. seen };
 

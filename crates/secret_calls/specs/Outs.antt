@@ -1,6 +1,6 @@
 -- What the service sends, and how it is spelled: D-Bus Specification, "Message Format"; Secret Service API draft
 -- 0.2, the interfaces' methods and errors.
-use Rattle.std.specs.Prelude.{ℕ, List, [], ◌∷◌, ◌++◌, length, codes, decimal}
+use Rattle.std.specs.Prelude.{◌≢◌, ℕ, ◌^◌, ◌<◌, List, [], ◌∷◌, ◌++◌, length, codes, decimal}
 use Rattle.secret_calls.specs.declared.out.Body.{Body}
 use Rattle.secret_calls.specs.declared.out.Body.TheVariants as body
 use Rattle.secret_calls.specs.declared.out.ErrorName.{ErrorName}
@@ -48,6 +48,28 @@ spelled (out.Return to body) serial =
     message method_return serial (fields_of (field reply_serial (codes "u") (uint32 to) ∷ types_field (types_of body))) (spelled_body body)
 spelled (out.Error to name) serial =
     message error serial (fields_of (field error_name (codes "s") (string (error_text name)) ∷ field reply_serial (codes "u") (uint32 to) ∷ [])) []
+
+-- the serial of the call that an output answers
+abbrev pub answered : Out → ℕ
+answered (out.Return to body) = to
+answered (out.Error to name) = to
+
+-- a session that a return names has a number of 64 bits
+abbrev pub FitsBody : Body → Type 0
+FitsBody body.Empty = Unit {0}
+FitsBody (body.Session session) = session.0 < 2 ^ 64
+
+-- the numbers of an output's values are those of the program
+abbrev pub FitsOut : Out → Type 0
+FitsOut (out.Return to body) = FitsBody body
+FitsOut (out.Error to name) = Unit {0}
+
+-- The output has a spelling, which is a message: the serial that it answers is a number of 32 bits and not 0, and its values
+-- are of their types.
+pub record HasSpelling (out : Out) : Type 0 where
+  pub answers : answered out ≢ 0
+  pub answered_fits : answered out < 2 ^ 32
+  pub fits : FitsOut out
 
 -- the most bytes that an output may have, which is the most that may wait for a connection
 abbrev pub most_waiting : ℕ

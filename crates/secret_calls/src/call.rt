@@ -1,4 +1,4 @@
-ghost use Rattle.std.specs.Prelude.{◌≡◌, ◌≢◌};
+ghost use Rattle.std.specs.Prelude.{◌≡◌, ◌≢◌, ◌<◌, ◌^◌};
 
 use crate::ErrorName;
 use kr_base::{SessionId, Text};
@@ -50,7 +50,7 @@ impl CallFault {
 }
 
 /// A method call that came in.
-#[derive(Debug, Drop)]
+#[derive(Drop)]
 pub struct Request {
     /// The serial of its message, by which a reply names it.
     pub serial: u32,
@@ -62,4 +62,6 @@ pub struct Request {
     pub call: Result<Call, CallFault>,
     /// No message has the serial 0.
     pub ghost has_serial: { serial ≢ 0 },
+    /// A serial is a number of 32 bits.
+    pub ghost fits: { serial < 2 ^ 32 },
 }

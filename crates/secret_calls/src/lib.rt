@@ -9,8 +9,6 @@ mod call;
 mod out;
 mod size;
 mod taken;
-#[cfg(test)]
-mod tests;
 
 pub use call::{Call, CallFault, Request};
 pub use out::{Body, ErrorName, Out};

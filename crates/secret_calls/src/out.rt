@@ -41,7 +41,7 @@ impl ErrorName {
 }
 
 /// The values of a method return.
-#[derive(Debug, PartialEq, Eq, Drop)]
+#[derive(PartialEq, Eq, Drop)]
 pub enum Body {
     /// None.
     Empty,
@@ -62,7 +62,7 @@ impl Body {
 }
 
 /// A message that the service sends, but for its serial.
-#[derive(Debug, PartialEq, Eq, Drop)]
+#[derive(PartialEq, Eq, Drop)]
 pub enum Out {
     /// A method return.
     Return {

@@ -2,7 +2,7 @@ use crate::Out;
 use kr_items::Items;
 
 /// Why a desk didn't take a call.
-#[derive(Clone, Copy, Debug, PartialEq, Eq)]
+#[derive(Clone, Copy, PartialEq, Eq)]
 pub enum Refused {
     /// The service has recorded all the events that it can count.
     EventsSpent,
@@ -13,7 +13,7 @@ pub enum Refused {
 }
 
 /// What waits for a connection.
-#[derive(Debug, Drop)]
+#[derive(Drop)]
 pub enum Taken {
     /// Outputs, in order. They wait no longer.
     Outs(Items<Out>),

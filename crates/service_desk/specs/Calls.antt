@@ -10,6 +10,7 @@ use Rattle.service_machine.specs.declared.event.Event.{Event}
 use Rattle.service_machine.specs.declared.event.Event.TheVariants as event
 use Rattle.service_machine.specs.declared.event.Output.TheVariants as output
 use Rattle.service_machine.specs.Connections.{has, desk_of}
+use Rattle.service_machine.specs.Limits.{most_events}
 use Rattle.service_desk.specs.Places.{Told, Place, Looks, Extends}
 
 -- the connection is there, and this is told of it
@@ -24,12 +25,12 @@ IsMissing conn state = has conn state.connections ≡ false
 -- the request was recorded; not all events that can be counted were
 pub record Arrives (old new : Place) (event : Event) : Type 0 where
   pub recorded : Extends old new event output.Arrived
-  pub counted : new.told.count ≤ 18446744073709000000
+  pub counted : new.told.count ≤ most_events
 
 -- why a request wasn't recorded: all events that can be counted are; else the connection isn't there; or for want of memory
 abbrev pub IsRefusal : Refused → Told → Type 0
-IsRefusal refused.EventsSpent told = 18446744073709000000 ≤ told.count
-IsRefusal refused.Gone told = (told.count < 18446744073709000000) × IsMissing told.conn told.state
+IsRefusal refused.EventsSpent told = most_events ≤ told.count
+IsRefusal refused.Gone told = (told.count < most_events) × IsMissing told.conn told.state
 IsRefusal refused.OutOfMemory told = Unit {0}
 
 -- The connection leaves, where it is there and isn't leaving; else nothing is recorded.

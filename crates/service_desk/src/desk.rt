@@ -18,7 +18,11 @@ pub trait Desk {
     fn conn(&self) -> ConnId
         ensures { result ≡ (told self.now).conn };
 
-    /// The events of a view are legal from its start, and lead to the state that the desk tells.
+    /// A desk has a view, even if it has seen no event.
+    ghost has_view: { (desk : Self) → (view : View) × has_seen desk view };
+
+    /// The events of a view are legal from its start, and lead to the state that the desk tells; with
+    /// those before the start they are as many as the desk tells.
     ghost views_lead: { (desk : Self) (view : View) → has_seen desk view
-        → IsView (told desk).state view };
+        → IsView (told desk).state (told desk).count view };
 }

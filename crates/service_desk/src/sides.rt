@@ -11,7 +11,7 @@ pub trait ReadDesk: Desk {
     /// The connection asks for something, at a moment in seconds since 1970, with random bytes should
     /// a key be derived.
     ///
-    /// Refused with `EventsSpent` where all events of the run are 18,446,744,073,709,000,000 or more,
+    /// Refused with `EventsSpent` where all events that can be counted are recorded,
     /// then with `Gone` where the connection isn't there; `OutOfMemory` may come in place of any.
     fn arrive(&mut self, request: Request, now: u64, salt: [u8; 8]) -> Result<(), Refused>
         ensures recorded { OnOk result (Arrives

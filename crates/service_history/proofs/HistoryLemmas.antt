@@ -18,6 +18,7 @@ use Rattle.service_machine.specs.Replay.{cost, cost_of}
 use Rattle.service_machine.specs.Sound.{IsSound}
 use Rattle.service_machine.proofs.ReplayLemmas.{replay-append, Legal-append}
 use Rattle.service_machine.proofs.SoundLemmas.{sound-step, sound-replay}
+use Rattle.service_history.specs.Limits.{most_counted}
 use Rattle.service_history.specs.History.{History, IsHistory, total, cut, with_event}
 use Rattle.service_history.specs.Refusals.{Settles, settled}
 use Rattle.service_history.specs.Room.{room}
@@ -33,7 +34,7 @@ room-behind state event sound fits =
     omega (arith, room-few (step state event).connections, (sound-step state event sound fits).few)
 
 pub history-push : (history : History) (event : Event) → IsHistory history → Fits history.state event
-    → total history + 1 + room (step history.state event).connections ≤ 18446744073709001000 → IsHistory (with_event event history)
+    → total history + 1 + room (step history.state event).connections ≤ most_counted → IsHistory (with_event event history)
 history-push history event is fits counted = record {
   sound = is.sound;
   legal = Legal-append history.base history.events (event ∷ []) is.legal (rw (← is.replayed) fits, tt);
@@ -43,9 +44,9 @@ history-push history event is fits counted = record {
 
 pub history-cut : (history : History) → IsHistory history → IsHistory (cut history)
 history-cut history is = record {
-  sound = history-sound history is;
+  sound = sound-replay history.base history.events is.sound is.legal;
   legal = tt;
-  replayed = refl;
+  replayed = is.replayed;
   counted = omega (arith, is.counted);
 }
 

@@ -6,7 +6,8 @@ use Rattle.service_machine.specs.declared.machine.Machine.{Machine}
 use Rattle.service_machine.specs.declared.rows.Rows.{Rows}
 use Rattle.service_machine.specs.Rows.{rows_of}
 use Rattle.service_machine.specs.Step.{step, Fits}
-use Rattle.service_machine.specs.Replay.{cost, cost_of}
+use Rattle.service_machine.specs.Replay.{replay, cost, cost_of}
+use Rattle.service_history.specs.Limits.{most_counted}
 use Rattle.service_history.specs.History.{total, cut, with_event}
 use Rattle.service_history.specs.Inside.{history_of, IsKept}
 use Rattle.service_history.specs.Room.{room}
@@ -24,7 +25,7 @@ pub kept_push : (machine machine' : Machine) (base : Rows) (events events' : Vec
     → rows_of machine' ≡ step (rows_of machine) event → events'.items ≡ events.items ++ event ∷ []
     → vec_len events' ≡ vec_len events + 1 → vec_capacity events ≤ vec_capacity events'
     → counted' ≡ min (counted + cost_of event) 18446744073709551615
-    → total (history_of machine base events era) + 1 + room (step (rows_of machine) event).connections ≤ 18446744073709001000
+    → total (history_of machine base events era) + 1 + room (step (rows_of machine) event).connections ≤ most_counted
     → vec_len events + 1 + room (step (rows_of machine) event).connections ≤ vec_capacity events
     → IsKept machine' base events' era counted'
 kept_push machine machine' base events events' era counted counted' event kept fits stepped items len capacity cost_is few space =
@@ -46,7 +47,7 @@ kept_reserved machine base events events' era counted kept items len capacity = 
 }
 
 -- a cut
-pub view_cut : (machine : Machine) (base base' : Rows) (events events' : Vec Event Global) (era era' : ℕ) → base' ≡ rows_of machine → events'.items ≡ [] → era' ≡ era + length events.items
+pub view_cut : (machine : Machine) (base base' : Rows) (events events' : Vec Event Global) (era era' : ℕ) → base' ≡ replay base events.items → events'.items ≡ [] → era' ≡ era + length events.items
     → history_of machine base' events' era' ≡ cut (history_of machine base events era)
 view_cut machine base base' events events' era era' copied none counted = λ i. record { state = rows_of machine; base = copied i; events = none i; era = counted i }
 
@@ -56,7 +57,7 @@ pub kept_cut : (machine : Machine) (base base' : Rows) (events events' : Vec Eve
 kept_cut machine base base' events events' era era' counted kept copied none is len capacity =
     let few = (history-sound (history_of machine base events era) kept.history).few in
     record {
-      history = rw (view_cut machine base base' events events' era era' copied none is) (history-cut (history_of machine base events era) kept.history);
+      history = rw (view_cut machine base base' events events' era era' (copied ∙ kept.history.replayed) none is) (history-cut (history_of machine base events era) kept.history);
       costs = ap (λ es. min (cost es) 18446744073709551615) (sym none);
       fits = omega (arith, room-few (rows_of machine).connections, few, len, capacity);
     }

@@ -2,3 +2,4 @@ mod HistoryLemmas
 mod KeptLemmas
 mod RoomLemmas
 mod WindowLemmas
+mod RunLemmas

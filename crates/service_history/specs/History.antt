@@ -15,7 +15,10 @@ use Rattle.service_machine.specs.Machine.{Records}
 use Rattle.service_machine.specs.Step.{opened_rows, step, output_of, Fits}
 use Rattle.service_machine.specs.Replay.{replay, Legal, cost}
 use Rattle.service_machine.specs.Sound.{IsSound}
+use Rattle.service_machine.specs.Limits.{most_events}
+use Rattle.service_history.specs.Limits.{most_stored, most_cost, most_counted}
 use Rattle.service_history.specs.Room.{room}
+use Rattle.service_history.specs.Windows.{Window, next_window}
 
 -- the state, and the window that it is in
 pub record History : Type 0 where
@@ -38,15 +41,23 @@ pub record IsHistory (history : History) : Type 0 where
   pub sound : IsSound history.base
   pub legal : Legal history.base history.events
   pub replayed : history.state ≡ replay history.base history.events
-  pub counted : total history + room history.state.connections ≤ 18446744073709001000
+  pub counted : total history + room history.state.connections ≤ most_counted
 
 -- a cut is due: the stored events are many, or cost much
 abbrev pub is_due : History → Bool
-is_due history = nat_le 65536 (length history.events) || nat_le 268435456 (cost history.events)
+is_due history = nat_le most_stored (length history.events) || nat_le most_cost (cost history.events)
 
--- the state as the base of a new window
+-- the window that the history is in
+abbrev pub window_of : History → Window
+window_of history = record { era = history.era; base = history.base; events = history.events }
+
+-- the history in another window
+abbrev pub within : Window → History → History
+within window history = record history { era = window.era; base = window.base; events = window.events }
+
+-- a cut ends the window, and the next one begins
 abbrev pub cut : History → History
-cut history = record history { base = history.state; events = []; era = total history }
+cut history = within (next_window (window_of history)) history
 
 -- a cut where one is due
 abbrev pub cut_where_due : History → History
@@ -74,7 +85,7 @@ pub record IsAppended (old : History) (came : Incoming) (answer : Output) (new :
 
 -- all that events can be counted has been recorded
 abbrev pub IsSpent : History → Type 0
-IsSpent history = 18446744073709000000 ≤ total history
+IsSpent history = most_events ≤ total history
 
 -- the events that `event` takes: a connection joins, or asks for something
 abbrev pub IsAsked : Incoming → Type 0

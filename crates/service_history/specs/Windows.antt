@@ -17,7 +17,7 @@ pub record Window : Type 0 where
 abbrev pub first_window : Window
 first_window = record { era = 0; base = opened_rows; events = [] }
 
--- the window behind one, as it begins
+-- the window after one, as it begins
 abbrev pub next_window : Window → Window
 next_window window = record {
   era = window.era + length window.events;
@@ -46,7 +46,7 @@ AreWindows windows = AreInRow first_window windows
 abbrev pub history_of : List Window → List Event
 history_of windows = flat_map (λ window. window.events) windows
 
--- the window behind the last of them, as it begins
+-- the window after the last of them, as it begins
 abbrev pub window_behind : Window → List Window → Window
 window_behind start [] = start
 window_behind start (window ∷ windows) = window_behind (next_window window) windows

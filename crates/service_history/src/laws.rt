@@ -5,11 +5,13 @@ ghost use Rattle.service_machine.specs.declared.event.Incoming.{Incoming};
 ghost use Rattle.service_machine.specs.declared.event.Output.{Output};
 ghost use Rattle.service_machine.specs.Step.{opened_rows};
 ghost use Rattle.service_machine.specs.Replay.{replay, Legal, outputs};
-ghost use Rattle.service_history.specs.History.{History, IsHistory, IsAppended};
+ghost use Rattle.kr_base.specs.declared.ids.ConnId.{ConnId};
+ghost use Rattle.service_history.specs.History.{History, opened_history, IsHistory, IsRecorded, IsAppended, window_of, told, taken_by, left_by, gone_by};
+ghost use Rattle.service_history.specs.Runs.{GoesOn, Follows, AreCalls, windows_of};
 ghost use Rattle.service_history.specs.Windows.{Window, first_window, AreWindows, history_of, window_behind};
 
-/// The windows of a run are one history: their events, one behind the other, are legal from the start
-/// and lead to the base of the window behind the last; and that window's era is their number.
+/// The windows of a run are one history: their events, one after the other, are legal from the start
+/// and lead to the base of the window after the last; and that window's era is their number.
 pub fn windows_are_one_history()
     ensures legal { (windows : List Window) → AreWindows windows
         → Legal opened_rows (history_of windows) }
@@ -19,8 +21,23 @@ pub fn windows_are_one_history()
         → (window_behind first_window windows).era ≡ length (history_of windows) }
 {}
 
+/// Each call of a service goes on in its window, or ends it and begins the next one: so the windows that
+/// a service is in, one call after another, are the windows of a run.
+pub fn calls_yield_windows_in_a_row()
+    ensures event { (old new : History) (came : Incoming) (answer : Output)
+        → IsRecorded old came answer new → Follows old new }
+    ensures take { (old : History) (conn : ConnId)
+        → GoesOn (window_of old) (window_of (taken_by conn (told conn old) old)) }
+    ensures leave { (old : History) (conn : ConnId)
+        → GoesOn (window_of old) (window_of (left_by conn (told conn old) old)) }
+    ensures gone { (old : History) (conn : ConnId)
+        → GoesOn (window_of old) (window_of (gone_by conn (told conn old) old)) }
+    ensures row { (histories : List History) → AreCalls opened_history histories
+        → AreWindows (windows_of opened_history histories) }
+{}
+
 /// What is answered to an event is the output at its place: the outputs of the stored events are those
-/// before, and behind them the answer.
+/// before, and after them the answer.
 pub fn an_answer_is_the_output_at_its_place()
     ensures { (old new : History) (came : Incoming) (answer : Output) → IsHistory old
         → IsAppended old came answer new

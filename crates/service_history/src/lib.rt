@@ -9,8 +9,8 @@
 
 mod laws;
 mod service;
-#[cfg(test)]
-mod tests;
 
-pub use laws::{an_answer_is_the_output_at_its_place, windows_are_one_history};
+pub use laws::{
+    an_answer_is_the_output_at_its_place, calls_yield_windows_in_a_row, windows_are_one_history,
+};
 pub use service::{EventRefused, Service};

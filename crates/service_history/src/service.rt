@@ -2,6 +2,7 @@ ghost use Rattle.std.specs.Prelude.{◌≡◌, ◌≢◌, ◌<◌, IfOk, IfErr, 
 ghost use Rattle.std.specs.Bool.{OnTrue, OnFalse};
 ghost use Rattle.service_machine.specs.Machine.{IsDue, IsOfNone, IsConnect};
 ghost use Rattle.service_machine.specs.Step.{opened_rows, output_of, IsCrowded};
+ghost use Rattle.service_machine.specs.Limits.{most_events};
 ghost use Rattle.service_machine.specs.Replay.{cost_of};
 ghost use Rattle.service_history.specs.History.{opened_history, IsHistory, total, is_due, cut, with_event, IsRecorded, IsAppended, IsSpent, IsAsked, given_for, taken_by, left_by, gone_by, told};
 ghost use Rattle.service_history.specs.Refusals.{refusal_of, IsRefused, Settles, settled};
@@ -123,7 +124,7 @@ impl Service {
     /// Records an event, a connection that joins or asks, and gives its answer. Where a cut is due it is
     /// made first: the state becomes the base, and the stored events are let go.
     ///
-    /// Refused with `EventsSpent` where all events of the run are 18,446,744,073,709,000,000 or more,
+    /// Refused with `EventsSpent` where all events that can be counted are recorded,
     /// then with `NoConnection` where the connection isn't there, and `TooManyConnections` where 256
     /// are there or no number is left.
     pub fn event(&mut self, event: Incoming) -> Result<Output, EventRefused>
@@ -212,6 +213,14 @@ impl Service {
         self.events.as_slice()
     }
 
+    /// The state that the stored events lead on from.
+    pub fn base(&self) -> &Rows
+        ensures value { result.now ≡ self.now.base }
+        ensures history { IsHistory self.now }
+    {
+        &self.base
+    }
+
     /// How many events the run had before the stored ones.
     pub fn era(&self) -> u64
         ensures value { result ≡ self.now.era }
@@ -231,7 +240,7 @@ impl Service {
     // Whether no further event can be counted.
     fn is_spent(&self) -> bool
         ensures yes { OnTrue result (IsSpent self.now) }
-        ensures no { OnFalse result (total self.now < 18446744073709000000) }
+        ensures no { OnFalse result (total self.now < most_events) }
         ensures history { IsHistory self.now }
     {
         self.era + self.events.len() as u64 >= LIMIT
@@ -246,7 +255,7 @@ impl Service {
 
     // Records an event, with no cut.
     fn record(&mut self, event: Incoming) -> Result<Output, EventRefused>
-        requires left { total self.old < 18446744073709000000 }
+        requires left { total self.old < most_events }
         requires asked { IsAsked event }
         ensures recorded { IfOk result (λ answer. IsAppended self.old event answer self.new) }
         ensures history { IsHistory self.new }
@@ -268,7 +277,7 @@ impl Service {
 
     // Makes a cut and records an event behind it.
     fn record_behind_a_cut(&mut self, event: Incoming) -> Result<Output, EventRefused>
-        requires left { total self.old < 18446744073709000000 }
+        requires left { total self.old < most_events }
         requires asked { IsAsked event }
         ensures recorded { IfOk result (λ answer. IsAppended (cut self.old) event answer self.new) }
         ensures history { IsHistory self.new }

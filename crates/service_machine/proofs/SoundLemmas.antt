@@ -1,23 +1,36 @@
 -- Each event keeps a sound state sound.
-use Rattle.std.proofs.Common.{◌≡◌, ℕ, ◌+◌, ◌<◌, ◌≤◌, ◌==◌, Bool, true, false, not, nat_le, cond, List, [], ◌∷◌, ◌++◌, length, filter, refl, ap, ◌∙◌, arith, length-append, inl, inr}
+use Rattle.std.proofs.Common.{◌≡◌, ℕ, ◌+◌, ◌^◌, ◌<◌, ◌≤◌, ◌==◌, Bool, true, false, ◌||◌, not, nat_le, nat_lt, cond, List, Result, Ok, Err, [], ◌∷◌, ◌++◌, if◌then◌else◌, length, filter, refl, ap, sym, subst, ◌∙◌, arith, length-append, inl, inr}
 use Rattle.std.specs.List.{AllByRecursion}
-use Rattle.std.proofs.lemmas.Bool.{or_left, or_right, or_cases}
+use Rattle.std.proofs.lemmas.Bool.{or_left, or_right, or_cases, leb-false, leb-true}
 use Rattle.std.proofs.lemmas.Bool.Decides.{nat_tests}
 use Rattle.std.proofs.lemmas.List.{length-map}
+use Rattle.std.proofs.lemmas.List.Elements.{filter-append}
+use Rattle.std.proofs.lemmas.List.Sums.{sum_by-append}
 use Rattle.kr_base.specs.declared.ids.ConnId.{ConnId}
 use Rattle.kr_base.specs.declared.ids.SessionId.{SessionId}
 use Rattle.session_table.specs.declared.row.SessionRow.{SessionRow}
 use Rattle.secret_calls.specs.declared.out.Out.{Out}
-use Rattle.secret_calls.specs.Outs.{most_waiting}
+use Rattle.secret_calls.specs.declared.call.Call.{Call}
+use Rattle.secret_calls.specs.declared.call.Call.TheVariants as call
+use Rattle.secret_calls.specs.declared.call.CallFault.{CallFault}
+use Rattle.secret_calls.specs.declared.call.Request.{Request}
+use Rattle.secret_calls.specs.declared.out.Body.{Body}
+use Rattle.secret_calls.specs.declared.out.Body.TheVariants as body
+use Rattle.secret_calls.specs.declared.out.ErrorName.{ErrorName}
+use Rattle.secret_calls.specs.declared.out.ErrorName.TheVariants as name
+use Rattle.secret_calls.specs.Calls.{error_of}
+use Rattle.secret_calls.specs.Outs.{FitsBody, HasSpelling, most_waiting}
+use Rattle.session_table.specs.Sessions.{is_of, rows_of, is_full, most_sessions, last_session}
 use Rattle.service_machine.specs.declared.rows.Rows.{Rows}
 use Rattle.service_machine.specs.declared.rows.ConnRow.{ConnRow}
 use Rattle.service_machine.specs.declared.event.Event.{Event}
 use Rattle.service_machine.specs.declared.event.Event.TheVariants as event
 use Rattle.service_machine.specs.Connections.{new_row, is_row, has, changed, without, left, emptied, size_of, size_waiting, with_out, Sent, delivered}
-use Rattle.service_machine.specs.Plan.{Change, Open_session, Close_session}
-use Rattle.service_machine.specs.Step.{opened_rows, performed, performed_all, planned, replies, step, Fits}
+use Rattle.service_machine.specs.Plan.{Plan, Change, Open_session, Close_session, refused, answered}
+use Rattle.service_machine.specs.SessionCalls.{is_plain}
+use Rattle.service_machine.specs.Step.{opened_rows, sessions_of, asked, plan_of, performed, performed_all, planned, message_of, replies, step, Fits}
 use Rattle.service_machine.specs.Replay.{replay, Legal}
-use Rattle.service_machine.specs.Sound.{AreJoined, AreApart, AreOpened, IsSound}
+use Rattle.service_machine.specs.Sound.{AreJoined, AreApart, WaitsWell, AreWaiting, AreOpened, AreOnce, AreFew, IsSound}
 
 -- what isn't true is false
 not_true : (b : Bool) → not b ≡ true → b ≡ false
@@ -52,6 +65,54 @@ each-passing P Q p more (x ∷ xs) all =
     elim [
       | true ↦ λ is. rw is (more x is all.0, each-passing P Q p more xs all.1)
       | false ↦ λ is. rw is (each-passing P Q p more xs all.1)
+    ] in
+    pass (p x) refl
+
+-- ---- how many of a list pass a test
+
+-- those of a part are no more
+pub fewer : {X : Type 0} (p q : X → Bool) (xs : List X) → length (filter p (filter q xs)) ≤ length (filter p xs)
+fewer p q [] = omega arith
+fewer p q (x ∷ xs) =
+    let rest = fewer p q xs in
+    let pass : (a : Bool) → q x ≡ a → (b : Bool) → p x ≡ b → length (filter p (filter q (x ∷ xs))) ≤ length (filter p (x ∷ xs)) =
+    elim [
+      | true ↦ λ is_q. elim [ true ↦ λ is_p. rw (is_q, is_p) (omega (arith, rest)) | false ↦ λ is_p. rw (is_q, is_p) rest ]
+      | false ↦ λ is_q. elim [ true ↦ λ is_p. rw (is_q, is_p) (omega (arith, rest)) | false ↦ λ is_p. rw (is_q, is_p) rest ]
+    ] in
+    pass (q x) refl (p x) refl
+
+-- nor are those of two parts that have nothing in common
+pub apart_fewer : {X : Type 0} (p q r : X → Bool) → ((x : X) → q x ≡ true → r x ≡ true → ⊥) → (xs : List X)
+    → length (filter p (filter q xs)) + length (filter p (filter r xs)) ≤ length (filter p xs)
+apart_fewer p q r apart [] = omega arith
+apart_fewer p q r apart (x ∷ xs) =
+    let rest = apart_fewer p q r apart xs in
+    let pass : (a : Bool) → q x ≡ a → (b : Bool) → r x ≡ b → (c : Bool) → p x ≡ c
+    → length (filter p (filter q (x ∷ xs))) + length (filter p (filter r (x ∷ xs))) ≤ length (filter p (x ∷ xs)) =
+    elim [
+      | true ↦ λ is_q. elim [
+        | true ↦ λ is_r c is_p. absurd (apart x is_q is_r)
+        | false ↦ λ is_r. elim [ true ↦ λ is_p. rw (is_q, is_r, is_p) (omega (arith, rest)) | false ↦ λ is_p. rw (is_q, is_r, is_p) rest ]
+      ]
+      | false ↦ λ is_q. elim [
+        | true ↦ λ is_r. elim [ true ↦ λ is_p. rw (is_q, is_r, is_p) (omega (arith, rest)) | false ↦ λ is_p. rw (is_q, is_r, is_p) rest ]
+        | false ↦ λ is_r. elim [ true ↦ λ is_p. rw (is_q, is_r, is_p) (omega (arith, rest)) | false ↦ λ is_p. rw (is_q, is_r, is_p) rest ]
+      ]
+    ] in
+    pass (q x) refl (r x) refl (p x) refl
+
+-- one more between two such parts
+pub between_fewer : {X : Type 0} (p q r : X → Bool) (x : X) → ((y : X) → q y ≡ true → r y ≡ true → ⊥) → (xs : List X)
+    → length (filter p (filter q xs ++ x ∷ filter r xs)) ≤ length (filter p xs) + (if p x then 1 else 0)
+between_fewer p q r x apart xs =
+    let both = apart_fewer p q r apart xs in
+    let split : length (filter p (filter q xs ++ x ∷ filter r xs)) ≡ length (filter p (filter q xs)) + length (filter p (x ∷ filter r xs)) =
+    ap length (filter-append p (filter q xs) (x ∷ filter r xs)) ∙ length-append (filter p (filter q xs)) (filter p (x ∷ filter r xs)) in
+    let pass : (b : Bool) → p x ≡ b → length (filter p (filter q xs ++ x ∷ filter r xs)) ≤ length (filter p xs) + (if p x then 1 else 0) =
+    elim [
+      | true ↦ λ is. let one : length (filter p (x ∷ filter r xs)) ≡ 1 + length (filter p (filter r xs)) = rw is (omega arith) in rw is (omega (arith, both, split, one))
+      | false ↦ λ is. let none : length (filter p (x ∷ filter r xs)) ≡ length (filter p (filter r xs)) = rw is refl in rw is (omega (arith, both, split, none))
     ] in
     pass (p x) refl
 
@@ -92,14 +153,26 @@ has-changed other conn change keeps (row ∷ rows) = rw (after-number conn chang
 pub length-changed : (conn : ConnId) (change : ConnRow → ConnRow) (rows : List ConnRow) → length (changed conn change rows) ≡ length rows
 length-changed conn change rows = length-map rows (after conn change)
 
-pub sound-changed : (conn : ConnId) (change : ConnRow → ConnRow) → KeepsNumber change → (state : Rows) → IsSound state
+pub waiting-changed : (conn : ConnId) (change : ConnRow → ConnRow) → ((row : ConnRow) → WaitsWell row → WaitsWell (change row)) → (rows : List ConnRow) → AreWaiting rows
+    → AreWaiting (changed conn change rows)
+waiting-changed conn change well [] all = tt
+waiting-changed conn change well (row ∷ rows) all =
+    let pass : (b : Bool) → is_row conn row ≡ b → WaitsWell (after conn change row) =
+    elim [ true ↦ λ is. rw is (well row all.0) | false ↦ λ is. rw is all.0 ] in
+    (pass (is_row conn row) refl, waiting-changed conn change well rows all.1)
+
+pub sound-changed : (conn : ConnId) (change : ConnRow → ConnRow) → KeepsNumber change → ((row : ConnRow) → WaitsWell row → WaitsWell (change row)) → (state : Rows) → IsSound state
     → IsSound (record state { connections = changed conn change state.connections })
-sound-changed conn change keeps state sound = record {
+sound-changed conn change keeps well state sound = record {
   joined = joined-changed state.next_conn conn change keeps state.connections sound.joined;
   apart = apart-changed conn change keeps state.connections sound.apart;
   few = rw (length-changed conn change state.connections) sound.few;
+  waiting = waiting-changed conn change well state.connections sound.waiting;
   opened = sound.opened;
+  once = sound.once;
+  limited = sound.limited;
   owned = each-weaker _ _ (λ row there. has-changed row.owner conn change keeps state.connections ∙ there) state.sessions sound.owned;
+  numbered = sound.numbered;
 }
 
 pub keeps-with_out : (out : Out) → KeepsNumber (with_out out)
@@ -110,11 +183,31 @@ keeps-with_out out row =
     elim [ true ↦ refl | false ↦ inner (nat_le (size_waiting row.waiting + size_of out) most_waiting) ] in
     outer row.overrun
 
-pub sound-delivered : (sent : List Sent) (state : Rows) → IsSound state → IsSound (record state { connections = delivered sent state.connections })
-sound-delivered [] state sound = sound
-sound-delivered (one ∷ more) state sound =
-    sound-delivered more (record state { connections = changed one.to (with_out one.out) state.connections })
-    (sound-changed one.to (with_out one.out) (keeps-with_out one.out) state sound)
+-- one more output that has a spelling waits, if it is within the limit
+pub well-with_out : (out : Out) → HasSpelling out → (row : ConnRow) → WaitsWell row → WaitsWell (with_out out row)
+well-with_out out spells row well =
+    let more : ConnRow = record row { waiting = row.waiting ++ out ∷ [] } in
+    let lost : ConnRow = record row { overrun = true } in
+    let fits : nat_le (size_waiting row.waiting + size_of out) most_waiting ≡ true → WaitsWell more = λ is. record {
+      within = omega (arith, leb-true (size_waiting row.waiting + size_of out) most_waiting is, sum_by-append size_of row.waiting (out ∷ []));
+      spelled = each-append HasSpelling row.waiting (out ∷ []) well.spelled (spells, tt);
+    } in
+    let over : WaitsWell lost = record { within = well.within; spelled = well.spelled } in
+    let inner : (c : Bool) → nat_le (size_waiting row.waiting + size_of out) most_waiting ≡ c → WaitsWell (cond c more lost) =
+    elim [ true ↦ λ is. fits is | false ↦ λ is. over ] in
+    let outer : (b : Bool) → WaitsWell (cond b row (cond (nat_le (size_waiting row.waiting + size_of out) most_waiting) more lost)) =
+    elim [ true ↦ well | false ↦ inner (nat_le (size_waiting row.waiting + size_of out) most_waiting) refl ] in
+    outer row.overrun
+
+-- outputs on their way, each of which has a spelling
+abbrev pub AreSpelled : List Sent → Type 0
+AreSpelled sent = AllByRecursion (λ one. HasSpelling one.out) sent
+
+pub sound-delivered : (sent : List Sent) → AreSpelled sent → (state : Rows) → IsSound state → IsSound (record state { connections = delivered sent state.connections })
+sound-delivered [] spelled state sound = sound
+sound-delivered (one ∷ more) spelled state sound =
+    sound-delivered more spelled.1 (record state { connections = changed one.to (with_out one.out) state.connections })
+    (sound-changed one.to (with_out one.out) (keeps-with_out one.out) (well-with_out one.out spelled.0) state sound)
 
 -- ---- connections: one more behind all, one less
 
@@ -176,14 +269,63 @@ has-without other conn (row ∷ rows) differs there =
 pub opened-longer : (next : ℕ) (rows : List SessionRow) → AreOpened next rows → AreOpened (next + 1) rows
 opened-longer next rows all = each-weaker _ _ (λ row below. omega (arith, below)) rows all
 
-pub sound-opened : (caller : ConnId) (state : Rows) → has caller state.connections ≡ true → IsSound state → IsSound (performed caller Open_session state)
-sound-opened caller state there sound = record {
+-- the two parts between which a session is opened have nothing in common
+parts-apart : (owner : ℕ) (row : SessionRow) → nat_le row.owner.0 owner ≡ true → nat_lt owner row.owner.0 ≡ true → ⊥
+parts-apart owner row first second = grind (arith, nat_tests)
+
+-- no session has the next number
+none-next : (next : ℕ) (rows : List SessionRow) → AreOpened next rows → length (filter (λ row. row.session.0 == next) rows) ≡ 0
+none-next next [] all = refl
+none-next next (row ∷ rows) all =
+    let not_it : (row.session.0 == next) ≡ false = let below : row.session.0 < next = all.0 in grind (arith, nat_tests) in
+    rw not_it (none-next next rows all.1)
+
+-- one more session
+pub once-opened : (caller : ConnId) (state : Rows) → IsSound state → AreOnce (performed caller Open_session state).sessions
+once-opened caller state sound number =
+    let new : SessionRow = record { owner = caller; session = record { 0 = state.next_session } } in
+    let some = between_fewer (λ row. row.session.0 == number) (λ row. nat_le row.owner.0 caller.0) (λ row. nat_lt caller.0 row.owner.0) new (parts-apart caller.0) state.sessions in
+    let was = sound.once number in
+    let pass : (b : Bool) → (state.next_session == number) ≡ b → length (filter (λ row. row.session.0 == number) (performed caller Open_session state).sessions) ≤ 1 =
+    elim [
+      | true ↦ λ is.
+          let same : state.next_session ≡ number = grind (arith, nat_tests) in
+          let none : length (filter (λ row. row.session.0 == number) state.sessions) ≡ 0 =
+          ap (λ n. length (filter (λ row. row.session.0 == n) state.sessions)) (sym same) ∙ none-next state.next_session state.sessions sound.opened in
+          omega (arith, rw is at some, none)
+      | false ↦ λ is. omega (arith, rw is at some, was)
+    ] in
+    pass (state.next_session == number) refl
+
+pub limited-opened : (caller : ConnId) (state : Rows) → length (rows_of caller state.sessions) < most_sessions → IsSound state → AreFew (performed caller Open_session state).sessions
+limited-opened caller state left sound owner =
+    let new : SessionRow = record { owner = caller; session = record { 0 = state.next_session } } in
+    let some = between_fewer (λ row. row.owner.0 == owner.0) (λ row. nat_le row.owner.0 caller.0) (λ row. nat_lt caller.0 row.owner.0) new (parts-apart caller.0) state.sessions in
+    let was = sound.limited owner in
+    let pass : (b : Bool) → (caller.0 == owner.0) ≡ b → length (rows_of owner (performed caller Open_session state).sessions) ≤ most_sessions =
+    elim [
+      | true ↦ λ is.
+          let same : caller.0 ≡ owner.0 = grind (arith, nat_tests) in
+          let here : length (filter (λ row. row.owner.0 == owner.0) state.sessions) < most_sessions =
+          subst (λ n. length (filter (λ (row : SessionRow). row.owner.0 == n) state.sessions) < most_sessions) same left in
+          omega (arith, rw is at some, here)
+      | false ↦ λ is. omega (arith, rw is at some, was)
+    ] in
+    pass (caller.0 == owner.0) refl
+
+pub sound-opened : (caller : ConnId) (state : Rows) → has caller state.connections ≡ true → length (rows_of caller state.sessions) < most_sessions → state.next_session < last_session
+    → IsSound state → IsSound (performed caller Open_session state)
+sound-opened caller state there left number sound = record {
   joined = sound.joined;
   apart = sound.apart;
   few = sound.few;
+  waiting = sound.waiting;
   opened = each-append _ _ _ (each-filter _ _ state.sessions (opened-longer state.next_session state.sessions sound.opened))
       (omega arith, each-filter _ _ state.sessions (opened-longer state.next_session state.sessions sound.opened));
+  once = once-opened caller state sound;
+  limited = limited-opened caller state left sound;
   owned = each-append _ _ _ (each-filter _ _ state.sessions sound.owned) (there, each-filter _ _ state.sessions sound.owned);
+  numbered = omega (arith, number);
 }
 
 pub sound-closed : (caller : ConnId) (session : SessionId) (state : Rows) → IsSound state → IsSound (performed caller (Close_session session) state)
@@ -191,50 +333,123 @@ sound-closed caller session state sound = record {
   joined = sound.joined;
   apart = sound.apart;
   few = sound.few;
+  waiting = sound.waiting;
   opened = each-filter _ _ state.sessions sound.opened;
+  once = λ number. omega (arith, sound.once number, fewer (λ row. row.session.0 == number) (λ row. not (is_of caller session row)) state.sessions);
+  limited = λ owner. omega (arith, sound.limited owner, fewer (λ row. row.owner.0 == owner.0) (λ row. not (is_of caller session row)) state.sessions);
   owned = each-filter _ _ state.sessions sound.owned;
+  numbered = sound.numbered;
 }
 
--- ---- a change, all changes of a plan, an event, a list of events
+-- ---- a call's plan
 
-pub sound-performed : (caller : ConnId) (change : Change) (state : Rows) → has caller state.connections ≡ true → IsSound state → IsSound (performed caller change state)
-sound-performed caller Open_session state there sound = sound-opened caller state there sound
-sound-performed caller (Close_session session) state there sound = sound-closed caller session state sound
+-- the caller can open a session: it has fewer than it may have, and a number is left
+pub not-full : (few spent : Bool) → (few || spent) ≡ false → (few ≡ false) × (spent ≡ false)
+not-full true spent is = let no : ⊥ = cc in absurd no
+not-full false spent is = (refl, is)
 
--- no change of a plan touches the connections
-pub performed-connections : (caller : ConnId) (change : Change) (state : Rows) → (performed caller change state).connections ≡ state.connections
-performed-connections caller Open_session state = refl
-performed-connections caller (Close_session session) state = refl
+opened-plan : (caller : ConnId) (state : Rows) (plain : Bool) → has caller state.connections ≡ true → IsSound state
+    → IsSound (performed_all caller (cond plain (cond (is_full caller (sessions_of state)) (refused name.LimitsExceeded) (answered (body.Session (record { 0 = state.next_session })) (Open_session ∷ []))) (refused name.NotSupported)).changes state)
+opened-plan caller state false there sound = sound
+opened-plan caller state true there sound =
+    let pass : (full : Bool) → is_full caller (sessions_of state) ≡ full
+    → IsSound (performed_all caller (cond full (refused name.LimitsExceeded) (answered (body.Session (record { 0 = state.next_session })) (Open_session ∷ []))).changes state) =
+    elim [
+      | true ↦ λ is. sound
+      | false ↦ λ is.
+          let room = not-full (nat_le most_sessions (length (rows_of caller state.sessions))) (nat_le last_session state.next_session) is in
+          sound-opened caller state there (leb-false most_sessions (length (rows_of caller state.sessions)) room.0) (leb-false last_session state.next_session room.1) sound
+    ] in
+    pass (is_full caller (sessions_of state)) refl
 
-pub sound-performed_all : (caller : ConnId) (changes : List Change) (state : Rows) → has caller state.connections ≡ true → IsSound state → IsSound (performed_all caller changes state)
-sound-performed_all caller [] state there sound = sound
-sound-performed_all caller (change ∷ changes) state there sound =
-    sound-performed_all caller changes (performed caller change state)
-    (ap (has caller) (performed-connections caller change state) ∙ there)
-    (sound-performed caller change state there sound)
+closed-plan : (caller : ConnId) (session : SessionId) (state : Rows) (owns : Bool) → IsSound state
+    → IsSound (performed_all caller (cond owns (answered body.Empty (Close_session session ∷ [])) (refused name.NoSession)).changes state)
+closed-plan caller session state true sound = sound-closed caller session state sound
+closed-plan caller session state false sound = sound
+
+-- the changes of any call keep a sound state sound
+pub sound-planned : (caller : ConnId) (state : Rows) (call : Result Call CallFault) → has caller state.connections ≡ true → IsSound state
+    → IsSound (performed_all caller (plan_of call (asked caller state)).changes state)
+sound-planned caller state (Err fault) there sound = sound
+sound-planned caller state (Ok call.Ping) there sound = sound
+sound-planned caller state (Ok (call.OpenSession algorithm)) there sound = opened-plan caller state (is_plain algorithm) there sound
+sound-planned caller state (Ok (call.CloseSession session)) there sound = closed-plan caller session state ((asked caller state).owns session) sound
+
+-- the values of what answers any call are of their types
+abbrev pub FitsAnswer : Result Body ErrorName → Type 0
+FitsAnswer (Ok body) = FitsBody body
+FitsAnswer (Err name) = Unit {0}
+
+opened-answer : (full plain : Bool) (next : ℕ) → next ≤ last_session
+    → FitsAnswer (cond plain (cond full (refused name.LimitsExceeded) (answered (body.Session (record { 0 = next })) (Open_session ∷ []))) (refused name.NotSupported)).answer
+opened-answer full false next small = tt
+opened-answer true true next small = tt
+opened-answer false true next small = omega (arith, small)
+
+closed-answer : (owns : Bool) (session : SessionId) → FitsAnswer (cond owns (answered body.Empty (Close_session session ∷ [])) (refused name.NoSession)).answer
+closed-answer true session = tt
+closed-answer false session = tt
+
+pub answer-fits : (caller : ConnId) (state : Rows) (call : Result Call CallFault) → state.next_session ≤ last_session → FitsAnswer (plan_of call (asked caller state)).answer
+answer-fits caller state (Err fault) small = tt
+answer-fits caller state (Ok call.Ping) small = tt
+answer-fits caller state (Ok (call.OpenSession algorithm)) small = opened-answer (is_full caller (sessions_of state)) (is_plain algorithm) state.next_session small
+answer-fits caller state (Ok (call.CloseSession session)) small = closed-answer ((asked caller state).owns session) session
+
+-- and so it has a spelling
+message-spelled : (request : Request) (answer : Result Body ErrorName) → FitsAnswer answer → HasSpelling (message_of request.serial answer)
+message-spelled request (Ok body) fits = record { answers = request.has_serial; answered_fits = request.fits; fits = fits }
+message-spelled request (Err name) fits = record { answers = request.has_serial; answered_fits = request.fits; fits = tt }
+
+replies-spelled : (wanted : Bool) (caller : ConnId) (out : Out) → HasSpelling out → AreSpelled (cond wanted (record { to = caller; out = out } ∷ []) [])
+replies-spelled true caller out spelled = (spelled, tt)
+replies-spelled false caller out spelled = tt
+
+-- ---- an event, a list of events
 
 pub sound-start : IsSound opened_rows
-sound-start = record { joined = tt; apart = tt; few = omega arith; opened = tt; owned = tt }
+sound-start = record {
+  joined = tt;
+  apart = tt;
+  few = omega arith;
+  waiting = tt;
+  opened = tt;
+  once = λ number. omega arith;
+  limited = λ owner. omega arith;
+  owned = tt;
+  numbered = omega arith;
+}
 
 pub sound-step : (state : Rows) (event : Event) → IsSound state → Fits state event → IsSound (step state event)
 sound-step state (event.Connect conn) sound fits = record {
   joined = each-append _ state.connections (new_row conn ∷ []) (joined-longer state.next_conn state.connections sound.joined) (omega (arith, fits.0), tt);
   apart = apart-push state.next_conn state.connections (new_row conn) fits.0 sound.joined sound.apart;
   few = rw length-append (omega (arith, fits.1));
+  waiting = each-append _ state.connections (new_row conn ∷ []) sound.waiting (record { within = omega arith; spelled = tt }, tt);
   opened = sound.opened;
+  once = sound.once;
+  limited = sound.limited;
   owned = each-weaker _ _ (λ row there. has-push row.owner state.connections (new_row conn) there) state.sessions sound.owned;
+  numbered = sound.numbered;
 }
 sound-step state (event.Arrive conn request now salt) sound fits =
-    sound-delivered (replies conn request (planned conn request state)) (performed_all conn (planned conn request state).changes state)
-    (sound-performed_all conn (planned conn request state).changes state fits sound)
-sound-step state (event.Leave conn) sound fits = sound-changed conn left (λ row. refl) state sound
-sound-step state (event.Take conn) sound fits = sound-changed conn emptied (λ row. refl) state sound
+    let answer = (planned conn request state).answer in
+    sound-delivered (replies conn request (planned conn request state))
+    (replies-spelled request.wants_reply conn (message_of request.serial answer) (message-spelled request answer (answer-fits conn state request.call sound.numbered)))
+    (performed_all conn (planned conn request state).changes state)
+    (sound-planned conn state request.call fits sound)
+sound-step state (event.Leave conn) sound fits = sound-changed conn left (λ row. refl) (λ row well. record { within = well.within; spelled = well.spelled }) state sound
+sound-step state (event.Take conn) sound fits = sound-changed conn emptied (λ row. refl) (λ row well. record { within = omega arith; spelled = tt }) state sound
 sound-step state (event.Gone conn) sound fits = record {
   joined = each-filter _ _ state.connections sound.joined;
   apart = apart-without conn state.connections sound.apart;
   few = omega (arith, length-without conn state.connections, sound.few);
+  waiting = each-filter _ _ state.connections sound.waiting;
   opened = each-filter _ _ state.sessions sound.opened;
+  once = λ number. omega (arith, sound.once number, fewer (λ row. row.session.0 == number) (λ row. not (row.owner.0 == conn.0)) state.sessions);
+  limited = λ owner. omega (arith, sound.limited owner, fewer (λ row. row.owner.0 == owner.0) (λ row. not (row.owner.0 == conn.0)) state.sessions);
   owned = each-passing _ _ (λ row. not (row.owner.0 == conn.0)) (λ row passes there. has-without row.owner conn state.connections (not_true (row.owner.0 == conn.0) passes) there) state.sessions sound.owned;
+  numbered = sound.numbered;
 }
 
 pub sound-replay : (state : Rows) (events : List Event) → IsSound state → Legal state events → IsSound (replay state events)

@@ -6,6 +6,7 @@ use Rattle.std.specs.Option.{option_map}
 use Rattle.kr_base.specs.declared.ids.ConnId.{ConnId}
 use Rattle.secret_calls.specs.declared.out.Out.{Out}
 use Rattle.secret_calls.specs.Outs.{spelled, most_waiting}
+use Rattle.service_machine.specs.Limits.{most_taken}
 use Rattle.service_machine.specs.declared.rows.ConnRow.{ConnRow}
 use Rattle.service_machine.specs.declared.rows.DeskRow.{DeskRow}
 
@@ -52,7 +53,7 @@ left row = record row { leaving = true }
 
 -- the row of a connection that took what waited; the count stands still at its last number
 abbrev pub emptied : ConnRow → ConnRow
-emptied row = record row { waiting = []; taken = min (row.taken + length row.waiting) 18446744073709551615 }
+emptied row = record row { waiting = []; taken = min (row.taken + length row.waiting) most_taken }
 
 -- whether something waits
 abbrev pub waits : ConnRow → Bool

@@ -1,12 +1,17 @@
 -- What every state has that a start leads to, and a state has to have from which lists of events may begin: a number
--- in use was given, and is given to no other; a session's owner is there. Laws over lists from any start take it as
+-- in use was given, and is given to no other; a session's owner is there; the connections, the sessions of each and the bytes
+-- that wait are within their limits, and each output that waits has a spelling. Laws over lists from any start take it as
 -- their premise.
-use Rattle.std.specs.Prelude.{ℕ, ◌<◌, ◌≤◌, IsTrue, List, [], ◌∷◌, length}
+use Rattle.std.specs.Prelude.{ℕ, ◌==◌, ◌<◌, ◌≤◌, IsTrue, List, [], ◌∷◌, length, filter}
 use Rattle.std.specs.List.{AllByRecursion}
+use Rattle.kr_base.specs.declared.ids.ConnId.{ConnId}
+use Rattle.secret_calls.specs.Outs.{HasSpelling, most_waiting}
 use Rattle.session_table.specs.declared.row.SessionRow.{SessionRow}
+use Rattle.session_table.specs.Sessions.{rows_of, most_sessions, last_session}
 use Rattle.service_machine.specs.declared.rows.Rows.{Rows}
 use Rattle.service_machine.specs.declared.rows.ConnRow.{ConnRow}
-use Rattle.service_machine.specs.Connections.{has}
+use Rattle.service_machine.specs.Connections.{has, size_waiting}
+use Rattle.service_machine.specs.Limits.{most_connections}
 
 -- each connection's number is below the next one
 abbrev pub AreJoined : ℕ → List ConnRow → Type 0
@@ -17,9 +22,26 @@ abbrev pub AreApart : List ConnRow → Type 0
 AreApart [] = Unit {0}
 AreApart (row ∷ rows) = AllByRecursion (λ other. row.conn.0 < other.conn.0) rows × AreApart rows
 
+-- no more bytes wait than may, and each output that waits has a spelling
+pub record WaitsWell (row : ConnRow) : Type 0 where
+  pub within : size_waiting row.waiting ≤ most_waiting
+  pub spelled : AllByRecursion HasSpelling row.waiting
+
+-- the same for each connection
+abbrev pub AreWaiting : List ConnRow → Type 0
+AreWaiting rows = AllByRecursion WaitsWell rows
+
 -- each session's number is below the next one
 abbrev pub AreOpened : ℕ → List SessionRow → Type 0
 AreOpened next rows = AllByRecursion (λ row. row.session.0 < next) rows
+
+-- no two sessions have one number
+abbrev pub AreOnce : List SessionRow → Type 0
+AreOnce rows = (number : ℕ) → length (filter (λ row. row.session.0 == number) rows) ≤ 1
+
+-- no connection has more sessions than it may
+abbrev pub AreFew : List SessionRow → Type 0
+AreFew rows = (owner : ConnId) → length (rows_of owner rows) ≤ most_sessions
 
 -- each session's owner is there
 abbrev pub AreOwned : List ConnRow → List SessionRow → Type 0
@@ -29,6 +51,10 @@ AreOwned connections rows = AllByRecursion (λ row. IsTrue (has row.owner connec
 pub record IsSound (state : Rows) : Type 0 where
   pub joined : AreJoined state.next_conn state.connections
   pub apart : AreApart state.connections
-  pub few : length state.connections ≤ 256
+  pub few : length state.connections ≤ most_connections
+  pub waiting : AreWaiting state.connections
   pub opened : AreOpened state.next_session state.sessions
+  pub once : AreOnce state.sessions
+  pub limited : AreFew state.sessions
   pub owned : AreOwned state.connections state.sessions
+  pub numbered : state.next_session ≤ last_session

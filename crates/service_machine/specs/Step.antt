@@ -18,6 +18,7 @@ use Rattle.service_machine.specs.declared.event.Event.TheVariants as event
 use Rattle.service_machine.specs.declared.event.Output.{Output}
 use Rattle.service_machine.specs.declared.event.Output.TheVariants as output
 use Rattle.service_machine.specs.Connections.{new_row, has, changed, without, left, emptied, waiting_for, desk_of, Sent, delivered}
+use Rattle.service_machine.specs.Limits.{most_connections, last_connection}
 use Rattle.service_machine.specs.Plan.{Questions, Plan, Change, Open_session, Close_session, refused}
 use Rattle.service_machine.specs.SessionCalls.{ping, open_session, close_session}
 
@@ -112,13 +113,13 @@ output_of state (event.Leave conn) = output.Left
 output_of state (event.Take conn) = output.Taken (waiting_for conn state.connections)
 output_of state (event.Gone conn) = output.Gone
 
--- no further connection can join: 256 are there, or no number is left
+-- no further connection can join: as many are there as may be, or no number is left
 abbrev pub IsCrowded : Rows → Type 0
-IsCrowded state = (256 ≤ length state.connections) ⊎ (18446744073709551615 ≤ state.next_conn)
+IsCrowded state = (most_connections ≤ length state.connections) ⊎ (last_connection ≤ state.next_conn)
 
 -- the event can happen in the state
 abbrev pub Fits : Rows → Event → Type 0
-Fits state (event.Connect conn) = (conn.0 ≡ state.next_conn) × (length state.connections < 256) × (state.next_conn < 18446744073709551615)
+Fits state (event.Connect conn) = (conn.0 ≡ state.next_conn) × (length state.connections < most_connections) × (state.next_conn < last_connection)
 Fits state (event.Arrive conn request now salt) = IsTrue (has conn state.connections)
 Fits state (event.Leave conn) = IsSomeAnd (desk_of conn state.connections) (λ desk. desk.leaving ≡ false)
 Fits state (event.Take conn) = IsSomeAnd (desk_of conn state.connections) (λ desk. desk.waits ≡ true)

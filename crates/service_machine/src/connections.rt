@@ -1,5 +1,6 @@
 // The connections, by their numbers. Finding one takes steps by the logarithm of how many there are.
 ghost use Rattle.std.specs.Prelude.{◌≡◌, ◌≢◌, ℕ, ◌+◌, ◌<◌, ◌≤◌, ◌⊎◌, [], ◌∷◌, ◌++◌, length, Some, None, false, true, IsTrue, IsErrOf, IfOk, OnOk, OnErr, IfSome, IfNone, IsNone};
+ghost use Rattle.service_machine.specs.Limits.{most_connections, last_connection};
 ghost use Rattle.service_machine.specs.Connections.{new_row, has, changed, without, with_out, left, emptied, waiting_for, desk_of};
 
 use crate::desk::Desk;
@@ -56,12 +57,12 @@ impl Connections {
         ensures number { IfOk result (λ conn. conn.0 ≡ self.old.next) }
         ensures joined { IfOk result (λ conn. self.new.rows ≡ self.old.rows ++ new_row conn ∷ []) }
         ensures next { OnOk result (self.new.next ≡ self.old.next + 1) }
-        ensures room { OnOk result ((length self.old.rows < 256)
-            × (self.old.next < 18446744073709551615)) }
+        ensures room { OnOk result ((length self.old.rows < most_connections)
+            × (self.old.next < last_connection)) }
 
         // After a refusal the rows are as before.
         ensures too_many { IsErrOf result ApplyRefused.TooManyConnections
-            → (256 ≤ length self.old.rows) ⊎ (18446744073709551615 ≤ self.old.next) }
+            → (most_connections ≤ length self.old.rows) ⊎ (last_connection ≤ self.old.next) }
         ensures no_other { result ≢ Err ApplyRefused.NoConnection }
         ensures unchanged { OnErr result ((self.new.rows ≡ self.old.rows)
             × (self.new.next ≡ self.old.next)) }

@@ -4,7 +4,7 @@ use secret_calls::{Out, Request};
 use thiserror::Error;
 
 /// What may happen to the service.
-#[derive(Debug, Drop)]
+#[derive(Drop)]
 pub enum Incoming {
     /// A connection joins.
     Connect,
@@ -28,7 +28,7 @@ pub enum Incoming {
 }
 
 /// What happened to the service: all that a step of it depends on.
-#[derive(Debug, Drop)]
+#[derive(Drop)]
 pub enum Event {
     /// A connection joined, and got this number.
     Connect(ConnId),
@@ -52,7 +52,7 @@ pub enum Event {
 }
 
 /// What an event answers to the one who brought it. Replies to calls wait for their connection.
-#[derive(Debug, Drop)]
+#[derive(Drop)]
 pub enum Output {
     /// The number of the connection that joined.
     Joined(ConnId),

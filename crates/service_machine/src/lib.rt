@@ -13,8 +13,6 @@ mod event;
 mod laws;
 mod machine;
 mod rows;
-#[cfg(test)]
-mod tests;
 
 pub use event::{ApplyRefused, Event, Incoming, Output};
 pub use laws::{lists_of_events_go_on, steps_keep_the_rows_sound};

@@ -4,7 +4,7 @@ use secret_calls::Out;
 use session_table::SessionRow;
 
 /// A connection.
-#[derive(Debug, Drop)]
+#[derive(Drop)]
 pub struct ConnRow {
     /// Its number.
     pub conn: ConnId,
@@ -19,7 +19,7 @@ pub struct ConnRow {
 }
 
 /// What is told of a connection.
-#[derive(Clone, Copy, Debug, PartialEq, Eq)]
+#[derive(Clone, Copy, PartialEq, Eq)]
 pub struct DeskRow {
     /// Whether something waits for it.
     pub waits: bool,
@@ -30,7 +30,7 @@ pub struct DeskRow {
 }
 
 /// What the service is at a moment: rows, with no trace of how they are kept.
-#[derive(Debug, Drop)]
+#[derive(Drop)]
 pub struct Rows {
     /// The connections, by rising number.
     pub connections: Items<ConnRow>,

@@ -26,9 +26,17 @@ owns owner session sessions = list_any (is_of owner session) sessions.rows
 abbrev pub rows_of : ConnId → List SessionRow → List SessionRow
 rows_of owner rows = filter (λ row. row.owner.0 == owner.0) rows
 
--- whether the owner can open no further session: it has 64, or no number is left
+-- how many sessions a connection may have at once
+abbrev pub most_sessions : ℕ
+most_sessions = 64
+
+-- no session gets this number or a greater one
+abbrev pub last_session : ℕ
+last_session = 18446744073709551615
+
+-- whether the owner can open no further session: it has as many as it may have, or no number is left
 abbrev pub is_full : ConnId → Sessions → Bool
-is_full owner sessions = nat_le 64 (length (rows_of owner sessions.rows)) || nat_le 18446744073709551615 sessions.next
+is_full owner sessions = nat_le most_sessions (length (rows_of owner sessions.rows)) || nat_le last_session sessions.next
 
 -- the sessions with one more of this owner, which has the next number
 abbrev pub opened : ConnId → Sessions → Sessions

@@ -8,8 +8,6 @@
 mod keys;
 mod row;
 mod table;
-#[cfg(test)]
-mod tests;
 
 pub use row::SessionRow;
 pub use table::{SessionRefused, SessionTable};

@@ -1,7 +1,7 @@
 use kr_base::{ConnId, SessionId};
 
 /// A session that is open, and the connection that owns it.
-#[derive(Clone, Copy, Debug, PartialEq, Eq)]
+#[derive(Clone, Copy, PartialEq, Eq)]
 pub struct SessionRow {
     /// The connection that opened it.
     pub owner: ConnId,

@@ -46,4 +46,4 @@ loop-preserved g c =
     let more = rw c.remove_front.ensures at c.in_default.ensures in
     reached-more _ c.answer_lines.new.auth _ c.read_more.new.held.items (drop c.in-Ok-Waits.size c.loop.held.items) more.0 _ _ _ _
     (reached-turn _ c.loop.auth _ c.loop.held.items _ _ _ _ (silent (waiting c.answer_lines.new.auth (drop c.in-Ok-Waits.size c.loop.held.items))) c.loop.invariant turn.1)
-    more.1 more.2
+    more.1 more.2 more.4

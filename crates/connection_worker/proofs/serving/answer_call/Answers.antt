@@ -1,5 +1,6 @@
 use Rattle.std.proofs.Common.{sym, ap, [], ◌∙◌}
 use Rattle.dbus_framing.specs.Messages.{parts_of}
+use Rattle.service_desk.specs.Places.{place}
 use Rattle.connection_worker.specs.Streams.{output_of}
 use Rattle.connection_worker.specs.Serving.{world}
 use Rattle.connection_worker.proofs.CallLemmas.{unread, unasked, answers}
@@ -13,9 +14,9 @@ returns-in_default g c = unread (parts_of c.args.message.now) _ c.args.serials.n
 -- it wasn't recorded
 pub returns-in-Err : goal.returns-in-Err
 returns-in-Err g c =
-    let old = world g.D.Desk.told g.C.Clock.coming c.args.desk.now c.args.clock.now c.args.salts.now in
-    let new = world g.D.Desk.told g.C.Clock.coming c.ask.new.desk c.ask.new.clock c.ask.new.salts in
-    unasked (parts_of c.args.message.now) c.in-Ok.request old new c.args.serials.now _ c.in-Err.end c.requires.idle c.in-Err.ensures
+    let old = world g.D.Desk.told g.D.Desk.has_seen g.C.Clock.coming c.args.desk.now c.args.clock.now c.args.salts.now in
+    let new = world g.D.Desk.told g.D.Desk.has_seen g.C.Clock.coming c.ask.new.desk c.ask.new.clock c.ask.new.salts in
+    unasked (parts_of c.args.message.now) c.in-Ok.request old new c.args.serials.now _ c.in-Err.end c.in-Ok.ensures c.requires.idle c.in-Err.ensures
 
 -- what is owed for it waits
 pub give-requires-clause-owed : goal.give-requires-clause-owed
@@ -29,8 +30,8 @@ returns g c =
     let told = g.D.Desk.told in
     let sink = g.O.Sink in
     let asks = c.in_default-ask.ensures in
-    let old = world told g.C.Clock.coming c.args.desk.now c.args.clock.now c.args.salts.now in
-    let mid = world told g.C.Clock.coming c.ask.new.desk c.ask.new.clock c.ask.new.salts in
-    answers (parts_of c.args.message.now) c.in-Ok.request old mid (told c.give.new.desk) c.args.serials.now c.give.new.serials
+    let old = world told g.D.Desk.has_seen g.C.Clock.coming c.args.desk.now c.args.clock.now c.args.salts.now in
+    let mid = world told g.D.Desk.has_seen g.C.Clock.coming c.ask.new.desk c.ask.new.clock c.ask.new.salts in
+    answers (parts_of c.args.message.now) c.in-Ok.request old mid (place told g.D.Desk.has_seen c.give.new.desk) c.args.serials.now c.give.new.serials
     (output_of sink.written sink.faults sink.is_steady c.args.output.now) (output_of sink.written sink.faults sink.is_steady c.give.new.output) c.give.result c.in-Ok.ensures
     (arrived-owed (told c.args.desk.now) (told c.ask.new.desk) asks.0 c.requires.idle asks.2.same.conn asks.2.state) asks c.give.ensures

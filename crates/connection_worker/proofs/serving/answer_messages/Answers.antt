@@ -2,7 +2,7 @@ use Rattle.std.proofs.Common.{◌∙◌, Ok, Err, sym, refl}
 use Rattle.dbus_framing.specs.Messages.{parts_of}
 use Rattle.connection_worker.specs.Streams.{output_of}
 use Rattle.connection_worker.specs.Serving.{world}
-use Rattle.connection_worker.proofs.MessageLemmas.{going-none, going-on, going-last, first-so, broke-memory, broke-message, early}
+use Rattle.connection_worker.proofs.MessageLemmas.{going-none, going-on, going-last, memory-early, broke-message, early}
 use Rattle.connection_worker.proofs.serving.answer_messages.Goals as goal
 
 pub loop-init : goal.loop-init
@@ -32,8 +32,7 @@ returns-in-Err-Violation g c =
 -- there was no memory for the next message
 pub returns-in-Err-OutOfMemory : goal.returns-in-Err-OutOfMemory
 returns-in-Err-OutOfMemory g c =
-    let so = c.loop.invariant.1 in
-    (so.asked, first-so _ _ _ _ _ _ _ _ _ so, broke-memory _ _ _ _ _ _ so.asked so.answered)
+    memory-early c.args.framer.now c.loop.framer.rest _ _ _ _ _ _ c.loop.invariant.1
 
 -- the serving ended early
 pub returns-in-Err : goal.returns-in-Err
@@ -41,9 +40,9 @@ returns-in-Err g c =
     let told = g.D.Desk.told in
     let coming = g.C.Clock.coming in
     let sink = g.O.Sink in
-    let old = world told coming c.args.desk.now c.args.clock.now c.args.salts.now in
-    let mid = world told coming c.loop.desk c.loop.clock c.loop.salts in
-    let new = world told coming c.answer_message.new.desk c.answer_message.new.clock c.answer_message.new.salts in
+    let old = world told g.D.Desk.has_seen coming c.args.desk.now c.args.clock.now c.args.salts.now in
+    let mid = world told g.D.Desk.has_seen coming c.loop.desk c.loop.clock c.loop.salts in
+    let new = world told g.D.Desk.has_seen coming c.answer_message.new.desk c.answer_message.new.clock c.answer_message.new.salts in
     let from = output_of sink.written sink.faults sink.is_steady c.args.output.now in
     let o = output_of sink.written sink.faults sink.is_steady c.loop.output in
     let to = output_of sink.written sink.faults sink.is_steady c.answer_message.new.output in

@@ -10,5 +10,5 @@ invariant-loop g l =
     let source = g.I.Source in
     let sink = g.O.Sink in
     IsAmid l.fn.framer (input_of source.left source.faults source.is_steady l.initial.input) (input_of source.left source.faults source.is_steady l.input) l.framer
-    (world told g.C.Clock.coming l.initial.desk l.initial.clock l.initial.salts) (world told g.C.Clock.coming l.desk l.clock l.salts) l.serials
+    (world told g.D.Desk.has_seen g.C.Clock.coming l.initial.desk l.initial.clock l.initial.salts) (world told g.D.Desk.has_seen g.C.Clock.coming l.desk l.clock l.salts) l.serials
     (output_of sink.written sink.faults sink.is_steady l.initial.output) (output_of sink.written sink.faults sink.is_steady l.output)

@@ -2,7 +2,7 @@ use Rattle.std.proofs.Common.{◌∙◌}
 use Rattle.service_desk.specs.Places.{place}
 use Rattle.connection_worker.specs.Streams.{input_of, output_of}
 use Rattle.connection_worker.specs.Serving.{world}
-use Rattle.connection_worker.proofs.SingleLemmas.{goes-alone, served-behind, served-not}
+use Rattle.connection_worker.proofs.SingleLemmas.{joined-idle, goes-alone, served-behind, served-not}
 use Rattle.connection_worker.proofs.single.one_thread.Goals as goal
 
 -- the handshake wasn't open
@@ -13,10 +13,17 @@ returns-in-Err g c =
     let sink = g.O.Sink in
     served-not c.args.auth.uid c.args.auth.guid (input_of source.left source.faults source.is_steady c.args.input.now) (input_of source.left source.faults source.is_steady c.handshake.new.input)
     (output_of sink.written sink.faults sink.is_steady c.args.output.now) (output_of sink.written sink.faults sink.is_steady c.handshake.new.output)
-    (world desk.told g.C.Clock.coming c.args.desk.now c.args.clock.now c.args.salts.now) (desk.told c.gone.new.self) c.in-Err.end c.in-Err.ensures
-    (goes-alone (place desk.told desk.has_seen c.args.desk.now) (place desk.told desk.has_seen c.gone.new.self) c.requires.alone c.requires.idle c.gone.ensures)
+    (world desk.told desk.has_seen g.C.Clock.coming c.args.desk.now c.args.clock.now c.args.salts.now) (place desk.told desk.has_seen c.gone.new.self) c.in-Err.end c.in-Err.ensures
+    (goes-alone (place desk.told desk.has_seen c.args.desk.now) (place desk.told desk.has_seen c.gone.new.self) c.requires.alone (joined-idle _ c.requires.joined) c.gone.ensures)
 
--- the calls behind it were served
+-- nothing is owed to a connection that has just joined
+pub serve-end-requires-clause-idle : goal.serve-end-requires-clause-idle
+serve-end-requires-clause-idle g c = joined-idle _ c.requires.joined
+
+pub serve-end-requires-clause-most : goal.serve-end-requires-clause-most
+serve-end-requires-clause-most g c = c.in-Ok.ensures.ends.1
+
+-- the calls after it were served
 pub returns : goal.returns
 returns g c =
     let desk = g.D.Desk in
@@ -26,6 +33,7 @@ returns g c =
     served-behind c.args.auth.uid c.args.auth.guid (input_of source.left source.faults source.is_steady c.args.input.now) (input_of source.left source.faults source.is_steady c.handshake.new.input)
     (input_of source.left source.faults source.is_steady c.serve-end.new.input) (output_of sink.written sink.faults sink.is_steady c.args.output.now)
     (output_of sink.written sink.faults sink.is_steady c.handshake.new.output) (output_of sink.written sink.faults sink.is_steady c.serve-end.new.output)
-    (world desk.told g.C.Clock.coming c.args.desk.now c.args.clock.now c.args.salts.now) (world desk.told g.C.Clock.coming c.serve-end.new.desk c.serve-end.new.clock c.serve-end.new.salts)
-    (desk.told c.gone-2.new.self) c.in-Ok.framer c.serve-end.result c.in-Ok.ensures serves
+    (world desk.told desk.has_seen g.C.Clock.coming c.args.desk.now c.args.clock.now c.args.salts.now)
+    (world desk.told desk.has_seen g.C.Clock.coming c.serve-end.new.desk c.serve-end.new.clock c.serve-end.new.salts)
+    (place desk.told desk.has_seen c.gone-2.new.self) c.in-Ok.framer c.serve-end.result c.in-Ok.ensures c.requires.joined serves
     (goes-alone (place desk.told desk.has_seen c.serve-end.new.desk) (place desk.told desk.has_seen c.gone-2.new.self) (serves.recorded.same.alone ∙ c.requires.alone) serves.idle c.gone-2.ensures)

@@ -1,5 +1,6 @@
 use Rattle.std.proofs.Common.{◌≡◌, ◌+◌, ◌<◌, ◌∷◌, ◌++◌, [], length, vec_len, ◌∙◌, ap, min, arith}
 use Rattle.service_machine.specs.Rows.{rows_of}
+use Rattle.service_machine.specs.Limits.{most_events}
 use Rattle.service_history.specs.Inside.{history_of}
 use Rattle.service_history.proofs.HistoryLemmas.{history-sound, room-behind}
 use Rattle.service_history.proofs.KeptLemmas.{kept_push, kept_reserved}
@@ -16,7 +17,7 @@ pub invariant_of-self-in-Ok : goal.invariant_of-self-in-Ok
 invariant_of-self-in-Ok c =
     let reserved = kept_reserved c.self.inside.machine c.self.inside.base c.self.inside.events c.reserve.new.self c.self.inside.era c.self.inside.cost c.self.invariant c.reserve.ensures.items c.reserve.ensures.len c.reserve.ensures.capacity in
     let behind = room-behind (rows_of c.self.inside.machine) c.in-Ok.event (history-sound (history_of c.self.inside.machine c.self.inside.base c.self.inside.events c.self.inside.era) c.self.invariant.history) c.in-Ok.ensures.fits in
-    let left : c.self.inside.era + length c.self.inside.events.items < 18446744073709000000 = rw (← c.self.view_is) at c.requires.left in
+    let left : c.self.inside.era + length c.self.inside.events.items < most_events = rw (← c.self.view_is) at c.requires.left in
     let pushed : c.push.new.self.items ≡ c.reserve.new.self.items ++ c.in-Ok.event ∷ [] = rw c.unwrap.ensures at c.push.ensures.items in
     let longer : vec_len c.push.new.self ≡ vec_len c.reserve.new.self + 1 = rw c.unwrap.ensures at c.push.ensures.len in
     kept_push c.self.inside.machine c.apply.new.self c.self.inside.base c.reserve.new.self c.push.new.self c.self.inside.era c.self.inside.cost c.saturating_add-self-inside.result c.in-Ok.event

@@ -1,5 +1,6 @@
 use Rattle.std.proofs.Common.{◌≡◌, ◌+◌, ◌<◌, ◌∷◌, ◌++◌, [], length, vec_len, ap, arith, rules}
 use Rattle.service_machine.specs.Rows.{rows_of}
+use Rattle.service_machine.specs.Limits.{most_events}
 use Rattle.service_history.specs.Inside.{history_of}
 use Rattle.service_history.proofs.HistoryLemmas.{history-sound, room-behind}
 use Rattle.service_history.proofs.KeptLemmas.{kept_push, kept_cut}
@@ -12,7 +13,7 @@ unwrap-requires c = c.push.ensures.succeeds (omega (arith, c.in-Ok-with_capacity
 pub invariant_of-self : goal.invariant_of-self
 invariant_of-self c =
     let counted : c.self.inside.era + c.len.result ≡ c.self.inside.era + length c.self.inside.events.items = search rules in
-    let left : c.self.inside.era + length c.self.inside.events.items < 18446744073709000000 = rw (← c.self.view_is) at c.requires.left in
+    let left : c.self.inside.era + length c.self.inside.events.items < most_events = rw (← c.self.view_is) at c.requires.left in
     let behind = room-behind (rows_of c.self.inside.machine) c.in-Ok-apply.event (history-sound (history_of c.self.inside.machine c.self.inside.base c.self.inside.events c.self.inside.era) c.self.invariant.history) c.in-Ok-apply.ensures.fits in
     let fresh = kept_cut c.self.inside.machine c.self.inside.base c.in-Ok.base c.self.inside.events c.in-Ok-with_capacity.events c.self.inside.era (c.self.inside.era + c.len.result) c.self.inside.cost
     c.self.invariant c.in-Ok.ensures c.in-Ok-with_capacity.ensures.items counted c.in-Ok-with_capacity.ensures.len (omega (arith, c.in-Ok-with_capacity.ensures.exact)) in

@@ -1,4 +1,4 @@
-use super::{End, Salts, handshake, one_thread};
+use connection_worker::{End, Salts, handshake, one_thread};
 use dbus_auth::{Auth, AuthFault};
 use kr_base::ConnId;
 use kr_memory::{ListedClock, MemorySink, MemorySource};

@@ -1,90 +1,80 @@
-use super::{ApplyRefused, Incoming, Machine, Output};
 use kr_base::{ConnId, SessionId, Text};
 use secret_calls::{Body, Call, CallFault, ErrorName, Out, Request};
+use service_machine::{ApplyRefused, Incoming, Machine, Output};
 use std::alloc::Global;
 use std::test::Fail;
 
-// What a connection does.
-#[derive(Clone, Copy)]
-enum Ask {
-    Ping,
-    Open(&'static str),
-    Close(u64),
-    Unknown,
-    Gone,
-}
-
-// What it is answered: a return, the number of a session, an error's name, or nothing.
-#[derive(Clone, Copy, Debug, PartialEq, Eq)]
-enum Answer {
-    Done,
-    Session(u64),
-    Refused(ErrorName),
-    Nothing,
-}
-
-// Two connections, 1 and 2; a connection that is gone isn't there.
-const CONVERSATION: [(u64, Ask, Answer); 13] = [
-    (1, Ask::Ping, Answer::Done),
-    (
-        1,
-        Ask::Open("dh-ietf1024-sha256-aes128-cbc-pkcs7"),
-        Answer::Refused(ErrorName::NotSupported),
-    ),
-    (1, Ask::Open("plain"), Answer::Session(1)),
-    (2, Ask::Close(1), Answer::Refused(ErrorName::NoSession)),
-    (2, Ask::Open("plain"), Answer::Session(2)),
-    (1, Ask::Close(2), Answer::Refused(ErrorName::NoSession)),
-    (1, Ask::Close(1), Answer::Done),
-    (1, Ask::Close(1), Answer::Refused(ErrorName::NoSession)),
-    (1, Ask::Open("plain"), Answer::Session(3)),
-    (1, Ask::Unknown, Answer::Refused(ErrorName::UnknownMethod)),
-    (1, Ask::Gone, Answer::Nothing),
-    (1, Ask::Ping, Answer::Nothing),
-    (2, Ask::Close(3), Answer::Refused(ErrorName::NoSession)),
-];
+// Two connections, 1 and 2; a connection that is gone isn't there. In a row a connection and what it does:
+// it pings, opens a session with an algorithm, closes one, calls no method or is gone; and what it is
+// answered: a return, the number of a session, an error or nothing.
+const CONVERSATION: &str = "\
+1 ping : done
+1 open dh-ietf1024-sha256-aes128-cbc-pkcs7 : NotSupported
+1 open plain : session 1
+2 close 1 : NoSession
+2 open plain : session 2
+1 close 2 : NoSession
+1 close 1 : done
+1 close 1 : NoSession
+1 open plain : session 3
+1 unknown : UnknownMethod
+1 gone : nothing
+1 ping : nothing
+2 close 3 : NoSession
+";
 
 // The call that a connection makes.
-fn call(alloc: Global, ask: Ask) -> Result<Result<Call, CallFault>, Fail> {
+fn call(alloc: Global, ask: &str, argument: &str) -> Result<Result<Call, CallFault>, Fail> {
     match ask {
-        Ask::Open(name) => {
-            let algorithm = Text::from_str(alloc, name)?.ok_or("text")?;
+        "open" => {
+            let algorithm = Text::from_str(alloc, argument)?.ok_or("text")?;
             Ok(Ok(Call::OpenSession { algorithm }))
         }
-        Ask::Close(session) => Ok(Ok(Call::CloseSession {
-            session: SessionId(session),
+        "close" => Ok(Ok(Call::CloseSession {
+            session: SessionId(argument.parse::<u64>().ok().ok_or("session")?),
         })),
-        Ask::Unknown => Ok(Err(CallFault::UnknownMethod)),
+        "unknown" => Ok(Err(CallFault::UnknownMethod)),
         _ => Ok(Ok(Call::Ping)),
     }
 }
 
-// What an output tells.
-fn told(out: &Out) -> Answer {
+// What a row's connection asks.
+fn request(alloc: Global, does: &str) -> Result<Request, Fail> {
+    let (ask, argument) = does.split_once(' ').unwrap_or((does, ""));
+    Ok(Request {
+        serial: 7,
+        wants_reply: true,
+        length: 128,
+        call: call(alloc, ask, argument)?,
+    })
+}
+
+// What an output says.
+fn words_of(alloc: Global, out: &Out) -> Result<String, Fail> {
     match out {
         Out::Return {
             to: _,
             body: Body::Empty,
-        } => Answer::Done,
+        } => Ok(String::from_str(alloc, "done")?),
         Out::Return {
             to: _,
             body: Body::Session(session),
-        } => Answer::Session(session.0),
-        Out::Error { to: _, name } => Answer::Refused(*name),
+        } => Ok(format!(in alloc; "session {}", session.0)?),
+        Out::Error { to: _, name } => Ok(format!(in alloc; "{name:?}")?),
     }
 }
 
-// Takes all that waits, and tells the last of it.
-fn taken(machine: &mut Machine, conn: ConnId) -> Result<Answer, Fail> {
+// Takes all that waits, and says what the last of it is.
+fn taken(alloc: Global, machine: &mut Machine, conn: ConnId) -> Result<String, Fail> {
     match machine.desk(conn) {
         Some(desk) if desk.waits => {
             let (output, _) = machine.apply(Incoming::Take(conn))?;
             match output {
-                Output::Taken(outs) => Ok(told(outs.as_slice().last().ok_or("outs")?)),
-                _ => Ok(Answer::Nothing),
+                Output::Taken(outs) => words_of(alloc, outs.as_slice().last().ok_or("outs")?),
+                _ => Ok(String::from_str(alloc, "nothing")?),
             }
         }
-        _ => Ok(Answer::Nothing),
+        _ => Ok(String::from_str(alloc, "nothing")?),
     }
 }
 
@@ -94,29 +84,26 @@ fn two_connections_talk(rt: HostRuntime) -> Result<(), Fail> {
     let mut machine = Machine::open(alloc);
     machine.apply(Incoming::Connect)?;
     machine.apply(Incoming::Connect)?;
-    for (number, ask, want) in CONVERSATION {
-        let conn = ConnId(number);
-        let applied = match ask {
-            Ask::Gone => machine.apply(Incoming::Gone(conn)),
-            _ => {
-                let request = Request {
-                    serial: 7,
-                    wants_reply: true,
-                    length: 128,
-                    call: call(alloc, ask)?,
-                };
-                machine.apply(Incoming::Arrive {
-                    conn,
-                    request,
-                    now: 0,
-                    salt: [0; 8],
-                })
-            }
+    for row in CONVERSATION.lines() {
+        let (row, want) = row.split_once(" : ").ok_or("answer")?;
+        let (number, does) = row.split_once(' ').ok_or("connection")?;
+        let conn = ConnId(number.parse::<u64>().ok().ok_or("connection")?);
+        let applied = if does == "gone" {
+            machine.apply(Incoming::Gone(conn))
+        } else {
+            let request = request(alloc, does)?;
+            machine.apply(Incoming::Arrive {
+                conn,
+                request,
+                now: 0,
+                salt: [0; 8],
+            })
         };
         if let Err(refused) = applied {
             assert_eq!(rt; refused, ApplyRefused::NoConnection);
         }
-        assert_eq!(rt; taken(&mut machine, conn)?, want, "for {number}");
+        let told = taken(alloc, &mut machine, conn)?;
+        assert_eq!(rt; told.as_str(), want, "of {row}");
     }
     let rows = machine.rows()?;
     assert_eq!(rt; rows.connections.len(), 1);

@@ -1,5 +1,5 @@
-use super::LoneDesk;
 use kr_base::Text;
+use lone_desk::LoneDesk;
 use secret_calls::{Body, Call, Out, Refused, Request, Taken};
 use service_desk::{Desk, JoinRefused, ReadDesk, WriteDesk};
 use service_history::Service;

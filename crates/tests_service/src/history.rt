@@ -1,8 +1,8 @@
 ghost use Rattle.service_history.specs.History.{IsAsked};
 
-use super::Service;
 use kr_base::{ConnId, SessionId, Text};
 use secret_calls::{Body, Call, ErrorName, Out, Request, Taken};
+use service_history::Service;
 use service_machine::{Incoming, Output};
 use std::test::Fail;
 

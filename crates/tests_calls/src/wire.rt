@@ -1,4 +1,4 @@
-use super::*;
+use call_wire::{call_of, message_of};
 use dbus_framing::Framer;
 use dbus_marshal::unmarshal;
 use dbus_types::{Endian, Message, Signature};

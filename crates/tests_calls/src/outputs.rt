@@ -1,5 +1,5 @@
-use super::{Body, CallFault, ErrorName, Out, body_size, size_of_out};
 use kr_base::SessionId;
+use secret_calls::{Body, CallFault, ErrorName, Out, body_size, size_of_out};
 use std::test::Fail;
 
 // How long each reply is on the wire, by the worked examples of the D-Bus Specification's rules.

@@ -1,0 +1,29 @@
+-- The windows of a service, from its start on, one call after another.
+use Rattle.std.specs.Prelude.{◌≡◌, ◌<◌, ◌==◌, ◌⊎◌, if◌then◌else◌, List, [], ◌∷◌, ◌++◌, length}
+use Rattle.service_machine.specs.declared.event.Event.{Event}
+use Rattle.service_history.specs.History.{History, IsHistory, window_of}
+use Rattle.service_history.specs.Windows.{Window, next_window}
+
+-- the window goes on: more events are stored in it
+pub record GoesOn (old new : Window) : Type 0 where
+  pub more : List Event
+  pub is : new ≡ record old { events = old.events ++ more }
+
+-- the window ends, which has an event at least; the next one follows, and goes on
+pub record Ends (old new : Window) : Type 0 where
+  pub some : 0 < length old.events
+  pub next : GoesOn (next_window old) new
+
+-- what one call does to the window of a service
+abbrev pub Follows : History → History → Type 0
+Follows old new = GoesOn (window_of old) (window_of new) ⊎ Ends (window_of old) (window_of new)
+
+-- histories of a service one call after another: each follows on the one before
+abbrev pub AreCalls : History → List History → Type 0
+AreCalls old [] = Unit {0}
+AreCalls old (new ∷ more) = IsHistory new × Follows old new × AreCalls new more
+
+-- the windows that these histories are in, in order: one has ended where the era is another
+abbrev pub windows_of : History → List History → List Window
+windows_of old [] = window_of old ∷ []
+windows_of old (new ∷ more) = if new.era == old.era then windows_of new more else window_of old ∷ windows_of new more

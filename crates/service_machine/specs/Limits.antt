@@ -1,0 +1,19 @@
+-- The limits of the service (docs/SERVICE.md, "Limits"). Each number is written here alone; those of sessions and of what waits
+-- are in the definitions of their tables.
+use Rattle.std.specs.Prelude.{ℕ}
+
+-- how many connections may be there at once
+abbrev pub most_connections : ℕ
+most_connections = 256
+
+-- no connection gets this number or a greater one
+abbrev pub last_connection : ℕ
+last_connection = 18446744073709551615
+
+-- how many outputs a connection took is counted up to this number
+abbrev pub most_taken : ℕ
+most_taken = 18446744073709551615
+
+-- once so many events of a run are recorded, no connection joins or asks any more
+abbrev pub most_events : ℕ
+most_events = 18446744073709000000

@@ -1,0 +1,9 @@
+//! The tests of calls and outputs, over what their crates give to all: sizes of outputs, and messages to calls
+//! and outputs to messages beside those of other programs. They are in a crate of their own so that no crate is
+//! proved again for its tests.
+#![tactic(auto)]
+
+#[cfg(test)]
+mod outputs;
+#[cfg(test)]
+mod wire;

@@ -1,0 +1,10 @@
+//! The tests of the service, over what its crates give to all: the machine, its history, and the desk over a
+//! service of one thread. They are in a crate of their own so that no crate is proved again for its tests.
+#![tactic(auto)]
+
+#[cfg(test)]
+mod desk;
+#[cfg(test)]
+mod history;
+#[cfg(test)]
+mod machine;
