@@ -3,74 +3,45 @@
 //! folder, and serves one client on its standard streams: the handshake, and the calls Ping, OpenSession
 //! and Close.
 //!
-//! All that it does is a function of its words, its streams, its host and a seed, `program::run`, whose
-//! contract says what is written to what was read and why the run ended. `main` only makes the real
-//! streams and tells how the run ended.
+//! All that it does is `run` of keyring_program, a function of its words, its streams, its host and a
+//! seed. Here are only the real streams and the real host, and the code with which the process ends:
+//! the number of the run's status.
 #![tactic(auto)]
 
-mod command;
-mod connection;
-mod folder;
-mod laws;
-mod program;
-mod server_number;
-mod status;
-#[cfg(test)]
-mod tests;
+ghost use Rattle.std.specs.Prelude.{◌≡◌};
+ghost use Rattle.std.specs.Process.{exit_status};
+ghost use Rattle.keyring_program.specs.Status.{number_of};
 
-use crate::program::run;
-use crate::status::Status;
-use kr_base::Text;
+use keyring_program::{Status, run, words_of};
 use real_edges::{ReaderSource, RealHost, WriterSink};
-use std::env;
-use std::io::ErrorKind;
 use std::process::ExitCode;
 
-/// The words behind the program's name. Refused with `Usage` where one of them isn't UTF-8 or holds a
-/// zero byte, and with `Memory`.
-fn words(rt: &HostRuntime) -> Result<Vec<Text>, Status> {
-    let mut words = Vec::new(rt.alloc());
-    let all = match env::args(rt) {
-        Ok(all) => all,
-        Err(error) => {
-            return Err(if error.kind() == ErrorKind::OutOfMemory {
-                Status::Memory
-            } else {
-                Status::Usage
-            });
-        }
-    };
-    for word in all.skip(1) {
-        let Some(text) = Text::new(word) else {
-            return Err(Status::Usage);
-        };
-        if words.push(text).is_err() {
-            return Err(Status::Memory);
-        }
-    }
-    Ok(words)
-}
-
-fn main(rt: HostRuntime) -> ExitCode {
-    let status = match words(&rt) {
-        Ok(words) => {
-            let mut input = ReaderSource::new(rt.stdin());
-            let mut output = WriterSink::new(rt.stdout());
-            let mut host = RealHost::new(rt);
-            run(
-                &rt,
-                words.as_slice(),
-                &mut input,
-                &mut output,
-                &mut host,
-                [0; 32],
-            )
-        }
-        Err(status) => status,
-    };
+/// The code with which a process ends that came to this status. Prints the text of any status but
+/// `Done` on standard error.
+fn ended(rt: &HostRuntime, status: Status) -> ExitCode
+    ensures number { exit_status result ≡ number_of status }
+{
     if status != Status::Done {
         // There is nobody to tell where standard error fails too.
         let _ = eprintln!(rt; "keyringd: {status}");
     }
     ExitCode::from(status.number())
+}
+
+fn main(rt: HostRuntime) -> ExitCode {
+    let mut input = ReaderSource::new(rt.stdin());
+    let mut output = WriterSink::new(rt.stdout());
+    let mut host = RealHost::new(rt);
+    let status = match words_of(&rt) {
+        Ok(words) => run(
+            &rt,
+            words.as_slice(),
+            &mut input,
+            &mut output,
+            &mut host,
+            [0; 32],
+        ),
+        Err(status) => status,
+    };
+    ended(&rt, status)
 }

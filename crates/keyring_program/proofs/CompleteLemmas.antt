@@ -1,0 +1,189 @@
+-- Over streams that didn't fail, a whole input is answered to its end.
+use Rattle.std.proofs.Common.{◌≡◌, ◌≢◌, ℕ, ◌+◌, ◌≤◌, ◌⊎◌, inl, inr, List, [], ◌∷◌, ◌++◌, length, Option, Some, None, refl, sym, ◌∙◌, ap, arith, subst, append-nil, length-append}
+use Rattle.std.specs.Io.KnownBytes.{Consumes, IsAtEnd}
+use Rattle.kr_outside.specs.Faults.{Rose, StandsStill}
+use Rattle.dbus_auth.specs.declared.auth.AuthFault.{AuthFault}
+use Rattle.dbus_auth.specs.declared.auth.AuthFault.TheVariants as fault
+use Rattle.dbus_auth.specs.Conversation.{continued}
+use Rattle.dbus_auth.specs.Handshake.{End, waiting, refused, opened, Run}
+use Rattle.dbus_auth.proofs.HandshakeLemmas.{handshake-nothing, handshake-append}
+use Rattle.dbus_framing.specs.declared.violation.Violation.{Violation}
+use Rattle.dbus_framing.specs.declared.violation.Violation.TheVariants as violation
+use Rattle.dbus_framing.specs.Messages.{Parts}
+use Rattle.dbus_framing.specs.Streams.{Stream, Breaks, early, late}
+use Rattle.dbus_framing.proofs.Cuts.{cut_none, cut_more, breaks_stay, breaks_none, one_stream, stream_then}
+use Rattle.connection_worker.specs.Arrivals.{FirstRequests}
+use Rattle.connection_worker.specs.Handshakes.{most_bytes, Awaits, IsRefusedFor}
+use Rattle.connection_worker.specs.declared.ending.End as ending
+use Rattle.connection_worker.specs.declared.ending.End.TheVariants as end
+use Rattle.connection_worker.specs.Causes.{AllServed, FirstServed, IsViolated, HasCause}
+use Rattle.connection_worker.specs.Single.{Asked, requests_of}
+use Rattle.connection_worker.specs.Streams.{Input, Output}
+use Rattle.keyring_program.specs.Events.{events_until, events_of, the_connection}
+use Rattle.keyring_program.specs.ServerNumber.{guid}
+use Rattle.keyring_program.specs.Serves.{Serves, shaken}
+use Rattle.keyring_program.specs.WholeInput.{IsWholeInput}
+use Rattle.keyring_program.specs.declared.status.Status.{Status}
+use Rattle.keyring_program.specs.declared.status.Status.TheVariants as status
+use Rattle.keyring_program.specs.Status.{status_of}
+use Rattle.service_machine.specs.declared.event.Event.TheVariants as event
+use Rattle.service_machine.specs.Limits.{most_events}
+
+-- ---- streams
+
+-- a count that stands still didn't rise
+pub still : (old new : ℕ) → StandsStill old new → Rose old new → ⊥
+still old new s (inl rose) = omega (arith, s.0)
+still old new s (inr stands) = s.1 stands
+
+-- what was read begins the bytes
+front-of : (old new : Option (List ℕ)) (read bytes : List ℕ) → old ≡ Some bytes → Consumes old new read → (left : List ℕ) × (bytes ≡ read ++ left) × (new ≡ Some left)
+front-of None new read bytes e c = absurd (let f : None ≡ Some bytes = e in cc)
+front-of (Some xs) None read bytes e c = absurd c
+front-of (Some xs) (Some ys) read bytes e c = let same : xs ≡ bytes = cc in (ys, sym same ∙ c, refl)
+
+at-end : (new : Option (List ℕ)) (left : List ℕ) → new ≡ Some left → IsAtEnd new → left ≡ []
+at-end None left e end = absurd (let f : None ≡ Some left = e in cc)
+at-end (Some xs) left e end = let same : xs ≡ left = cc in sym same ∙ end
+
+-- ---- the handshake
+
+-- an end, when more bytes come
+abbrev with-more : End → List ℕ → End
+with-more how more = (continued (record { answers = []; end = how }) more).end
+
+end-more : (run : Run) (more : List ℕ) → (continued run more).end ≡ with-more run.end more
+end-more run more = by_end run.end
+  where
+    by_end : (how : End) → (continued (record { answers = run.answers; end = how }) more).end ≡ with-more how more
+    by_end (waiting at unfinished) = refl
+    by_end (refused fault) = refl
+    by_end (opened rest) = refl
+
+-- behind bytes with which it is refused or open it stays so
+opened-more : (uid : ℕ) (seed read more rest : List ℕ) → (shaken uid seed read).end ≡ opened rest → (shaken uid seed (read ++ more)).end ≡ opened (rest ++ more)
+opened-more uid seed [] more rest is = let e = sym (ap (λ (r : Run). r.end) (handshake-nothing uid (guid seed))) ∙ is in cc
+opened-more uid seed (first ∷ bytes) more rest is =
+    ap (λ (r : Run). r.end) (handshake-append uid (guid seed) first bytes more) ∙ end-more (shaken uid seed (first ∷ bytes)) more ∙ ap (λ e. with-more e more) is
+
+refused-more : (uid : ℕ) (seed read more : List ℕ) (why : AuthFault) → (shaken uid seed read).end ≡ refused why → (shaken uid seed (read ++ more)).end ≡ refused why
+refused-more uid seed [] more why is = let e = sym (ap (λ (r : Run). r.end) (handshake-nothing uid (guid seed))) ∙ is in cc
+refused-more uid seed (first ∷ bytes) more why is =
+    ap (λ (r : Run). r.end) (handshake-append uid (guid seed) first bytes more) ∙ end-more (shaken uid seed (first ∷ bytes)) more ∙ ap (λ e. with-more e more) is
+
+-- so it isn't refused where the whole is open
+never-refused : (uid : ℕ) (seed read left behind : List ℕ) (to : Input) (why : AuthFault) → to.left ≡ Some left → (shaken uid seed (read ++ left)).end ≡ opened behind
+    → IsRefusedFor (shaken uid seed read).end to why → ⊥
+never-refused uid seed read left behind to fault.NoZero told is-open is = let e = sym (refused-more uid seed read left fault.NoZero is) ∙ is-open in cc
+never-refused uid seed read left behind to fault.LineTooLong told is-open is = let e = sym (refused-more uid seed read left fault.LineTooLong is) ∙ is-open in cc
+never-refused uid seed read left behind to fault.BeginTooSoon told is-open is = let e = sym (refused-more uid seed read left fault.BeginTooSoon is) ∙ is-open in cc
+never-refused uid seed read left behind to fault.EndedEarly told is-open is =
+    let none : left ≡ [] = at-end to.left left told is.1 in
+    let here : (shaken uid seed read).end ≡ opened behind = ap (λ l. (shaken uid seed l).end) (sym (ap (λ l. read ++ l) none ∙ append-nil read)) ∙ is-open in
+    subst Awaits here is.0
+
+-- ---- the messages
+
+breaks-long : (bytes : List ℕ) (cause : Violation) → Breaks most_bytes bytes cause → 16 ≤ length bytes
+breaks-long bytes cause (early begun broken) = begun
+breaks-long bytes cause (late head begun known fits read) = begun
+
+-- a rest that shows a violation is left over
+never-broken : (behind left rest : List ℕ) (messages all : List Parts) (cause : Violation) → Stream most_bytes behind messages rest → Breaks most_bytes rest cause
+    → Stream most_bytes (behind ++ left) all [] → ⊥
+never-broken behind left rest messages all cause stream breaks whole =
+    let more = breaks_stay most_bytes rest left cause breaks in
+    let alone : Stream most_bytes (rest ++ left) [] (rest ++ left) = record { cut = cut_none most_bytes (rest ++ left); no_more = breaks_none most_bytes (rest ++ left) cause more } in
+    let other = stream_then most_bytes (behind ++ left) (rest ++ left) (rest ++ left) messages [] (cut_more most_bytes behind left rest messages stream.cut) alone in
+    let none : rest ++ left ≡ [] = (one_stream most_bytes (behind ++ left) (rest ++ left) [] (messages ++ []) all other whole).1 in
+    let short : length (rest ++ left) ≡ 0 = ap length none in
+    omega (arith, breaks-long (rest ++ left) cause more, short)
+
+-- so is one inside which the input ended
+never-ended : (behind left rest : List ℕ) (messages all : List Parts) (to : Input) → to.left ≡ Some left → Stream most_bytes behind messages rest → rest ≢ [] → IsAtEnd to.left
+    → Stream most_bytes (behind ++ left) all [] → ⊥
+never-ended behind left rest messages all to told stream some ended whole =
+    let none : left ≡ [] = at-end to.left left told ended in
+    let here : Stream most_bytes behind all [] = subst (λ l. Stream most_bytes l all []) (ap (λ l. behind ++ l) none ∙ append-nil behind) whole in
+    some (one_stream most_bytes behind rest [] messages all stream here).1
+
+never-violated : (behind left rest : List ℕ) (messages all : List Parts) (to : Input) (cause : Violation) → to.left ≡ Some left → Stream most_bytes behind messages rest
+    → IsViolated cause to rest → Stream most_bytes (behind ++ left) all [] → ⊥
+never-violated behind left rest messages all to violation.EndInside told stream is whole = never-ended behind left rest messages all to told stream is.0 is.1 whole
+never-violated behind left rest messages all to violation.Endian told stream is whole = never-broken behind left rest messages all violation.Endian stream is whole
+never-violated behind left rest messages all to violation.Version told stream is whole = never-broken behind left rest messages all violation.Version stream is whole
+never-violated behind left rest messages all to violation.ZeroSerial told stream is whole = never-broken behind left rest messages all violation.ZeroSerial stream is whole
+never-violated behind left rest messages all to violation.TooLarge told stream is whole = never-broken behind left rest messages all violation.TooLarge stream is whole
+never-violated behind left rest messages all to violation.BadHeader told stream is whole = never-broken behind left rest messages all violation.BadHeader stream is whole
+never-violated behind left rest messages all to violation.MissingField told stream is whole = never-broken behind left rest messages all violation.MissingField stream is whole
+never-violated behind left rest messages all to violation.BadBody told stream is whole = never-broken behind left rest messages all violation.BadBody stream is whole
+never-violated behind left rest messages all to violation.InvalidType told stream is whole = never-broken behind left rest messages all violation.InvalidType stream is whole
+
+-- requests of the first messages are so whatever follows
+first-more : (behind left : List ℕ) (asked : List Asked) → FirstRequests most_bytes behind (requests_of asked) → FirstRequests most_bytes (behind ++ left) (requests_of asked)
+first-more behind left asked first = record {
+  messages = first.messages;
+  rest = first.rest ++ left;
+  cut = cut_more most_bytes behind left first.rest first.messages first.cut;
+  more = first.more;
+  are = first.are;
+}
+
+until-of : (asked : List Asked) → length (events_of asked) ≡ length (events_until asked) + 1
+until-of asked = length-append (events_until asked) (event.Gone the_connection ∷ [])
+
+-- ---- the whole
+
+pub complete : (uid : ℕ) (seed bytes : List ℕ) (coming : Option (ℕ → ℕ)) (from to : Input) (sink behind : Output) (how : Status) → Serves uid seed coming from to sink behind how
+    → IsWholeInput uid seed bytes → from.left ≡ Some bytes → StandsStill from.faults to.faults → StandsStill sink.faults behind.faults → (how ≡ status.Done) ⊎ (how ≡ status.Memory)
+complete uid seed bytes coming from to sink behind how so whole told input output = subst (λ s. (s ≡ status.Done) ⊎ (s ≡ status.Memory)) (sym so.status_is) (by_cause so.how so.cause)
+  where
+    front : (left : List ℕ) × (bytes ≡ so.read ++ left) × (to.left ≡ Some left)
+    front = front-of from.left to.left so.read bytes told so.took.consumed
+
+    left : List ℕ
+    left = front.0
+
+    is-open : (shaken uid seed (so.read ++ left)).end ≡ opened whole.behind
+    is-open = ap (λ l. (shaken uid seed l).end) (sym front.1) ∙ whole.opened
+
+    joined : (rest : List ℕ) → (shaken uid seed so.read).end ≡ opened rest → whole.behind ≡ rest ++ left
+    joined rest is = let e = sym is-open ∙ opened-more uid seed so.read left rest is in cc
+
+    stream : (rest : List ℕ) → (shaken uid seed so.read).end ≡ opened rest → Stream most_bytes (rest ++ left) whole.messages []
+    stream rest is = subst (λ l. Stream most_bytes l whole.messages []) (joined rest is) whole.stream
+
+    few : (asked : List Asked) → FirstServed (shaken uid seed so.read) asked → most_events ≤ length (events_until asked) → ⊥
+    few asked (inl none) many = let one : length (events_until asked) ≡ 1 = ap (λ l. length (events_until l)) none in omega (arith, one, many)
+    few asked (inr first) many =
+        let all = subst (λ l. FirstRequests most_bytes l (requests_of asked)) (sym (joined first.0 first.1)) (first-more first.0 left asked first.2) in
+        omega (arith, whole.few asked all, until-of asked, many)
+
+    by_cause : (how : ending.End) → HasCause how (shaken uid seed so.read) so.asked (length (events_until so.asked)) from to sink behind → (status_of how ≡ status.Done) ⊎ (status_of how ≡ status.Memory)
+    by_cause end.Done cause = inl refl
+    by_cause (end.Violation which) cause =
+        let all : AllServed (shaken uid seed so.read) so.asked cause.0.0 = cause.0.1 in
+        absurd (never-violated all.behind left cause.0.0 all.all.messages whole.messages to which front.2 all.all.stream cause.0.2 (stream all.behind all.opened))
+    by_cause (end.AuthRefused why) cause = absurd (never-refused uid seed so.read left whole.behind to why front.2 is-open cause.0)
+    by_cause end.ReadFault cause = absurd (still from.faults to.faults input cause.0)
+    by_cause end.WriteFault cause = absurd (still sink.faults behind.faults output cause.0)
+    by_cause end.EventsSpent cause = absurd (few so.asked cause.1 cause.0)
+    by_cause end.Memory cause = inr refl
+    by_cause end.OtherEnded cause = absurd cause
+    by_cause end.Overrun cause = absurd cause
+
+-- no end is told as faulty words are
+no-usage : (how : ending.End) → status_of how ≡ status.Usage → ⊥
+no-usage end.Done is = cc
+no-usage (end.Violation which) is = cc
+no-usage (end.AuthRefused why) is = cc
+no-usage end.ReadFault is = cc
+no-usage end.WriteFault is = cc
+no-usage end.EventsSpent is = cc
+no-usage end.Memory is = cc
+no-usage end.OtherEnded is = cc
+no-usage end.Overrun is = cc
+
+-- so no run ends as faulty words do
+pub never-usage : (uid : ℕ) (seed : List ℕ) (coming : Option (ℕ → ℕ)) (from to : Input) (sink behind : Output) (how : Status) → Serves uid seed coming from to sink behind how → how ≡ status.Usage → ⊥
+never-usage uid seed coming from to sink behind how so is = no-usage so.how (sym so.status_is ∙ is)

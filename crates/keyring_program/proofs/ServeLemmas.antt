@@ -1,0 +1,115 @@
+-- From what one thread served to a run over the standard streams.
+use Rattle.std.proofs.Common.{◌≡◌, ℕ, ◌+◌, inl, true, List, [], ◌∷◌, ◌++◌, length, map, Option, Some, None, refl, sym, ◌∙◌, ap, arith, subst}
+use Rattle.std.specs.List.{concat}
+use Rattle.std.proofs.KnownBytes.{Appends-nil, Consumes-nil}
+use Rattle.rand_chacha.specs.ChaCha.{key_of}
+use Rattle.kr_base.specs.declared.ids.ConnId.{ConnId}
+use Rattle.kr_outside.proofs.FaultLemmas.{KeepsSteady-none}
+use Rattle.dbus_auth.specs.Handshake.{Run}
+use Rattle.service_machine.specs.declared.rows.Rows.{Rows}
+use Rattle.service_machine.specs.declared.event.Event.TheVariants as event
+use Rattle.service_machine.specs.Connections.{has, new_row}
+use Rattle.service_machine.specs.Step.{opened_rows, Fits}
+use Rattle.service_machine.specs.Replay.{Legal}
+use Rattle.service_desk.specs.Places.{Told}
+use Rattle.connection_worker.specs.declared.ending.End.{End}
+use Rattle.connection_worker.specs.declared.ending.End.TheVariants as end
+use Rattle.connection_worker.specs.Causes.{HasCause, HasWritten}
+use Rattle.connection_worker.specs.OneThread.{IsServed}
+use Rattle.connection_worker.specs.Serving.{World, HasJoined, GivesSalts}
+use Rattle.connection_worker.specs.Single.{Asked, turns, single}
+use Rattle.connection_worker.specs.Streams.{Input, Output}
+use Rattle.connection_worker.specs.Written.{written}
+use Rattle.keyring_program.specs.Events.{the_connection, joined, events_until, text_of, HaveMoments}
+use Rattle.keyring_program.specs.ServerNumber.{guid}
+use Rattle.keyring_program.specs.Serves.{Serves, shaken}
+use Rattle.keyring_program.specs.Status.{IsOnlyEnd, status_of}
+use Rattle.keyring_program.specs.declared.status.Status.TheVariants as status
+use Rattle.keyring_program.proofs.GivingLemmas.{have-moments, have-salts}
+
+-- ---- the start
+
+-- the first connection fits the service as it starts
+joins : Fits opened_rows (event.Connect the_connection)
+joins = (refl, omega arith, omega arith)
+
+-- and is there
+there : has the_connection joined.connections ≡ true
+there = refl
+
+-- the number of the connection that joined
+pub first-connection : (conn : ConnId) → Fits opened_rows (event.Connect conn) → conn ≡ the_connection
+first-connection conn fits = λ i. record { 0 = fits.0 i }
+
+-- it has just joined
+pub just-joined : (told : Told) → told.conn ≡ the_connection → told.state ≡ joined → HasJoined told
+just-joined told conn state = ap (λ (s : Rows). s.connections) state ∙ ap (λ c. new_row c ∷ []) (sym conn)
+
+-- ---- the end
+
+-- only the ends of the only connection come
+pub only-end : (how : End) (run : Run) (asked : List Asked) (count : ℕ) (from to : Input) (sink behind : Output)
+    → HasCause how run asked count from to sink behind → IsOnlyEnd how
+only-end end.OtherEnded run asked count from to sink behind cause = absurd cause
+only-end end.Overrun run asked count from to sink behind cause = absurd cause
+only-end end.Done run asked count from to sink behind cause = tt
+only-end (end.Violation which) run asked count from to sink behind cause = tt
+only-end (end.AuthRefused why) run asked count from to sink behind cause = tt
+only-end end.ReadFault run asked count from to sink behind cause = tt
+only-end end.WriteFault run asked count from to sink behind cause = tt
+only-end end.EventsSpent run asked count from to sink behind cause = tt
+only-end end.Memory run asked count from to sink behind cause = tt
+
+-- ---- the whole
+
+-- what is so of a connection and a state is so of these
+at-start : (conn : ConnId) (state : Rows) → conn ≡ the_connection → state ≡ joined → (P : ConnId → Rows → Type 0) → P conn state → P the_connection joined
+at-start conn state c s P p = subst (λ r. P the_connection r) s (subst (λ d. P d state) c p)
+
+pub serves : (uid : ℕ) (seed : List ℕ) (from to : Input) (sink behind : Output) (old new : World) (how : End)
+    → old.told.conn ≡ the_connection → old.told.state ≡ joined → old.told.count ≡ 1 → old.salting ≡ record { key = key_of seed; stream = the_connection.0; place = 0 }
+    → IsServed uid (guid seed) from to sink behind old new how → Serves uid seed old.coming from to sink behind (status_of how)
+serves uid seed from to sink behind old new how conn state count salting so =
+    let run = shaken uid seed so.read in
+    let text : concat run.answers ++ written old.told.conn old.told.state (single old.told.conn old.told.state so.asked) ≡ text_of run so.asked =
+    λ i. concat run.answers ++ written (conn i) (state i) (single (conn i) (state i) so.asked) in
+    let counted : old.told.count + length (turns old.told.conn old.told.state so.asked) ≡ length (events_until so.asked) =
+    let same : length (turns old.told.conn old.told.state so.asked) ≡ length (turns the_connection joined so.asked) = λ i. length (turns (conn i) (state i) so.asked) in
+    omega (arith, count, same) in
+    record {
+      read = so.read;
+      took = so.took;
+      asked = so.asked;
+      legal = (joins, at-start old.told.conn old.told.state conn state (λ c s. Legal s (single c s so.asked)) so.recorded.legal);
+      moments = have-moments old.coming new.coming so.asked so.refused so.moments;
+      salts = have-salts seed new.salting so.asked so.refused (subst (λ s. GivesSalts s (map (λ (a : Asked). a.salt) (so.asked ++ so.refused)) new.salting) salting so.salts);
+      how = how;
+      status_is = refl;
+      cause = subst (λ n. HasCause how run so.asked n from to sink behind) counted so.cause;
+      wrote = subst (λ t. HasWritten how sink behind t) text so.wrote;
+    }
+
+-- there was no memory before the first byte
+pub serves-none : (uid : ℕ) (seed : List ℕ) (coming : Option (ℕ → ℕ)) (from : Input) (sink : Output) → Serves uid seed coming from from sink sink status.Memory
+serves-none uid seed coming from sink =
+    let text = text_of (shaken uid seed []) [] in
+    record {
+      read = [];
+      took = record { consumed = Consumes-nil from.left; later = omega arith; steady = KeepsSteady-none from.is_steady from.faults };
+      asked = [];
+      legal = (joins, (there, tt));
+      moments = none-given coming;
+      salts = tt;
+      how = end.Memory;
+      status_is = refl;
+      cause = (inl refl, refl);
+      wrote = record {
+        appended = record { front = []; rest = text; whole = refl; put = Appends-nil sink.written };
+        later = omega arith;
+        steady = KeepsSteady-none sink.is_steady sink.faults;
+      };
+    }
+  where
+    none-given : (coming : Option (ℕ → ℕ)) → HaveMoments coming []
+    none-given None = tt
+    none-given (Some give) = tt

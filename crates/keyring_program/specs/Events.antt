@@ -1,0 +1,46 @@
+-- The history of a run over the standard streams: the service begins with it, and its connection is the first and only one.
+use Rattle.std.specs.Prelude.{◌≡◌, ℕ, ◌+◌, List, [], ◌∷◌, ◌++◌, Option, Some, None, map}
+use Rattle.std.specs.List.{concat}
+use Rattle.kr_base.specs.declared.ids.ConnId.{ConnId}
+use Rattle.dbus_auth.specs.Handshake.{Run}
+use Rattle.service_machine.specs.declared.rows.Rows.{Rows}
+use Rattle.service_machine.specs.declared.event.Event.{Event}
+use Rattle.service_machine.specs.declared.event.Event.TheVariants as event
+use Rattle.service_machine.specs.Step.{opened_rows, step}
+use Rattle.connection_worker.specs.Salts.{salt_of}
+use Rattle.connection_worker.specs.Single.{Asked, turns}
+use Rattle.connection_worker.specs.Written.{written}
+
+-- the connection of the standard streams
+abbrev pub the_connection : ConnId
+the_connection = record { 0 = 1 }
+
+-- the service after its joining
+abbrev pub joined : Rows
+joined = step opened_rows (event.Connect the_connection)
+
+-- The events of these requests: the connection joins, then each request arrives and what waits is taken.
+abbrev pub events_until : List Asked → List Event
+events_until asked = event.Connect the_connection ∷ turns the_connection joined asked
+
+-- all events of a run: at last the connection is gone
+abbrev pub events_of : List Asked → List Event
+events_of asked = events_until asked ++ event.Gone the_connection ∷ []
+
+-- what the run of a handshake and these requests put out
+abbrev pub text_of : Run → List Asked → List ℕ
+text_of run asked = concat run.answers ++ written the_connection opened_rows (events_of asked)
+
+-- the values that a function gives, from this place on
+abbrev pub AreGivenFrom : {V : Type 0} → ℕ → (ℕ → V) → List V → Type 0
+AreGivenFrom place give [] = Unit {0}
+AreGivenFrom place give (value ∷ values) = (value ≡ give place) × AreGivenFrom (place + 1) give values
+
+-- the moments at which the requests came are the first of the clock, where it tells them
+abbrev pub HaveMoments : Option (ℕ → ℕ) → List Asked → Type 0
+HaveMoments None asked = Unit {0}
+HaveMoments (Some coming) asked = AreGivenFrom 0 coming (map (λ (a : Asked). a.now) asked)
+
+-- the salts of the requests are the first of the connection under this seed
+abbrev pub HaveSalts : List ℕ → List Asked → Type 0
+HaveSalts seed asked = AreGivenFrom 0 (salt_of seed the_connection.0) (map (λ (a : Asked). a.salt) asked)

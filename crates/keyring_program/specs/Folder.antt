@@ -1,0 +1,20 @@
+-- The folder of a run.
+use Rattle.std.specs.Prelude.{ℕ, List}
+use Rattle.kr_outside.specs.RenameDisk.{Image}
+use Rattle.folder_store.specs.Limits.{the_limits}
+use Rattle.folder_store.specs.Opened.{Opening, Opened}
+use Rattle.keyring_program.specs.declared.status.Status.{Status}
+use Rattle.keyring_program.specs.declared.status.Status.TheVariants as status
+
+-- what a start makes of these images by name
+pub record IsOpened (images : List ℕ → Image) : Type 0 where
+  pub opening : Opening
+  pub pairs : List (List ℕ × List ℕ)
+  pub opened : Opened the_limits images opening pairs
+
+-- a run that ended so had its folder open
+abbrev pub HadFolder : Status → Type 0
+HadFolder status.Usage = ⊥
+HadFolder status.FolderFault = ⊥
+HadFolder status.Memory = ⊥
+HadFolder _ = Unit {0}

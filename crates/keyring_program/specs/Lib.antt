@@ -1,0 +1,7 @@
+pub mod Command
+pub mod Events
+pub mod Folder
+pub mod ServerNumber
+pub mod Serves
+pub mod Status
+pub mod WholeInput

@@ -1,0 +1,20 @@
+-- Bytes that are answered to their end.
+use Rattle.std.specs.Prelude.{◌≡◌, ℕ, ◌<◌, List, [], length}
+use Rattle.dbus_auth.specs.Handshake as shaking
+use Rattle.dbus_framing.specs.Messages.{Parts}
+use Rattle.dbus_framing.specs.Streams.{Stream}
+use Rattle.service_machine.specs.Limits.{most_events}
+use Rattle.connection_worker.specs.Arrivals.{FirstRequests}
+use Rattle.connection_worker.specs.Handshakes.{most_bytes}
+use Rattle.connection_worker.specs.Single.{Asked, requests_of}
+use Rattle.keyring_program.specs.Events.{events_of}
+use Rattle.keyring_program.specs.Serves.{shaken}
+
+-- The bytes are a handshake that is open, and behind it a stream of messages that leaves no rest; no requests of its first
+-- messages make more events than can be counted.
+pub record IsWholeInput (uid : ℕ) (seed bytes : List ℕ) : Type 0 where
+  pub behind : List ℕ
+  pub messages : List Parts
+  pub opened : (shaken uid seed bytes).end ≡ shaking.opened behind
+  pub stream : Stream most_bytes behind messages []
+  pub few : (asked : List Asked) → FirstRequests most_bytes behind (requests_of asked) → length (events_of asked) < most_events

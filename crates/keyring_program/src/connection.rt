@@ -1,0 +1,41 @@
+// The connection of the standard streams.
+ghost use Rattle.connection_worker.specs.Streams.{input_of, output_of};
+ghost use Rattle.keyring_program.specs.Serves.{Serves};
+
+use crate::server_number::guid_of;
+use crate::status::Status;
+use connection_worker::{Salts, one_thread};
+use dbus_auth::Auth;
+use kr_outside::{Clock, Sink, Source};
+use lone_desk::LoneDesk;
+use service_desk::{Desk, JoinRefused};
+use service_history::Service;
+use std::alloc::AllocGlobal;
+use std::sync::Wait;
+
+/// Serves the client of this user to its end, as the only connection of a new service, on one thread.
+/// The seed determines the server's number and the salts.
+pub fn serve_client<R: AllocGlobal + Wait, I: Source, O: Sink, C: Clock>(
+    rt: &R,
+    uid: u32,
+    seed: [u8; 32],
+    input: &mut I,
+    output: &mut O,
+    clock: &mut C,
+) -> Status
+    ensures { Serves uid seed (C.coming clock.old)
+        (input_of I.left I.faults I.is_steady input.old)
+        (input_of I.left I.faults I.is_steady input.new)
+        (output_of O.written O.faults O.is_steady output.old)
+        (output_of O.written O.faults O.is_steady output.new) result }
+{
+    let mut desk = match LoneDesk::join(Service::open(rt.alloc())) {
+        Ok(desk) => desk,
+        Err(JoinRefused::OutOfMemory) => return Status::Memory,
+        Err(JoinRefused::EventsSpent | JoinRefused::TooManyConnections) => unreachable!(),
+    };
+    let auth = Auth::new(uid, guid_of(seed));
+    let mut salts = Salts::new(seed, desk.conn());
+    let end = one_thread(rt, auth, input, output, &mut desk, clock, &mut salts);
+    Status::of_end(end)
+}

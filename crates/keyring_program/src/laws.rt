@@ -1,0 +1,34 @@
+// What the definitions of a run say together. Each law is the contract of a function that does nothing
+// but call the laws that it rests on.
+ghost use Rattle.std.specs.Prelude.{◌≡◌, ◌++◌, ℕ, List};
+ghost use Rattle.std.specs.List.{concat};
+ghost use Rattle.dbus_auth.specs.Handshake.{Run};
+ghost use Rattle.connection_worker.specs.Causes.{AllServed};
+ghost use Rattle.connection_worker.specs.Replies.{replies_to};
+ghost use Rattle.connection_worker.specs.Single.{Asked};
+ghost use Rattle.connection_worker.specs.Written.{spelled_behind};
+ghost use Rattle.keyring_program.specs.Events.{the_connection, joined, text_of};
+ghost use Rattle.keyring_program.specs.Serves.{shaken};
+
+use call_wire::a_message_is_one_request;
+use connection_worker::each_request_is_answered_at_once;
+
+/// What is written of the calls that were read is determined by the bytes that were read, the user and
+/// the seed: runs over the same bytes that recorded each call of them write the same, whatever their
+/// moments were.
+pub fn what_is_written_is_one()
+    ensures { (uid : ℕ) (seed read rest left : List ℕ) (one other : List Asked)
+        → AllServed (shaken uid seed read) one rest → AllServed (shaken uid seed read) other left
+        → text_of (shaken uid seed read) one ≡ text_of (shaken uid seed read) other }
+{
+    a_message_is_one_request();
+}
+
+/// What is written behind the handshake's answers is the reply to each request that wants one, in the
+/// order of the requests, with serials from 1 on, and nothing else.
+pub fn each_request_has_its_reply()
+    ensures { (run : Run) (asked : List Asked) → text_of run asked
+        ≡ concat run.answers ++ spelled_behind 0 (replies_to the_connection joined asked) }
+{
+    each_request_is_answered_at_once();
+}

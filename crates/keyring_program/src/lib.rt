@@ -1,0 +1,20 @@
+//! What the program keyringd does, as a function of its words, its streams, its host and a seed: it opens
+//! and loads its folder, and serves one client on its streams: the handshake, and the calls Ping,
+//! OpenSession and Close. Callers may rely on the contract of `run`: what is written to what was read,
+//! what was recorded, and why the run ended; and on the number and the text of each status. The program
+//! only makes the real streams and the real host.
+#![tactic(auto)]
+
+mod command;
+mod connection;
+mod folder;
+mod laws;
+mod program;
+mod server_number;
+mod status;
+mod words;
+
+pub use laws::{each_request_has_its_reply, what_is_written_is_one};
+pub use program::run;
+pub use status::Status;
+pub use words::words_of;

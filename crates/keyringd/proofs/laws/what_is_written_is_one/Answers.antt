@@ -1,6 +1,0 @@
-use Rattle.keyringd.specs.Serves.{shaken}
-use Rattle.keyringd.proofs.WrittenLemmas.{one-text}
-use Rattle.keyringd.proofs.laws.what_is_written_is_one.Goals as goal
-
-pub returns : goal.returns
-returns c uid seed read rest left one other = one-text c.a_message_is_one_request.ensures.call (shaken uid seed read) one other rest left

@@ -1,8 +1,0 @@
-pub mod Causes
-pub mod Command
-pub mod Events
-pub mod Folder
-pub mod ServerNumber
-pub mod Serves
-pub mod Status
-pub mod WholeInput
