@@ -11,7 +11,7 @@ use std::alloc::AllocError;
 use std::collections::BTreeMap;
 
 /// An item with its type, which is kept as a file had it.
-#[derive(Debug, Drop)]
+#[derive(Drop)]
 pub struct Row {
     /// The item's type.
     pub kind: u32,
