@@ -1,0 +1,98 @@
+"""What the subjects of scripts/bench share: programs that are built, and runs that are measured."""
+import hashlib, os, pathlib, shutil, subprocess, sys
+
+ROOT = pathlib.Path(__file__).resolve().parent.parent.parent
+
+# a call of Ping
+PING = ("6c01000100000000010000004500000001016f00010000002f0000000000000002017300190000006f72672e667265656465736b746f702e"
+        "444275732e5065657200000000000000030173000400000050696e6700000000")
+
+PINGS = 100000
+
+
+def run(words, **more):
+    ran = subprocess.run([str(it) for it in words], capture_output=True, text=True, **more)
+    if ran.returncode:
+        sys.exit(f"scripts/bench: {words[0]} ended with status {ran.returncode}: {(ran.stdout + ran.stderr)[-800:]}")
+    return ran.stdout
+
+
+def best(words, rounds=5):
+    """The least seconds that the processor spent on some runs, and what was printed."""
+    least, printed = None, None
+    for _ in range(rounds):
+        before = os.times()
+        printed = run(words)
+        after = os.times()
+        took = after.children_user + after.children_system - before.children_user - before.children_system
+        least = took if least is None else min(least, took)
+    return least, printed
+
+
+def most_memory(words):
+    """The most bytes that a run held at once."""
+    process = subprocess.Popen([str(it) for it in words], stdout=subprocess.DEVNULL)
+    _, status, used = os.wait4(process.pid, 0)
+    process.returncode = os.waitstatus_to_exitcode(status)
+    if process.returncode:
+        sys.exit(f"scripts/bench: {words[0]} ended with status {process.returncode}")
+    return used.ru_maxrss * 1024
+
+
+def peak(words, given=os.devnull):
+    """The most bytes that a run held at once, over the bytes of a file. A small process starts it, since what the starting one
+    holds counts too."""
+    program = "import resource, subprocess, sys; subprocess.run(sys.argv[1:], check=True, capture_output=True); print(resource.getrusage(resource.RUSAGE_CHILDREN).ru_maxrss)"
+    with open(given, "rb") as bytes_of:
+        return int(run([sys.executable, "-c", program, *words], stdin=bytes_of)) * 1024
+
+
+def rattle_program(folder, name, text, lines, more=""):
+    """A scratch repository over these crates, and the built program."""
+    names = [line.split(":")[0] for line in lines]
+    for it in names:
+        shutil.copytree(ROOT / "crates" / it, folder / "crates" / it)
+    (folder / "crates" / name / "src").mkdir(parents=True)
+    (folder / "crates" / name / "src/main.rt").write_text(text)
+    (folder / "crates.txt").write_text("\n".join([*lines, f"{name}: " + " ".join(names) + more]) + "\n")
+    run(["git", "init", "-q", folder])
+    run(["rt", "run", "--", "encrypt", "1"], cwd=folder / "crates" / name)
+    return folder / "crates" / name / "out" / name
+
+
+def c_program(folder, name, text, *more):
+    (folder / f"{name}.c").write_text(text)
+    run(["gcc", "-O2", "-o", folder / name, folder / f"{name}.c", *more])
+    return folder / name
+
+
+def lines_of(names):
+    """The lines of crates.txt for these crates."""
+    found = [line for line in (ROOT / "crates.txt").read_text().splitlines() if line.split(":")[0] in names]
+    if len(found) != len(names):
+        sys.exit(f"scripts/bench: crates.txt lacks one of {', '.join(names)}")
+    return found
+
+
+def escaped(text):
+    return "".join(f"\\x{byte:02x}" for byte in bytes.fromhex(text))
+
+
+def keyring_file(path, items):
+    """Writes a keyring file of so many items under the password of the program, and gives the length of its area."""
+    number = lambda n: n.to_bytes(4, "big")
+    string = lambda text: number(len(text)) + text
+    pair = lambda value: string(b"user") + number(0) + string(value)
+    md5 = lambda text: hashlib.md5(text).hexdigest().encode()
+    user = lambda n: b"user%d@example.org" % n
+    area = b"".join(string(b"Password of user%d" % n) + string(b"the secret of user %d" % n) + bytes(16) + number(0xffffffff) + bytes(16)
+                    + number(1) + pair(user(n)) + number(0) for n in range(items))
+    area += bytes(-len(area) % 16)
+    area = hashlib.md5(area).digest() + area
+    digest = hashlib.sha256(b"passwordsaltsalt").digest()
+    words = ["openssl", "enc", "-aes-128-cbc", "-nopad", "-K", digest[:16].hex(), "-iv", digest[16:].hex()]
+    hidden = subprocess.run(words, input=area, capture_output=True, check=True).stdout
+    clear = b"".join(number(n) + number(0) + number(1) + pair(md5(user(n))) for n in range(items))
+    path.write_bytes(b"GnomeKeyring\n\r\0\n" + bytes(4) + string(b"login") + bytes(16) + bytes(8) + number(1) + b"saltsalt" + bytes(16)
+                     + number(items) + clear + number(len(area)) + hidden)
+    return len(area)
