@@ -36,8 +36,12 @@ pub record LinesGive (bytes : List ℕ) (aliases : List (List ℕ × List ℕ)) 
   pub given : Gives lines pairs
   pub gathered : Gathers pairs aliases
 
--- the aliases that the bytes of the file give: more than 1,048,576 bytes give none
+-- how many bytes the file may have
+abbrev pub longest : ℕ
+longest = 1048576
+
+-- the aliases that the bytes of the file give: a longer one gives none
 pub data AliasesOf : List ℕ → List (List ℕ × List ℕ) → Type 0 where
-  too_long : (bytes : List ℕ) → 1048576 < length bytes → AliasesOf bytes []
-  read : (bytes : List ℕ) (aliases : List (List ℕ × List ℕ)) → length bytes ≤ 1048576
+  too_long : (bytes : List ℕ) → longest < length bytes → AliasesOf bytes []
+  read : (bytes : List ℕ) (aliases : List (List ℕ × List ℕ)) → length bytes ≤ longest
       → LinesGive bytes aliases → AliasesOf bytes aliases

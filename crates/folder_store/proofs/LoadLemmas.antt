@@ -1,5 +1,5 @@
 -- The whole call: the names, the way over them, and the file of the aliases.
-use Rattle.std.proofs.Common.{◌≡◌, ⊎_elim, inl, inr, ◌↔◌, ℕ, List, [], ◌∷◌, Bool, IsTrue, IsSome, suc, arith, sym, ◌∙◌, ap, subst}
+use Rattle.std.proofs.Common.{◌≡◌, ⊎_elim, inl, inr, ◌↔◌, ℕ, List, [], ◌∷◌, Bool, IsTrue, IsSome, None, Some, suc, arith, sym, ◌∙◌, ap, subst}
 use Rattle.std.specs.List.{Contains}
 use Rattle.std.specs.List.Sorted.{IsStrictlySortedBy}
 use Rattle.std.specs.Ordering.{nat_cmp}
@@ -7,20 +7,31 @@ use Rattle.std.specs.Cmp.Lexicographic.{slice_cmp}
 use Rattle.kr_base.specs.Attributes.{IsInOrder}
 use Rattle.kr_outside.specs.Folder.{Stays}
 use Rattle.kr_outside.specs.RenameDisk.{Image, Only}
-use Rattle.replace_slot.specs.Cell.{File, Known}
+use Rattle.alias_text.specs.Pairs.{longest, too_long}
+use Rattle.replace_slot.specs.Cell.{Known}
+use Rattle.folder_store.specs.declared.found_aliases.FoundAliases.{FoundAliases}
+use Rattle.folder_store.specs.declared.found_aliases.FoundAliases.TheVariants as found
 use Rattle.folder_store.specs.declared.limits.Limits.{Limits}
 use Rattle.folder_store.specs.declared.loading.Loaded.{Loaded}
 use Rattle.folder_store.specs.Names.{aliases}
 use Rattle.folder_store.specs.Opened.{Opens, GivesAliases}
 use Rattle.folder_store.specs.Loads.{Loads, opening_of}
-use Rattle.folder_store.specs.Ring.{HandsBack, ShowsAliases, rows_of}
+use Rattle.folder_store.specs.Aliases.{AreFound, alias_slot, pairs_in}
+use Rattle.folder_store.specs.Ring.{HandsBack, ShowsAliases, IsLonger, rows_of}
 use Rattle.folder_store.specs.Walk.{OpeningState, plain, Walk}
 use Rattle.folder_store.proofs.NameLemmas.{aliases_no_ring}
 use Rattle.folder_store.proofs.OpenedLemmas.{AreTold, all_found, cons_cases}
 
--- the aliases of a file that is known to be this
-pub gives_image : (file : File) (image : Image) (pairs : List (List ℕ × List ℕ)) → file ≡ Known image → ShowsAliases file pairs → GivesAliases image pairs
-gives_image file image pairs is shown = subst (λ f. ShowsAliases f pairs) is shown
+-- the aliases that were found are those that the image gives
+pub gives_found : {S : Type 0} (honest : Bool) (image : Image) (aliases : FoundAliases S) → AreFound honest image aliases → IsTrue honest → GivesAliases image (pairs_in aliases)
+gives_found honest image (found.Read file) are is = subst (λ f. ShowsAliases f file.pairs) (are.1 is).0 are.0
+gives_found honest None (found.LeftAlone slot) are is = absurd (are is)
+gives_found honest (Some bytes) (found.LeftAlone slot) are is = too_long bytes (are is)
+
+-- and those of an equal one
+pub found_same_aliases : {S : Type 0} (honest : Bool) (one two : Image) (aliases : FoundAliases S) → (IsTrue honest → one ≡ two) → AreFound honest one aliases → AreFound honest two aliases
+found_same_aliases honest one two (found.Read file) same are = (are.0, λ is. ((are.1 is).0 ∙ ap Known (same is), subst (λ (i : Image). ¬ (IsLonger longest i)) (same is) (are.1 is).1))
+found_same_aliases honest one two (found.LeftAlone slot) same are = λ is. subst (λ (i : Image). IsLonger longest i) (same is) (are is)
 
 -- files told of images are told of equal ones
 told_same : (images other : List ℕ → Image) → ((name : List ℕ) → images name ≡ other name) → (files : List (List ℕ × List ℕ)) → AreTold images files → AreTold other files
@@ -46,13 +57,12 @@ module _ {F S : Type 0} (limits : Limits) (found : Image → S → Type 0) (hone
       → (IsTrue honest → (name : List ℕ) → images one name ≡ images zero name)
       → Walk limits honest images may_leave made one two names (plain opening)
       → HandsBack found (images zero) (made two) opening.rings opening.left
-      → (IsTrue honest → loaded.aliases.cell.file ≡ Known (images two aliases))
-      → ShowsAliases loaded.aliases.cell.file loaded.aliases.pairs
-      → found (images zero aliases) loaded.aliases.cell.slot
+      → AreFound honest (images two aliases) loaded.aliases
+      → found (images zero aliases) (alias_slot loaded.aliases)
       → made three ≡ aliases ∷ made two
       → (IsTrue honest → Stays images may_leave (made three) two three)
       → Loads limits found honest images may_leave made zero three loaded
-  Loads-made zero one two three names opening loaded rings used left sorted listed before walk handed known shown slot made_one stays =
+  Loads-made zero one two three names opening loaded rings used left sorted listed before walk handed known slot made_one stays =
       let plain_is : plain opening ≡ opening_of loaded = λ i. record { rings = rows_of (sym rings i); used = sym used i } in
       let opens : Opens limits walk.files (opening_of loaded) = subst (λ o. Opens limits walk.files o) plain_is walk.opens in
       let ordered : IsInOrder walk.files = subst (λ l. IsStrictlySortedBy (slice_cmp nat_cmp) l) (sym walk.keys) sorted in
@@ -63,11 +73,10 @@ module _ {F S : Type 0} (limits : Limits) (found : Image → S → Type 0) (hone
           all = all_found (images zero) walk.files names walk.keys (told_same (images one) (images zero) (before is) walk.files (walk.told is))
               (λ name. subst (λ (i : Image). Contains names name ↔ IsSome i) (before is name) (listed is name));
           opens = opens;
-          aliases = gives_image loaded.aliases.cell.file (images zero aliases) loaded.aliases.pairs (image is) shown;
+          aliases = gives_found honest (images zero aliases) loaded.aliases are is;
         };
-        alias_image = image;
         some = record { files = walk.files; ordered = ordered; opens = opens };
-        shown = shown;
+        found_aliases = are;
         rest = made two;
         made_all = made_one;
         handed = subst (λ l. HandsBack found (images zero) (made two) loaded.rings.items l) (sym left)
@@ -85,5 +94,5 @@ module _ {F S : Type 0} (limits : Limits) (found : Image → S → Type 0) (hone
       earlier : (name : List ℕ) → ¬ (Contains (made three) name) → ¬ (Contains (made two) name)
       earlier name off (k, in_range, is) = off (subst (λ l. Contains l name) (sym made_one) (suc k, omega (arith, in_range), is))
 
-      image : IsTrue honest → loaded.aliases.cell.file ≡ Known (images zero aliases)
-      image is = known is ∙ ap Known (walk.same is aliases (off_way one two names opening walk) ∙ before is aliases)
+      are : AreFound honest (images zero aliases) loaded.aliases
+      are = found_same_aliases honest (images two aliases) (images zero aliases) loaded.aliases (λ is. walk.same is aliases (off_way one two names opening walk) ∙ before is aliases) known

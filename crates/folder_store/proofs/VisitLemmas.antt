@@ -11,8 +11,7 @@ use Rattle.keyring_file.specs.Clear.{ClearPart}
 use Rattle.folder_store.specs.declared.limits.Limits.{Limits}
 use Rattle.folder_store.specs.Names.{IsRingName}
 use Rattle.folder_store.specs.Opened.{Takes, other, left_alone, ReadsAs, Fits, leaves_alone}
-use Rattle.folder_store.specs.declared.opening.LeftAlone.{LeftAlone}
-use Rattle.folder_store.specs.Ring.{RingState, rows_of, IsAsFound, HandsBack, with_ring, alone, IsLook, HasFailedSlot}
+use Rattle.folder_store.specs.Ring.{rows_of, IsAsFound, HandsBack, with_ring, alone, IsLook, HasFailedSlot}
 use Rattle.folder_store.specs.Walk.{OpeningState, plain, MakesAtMost, none, one, Visits, Keeps, in_ring, by_itself}
 
 -- an empty file is no keyring file

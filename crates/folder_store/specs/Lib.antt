@@ -1,3 +1,4 @@
+pub mod Aliases
 pub mod Limits
 pub mod Loads
 pub mod Names

@@ -3,12 +3,12 @@ use Rattle.std.specs.Prelude.{◌≡◌, ℕ, ◌⊎◌, ◌∷◌, Bool, IsTrue
 use Rattle.kr_base.specs.Attributes.{IsInOrder}
 use Rattle.kr_outside.specs.Folder.{IsSettled}
 use Rattle.kr_outside.specs.RenameDisk.{Image}
-use Rattle.replace_slot.specs.Cell.{Known}
+use Rattle.folder_store.specs.Aliases.{AreFound, alias_slot, pairs_in}
 use Rattle.folder_store.specs.declared.limits.Limits.{Limits}
 use Rattle.folder_store.specs.declared.loading.Loaded.{Loaded}
 use Rattle.folder_store.specs.Names.{aliases, IsRingName}
 use Rattle.folder_store.specs.Opened.{Opening, Opens, Opened}
-use Rattle.folder_store.specs.Ring.{rows_of, ShowsAliases, HandsBack}
+use Rattle.folder_store.specs.Ring.{rows_of, HandsBack}
 
 -- what stands open, without slots
 abbrev pub opening_of : {S : Type 0} → Loaded S → Opening
@@ -23,16 +23,15 @@ pub record OpensSome (limits : Limits) (opening : Opening) : Type 0 where
 -- the call, over a folder of which no slot was made before
 pub record Loads {F S : Type 0} (limits : Limits) (found : Image → S → Type 0) (honest : Bool) (images : F → List ℕ → Image) (may_leave : F → List ℕ → Image → Type 0) (made : F → List (List ℕ)) (old new : F) (loaded : Loaded S) : Type 0 where
   -- of an honest folder what was loaded is what a start makes of its images, that of the aliases' file included
-  pub opened : IsTrue honest → Opened limits (images old) (opening_of loaded) loaded.aliases.pairs
-  pub alias_image : IsTrue honest → loaded.aliases.cell.file ≡ Known (images old aliases)
+  pub opened : IsTrue honest → Opened limits (images old) (opening_of loaded) (pairs_in loaded.aliases)
   -- whatever the folder is
   pub some : OpensSome limits (opening_of loaded)
-  pub shown : ShowsAliases loaded.aliases.cell.file loaded.aliases.pairs
+  pub found_aliases : AreFound honest (images old aliases) loaded.aliases
   -- each slot that was made is handed back as it was found: one of `aliases`, and those of keyring files
   pub rest : List (List ℕ)
   pub made_all : made new ≡ aliases ∷ rest
   pub handed : HandsBack found (images old) rest loaded.rings.items loaded.left_alone.items
-  pub alias_found : found (images old aliases) loaded.aliases.cell.slot
+  pub alias_found : found (images old aliases) (alias_slot loaded.aliases)
   -- a slot was made of no name but `aliases` and those whose stems are used; every other name is as it
   -- was, and settled
   pub made_of : (name : List ℕ) → Contains (made new) name → (name ≡ aliases) ⊎ ((stem : List ℕ) × IsRingName name stem × Contains loaded.used.items stem)

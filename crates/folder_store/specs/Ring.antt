@@ -1,5 +1,5 @@
 -- What was loaded, as contracts see it.
-use Rattle.std.specs.Prelude.{◌≡◌, ℕ, ◌⊎◌, List, [], ◌∷◌, ◌++◌, map, Contains, Option, None, Some, Bool, IsTrue, Result, IsErrOf, ◌≤◌}
+use Rattle.std.specs.Prelude.{◌≡◌, ℕ, ◌⊎◌, List, [], ◌∷◌, ◌++◌, length, map, Contains, Option, None, Some, Bool, IsTrue, Result, IsErrOf, ◌<◌, ◌≤◌}
 use Rattle.kr_outside.specs.Faults.{Rose}
 use Rattle.kr_outside.specs.RenameDisk.{Image, Temporary, Unknown, Only}
 use Rattle.kr_outside.specs.declared.slot.DeviceCall.{DeviceCall}
@@ -33,6 +33,11 @@ ShowsClear (Doubt old new) clear = ⊥
 abbrev pub ShowsAliases : File → List (List ℕ × List ℕ) → Type 0
 ShowsAliases (Known image) pairs = GivesAliases image pairs
 ShowsAliases (Doubt old new) pairs = ⊥
+
+-- the image is a file of more bytes
+abbrev pub IsLonger : ℕ → Image → Type 0
+IsLonger most None = ⊥
+IsLonger most (Some bytes) = most < length bytes
 
 -- the bytes of a file that is known to be there
 abbrev pub bytes_of : File → List ℕ

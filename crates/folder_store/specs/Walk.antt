@@ -4,16 +4,24 @@ use Rattle.std.specs.List.{AllByRecursion}
 use Rattle.std.specs.Map.{keys_of}
 use Rattle.std.specs.declared.alloc.Global.{Global}
 use Rattle.kr_outside.specs.RenameDisk.{Image, Only}
+use Rattle.replace_slot.specs.Cell.{image_of}
 use Rattle.folder_store.specs.declared.limits.Limits.{Limits}
+use Rattle.folder_store.specs.declared.reading.Look.{Look}
+use Rattle.folder_store.specs.declared.reading.Look.TheVariants as look
 use Rattle.folder_store.specs.Names.{IsRingName}
 use Rattle.folder_store.specs.Opened.{Opening, Opens, Takes}
-use Rattle.folder_store.specs.Ring.{RingState, rows_of}
+use Rattle.folder_store.specs.Ring.{RingState, IsLonger, rows_of}
 use Rattle.folder_store.specs.declared.opening.LeftAlone.{LeftAlone}
 
 -- a read of what a slot gives, of at most so many bytes: it gave the file, or there is none of so few
 abbrev pub ReadsWithin : ℕ → Image → Option (Vec ℕ Global) → Type 0
 ReadsWithin room seen None = (bytes : List ℕ) → seen ≡ Some bytes → room < length bytes
 ReadsWithin room seen (Some bytes) = seen ≡ Some bytes.items
+
+-- a look at what a slot gives: the bytes where there are at most so many, or that there is no file, and else that it is longer
+abbrev pub Looks : ℕ → Image → Look → Type 0
+Looks most seen (look.Whole image) = (image_of image ≡ seen) × ¬ (IsLonger most seen)
+Looks most seen look.Longer = IsLonger most seen
 
 -- the collections that are listed so far, with their cells, the stems that are used, and the slots of the
 -- files that were left alone

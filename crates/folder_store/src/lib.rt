@@ -6,6 +6,7 @@
 #![tactic(auto)]
 
 mod alias_file;
+mod found_aliases;
 mod limits;
 mod loading;
 mod names;
@@ -15,6 +16,7 @@ mod refused;
 mod ring;
 
 pub use alias_file::AliasFile;
+pub use found_aliases::FoundAliases;
 pub use limits::{Limits, MOST};
 pub use loading::{Loaded, load, load_within};
 pub use opening::LeftAlone;

@@ -5,20 +5,21 @@ ghost use Rattle.std.specs.Ordering.{nat_cmp};
 ghost use Rattle.kr_outside.specs.Faults.{KeepsSteady, Rose};
 ghost use Rattle.kr_outside.specs.Folder.{IsSettled, Stays};
 ghost use Rattle.kr_outside.specs.RenameDisk.{Only};
-ghost use Rattle.replace_slot.specs.Cell.{Known};
+ghost use Rattle.folder_store.specs.Aliases.{AreFound, alias_slot};
 ghost use Rattle.folder_store.specs.Limits.{the_limits};
 ghost use Rattle.folder_store.specs.Loads.{Loads};
 ghost use Rattle.folder_store.specs.Names.{aliases, IsRingName};
-ghost use Rattle.folder_store.specs.Ring.{HasFailedSlot, HasLoadCause, IsAsFound, HandsBack, ShowsAliases};
+ghost use Rattle.folder_store.specs.Ring.{HasFailedSlot, HasLoadCause, IsAsFound, HandsBack};
 ghost use Rattle.folder_store.specs.Walk.{Visits, Walk, plain};
 
-use crate::alias_file::AliasFile;
+use crate::found_aliases::{FoundAliases, found_by};
 use crate::limits::{Limits, MOST};
 use crate::names::{in_order, stem_of_name};
 use crate::opening::{LeftAlone, Opening};
 use crate::reading::{read_settled, read_within};
 use crate::refused::LoadRefused;
 use crate::ring::Ring;
+use alias_text::LONGEST;
 use kr_base::{Stem, Text};
 use kr_outside::{Folder, OutsideRefused, Slot};
 use std::alloc::Global;
@@ -32,12 +33,12 @@ pub struct Loaded<S: Slot> {
     pub used: Vec<Stem>,
     /// The keyring files that were looked at and left alone, in that order.
     pub left_alone: Vec<LeftAlone<S>>,
-    /// The file of the aliases.
-    pub aliases: AliasFile<S>,
+    /// The aliases.
+    pub aliases: FoundAliases<S>,
 }
 
 /// Loads a folder of which no slot was made yet: settles it, and then each keyring file and the file of
-/// the aliases, and reads each once. No file is changed, made or removed, at any moment, and each slot
+/// the aliases, and reads each that isn't too long once. No file is changed, made or removed, at any moment, and each slot
 /// that was made is handed back.
 ///
 /// Refused with `Folder` only where a count of the folder or of a slot rose, and with `OutOfMemory`.
@@ -261,17 +262,18 @@ fn take_file<F: Folder>(
     }
 }
 
-// Reads the file of the aliases, whatever its size: its image must be known, since it will be replaced.
-fn load_aliases<F: Folder>(alloc: Global, folder: &mut F) -> Result<AliasFile<F::Cell>, LoadRefused>
+// Reads the file of the aliases, and leaves one alone that is longer than it may be.
+fn load_aliases<F: Folder>(
+    alloc: Global,
+    folder: &mut F,
+) -> Result<FoundAliases<F::Cell>, LoadRefused>
     requires settled { IsTrue (F.is_honest folder.old) → ¬ (Contains (F.made folder.old) aliases)
         × Only (F.images folder.old aliases) (F.may_leave folder.old aliases) }
-    ensures image { IsTrue (F.is_honest folder.old) → IfOk result (λ file.
-        file.cell.file ≡ Known (F.images folder.old aliases)) }
-    ensures shown { IfOk result (λ file. ShowsAliases file.cell.file file.pairs) }
-    ensures slot { IfOk result (λ file. IsAsFound F.Cell.seen F.Cell.temporary
+    ensures found { IfOk result (AreFound (F.is_honest folder.old) (F.images folder.old aliases)) }
+    ensures slot { IfOk result (λ found. IsAsFound F.Cell.seen F.Cell.temporary
         F.Cell.may_leave F.Cell.left_since F.Cell.is_honest F.Cell.is_steady
         (F.is_honest folder.old) (F.is_steady folder.old)
-        (F.images folder.old aliases) file.cell.slot) }
+        (F.images folder.old aliases) (alias_slot found)) }
     ensures made { OnOk result (F.made folder.new ≡ aliases ∷ F.made folder.old) }
     ensures stays { IsTrue (F.is_honest folder.old)
         → Stays F.images F.may_leave (F.made folder.new) folder.old folder.new }
@@ -288,6 +290,7 @@ fn load_aliases<F: Folder>(alloc: Global, folder: &mut F) -> Result<AliasFile<F:
         (F.is_steady folder.old) }
 {
     let mut slot = folder.slot("aliases")?;
-    let image = read_settled(alloc, &mut slot)?;
-    Ok(AliasFile::read(alloc, slot, image)?)
+    let look = read_settled(alloc, &mut slot, LONGEST)?;
+    let found = found_by(alloc, slot, look)?;
+    Ok(found)
 }

@@ -5,7 +5,7 @@ ghost use Rattle.kr_outside.specs.Moments.{LeavesOnly};
 ghost use Rattle.kr_outside.specs.RenameDisk.{Only, LeavesAnyBytes, LeavesNoMore, size_of};
 ghost use Rattle.replace_slot.specs.Cell.{image_of};
 ghost use Rattle.folder_store.specs.Ring.{HasLoadCause, IsLook};
-ghost use Rattle.folder_store.specs.Walk.{ReadsWithin};
+ghost use Rattle.folder_store.specs.Walk.{Looks, ReadsWithin};
 
 use crate::refused::LoadRefused;
 use kr_outside::{Failed, Seen, Slot};
@@ -110,10 +110,19 @@ pub fn read_within<S: Slot>(
     }
 }
 
-/// Settles and reads a file of whatever size; None where there is no file.
-pub fn read_settled<S: Slot>(alloc: Global, slot: &mut S) -> Result<Option<Vec<u8>>, LoadRefused>
+/// What a look at a file showed.
+#[derive(Drop)]
+pub enum Look {
+    /// The file's bytes; None where there is no file.
+    Whole(Option<Vec<u8>>),
+    /// A file with more bytes, which weren't read.
+    Longer,
+}
+
+/// Settles a file, and reads it where it has at most so many bytes.
+pub fn read_settled<S: Slot>(alloc: Global, slot: &mut S, most: usize) -> Result<Look, LoadRefused>
     ensures read { IsTrue (S.is_honest slot.old)
-        → IfOk result (λ found. image_of found ≡ S.seen slot.new) }
+        → IfOk result (Looks most (S.seen slot.new)) }
     ensures settled { IsTrue (S.is_honest slot.old)
         → OnOk result (LeavesAnyBytes (S.may_leave slot.old)
         ⊎ Only (S.seen slot.new) (S.may_leave slot.new)) }
@@ -132,8 +141,14 @@ pub fn read_settled<S: Slot>(alloc: Global, slot: &mut S) -> Result<Option<Vec<u
         (S.faults slot.old) (S.faults slot.new) }
 {
     match settled_size(slot) {
-        Ok(Some(size)) => read_sized(alloc, slot, size),
-        Ok(None) => Ok(None),
+        Ok(Some(size)) => {
+            if size > most as u64 {
+                return Ok(Look::Longer);
+            }
+            let bytes = read_sized(alloc, slot, size)?;
+            Ok(Look::Whole(bytes))
+        }
+        Ok(None) => Ok(Look::Whole(None)),
         Err(_) => Err(LoadRefused::Folder),
     }
 }

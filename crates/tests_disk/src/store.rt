@@ -2,7 +2,7 @@ ghost use Rattle.std.specs.Prelude.{◌≡◌, [], IfOk, OnOk, true, false};
 ghost use Rattle.std.proofs.Common.{rules};
 ghost use Rattle.kr_memory_disk.specs.Files.{image_in};
 
-use folder_store::{Limits, LoadRefused, Loaded, load, load_within};
+use folder_store::{FoundAliases, Limits, LoadRefused, Loaded, load, load_within};
 use kr_base::{Bytes, OutOfMemory, Text};
 use kr_memory_disk::{
     Files, MemoryFolder, MemorySlot, SlotCall, SlotPlan, SteadyFolder, SteadySlot,
@@ -248,6 +248,17 @@ fn calls_of(alloc: Global, slot: &MemorySlot) -> Result<Vec<u8>, Fail> {
     Ok(told)
 }
 
+// The slot of the file of the aliases.
+fn alias_slot(aliases: FoundAliases<MemorySlot>) -> MemorySlot {
+    match aliases {
+        FoundAliases::Read(file) => {
+            let (cell, _) = file.into_parts();
+            cell.into_slot()
+        }
+        FoundAliases::LeftAlone(slot) => slot,
+    }
+}
+
 #[test]
 fn each_file_is_settled_and_read_once(rt: HostRuntime) -> Result<(), Fail> {
     let alloc = rt.alloc();
@@ -264,9 +275,26 @@ fn each_file_is_settled_and_read_once(rt: HostRuntime) -> Result<(), Fail> {
         let calls = calls_of(alloc, &cell.into_slot())?;
         assert_eq!(rt; calls.as_slice(), b"ysr".as_slice());
     }
-    let (cell, _) = loaded.aliases.into_parts();
-    let calls = calls_of(alloc, &cell.into_slot())?;
+    let calls = calls_of(alloc, &alias_slot(loaded.aliases))?;
     assert_eq!(rt; calls.as_slice(), b"ys".as_slice());
+    Ok(())
+}
+
+// A file of 1,048,576 bytes gives its aliases, and one of a byte more is measured, left alone and not read.
+#[test]
+fn a_longer_file_of_aliases_is_not_read(rt: HostRuntime) -> Result<(), Fail> {
+    let alloc = rt.alloc();
+    for more in [0, 1] {
+        let mut bytes = b"a=x\n".as_slice().to_vec(alloc)?;
+        bytes.resize(1_048_576 + more, b'#')?;
+        let mut folder = MemoryFolder::new(alloc, Vec::new(alloc));
+        folder.set(name_of(alloc, "aliases")?, Some(Bytes::new(bytes)))?;
+        let loaded = load(alloc, &mut folder)?;
+        assert_eq!(rt; loaded.aliases.pairs().len(), 1 - more);
+        let calls = calls_of(alloc, &alias_slot(loaded.aliases))?;
+        let want = if more == 0 { b"ysr".as_slice() } else { b"ys" };
+        assert_eq!(rt; calls.as_slice(), want);
+    }
     Ok(())
 }
 

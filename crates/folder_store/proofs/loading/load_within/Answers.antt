@@ -4,6 +4,7 @@ use Rattle.std.specs.List.Sorted.{IsStrictlySortedBy}
 use Rattle.std.specs.Ordering.{nat_cmp}
 use Rattle.folder_store.specs.declared.refused.LoadRefused.TheVariants.{Folder}
 use Rattle.folder_store.specs.Names.{aliases}
+use Rattle.folder_store.specs.Aliases.{AreFound, alias_slot}
 use Rattle.folder_store.specs.Ring.{IsAsFound, HandsBack, HasFailedSlot}
 use Rattle.folder_store.specs.Walk.{Walk, plain}
 use Rattle.folder_store.proofs.LoadLemmas.{aliases_alone, off_way, Loads-made}
@@ -50,13 +51,12 @@ returns-clause-loaded g c =
     (subst (λ b. HandsBack (found (folder.is_honest zero) b) (folder.images zero) (folder.made two) opening.rings opening.left) steady_one
     (subst (λ b. HandsBack (found b (folder.is_steady one)) (folder.images zero) (folder.made two) opening.rings opening.left) honest_one
     (c.in_ok-opening.ensures.handed (folder.images zero) (λ is name. sym (first (subst (λ b. IsTrue b) honest_one is) name)))))
-    (λ is. c.in_ok-aliases.ensures.image (subst (λ b. IsTrue b) (sym honest_two) is))
-    c.in_ok-aliases.ensures.shown
+    (subst (λ b. AreFound b (folder.images two aliases) c.in_ok-aliases.aliases) honest_two c.in_ok-aliases.ensures.found)
     (found_same slot.seen slot.temporary slot.may_leave slot.left_since slot.is_honest slot.is_steady (folder.is_honest zero) (folder.is_steady zero)
-    (folder.images two aliases) (folder.images zero aliases) c.in_ok-aliases.aliases.cell.slot
+    (folder.images two aliases) (folder.images zero aliases) (alias_slot c.in_ok-aliases.aliases)
     (λ is. walked.same is aliases off ∙ first is aliases)
-    (subst (λ b. found (folder.is_honest zero) b (folder.images two aliases) c.in_ok-aliases.aliases.cell.slot) steady_two
-    (subst (λ b. found b (folder.is_steady two) (folder.images two aliases) c.in_ok-aliases.aliases.cell.slot) honest_two c.in_ok-aliases.ensures.slot)))
+    (subst (λ b. found (folder.is_honest zero) b (folder.images two aliases) (alias_slot c.in_ok-aliases.aliases)) steady_two
+    (subst (λ b. found b (folder.is_steady two) (folder.images two aliases) (alias_slot c.in_ok-aliases.aliases)) honest_two c.in_ok-aliases.ensures.slot)))
     c.in_ok-aliases.ensures.made
     (λ is. c.in_ok-aliases.ensures.stays (subst (λ b. IsTrue b) (sym honest_two) is))
 

@@ -3,7 +3,7 @@ use Rattle.std.proofs.lemmas.Result.{on_ok_weaker}
 use Rattle.folder_store.specs.declared.refused.LoadRefused.TheVariants.{Folder}
 use Rattle.folder_store.specs.Walk.{none, by_itself}
 use Rattle.folder_store.proofs.OpeningLemmas.{both}
-use Rattle.folder_store.specs.Ring.{IsAsFound, HandsBack}
+use Rattle.folder_store.specs.Ring.{IsAsFound}
 use Rattle.folder_store.proofs.VisitLemmas.{failed_slot, Visits-left, Visits-read, makes_one, known_alone, found_there, keeps_handed}
 use Rattle.folder_store.proofs.loading.take_file.Goals as goal
 

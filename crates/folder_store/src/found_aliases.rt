@@ -1,0 +1,48 @@
+ghost use Rattle.std.specs.Prelude.{◌≡◌, IsTrue, IfOk};
+ghost use Rattle.kr_outside.specs.RenameDisk.{Only};
+ghost use Rattle.alias_text.specs.Pairs.{longest};
+ghost use Rattle.folder_store.specs.Aliases.{AreFound, alias_slot, pairs_in};
+ghost use Rattle.folder_store.specs.Walk.{Looks};
+
+use crate::alias_file::AliasFile;
+use crate::reading::Look;
+use kr_base::{OutOfMemory, Stem, Text};
+use kr_outside::Slot;
+use std::alloc::Global;
+
+/// What a start finds of the aliases.
+#[derive(Drop)]
+pub enum FoundAliases<S: Slot> {
+    /// There is no file, or one of at most 1,048,576 bytes, which was read.
+    Read(AliasFile<S>),
+    /// There is a longer file, which gives no aliases. It was left alone, and its slot is here.
+    LeftAlone(S),
+}
+
+impl<S: Slot> FoundAliases<S> {
+    /// The aliases, lent in byte order of their names.
+    pub fn pairs(&self) -> &[(Text, Stem)]
+        ensures { result.now ≡ pairs_in self.now }
+    {
+        match self {
+            FoundAliases::Read(file) => file.pairs(),
+            FoundAliases::LeftAlone(_) => &[],
+        }
+    }
+}
+
+/// The aliases of a file that was settled and looked at.
+pub fn found_by<S: Slot>(alloc: Global, slot: S, look: Look) -> Result<FoundAliases<S>, OutOfMemory>
+    requires looked { IsTrue (S.is_honest slot) → Looks longest (S.seen slot) look }
+    requires settled { IsTrue (S.is_honest slot) → Only (S.seen slot) (S.may_leave slot) }
+    ensures found { IfOk result (AreFound (S.is_honest slot) (S.seen slot)) }
+    ensures slot { IfOk result (λ found. alias_slot found ≡ slot) }
+{
+    match look {
+        Look::Whole(image) => {
+            let file = AliasFile::read(alloc, slot, image)?;
+            Ok(FoundAliases::Read(file))
+        }
+        Look::Longer => Ok(FoundAliases::LeftAlone(slot)),
+    }
+}
