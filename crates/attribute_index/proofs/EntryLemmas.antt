@@ -20,7 +20,7 @@ Equal-is Greater e = absurd cc
 pub same_name : (x y : List ℕ) → is_name x y ≡ true → x ≡ y
 same_name x y e = exact_bytes x y (Equal-is (slice_cmp nat_cmp x y) e)
 
-one_name : (text x y : List ℕ) → is_name text x ≡ true → is_name text y ≡ is_name x y
+pub one_name : (text x y : List ℕ) → is_name text x ≡ true → is_name text y ≡ is_name x y
 one_name text x y is = ap (λ t. is_name t y) (same_name text x is)
 
 module _ {X Y : Type 0} (seen : Option X → Y) (f : Y → Y) (text : List ℕ) where

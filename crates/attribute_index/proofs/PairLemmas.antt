@@ -79,7 +79,7 @@ without-with id (x ∷ xs) rises =
 
 -- ---- names and texts
 
-itself : (x : List ℕ) → is_name x x ≡ true
+pub itself : (x : List ℕ) → is_name x x ≡ true
 itself x = ap is_eq (tied_itself nat_list_cmp_total x)
 
 pub turned : (x y : List ℕ) → is_name x y ≡ is_name y x

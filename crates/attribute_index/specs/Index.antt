@@ -1,6 +1,6 @@
 -- Which items have which attributes (Secret Service API, "Lookup Attributes"): for each pair of a name and a text the rising ids of
 -- the items that have it.
-use Rattle.std.specs.Prelude.{◌≡◌, ℕ, ◌&&◌, Bool, if◌then◌else◌, List, [], ◌∷◌, Option, Some, None, map, not}
+use Rattle.std.specs.Prelude.{◌≡◌, ℕ, ◌&&◌, Bool, if◌then◌else◌, List, [], ◌∷◌, Option, Some, None, IfSome, map, not}
 use Rattle.std.specs.List.{list_all}
 use Rattle.std.specs.List.Sorted.{IsStrictlySortedBy}
 use Rattle.std.specs.Map.{lookup}
@@ -72,6 +72,18 @@ IsSame old new = (name text : List ℕ) → ids_in_names new name text ≡ ids_i
 -- the ids at each name and text rise
 abbrev pub AllRise : Names → Type 0
 AllRise names = (name text : List ℕ) → IsIdList (ids_in_names names name text)
+
+-- no text is kept without ids, among the texts of one name
+abbrev pub IsLeanAmong : List (List ℕ × List ℕ) → Type 0
+IsLeanAmong lists = (text : List ℕ) → ¬ (lookup (is_name text) lists ≡ Some [])
+
+-- of one name there are texts, and none of them is kept without ids
+abbrev pub IsLeanName : Option (List (List ℕ × List ℕ)) → Type 0
+IsLeanName found = IfSome found (λ lists. ¬ (lists ≡ []) × IsLeanAmong lists)
+
+-- no name is kept without texts, and no text without ids
+abbrev pub IsLean : Names → Type 0
+IsLean names = (name : List ℕ) → IsLeanName (lookup (is_name name) names)
 
 -- the id is at just the names and texts of the pairs
 abbrev pub IsAtJust : List (List ℕ × AttrValue) → ℕ → Names → Type 0

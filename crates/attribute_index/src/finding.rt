@@ -58,6 +58,7 @@ fn has_at<L: Ledger>(
     requires known { has_id (slice_index_or (map (λ l. l.now) lists.now) known []) id.0 ≡ true }
     ensures value { result ≡ has_id (slice_index_or (map (λ l. l.now) lists.now) place []) id.0 }
     ensures few { steps.new ≤ steps.old + 1 }
+    ensures counted { steps.old ≤ steps.new }
     ensures free { place ≡ known → steps.new ≡ steps.old }
 {
     if place == known {
@@ -73,6 +74,7 @@ fn all_have<L: Ledger>(lists: &[&IdList], known: usize, id: ItemId, steps: &mut 
     requires known { has_id (slice_index_or (map (λ l. l.now) lists.now) known []) id.0 ≡ true }
     ensures value { result ≡ in_every (map (λ l. l.now) lists.now) id.0 }
     ensures few { steps.new + 1 ≤ steps.old + length lists.now }
+    ensures counted { steps.old ≤ steps.new }
 {
     for place in 0..lists.len() {
         if !has_at(lists, place, known, id, steps) {
@@ -96,6 +98,7 @@ pub fn in_all<L: Ledger>(
     ensures few { (place : ℕ) → place < length lists.now
         → steps.new ≤ steps.old + length (slice_index_or (map
         (λ l. l.now) lists.now) place []) * length lists.now }
+    ensures counted { IfOk result (λ found. steps.old + length found.items ≤ steps.new) }
 {
     let least = shortest(lists);
     let first = lists[least];
@@ -117,6 +120,7 @@ pub fn all_of<L: Ledger>(
 ) -> Result<Vec<ItemId>, OutOfMemory>
     ensures ids { IfOk result (λ found. map (λ id. id.0) found.items ≡ ids.now) }
     ensures few { steps.new ≤ steps.old + length ids.now }
+    ensures counted { IfOk result (λ found. steps.old + length found.items ≤ steps.new) }
 {
     let mut found = Vec::new(alloc);
     for place in 0..ids.len() {

@@ -23,13 +23,13 @@ pub struct AttributeIndex {
 
 impl Model for AttributeIndex {
     ghost use Rattle.std.specs.Prelude.{◌≡◌, []};
-    ghost use Rattle.attribute_index.specs.Index.{AllRise, Index};
+    ghost use Rattle.attribute_index.specs.Index.{AllRise, Index, IsLean};
 
     ghost Value = { Index };
 
     ghost view = { λ i. record { names = i.names.entries; all = i.all } };
 
-    ghost invariant = { λ i. AllRise i.names.entries × (i.none ≡ []) };
+    ghost invariant = { λ i. AllRise i.names.entries × IsLean i.names.entries × (i.none ≡ []) };
 }
 
 /// A number of 32 bits is below their count.
@@ -170,7 +170,8 @@ impl AttributeIndex {
     /// by its decimal text.
     ///
     /// A step is one id read or looked up. There are as many steps at most as the rarest wanted pair has
-    /// ids, times the number of wanted pairs, and with none wanted as many as there are ids.
+    /// ids, times the number of wanted pairs, and with none wanted as many as there are ids. Each id that is
+    /// found is a step at least, so they are counted here and nowhere else.
     pub fn find<L: Ledger>(
         &self,
         wanted: &Attributes,
@@ -182,6 +183,7 @@ impl AttributeIndex {
             ≤ steps.old + length (slice_index_or (wanted_lists self.now wanted.now) pair [])
             * length wanted.now }
         ensures few_of_all { wanted.now ≡ [] → steps.new ≤ steps.old + length self.now.all }
+        ensures counted { IfOk result (λ found. steps.old + length found.items ≤ steps.new) }
     {
         if wanted.is_empty() {
             return all_of(self.alloc, &self.all, steps);

@@ -1,9 +1,10 @@
 ghost use Rattle.std.specs.Map.{lookup};
 ghost use Rattle.std.specs.Option.{option_copied};
-ghost use Rattle.std.specs.Prelude.{◌≡◌, ℕ, List, [], IsTrue, take as front, OnOk, OnErr};
+ghost use Rattle.std.specs.Bool.{OnFalse};
+ghost use Rattle.std.specs.Prelude.{◌≡◌, ◌↔◌, ℕ, List, [], IsTrue, false, take as front, OnOk, OnErr};
 ghost use Rattle.kr_base.specs.Attributes.{is_name};
 ghost use Rattle.attribute_match.specs.Match.{text_of};
-ghost use Rattle.attribute_index.specs.Index.{AllRise, IsAtJust, IsPut, IsPutAmong, IsSame, IsSameAmong, IsTaken, IsTakenAmong, ids_in_names, is_own, is_own_pair, is_this};
+ghost use Rattle.attribute_index.specs.Index.{AllRise, IsAtJust, IsLean, IsLeanAmong, IsLeanName, IsPut, IsPutAmong, IsSame, IsSameAmong, IsTaken, IsTakenAmong, ids_in_names, is_own, is_own_pair, is_this};
 
 use crate::texts;
 use attribute_match::has_pair;
@@ -13,7 +14,7 @@ use std::collections::BTreeMap;
 use std::marker::Model;
 
 /// The texts that items have at one name, each with the items that have it.
-#[derive(Debug, Drop)]
+#[derive(Drop)]
 pub struct Texts {
     lists: BTreeMap<Text, IdList>,
 }
@@ -40,20 +41,22 @@ impl Texts {
     fn put(&mut self, alloc: Global, text: &Text, id: ItemId) -> Result<(), OutOfMemory>
         ensures put { OnOk result (IsPutAmong text.now id.0 self.old self.new) }
         ensures unchanged { OnErr result (IsSameAmong self.old self.new) }
+        ensures lean { IsLeanAmong self.old → IsLeanAmong self.new }
     {
         texts::put(alloc, &mut self.lists, text, id)
     }
 
     /// Takes an id out at a text.
     fn take(&mut self, alloc: Global, text: &Text, id: ItemId)
-        ensures { IsTakenAmong text.now id.0 self.old self.new }
+        ensures taken { IsTakenAmong text.now id.0 self.old self.new }
+        ensures lean { IsLeanAmong self.old → IsLeanAmong self.new }
     {
         texts::take(alloc, &mut self.lists, text, id);
     }
 
     /// Whether there is no text.
     fn is_empty(&self) -> bool
-        ensures { IsTrue result → self.now ≡ [] }
+        ensures { IsTrue result ↔ (self.now ≡ []) }
     {
         self.lists.is_empty()
     }
@@ -77,6 +80,7 @@ fn put(
     ensures put { OnOk result (IsPut (is_this name.now text.now) id.0
         names.old.entries names.new.entries) }
     ensures unchanged { OnErr result (IsSame names.old.entries names.new.entries) }
+    ensures lean { IsLean names.old.entries → IsLean names.new.entries }
 {
     if let Some(texts) = names.get_mut(name) {
         return texts.put(alloc, text, id);
@@ -101,6 +105,10 @@ fn take_there(
         names.new.entries }
     ensures none_left { IsTrue result → (t : List ℕ) → ids_in_names names.new.entries name.now t
         ≡ [] }
+    ensures some_left { OnFalse result (IsLean names.old.entries
+        → IsLeanName (lookup (is_name name.now) names.new.entries)) }
+    ensures others { (other : List ℕ) → is_name name.now other ≡ false
+        → lookup (is_name other) names.new.entries ≡ lookup (is_name other) names.old.entries }
 {
     match names.get_mut(name) {
         Some(texts) => {
@@ -113,8 +121,9 @@ fn take_there(
 
 /// Takes an id out at a pair. A name that has no text left goes.
 fn take(alloc: Global, names: &mut BTreeMap<Text, Texts>, name: &Text, text: &Text, id: ItemId)
-    ensures { IsTaken (is_this name.now text.now) id.0 names.old.entries
+    ensures taken { IsTaken (is_this name.now text.now) id.0 names.old.entries
         names.new.entries }
+    ensures lean { IsLean names.old.entries → IsLean names.new.entries }
 {
     if take_there(alloc, names, name, text, id) {
         names.remove(name);
@@ -132,6 +141,7 @@ fn put_value(
     ensures put { OnOk result (IsPut (is_this name.now (text_of value.now)) id.0
         names.old.entries names.new.entries) }
     ensures unchanged { OnErr result (IsSame names.old.entries names.new.entries) }
+    ensures lean { IsLean names.old.entries → IsLean names.new.entries }
 {
     match value {
         AttrValue::Text(text) => put(alloc, names, name, text, id),
@@ -147,8 +157,9 @@ fn take_value(
     value: &AttrValue,
     id: ItemId,
 )
-    ensures { IsTaken (is_this name.now (text_of value.now)) id.0 names.old.entries
+    ensures taken { IsTaken (is_this name.now (text_of value.now)) id.0 names.old.entries
         names.new.entries }
+    ensures lean { IsLean names.old.entries → IsLean names.new.entries }
 {
     match value {
         AttrValue::Text(text) => take(alloc, names, name, text, id),
@@ -167,6 +178,7 @@ fn put_own(
     ensures put { OnOk result (IsPut (is_own_pair pair.now but.now) id.0
         names.old.entries names.new.entries) }
     ensures unchanged { OnErr result (IsSame names.old.entries names.new.entries) }
+    ensures lean { IsLean names.old.entries → IsLean names.new.entries }
 {
     if has_pair(&pair.0, &pair.1, but) {
         return Ok(());
@@ -182,8 +194,9 @@ fn take_own(
     but: &Attributes,
     id: ItemId,
 )
-    ensures { IsTaken (is_own_pair pair.now but.now) id.0
+    ensures taken { IsTaken (is_own_pair pair.now but.now) id.0
         names.old.entries names.new.entries }
+    ensures lean { IsLean names.old.entries → IsLean names.new.entries }
 {
     if has_pair(&pair.0, &pair.1, but) {
         return;
@@ -203,6 +216,7 @@ fn put_first(
         id.0 names.old.entries names.new.entries) }
     ensures some { OnErr result ((count : ℕ)
         × IsPut (is_own (front count pairs.now) but.now) id.0 names.old.entries names.new.entries) }
+    ensures lean { IsLean names.old.entries → IsLean names.new.entries }
 {
     for place in 0..pairs.len() {
         if let Err(_) = put_own(alloc, names, &pairs[place], but, id) {
@@ -220,7 +234,8 @@ pub fn take_all(
     but: &Attributes,
     id: ItemId,
 )
-    ensures { IsTaken (is_own pairs.now but.now) id.0 names.old.entries names.new.entries }
+    ensures taken { IsTaken (is_own pairs.now but.now) id.0 names.old.entries names.new.entries }
+    ensures lean { IsLean names.old.entries → IsLean names.new.entries }
 {
     for place in 0..pairs.len() {
         take_own(alloc, names, &pairs[place], but, id);
@@ -241,6 +256,7 @@ pub fn put_all(
     ensures put { OnOk result (IsPut (is_own pairs.now but.now)
         id.0 names.old.entries names.new.entries) }
     ensures unchanged { OnErr result (IsSame names.old.entries names.new.entries) }
+    ensures lean { IsLean names.old.entries → IsLean names.new.entries }
 {
     if let Err(_) = put_first(alloc, names, pairs, but, id) {
         take_all(alloc, names, pairs, but, id);

@@ -1,5 +1,5 @@
 -- The decimal text of a number is a text.
-use Rattle.std.proofs.Common.{◌≡◌, ℕ, ◌<◌, ◌≤◌, List, length, get_or, arith, rules, subst, sym}
+use Rattle.std.proofs.Common.{◌≡◌, ℕ, ◌<◌, List, get_or, arith, rules, subst}
 use Rattle.std.specs.Prelude.{decimal, Contains, IsUtf8}
 use Rattle.std.specs.Str.Parse.{AllDigits, digits_value}
 use Rattle.std.proofs.lemmas.Fmt.{digits_decimal}

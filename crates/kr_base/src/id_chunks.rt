@@ -13,7 +13,7 @@ const MOST: usize = 512;
 
 /// Some ids of a list, one after the other, and how many ids come before them. A change in the middle of
 /// a long list moves the ids of one chunk alone.
-#[derive(Debug, Drop)]
+#[derive(Drop)]
 pub struct Chunk {
     before: usize,
     ids: Vec<u32>,

@@ -8,7 +8,7 @@ use std::marker::Model;
 use std::sync::ledger::Ledger;
 
 /// Where the ids of a list lie. Most attributes of an item are its own alone.
-#[derive(Debug, Drop)]
+#[derive(Drop)]
 enum Held {
     /// One id, in the value itself.
     One(u32),
@@ -18,7 +18,7 @@ enum Held {
 
 /// Ids of items in rising order. A contract sees the list of their numbers. Reading an id, or looking one
 /// up, is one step.
-#[derive(Debug, Drop)]
+#[derive(Drop)]
 pub struct IdList {
     held: Held,
 }

@@ -7,3 +7,4 @@ invariant-loop-place g l =
     (in_every (take l.place (map (λ x. x.now) l.lists)) l.id.0 ≡ true)
     × (l.place ≤ l.known → l.steps ≤ l.initial.steps + l.place)
     × (l.known < l.place → l.steps + 1 ≤ l.initial.steps + l.place)
+    × (l.initial.steps ≤ l.steps)
