@@ -1,7 +1,7 @@
--- The text of a number, and the pair that a search in order finds.
-use Rattle.std.proofs.Common.{◌≡◌, ℕ, ◌<◌, ◌||◌, ◌&&◌, Bool, true, false, cond, List, [], ◌∷◌, Option, Some, None, Result, Ok, Err, refl, sym, ap, ◌∙◌, ⊎_elim, rules, arith, nat_lt}
-use Rattle.std.specs.Prelude.{decimal}
-use Rattle.std.specs.Cmp.Lexicographic.{slice_cmp, nat_list_cmp_total}
+-- The text of a number, the pair that a search in order finds, and lists that are compared pair by pair.
+use Rattle.std.proofs.Common.{◌≡◌, ℕ, ◌+◌, ◌<◌, ◌≤◌, ◌||◌, ◌&&◌, Bool, true, false, cond, List, [], ◌∷◌, Option, Some, None, Result, Ok, Err, refl, sym, ap, subst, ◌∙◌, ⊎_elim, rules, arith, nat_lt, zero, suc, length, map, take, get_or}
+use Rattle.std.specs.Prelude.{decimal, IsTrue, ◌↔◌}
+use Rattle.std.specs.Cmp.Lexicographic.{slice_cmp, nat_list_cmp_total, pointwise, pointwise_decides}
 use Rattle.std.specs.Map.{keys_of}
 use Rattle.std.specs.Ordering.{nat_cmp, is_eq}
 use Rattle.std.specs.declared.cmp.Ordering.{Ordering}
@@ -11,6 +11,7 @@ use Rattle.std.proofs.lemmas.Bool.{cases_Bool, ltb-true}
 use Rattle.std.proofs.lemmas.Bool.Decides.{nat_tests}
 use Rattle.std.proofs.lemmas.Cmp.{eq_by_cmp_equiv, tied_itself}
 use Rattle.std.proofs.lemmas.Fmt.{parse-decimal, digits_value-decimal}
+use Rattle.std.proofs.lemmas.List.{take_all}
 use Rattle.std.proofs.lemmas.Map.{lookup-none}
 use Rattle.std.proofs.lemmas.Map.Entries.{none_past_head}
 use Rattle.std.proofs.lemmas.Map.Keys.{IsDistinct-from_sorted, sorted_tail}
@@ -18,7 +19,7 @@ use Rattle.std.proofs.lemmas.Map.Lookups.{exact_bytes}
 use Rattle.std.proofs.lemmas.Str.Parse.{IsNumeralModel, numerals_by_value}
 use Rattle.kr_base.specs.Attributes.{is_name, IsInOrder, value_at}
 use Rattle.kr_base.specs.declared.attributes.AttrValue.{AttrValue}
-use Rattle.attribute_match.specs.Match.{text_of, has_pair, number_of}
+use Rattle.attribute_match.specs.Match.{text_of, texts_of, has_pair, is_equal, is_same_pair, number_of}
 
 -- ---- the number of a text
 
@@ -30,8 +31,8 @@ Equal-is Less e = absurd cc
 Equal-is Equal e = refl
 Equal-is Greater e = absurd cc
 
-is_equal : (x y : List ℕ) → is_name x y ≡ true → x ≡ y
-is_equal x y e = exact_bytes x y (Equal-is (slice_cmp nat_cmp x y) e)
+same-name : (x y : List ℕ) → is_name x y ≡ true → x ≡ y
+same-name x y e = exact_bytes x y (Equal-is (slice_cmp nat_cmp x y) e)
 
 -- a number's text is that of the number
 pub number_of-decimal : (n : ℕ) → n < 4294967296 → number_of (decimal n) ≡ Some n
@@ -46,7 +47,7 @@ number_of-none text other =
     let step : (a b : Bool) → nat_lt (digits_value 10 text) 4294967296 ≡ a → is_name (decimal (digits_value 10 text)) text ≡ b → None ≡ cond (a && b) (Some (digits_value 10 text)) None =
     elim [
       | true ↦ elim [
-        | true ↦ λ fits same. absurd (other (digits_value 10 text) (ltb-true _ _ fits) (sym (is_equal _ _ same)))
+        | true ↦ λ fits same. absurd (other (digits_value 10 text) (ltb-true _ _ fits) (sym (same-name _ _ same)))
         | false ↦ λ fits same. refl
       ]
       | false ↦ λ b fits same. refl
@@ -95,3 +96,71 @@ has_pair-value_at name text (e ∷ es) s =
     rw (at, off) (or_false (is_name text (text_of e.1))))
     (λ off. rw off more)
     (cases_Bool (is_name name e.0))
+
+-- ---- lists that are compared pair by pair
+
+both-true : (a b : Bool) → (a && b) ≡ true → (a ≡ true) × (b ≡ true)
+both-true true true e = (refl, refl)
+both-true true false e = absurd cc
+both-true false b e = absurd cc
+
+and_false : (b : Bool) → (b && false) ≡ false
+and_false true = refl
+and_false false = refl
+
+module _ {X Y : Type 0} (E : Y → Y → Bool) (f : X → Y) where
+  alike-next : (xs ys : List X) (place : ℕ) (x y : X) → place < length xs → place < length ys → x ≡ get_or xs place x → y ≡ get_or ys place y → pointwise E (map f (take place xs)) (map f (take place ys)) ≡ true → true ≡ E (f x) (f y)
+      → pointwise E (map f (take (suc place) xs)) (map f (take (suc place) ys)) ≡ true
+  alike-next [] ys place x y in_xs in_ys is_x is_y had here = absurd (omega (arith, in_xs))
+  alike-next (a ∷ left) [] place x y in_xs in_ys is_x is_y had here = absurd (omega (arith, in_ys))
+  alike-next (a ∷ left) (b ∷ right) zero x y in_xs in_ys is_x is_y had here =
+      let at : E (f x) (f y) ≡ E (f a) (f b) = λ i. E (f (is_x i)) (f (is_y i)) in
+      let yes : E (f a) (f b) ≡ true = sym at ∙ sym here in
+      rw yes refl
+  alike-next (a ∷ left) (b ∷ right) (suc place) x y in_xs in_ys is_x is_y had here =
+      let halves = both-true (E (f a) (f b)) (pointwise E (map f (take place left)) (map f (take place right))) had in
+      let rest = alike-next left right place x y (omega (arith, in_xs)) (omega (arith, in_ys)) is_x is_y halves.1 here in
+      rw halves.0 rest
+
+  pub alike-more : (xs ys : List X) (place : ℕ) (x y : X) → place < length xs → place < length ys → x ≡ get_or xs place x → y ≡ get_or ys place y → pointwise E (map f (take place xs)) (map f (take place ys)) ≡ true → true ≡ E (f x) (f y)
+      → pointwise E (map f (take (place + 1) xs)) (map f (take (place + 1) ys)) ≡ true
+  alike-more xs ys place x y in_xs in_ys is_x is_y had here =
+      let one : suc place ≡ place + 1 = omega arith in
+      subst (λ n. pointwise E (map f (take n xs)) (map f (take n ys)) ≡ true) one (alike-next xs ys place x y in_xs in_ys is_x is_y had here)
+
+  pub unlike-at : (xs ys : List X) (place : ℕ) (x y : X) → place < length xs → place < length ys → x ≡ get_or xs place x → y ≡ get_or ys place y → false ≡ E (f x) (f y) → false ≡ pointwise E (map f xs) (map f ys)
+  unlike-at [] ys place x y in_xs in_ys is_x is_y off = absurd (omega (arith, in_xs))
+  unlike-at (a ∷ left) [] place x y in_xs in_ys is_x is_y off = absurd (omega (arith, in_ys))
+  unlike-at (a ∷ left) (b ∷ right) zero x y in_xs in_ys is_x is_y off =
+      let at : E (f x) (f y) ≡ E (f a) (f b) = λ i. E (f (is_x i)) (f (is_y i)) in
+      let no : E (f a) (f b) ≡ false = sym at ∙ sym off in
+      rw no refl
+  unlike-at (a ∷ left) (b ∷ right) (suc place) x y in_xs in_ys is_x is_y off =
+      let rest = unlike-at left right place x y (omega (arith, in_xs)) (omega (arith, in_ys)) is_x is_y off in
+      sym (ap (λ t. E (f a) (f b) && t) (sym rest) ∙ and_false (E (f a) (f b)))
+
+  pub alike-all : (xs ys : List X) (place : ℕ) → length xs ≤ place → length ys ≤ place → pointwise E (map f (take place xs)) (map f (take place ys)) ≡ true → true ≡ pointwise E (map f xs) (map f ys)
+  alike-all xs ys place all_xs all_ys had = sym (subst (λ l. pointwise E (map f l) (map f ys) ≡ true) (take_all place xs all_xs) (subst (λ l. pointwise E (map f (take place xs)) (map f l) ≡ true) (take_all place ys all_ys) had))
+
+name-itself : (x y : List ℕ) → x ≡ y → is_name x y ≡ true
+name-itself x y e = subst (λ t. is_name x t ≡ true) e (ap is_eq (tied_itself nat_list_cmp_total x))
+
+pair-decides : (one other : List ℕ × List ℕ) → (is_same_pair one other ≡ true → one ≡ other) × (one ≡ other → is_same_pair one other ≡ true)
+pair-decides one other = (
+  λ yes.
+      let halves = both-true (is_name one.0 other.0) (is_name one.1 other.1) yes in
+      let names = same-name one.0 other.0 halves.0 in
+      let texts = same-name one.1 other.1 halves.1 in
+      λ i. (names i, texts i),
+  λ e. rw (name-itself one.0 other.0 (ap (λ (p : List ℕ × List ℕ). p.0) e)) (name-itself one.1 other.1 (ap (λ (p : List ℕ × List ℕ). p.1) e)),
+)
+
+-- the test decides whether the lists of names with texts are one
+pub equal-is : (one other : List (List ℕ × AttrValue)) → (is_equal one other ≡ true → texts_of one ≡ texts_of other) × (texts_of one ≡ texts_of other → is_equal one other ≡ true)
+equal-is one other = pointwise_decides pair-decides (texts_of one) (texts_of other)
+
+pub equal-by : (one other : List (List ℕ × AttrValue)) → true ≡ is_equal one other → IsTrue true ↔ (texts_of one ≡ texts_of other)
+equal-by one other is = (λ t. (equal-is one other).0 (sym is), λ e. refl)
+
+pub unequal-by : (one other : List (List ℕ × AttrValue)) → false ≡ is_equal one other → IsTrue false ↔ (texts_of one ≡ texts_of other)
+unequal-by one other off = (λ f. absurd cc, λ e. off ∙ (equal-is one other).1 e)

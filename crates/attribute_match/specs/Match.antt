@@ -1,6 +1,7 @@
 -- Secret Service API, "Lookup Attributes": an item matches where it has each wanted attribute. GNOME keyring file format: while a
 -- file is locked, its items are found by the hashes of their attributes.
-use Rattle.std.specs.Prelude.{ℕ, ◌&&◌, Bool, false, cond, nat_lt, nat_eq, List, Option, Some, None, decimal}
+use Rattle.std.specs.Prelude.{ℕ, ◌&&◌, Bool, false, cond, nat_lt, nat_eq, List, Option, Some, None, decimal, map}
+use Rattle.std.specs.Cmp.Lexicographic.{pointwise}
 use Rattle.std.specs.List.{list_any, list_all}
 use Rattle.std.specs.Str.Parse.{digits_value}
 use Rattle.kr_base.specs.Attributes.{is_name}
@@ -23,6 +24,18 @@ has_pair name text attributes = list_any (λ pair. is_name name pair.0 && is_nam
 -- for each wanted attribute, the item has that name with that text
 abbrev pub matches : List (List ℕ × AttrValue) → List (List ℕ × AttrValue) → Bool
 matches wanted attributes = list_all (λ pair. has_pair pair.0 (text_of pair.1) attributes) wanted
+
+-- the attributes as the API shows them: each name with the text of its value
+abbrev pub texts_of : List (List ℕ × AttrValue) → List (List ℕ × List ℕ)
+texts_of attributes = map (λ pair. (pair.0, text_of pair.1)) attributes
+
+-- two pairs have the same name and the same text
+abbrev pub is_same_pair : List ℕ × List ℕ → List ℕ × List ℕ → Bool
+is_same_pair one other = is_name one.0 other.0 && is_name one.1 other.1
+
+-- whether the API shows the same attributes: the two lists of names with texts are equal
+abbrev pub is_equal : List (List ℕ × AttrValue) → List (List ℕ × AttrValue) → Bool
+is_equal one other = pointwise is_same_pair (texts_of one) (texts_of other)
 
 -- the number of 32 bits of which this is the decimal text, without leading zeros
 abbrev pub number_of : List ℕ → Option ℕ

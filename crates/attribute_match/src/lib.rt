@@ -6,4 +6,4 @@
 mod matching;
 mod shown;
 
-pub use matching::{has_pair, hashed_matches, matches};
+pub use matching::{has_pair, hashed_matches, is_equal, matches};

@@ -1,6 +1,6 @@
-ghost use Rattle.std.specs.Prelude.{◌≡◌};
+ghost use Rattle.std.specs.Prelude.{◌≡◌, ◌↔◌, ◌&&◌, IsTrue};
 ghost use Rattle.kr_base.specs.Attributes.{is_name};
-ghost use Rattle.attribute_match.specs.Match.{has_hash as has_hash_of, has_pair as has_pair_of, hashed_matches as matches_by_hashes, is_hash_of as is_hash, matches as matches_by_texts, text_of};
+ghost use Rattle.attribute_match.specs.Match.{has_hash as has_hash_of, has_pair as has_pair_of, hashed_matches as matches_by_hashes, is_equal as is_equal_to, is_hash_of as is_hash, is_same_pair as are_same, matches as matches_by_texts, text_of, texts_of};
 
 use crate::shown::{number_of, shown};
 use attribute_hash::{number_hash, text_hash};
@@ -46,6 +46,32 @@ pub fn matches(wanted: &Attributes, item: &Attributes) -> bool
         .as_slice()
         .iter()
         .all(|pair| has_pair(&pair.0, &pair.1, item))
+}
+
+/// Whether the two pairs have the same name and are shown as one text.
+fn is_same_pair(one: &(Text, AttrValue), other: &(Text, AttrValue)) -> bool
+    ensures { result ≡ are_same (one.now.0, text_of one.now.1) (other.now.0, text_of other.now.1) }
+{
+    is_same(one.0.as_bytes(), other.0.as_bytes()) && is_shown_alike(&one.1, &other.1)
+}
+
+/// Whether the two have the same names with the same texts, a number shown as its decimal text. It takes
+/// no memory.
+pub fn is_equal(one: &Attributes, other: &Attributes) -> bool
+    ensures value { result ≡ is_equal_to one.now other.now }
+    ensures same { IsTrue result ↔ (texts_of one.now ≡ texts_of other.now) }
+{
+    if one.len() != other.len() {
+        return false;
+    }
+    let pairs = one.as_slice();
+    let others = other.as_slice();
+    for place in 0..pairs.len() {
+        if !is_same_pair(&pairs[place], &others[place]) {
+            return false;
+        }
+    }
+    true
 }
 
 /// Whether the hash is that of the text, or of the number of which the text is the decimal text.
