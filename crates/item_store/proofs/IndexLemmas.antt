@@ -16,11 +16,12 @@ use Rattle.std.specs.Prelude.{IfSome}
 use Rattle.kr_base.specs.IdLists.{has_id, with_id, without_id}
 use Rattle.kr_base.specs.declared.attributes.AttrValue.{AttrValue}
 use Rattle.kr_base.proofs.IdLemmas.{Rises, AllBelow, lower-below, upper-below}
-use Rattle.attribute_match.specs.Match.{has_pair, matches, text_of}
+use Rattle.kr_base.specs.Attributes.{is_name}
+use Rattle.attribute_match.specs.Match.{has_pair, is_equal, matches, text_of}
 use Rattle.attribute_index.specs.Index.{Index, IsAtJust, IsFound, IsMoved, IsPut, IsSame, IsTaken, ids_at, in_each, is_own, wanted_lists}
 use Rattle.attribute_index.proofs.PairLemmas.{without-lacking}
 use Rattle.item_store.specs.declared.rows.Row.{Row}
-use Rattle.item_store.specs.Rows.{Rows, IsIndexed, IsKept, IsRising, attributes_of, candidates, first_id, ids_where, is_equal, pair_lists, passes_at, row_at, rows_changed, rows_without}
+use Rattle.item_store.specs.Rows.{Rows, IsIndexed, IsKept, IsRising, attributes_of, candidates, first_id, has_just, ids_where, pair_lists, passes_at, row_at, rows_changed, rows_without}
 use Rattle.item_store.proofs.RowLemmas.{rises-same, with-rises, without-rises, has-with, has-without, where-rises, has-where, at-without, at-changed, at-above, at-added, keys-changed, keys-without, keys-added, rising-changed, rising-without, rising-added}
 
 abbrev has : List ℕ → List ℕ → Row → Bool
@@ -46,21 +47,23 @@ or_none-at : (b : Bool) → (b || false) ≡ b
 or_none-at true = refl
 or_none-at false = refl
 
-pub where-added : (p : Row → Bool) (rows : Rows) (n : ℕ) (row : Row) → IsRising rows → AllBelow n (keys_of rows) → ids_where p (rows ++ (n, row) ∷ []) ≡ cond (p row) (with_id n (ids_where p rows)) (ids_where p rows)
-where-added p rows n row rising below =
-    let now = rising-added rows n row below rising in
-    let step : (b : Bool) → p row ≡ b → ids_where p (rows ++ (n, row) ∷ []) ≡ cond b (with_id n (ids_where p rows)) (ids_where p rows) =
+pub where-put : (p : Row → Bool) (rows new : Rows) (n : ℕ) (row : Row) → IsRising rows → IsRising new → row_at n rows ≡ None → ((x : ℕ) → row_at x new ≡ cond (x == n) (Some row) (row_at x rows)) → ids_where p new ≡ cond (p row) (with_id n (ids_where p rows)) (ids_where p rows)
+where-put p rows new n row rising now none at =
+    let step : (b : Bool) → p row ≡ b → ids_where p new ≡ cond b (with_id n (ids_where p rows)) (ids_where p rows) =
     elim [
       | true ↦ λ passes. rises-same _ _ (where-rises p _ now) (with-rises n (ids_where p rows) (where-rises p rows rising))
-          (λ x. has-where p _ now x ∙ ap (passes_at p) (at-added rows n row below x)
+          (λ x. has-where p _ now x ∙ ap (passes_at p) (at x)
           ∙ ⊎_elim (λ is. ap (λ b. passes_at p (cond b (Some row) (row_at x rows))) is ∙ passes ∙ sym ((has-with n (ids_where p rows) x ∙ ap (λ b. b || has_id (ids_where p rows) x) is)))
           (λ off. rw off (sym (has-with n (ids_where p rows) x ∙ ap (λ b. b || has_id (ids_where p rows) x) off ∙ has-where p rows rising x))) (cases_Bool (x == n)))
       | false ↦ λ fails. rises-same _ _ (where-rises p _ now) (where-rises p rows rising)
-          (λ x. has-where p _ now x ∙ ap (passes_at p) (at-added rows n row below x)
-          ∙ ⊎_elim (λ is. ap (λ b. passes_at p (cond b (Some row) (row_at x rows))) is ∙ fails ∙ sym (has-where p rows rising x ∙ ap (passes_at p) (subst (λ m. row_at m rows ≡ None) (sym (eqb-true x n is)) (at-above rows n below))))
+          (λ x. has-where p _ now x ∙ ap (passes_at p) (at x)
+          ∙ ⊎_elim (λ is. ap (λ b. passes_at p (cond b (Some row) (row_at x rows))) is ∙ fails ∙ sym (has-where p rows rising x ∙ ap (passes_at p) (subst (λ m. row_at m rows ≡ None) (sym (eqb-true x n is)) none)))
           (λ off. rw off (sym (has-where p rows rising x))) (cases_Bool (x == n)))
     ] in
     step (p row) refl
+
+pub where-added : (p : Row → Bool) (rows : Rows) (n : ℕ) (row : Row) → IsRising rows → AllBelow n (keys_of rows) → ids_where p (rows ++ (n, row) ∷ []) ≡ cond (p row) (with_id n (ids_where p rows)) (ids_where p rows)
+where-added p rows n row rising below = where-put p rows (rows ++ (n, row) ∷ []) n row rising (rising-added rows n row below rising) (at-above rows n below) (at-added rows n row below)
 
 with-last : (n : ℕ) (ids : List ℕ) → AllBelow n ids → with_id n ids ≡ ids ++ n ∷ []
 with-last n ids below = λ i. lower-below n ids below i ++ n ∷ upper-below n ids below i
@@ -79,6 +82,18 @@ pub indexed-added : (rows : Rows) (index new : Index) (n : ℕ) (row : Row) → 
 indexed-added rows index new n row rising is below put all = record {
   pairs = λ name text. put name text ∙ ap (λ l. cond (has name text row) (with_id n l) l) (is.pairs name text) ∙ sym (where-added (has name text) rows n row rising below);
   all = all ∙ ap (with_id n) is.all ∙ with-last n (keys_of rows) below ∙ sym (keys-added rows n row);
+}
+
+where-all : (rows : Rows) → ids_where (λ row. true) rows ≡ keys_of rows
+where-all [] = refl
+where-all (row ∷ more) = ap (λ t. row.0 ∷ t) (where-all more)
+
+-- a row that is put at its number, which had none
+pub indexed-put : (rows new : Rows) (index after : Index) (n : ℕ) (row : Row) → IsRising rows → IsRising new → IsIndexed rows index → row_at n rows ≡ None → ((x : ℕ) → row_at x new ≡ cond (x == n) (Some row) (row_at x rows))
+    → IsPut (λ name text. has_pair name text (attributes_of row)) n index.names after.names → after.all ≡ with_id n index.all → IsIndexed new after
+indexed-put rows new index after n row rising now is none at put all = record {
+  pairs = λ name text. put name text ∙ ap (λ l. cond (has name text row) (with_id n l) l) (is.pairs name text) ∙ sym (where-put (has name text) rows new n row rising now none at);
+  all = all ∙ ap (with_id n) (is.all ∙ sym (where-all rows)) ∙ sym (where-put (λ r. true) rows new n row rising now none at) ∙ where-all new;
 }
 
 -- ---- a row that is taken out
@@ -186,10 +201,6 @@ indexed-same rows index new is same all = record { pairs = λ name text. same na
 
 -- ---- a search
 
-where-all : (rows : Rows) → ids_where (λ row. true) rows ≡ keys_of rows
-where-all [] = refl
-where-all (row ∷ more) = ap (λ t. row.0 ∷ t) (where-all more)
-
 all-lists : (rows : Rows) (index : Index) → IsRising rows → IsIndexed rows index → (wanted : List (List ℕ × AttrValue)) (x : ℕ) → in_each index wanted x ≡ list_all (λ pair. passes_at (has pair.0 (text_of pair.1)) (row_at x rows)) wanted
 all-lists rows index rising is [] x = refl
 all-lists rows index rising is (pair ∷ more) x =
@@ -221,6 +232,15 @@ kept-added rows new index after n row kept below is put all =
     let here : IsPut (λ name text. has_pair name text (attributes_of row)) n index.names after.names = subst (λ o. IfSome o (λ r. IsPut (λ name text. has_pair name text (attributes_of r)) n index.names after.names)) at put in
     subst (λ rs. IsKept rs after) (sym is) (record { rising = rising-added rows n row below kept.rising; indexed = indexed-added rows index after n row kept.rising kept.indexed below here all })
 
+pub put-there : (rows new : Rows) (n : ℕ) (row : Row) → ((x : ℕ) → row_at x new ≡ cond (x == n) (Some row) (row_at x rows)) → row_at n new ≡ Some row
+put-there rows new n row at = at n ∙ ap (λ b. cond b (Some row) (row_at n rows)) (same-number n)
+
+pub kept-put : (rows new : Rows) (index after : Index) (n : ℕ) (row : Row) → IsKept rows index → IsRising new → row_at n rows ≡ None → ((x : ℕ) → row_at x new ≡ cond (x == n) (Some row) (row_at x rows))
+    → IfSome (row_at n new) (λ r. IsPut (λ name text. has_pair name text (attributes_of r)) n index.names after.names) → after.all ≡ with_id n index.all → IsKept new after
+kept-put rows new index after n row kept now none at put all =
+    let here : IsPut (λ name text. has_pair name text (attributes_of row)) n index.names after.names = subst (λ o. IfSome o (λ r. IsPut (λ name text. has_pair name text (attributes_of r)) n index.names after.names)) (put-there rows new n row at) put in
+    record { rising = now; indexed = indexed-put rows new index after n row kept.rising now kept.indexed none at here all }
+
 pub kept-same : (rows new : Rows) (index after : Index) → IsKept rows index → new ≡ rows → IsSame index.names after.names → after.all ≡ index.all → IsKept new after
 kept-same rows new index after kept is same all = subst (λ rs. IsKept rs after) (sym is) (record { rising = kept.rising; indexed = indexed-same rows index after kept.indexed same all })
 
@@ -246,6 +266,13 @@ parts true true e = (refl, refl)
 parts true false e = absurd cc
 parts false b e = absurd cc
 
+-- attributes that are equal to given ones have the first of these
+has-first : (pair : List ℕ × AttrValue) (more attributes : List (List ℕ × AttrValue)) → is_equal (pair ∷ more) attributes ≡ true → has_pair pair.0 (text_of pair.1) attributes ≡ true
+has-first pair more [] is = absurd cc
+has-first pair more (found ∷ rest) is =
+    let here : (is_name pair.0 found.0 && is_name (text_of pair.1) (text_of found.1)) ≡ true = (parts (is_name pair.0 found.0 && is_name (text_of pair.1) (text_of found.1)) (is_equal more rest) is).0 in
+    ap (λ b. b || has_pair pair.0 (text_of pair.1) rest) here
+
 -- the ids that pass one test are among those that pass a wider one
 narrowed : (p q : Row → Bool) → ((row : Row) → p row ≡ true → q row ≡ true) → (rows : Rows) → IsRising rows → ids_where p rows ≡ filter (λ id. passes_at p (row_at id rows)) (ids_where q rows)
 narrowed p q wider rows rising =
@@ -258,16 +285,14 @@ narrowed p q wider rows rising =
     rises-same (ids_where p rows) (filter test (ids_where q rows)) (where-rises p rows rising) (IsStrictlySortedBy-filter nat_cmp test (ids_where q rows) (where-rises q rows rising))
     (λ x. has-where p rows rising x ∙ both (row_at x rows) ∙ ap (λ b. b && passes_at p (row_at x rows)) (sym (has-where q rows rising x)) ∙ sym (has-filter test (ids_where q rows) x))
 
-pub equal-rows : (rows : Rows) (index : Index) → IsKept rows index → (given : List (List ℕ × AttrValue)) → ids_where (is_equal given) rows ≡ filter (λ id. passes_at (is_equal given) (row_at id rows)) (candidates given index)
+pub equal-rows : (rows : Rows) (index : Index) → IsKept rows index → (given : List (List ℕ × AttrValue)) → ids_where (has_just given) rows ≡ filter (λ id. passes_at (has_just given) (row_at id rows)) (candidates given index)
 equal-rows rows index kept [] =
-    let wide = narrowed (is_equal []) (λ row. true) (λ row is. refl) rows kept.rising in
-    wide ∙ ap (filter (λ id. passes_at (is_equal []) (row_at id rows))) (where-all rows ∙ sym kept.indexed.all)
+    let wide = narrowed (has_just []) (λ row. true) (λ row is. refl) rows kept.rising in
+    wide ∙ ap (filter (λ id. passes_at (has_just []) (row_at id rows))) (where-all rows ∙ sym kept.indexed.all)
 equal-rows rows index kept (pair ∷ more) =
     let given : List (List ℕ × AttrValue) = pair ∷ more in
-    let wide = narrowed (is_equal given) (has pair.0 (text_of pair.1)) (λ row is.
-    let halves = parts (length given == length (attributes_of row)) (matches given (attributes_of row)) is in
-    (parts (has pair.0 (text_of pair.1) row) (matches more (attributes_of row)) halves.1).0) rows kept.rising in
-    wide ∙ ap (filter (λ id. passes_at (is_equal given) (row_at id rows))) (sym (kept.indexed.pairs pair.0 (text_of pair.1)))
+    let wide = narrowed (has_just given) (has pair.0 (text_of pair.1)) (λ row is. has-first pair more (attributes_of row) is) rows kept.rising in
+    wide ∙ ap (filter (λ id. passes_at (has_just given) (row_at id rows))) (sym (kept.indexed.pairs pair.0 (text_of pair.1)))
 
 pub first-found : (test : ℕ → Bool) (ids : List ℕ) (place id : ℕ) → place < length ids → id ≡ get_or ids place 0 → filter test (take place ids) ≡ [] → test id ≡ true → Some id ≡ first_id (filter test ids)
 first-found test ids place id lt is none passes =

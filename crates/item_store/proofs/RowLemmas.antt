@@ -1,23 +1,25 @@
 -- Rows by rising id: the row of an id after each change, and the ids of the rows that pass a test.
-use Rattle.std.proofs.Common.{◌≡◌, ℕ, ◌+◌, ◌<◌, ◌==◌, ◌&&◌, ◌||◌, not, Bool, true, false, cond, nat_eq, nat_lt, List, [], ◌∷◌, ◌++◌, length, filter, Some, None, refl, sym, ap, subst, ◌∙◌, inl, inr, ⊎_elim, arith, Less, Greater, suc, ◌-◌, get_or}
-use Rattle.std.specs.List.{AllByRecursion}
+use Rattle.std.proofs.Common.{◌≡◌, ℕ, ◌+◌, ◌<◌, ◌==◌, ◌&&◌, ◌||◌, not, Bool, true, false, cond, nat_eq, nat_lt, List, [], ◌∷◌, ◌++◌, length, map, filter, Option, Some, None, refl, sym, ap, subst, ◌∙◌, inl, inr, ⊎_elim, arith, Less, Greater, suc, ◌-◌, get_or}
+use Rattle.std.specs.List.{AllByRecursion, IsDistinct}
 use Rattle.std.specs.List.Sorted.{IsStrictlySortedBy}
 use Rattle.std.specs.BTreeMap.{is_at, insert_entry}
 use Rattle.std.specs.Map.{keys_of, lookup, remove_entry, set_value}
 use Rattle.std.proofs.lemmas.Option.{get_or_from_slice_get}
 use Rattle.std.specs.List.{slice_get}
-use Rattle.std.specs.Option.{option_map}
+use Rattle.std.specs.Option.{option_map, option_or}
 use Rattle.std.specs.Ordering.{nat_cmp}
 use Rattle.std.proofs.lemmas.Bool.{cases_Bool, cases_order, eqb-true}
 use Rattle.std.proofs.lemmas.Bool.Decides.{nat_tests}
 use Rattle.std.proofs.lemmas.List.Folds.{list_any-append}
 use Rattle.std.proofs.lemmas.List.Kept.{IsStrictlySortedBy-filter}
 use Rattle.std.proofs.lemmas.Map.Keys.{sorted_tail}
+use Rattle.kr_base.specs.declared.ids.ItemId.{ItemId}
+use Rattle.keyring_file.specs.declared.area.FullItem.{FullItem}
 use Rattle.kr_base.specs.IdLists.{has_id, with_id, without_id}
 use Rattle.kr_base.proofs.IdLemmas.{Rises, AllBelow, AllAbove, all-weaker, all-lower, all-upper, above-head, has-other, other-above, rises-joined}
 use Rattle.attribute_index.proofs.FindLemmas.{has-filter}
 use Rattle.item_store.specs.declared.rows.Row.{Row}
-use Rattle.item_store.specs.Rows.{Rows, IsRising, ids_where, last_id, next_id, passes_at, row_at, rows_changed, rows_without}
+use Rattle.item_store.specs.Rows.{HasJustRows, Rows, IsRising, ids_where, last_id, next_id, passes_at, row_at, row_of, rows_changed, rows_without}
 
 -- ---- rising lists are told by their ids
 
@@ -343,3 +345,113 @@ next-last rows n next rising =
       | false ↦ λ off. let some : Some n ≡ Some (last_id rows + 1) = rw off at next in let same : n ≡ last_id rows + 1 = cc in subst (λ m. AllBelow m (keys_of rows)) (sym same) (all-last rows rising)
     ] in
     step (nat_eq (last_id rows) 4294967295) refl
+
+-- ---- rows that are given in any order
+
+pub insert-is : (new rows : Rows) (n : ℕ) (row : Row) → ((q : ℕ) → lookup (is_at (nat_cmp q)) new ≡ cond (is_at (nat_cmp n) q) (Some row) (lookup (is_at (nat_cmp q)) rows)) → (id : ℕ) → row_at id new ≡ cond (id == n) (Some row) (row_at id rows)
+insert-is new rows n row updates id =
+    sym (lookup-is id new) ∙ updates id
+    ∙ (λ i. cond (test-is n id i) (Some row) (lookup-is id rows i))
+    ∙ ap (λ b. cond b (Some row) (row_at id rows)) (turned n id)
+
+abbrev Given : Type 0
+Given = ItemId × ℕ × FullItem
+
+-- some of the given rows are there, and the rest is still to come
+pub record IsPartly (given rest : List (ItemId × ℕ × FullItem)) (rows : Rows) : Type 0 where
+  pub distinct : IsDistinct nat_eq (map (λ row. row.0.0) rest)
+  pub fresh : AllByRecursion (λ row. row_at row.0.0 rows ≡ None) rest
+  pub each : (id : ℕ) → option_or (row_at id rows) (row_at id (map row_of rest)) ≡ row_at id (map row_of given)
+
+all-fresh : (rest : List Given) → AllByRecursion (λ row. row_at row.0.0 [] ≡ None) rest
+all-fresh [] = tt
+all-fresh (row ∷ more) = (refl, all-fresh more)
+
+pub partly-none : (given : List (ItemId × ℕ × FullItem)) → IsDistinct nat_eq (map (λ row. row.0.0) given) → IsPartly given given []
+partly-none given distinct = record { distinct = distinct; fresh = all-fresh given; each = λ id. refl }
+
+still-fresh : (n : ℕ) (row : Row) (more : List Given) (rows new : Rows) → AllByRecursion (λ y. (n == y) ≡ false) (map (λ r. r.0.0) more) → AllByRecursion (λ r. row_at r.0.0 rows ≡ None) more → ((id : ℕ) → row_at id new ≡ cond (id == n) (Some row) (row_at id rows))
+    → AllByRecursion (λ r. row_at r.0.0 new ≡ None) more
+still-fresh n row [] rows new other fresh put = tt
+still-fresh n row (r ∷ more) rows new other fresh put =
+    let off : (r.0.0 == n) ≡ false = turned r.0.0 n ∙ other.0 in
+    (put r.0.0 ∙ ap (λ b. cond b (Some row) (row_at r.0.0 rows)) off ∙ fresh.0, still-fresh n row more rows new other.1 fresh.1 put)
+
+pub partly-next : (given : List (ItemId × ℕ × FullItem)) (row : ItemId × ℕ × FullItem) (more : List (ItemId × ℕ × FullItem)) (rows new : Rows) → IsPartly given (row ∷ more) rows → ((id : ℕ) → row_at id new ≡ cond (id == row.0.0) (Some (row_of row).1) (row_at id rows)) → IsPartly given more new
+unfolding IsDistinct
+partly-next given row more rows new had put = record {
+  distinct = had.distinct.1;
+  fresh = still-fresh row.0.0 (row_of row).1 more rows new had.distinct.0 had.fresh.1 put;
+  each = λ id.
+      let rest = row_at id (map row_of more) in
+      let was : option_or (row_at id rows) (cond (id == row.0.0) (Some (row_of row).1) rest) ≡ row_at id (map row_of given) = had.each id in
+      ap (λ o. option_or o rest) (put id)
+      ∙ ⊎_elim
+      (λ is.
+      let none : row_at id rows ≡ None = subst (λ n. row_at n rows ≡ None) (sym (eqb-true id row.0.0 is)) had.fresh.0 in
+      let now = rw (is, none) at was in
+      rw is now)
+      (λ off. let now = rw off at was in rw off now)
+      (cases_Bool (id == row.0.0));
+}
+
+pub none-left-in : (rest : List (ItemId × ℕ × FullItem)) → length rest ≡ 0 → rest ≡ []
+none-left-in [] none = refl
+none-left-in (row ∷ more) none = absurd (omega (arith, none))
+
+or-none : (o : Option Row) → option_or o None ≡ o
+or-none None = refl
+or-none (Some row) = refl
+
+pub partly-all : (given rest : List (ItemId × ℕ × FullItem)) (rows : Rows) → rest ≡ [] → IsPartly given rest rows → IsRising rows → HasJustRows given rows
+partly-all given rest rows none had rising = record {
+  rising = rising;
+  each = λ id. sym (or-none (row_at id rows)) ∙ ap (λ r. option_or (row_at id rows) (row_at id (map row_of r))) (sym none) ∙ had.each id;
+}
+
+-- ---- rising rows are told by the row of each id
+
+at-below : (rows : Rows) (n : ℕ) → AllAbove n (keys_of rows) → row_at n rows ≡ None
+at-below [] n above = refl
+at-below (row ∷ more) n above = rw (apart n row.0 above.0) (at-below more n above.1)
+
+row-below : (x y : ℕ × Row) (xs ys : Rows) → IsRising (y ∷ ys) → ((z : ℕ) → row_at z (x ∷ xs) ≡ row_at z (y ∷ ys)) → x.0 < y.0 → ⊥
+row-below x y xs ys ry h lt =
+    let some : row_at x.0 (x ∷ xs) ≡ Some x.1 = rw (itself x.0) refl in
+    let none : row_at x.0 ys ≡ None = at-below ys x.0 (further x.0 y.0 (keys_of ys) lt (above-head y.0 (keys_of ys) ry)) in
+    let lacks : row_at x.0 (y ∷ ys) ≡ None = rw (apart x.0 y.0 lt) none in
+    let e : Some x.1 ≡ None = sym some ∙ h x.0 ∙ lacks in
+    absurd cc
+
+row-tails : (x y : ℕ × Row) (xs ys : Rows) → x.0 ≡ y.0 → IsRising (x ∷ xs) → IsRising (y ∷ ys) → ((z : ℕ) → row_at z (x ∷ xs) ≡ row_at z (y ∷ ys)) → (z : ℕ) → row_at z xs ≡ row_at z ys
+row-tails x y xs ys same rx ry h z =
+    ⊎_elim
+    (λ is.
+    let at_x : x.0 ≡ z = sym (eqb-true z x.0 is) in
+    let one : row_at z xs ≡ None = subst (λ n. row_at n xs ≡ None) at_x (at-below xs x.0 (above-head x.0 (keys_of xs) rx)) in
+    let other : row_at z ys ≡ None = subst (λ n. row_at n ys ≡ None) (sym same ∙ at_x) (at-below ys y.0 (above-head y.0 (keys_of ys) ry)) in
+    one ∙ sym other)
+    (λ off.
+    let off_y : (z == y.0) ≡ false = subst (λ n. (z == n) ≡ false) same off in
+    let here : row_at z (x ∷ xs) ≡ row_at z (y ∷ ys) = h z in
+    rw (off, off_y) at here)
+    (cases_Bool (z == x.0))
+
+pub rows-same : (xs ys : Rows) → IsRising xs → IsRising ys → ((z : ℕ) → row_at z xs ≡ row_at z ys) → xs ≡ ys
+rows-same [] [] rx ry h = refl
+rows-same [] (y ∷ ys) rx ry h = let e : None ≡ Some y.1 = h y.0 ∙ rw (itself y.0) refl in absurd cc
+rows-same (x ∷ xs) [] rx ry h = let e : None ≡ Some x.1 = sym (h x.0) ∙ rw (itself x.0) refl in absurd cc
+rows-same (x ∷ xs) (y ∷ ys) rx ry h =
+    elim (cases_order x.0 y.0) [
+      | inl same ↦
+          let rest = rows-same xs ys (sorted_tail nat_cmp x.0 (keys_of xs) rx) (sorted_tail nat_cmp y.0 (keys_of ys) ry) (row-tails x y xs ys same rx ry h) in
+          let at : row_at x.0 (y ∷ ys) ≡ Some y.1 = subst (λ n. row_at n (y ∷ ys) ≡ Some y.1) (sym same) (rw (itself y.0) refl) in
+          let some : row_at x.0 (x ∷ xs) ≡ Some x.1 = rw (itself x.0) refl in
+          let found : Some x.1 ≡ Some y.1 = sym some ∙ h x.0 ∙ at in
+          let rows : x.1 ≡ y.1 = cc in
+          λ i. (same i, rows i) ∷ rest i
+      | inr other ↦ elim other [
+        | inl below ↦ absurd (row-below x y xs ys ry h below)
+        | inr above ↦ absurd (row-below y x ys xs rx (λ z. sym (h z)) above)
+      ]
+    ]

@@ -1,12 +1,22 @@
 -- The items of one collection as rows by rising id (Secret Service API, interfaces Collection and Item), and the index beside them.
-use Rattle.std.specs.Prelude.{◌≡◌, ℕ, ◌+◌, Bool, false, if◌then◌else◌, List, [], ◌∷◌, Option, Some, None, length, map, filter, not, nat_eq, ◌&&◌}
+use Rattle.std.specs.Prelude.{◌≡◌, ℕ, ◌+◌, Bool, false, if◌then◌else◌, List, [], ◌∷◌, Option, Some, None, map, filter, not, nat_eq}
 use Rattle.std.specs.List.Sorted.{IsStrictlySortedBy}
 use Rattle.std.specs.Map.{keys_of, lookup}
 use Rattle.std.specs.Ordering.{nat_cmp}
 use Rattle.kr_base.specs.declared.attributes.AttrValue.{AttrValue}
+use Rattle.kr_base.specs.declared.ids.ItemId.{ItemId}
+use Rattle.keyring_file.specs.declared.area.FullItem.{FullItem}
 use Rattle.item_store.specs.declared.rows.Row.{Row}
-use Rattle.attribute_match.specs.Match.{has_pair, matches, text_of}
+use Rattle.attribute_match.specs.Match.{has_pair, is_equal, text_of}
 use Rattle.attribute_index.specs.Index.{Index, ids_at}
+
+-- the greatest id that an item can have: ids have 32 bits
+abbrev pub greatest_id : ℕ
+greatest_id = 4294967295
+
+-- how many attributes an item may have that a call gives
+abbrev pub most_attributes : ℕ
+most_attributes = 256
 
 -- each item's row, with its id
 abbrev pub Rows : Type 0
@@ -40,7 +50,7 @@ last_id (row ∷ next ∷ more) = last_id (next ∷ more)
 
 -- the id of a new item, where there is one
 abbrev pub next_id : Rows → Option ℕ
-next_id rows = if nat_eq (last_id rows) 4294967295 then None else Some (last_id rows + 1)
+next_id rows = if nat_eq (last_id rows) greatest_id then None else Some (last_id rows + 1)
 
 -- the index has, at each name and text, the ids of the rows that have the pair
 pub record IsIndexed (rows : Rows) (index : Index) : Type 0 where
@@ -56,9 +66,9 @@ pub record IsKept (rows : Rows) (index : Index) : Type 0 where
   pub rising : IsRising rows
   pub indexed : IsIndexed rows index
 
--- the attributes are the given ones, as texts: they have each of these and no other
-abbrev pub is_equal : List (List ℕ × AttrValue) → Row → Bool
-is_equal given row = nat_eq (length given) (length (attributes_of row)) && matches given (attributes_of row)
+-- the item has just the given attributes, as texts
+abbrev pub has_just : List (List ℕ × AttrValue) → Row → Bool
+has_just given row = is_equal given (attributes_of row)
 
 -- whether the row of an id is there and passes
 abbrev pub passes_at : (Row → Bool) → Option Row → Bool
@@ -78,3 +88,12 @@ first_id (id ∷ more) = Some id
 -- the ids of the items that have each of the wanted pairs, pair by pair
 abbrev pub pair_lists : List (List ℕ × AttrValue) → Rows → List (List ℕ)
 pair_lists wanted rows = map (λ pair. ids_where (λ row. has_pair pair.0 (text_of pair.1) (attributes_of row)) rows) wanted
+
+-- the row of an item that is given with its id and its kind
+abbrev pub row_of : ItemId × ℕ × FullItem → ℕ × Row
+row_of given = (given.0.0, record { kind = given.1; item = given.2 })
+
+-- the rows are those of the given items, by rising id
+pub record HasJustRows (given : List (ItemId × ℕ × FullItem)) (rows : Rows) : Type 0 where
+  pub rising : IsRising rows
+  pub each : (id : ℕ) → row_at id rows ≡ row_at id (map row_of given)

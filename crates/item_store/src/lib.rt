@@ -6,9 +6,12 @@
 #![tactic(auto)]
 
 mod fault;
+mod laws;
 mod rows;
 mod store;
+mod uncounted;
 
 pub use fault::ItemFault;
+pub use laws::rising_rows_are_one_list;
 pub use rows::Row;
 pub use store::ItemStore;

@@ -1,12 +1,13 @@
-ghost use Rattle.std.specs.Prelude.{◌≡◌, ℕ, ◌+◌, ◌<◌, ◌≤◌, ◌↔◌, IsTrue, IsNone, ◌++◌, ◌∷◌, [], OnOk, OnErr, Some, None, IfSome};
+ghost use Rattle.std.specs.Prelude.{◌≡◌, ℕ, ◌+◌, ◌<◌, ◌++◌, ◌∷◌, [], OnOk, OnErr, Some, None, if◌then◌else◌, nat_eq};
 ghost use Rattle.std.specs.Bool.{OnTrue, OnFalse};
 ghost use Rattle.std.specs.List.{AllByRecursion};
 ghost use Rattle.std.specs.Map.{keys_of};
 ghost use Rattle.std.specs.Option.{is_some};
-ghost use Rattle.item_store.specs.Rows.{IsRising, last_id, next_id, row_at, rows_changed, rows_without};
+ghost use Rattle.item_store.specs.Rows.{IsRising, greatest_id, has_just, last_id, next_id, passes_at, row_at, rows_changed, rows_without};
 
+use attribute_match::is_equal;
 use keyring_file::FullItem;
-use kr_base::{Attributes, Bytes, OutOfMemory, Text};
+use kr_base::{Attributes, Bytes, ItemId, OutOfMemory, Text};
 use std::alloc::AllocError;
 use std::collections::BTreeMap;
 
@@ -29,14 +30,21 @@ fn last_number(rows: &BTreeMap<u32, Row>) -> u32
     }
 }
 
-/// The number of a new row. None where the greatest one is 4294967295.
+/// The greatest number that a row can have.
+fn greatest() -> u32
+    ensures { result ≡ greatest_id }
+{
+    u32::MAX
+}
+
+/// The number of a new row. None where the greatest one is taken.
 pub fn next_number(rows: &BTreeMap<u32, Row>) -> Option<u32>
     ensures value { result ≡ next_id rows.now.entries }
     ensures ordered { IsRising rows.now.entries }
 {
     let _count = rows.len();
     let last = last_number(rows);
-    if last == u32::MAX {
+    if last == greatest() {
         return None;
     }
     Some(last + 1)
@@ -47,6 +55,18 @@ pub fn put_last(rows: &mut BTreeMap<u32, Row>, number: u32, row: Row) -> Result<
     requires { AllByRecursion (λ key. key < number) (keys_of rows.old.entries) }
     ensures put { OnOk result (rows.new.entries ≡ rows.old.entries ++ (number, row) ∷ []) }
     ensures unchanged { OnErr result (rows.new.entries ≡ rows.old.entries) }
+{
+    match rows.insert(number, row) {
+        Ok(_) => Ok(()),
+        Err(_) => Err(AllocError),
+    }
+}
+
+/// Puts a row at its number.
+pub fn put(rows: &mut BTreeMap<u32, Row>, number: u32, row: Row) -> Result<(), OutOfMemory>
+    ensures put { OnOk result ((id : ℕ) → row_at id rows.new.entries
+        ≡ (if nat_eq id number then Some row else row_at id rows.old.entries)) }
+    ensures rising { IsRising rows.new.entries }
 {
     match rows.insert(number, row) {
         Ok(_) => Ok(()),
@@ -75,7 +95,7 @@ pub fn set_secret(rows: &mut BTreeMap<u32, Row>, number: u32, value: Bytes, now:
     ensures set { rows.new.entries ≡ rows_changed number (λ row. record row {
       item = record row.item { value = value; modified = now };
     }) rows.old.entries }
-    ensures no_row { result ≡ is_some (row_at number rows.old.entries) }
+    ensures there { result ≡ is_some (row_at number rows.old.entries) }
     ensures unchanged { OnFalse result (rows.new.entries ≡ rows.old.entries) }
 {
     match rows.get_mut(&number) {
@@ -93,7 +113,7 @@ pub fn set_label(rows: &mut BTreeMap<u32, Row>, number: u32, label: Text, now: u
     ensures set { rows.new.entries ≡ rows_changed number (λ row. record row {
       item = record row.item { label = label; modified = now };
     }) rows.old.entries }
-    ensures no_row { result ≡ is_some (row_at number rows.old.entries) }
+    ensures there { result ≡ is_some (row_at number rows.old.entries) }
     ensures unchanged { OnFalse result (rows.new.entries ≡ rows.old.entries) }
 {
     match rows.get_mut(&number) {
@@ -116,7 +136,7 @@ pub fn set_attributes(
     ensures set { rows.new.entries ≡ rows_changed number (λ row. record row {
       item = record row.item { attributes = attributes; modified = now };
     }) rows.old.entries }
-    ensures no_row { result ≡ is_some (row_at number rows.old.entries) }
+    ensures there { result ≡ is_some (row_at number rows.old.entries) }
     ensures unchanged { OnFalse result (rows.new.entries ≡ rows.old.entries) }
 {
     match rows.get_mut(&number) {
@@ -125,6 +145,16 @@ pub fn set_attributes(
             row.item.modified = now;
             true
         }
+        None => false,
+    }
+}
+
+/// Whether the item of an id has just the given attributes, as texts.
+pub fn has_just_at(rows: &BTreeMap<u32, Row>, id: ItemId, attributes: &Attributes) -> bool
+    ensures { result ≡ passes_at (has_just attributes.now) (row_at id.0 rows.now.entries) }
+{
+    match rows.get(&id.0) {
+        Some(row) => is_equal(attributes, &row.item.attributes),
         None => false,
     }
 }

@@ -1,24 +1,21 @@
-ghost use Rattle.std.specs.Prelude.{◌≡◌, ℕ, ◌+◌, ◌<◌, ◌≤◌, ◌++◌, ◌∷◌, List, [], IfOk, IfSome, OnOk, OnErr, IsErrOf, Some, None, true, IfNone, false, ◌&&◌, ◌*◌, slice_index_or, nat_eq, filter, length, map};
+ghost use Rattle.std.specs.Prelude.{◌≡◌, ℕ, ◌+◌, ◌<◌, ◌≤◌, ◌↔◌, ◌++◌, ◌∷◌, List, [], IfOk, IfSome, OnOk, OnErr, IsErrOf, IsSome, Some, None, true, IfNone, false, ◌*◌, if◌then◌else◌, slice_index_or, nat_eq, length, map};
 ghost use Rattle.std.specs.Option.{is_some, option_copied, option_map};
 ghost use Rattle.attribute_match.specs.Match.{has_pair, matches as matches_all};
 ghost use Rattle.kr_base.specs.IdLists.{with_id};
-ghost use Rattle.std.specs.List.{AllByRecursion};
+ghost use Rattle.std.specs.List.{AllByRecursion, IsDistinct};
 ghost use Rattle.std.specs.Map.{keys_of};
-ghost use Rattle.attribute_index.specs.Index.{IsAtJust, IsFound, IsMoved, IsPut, IsSame};
-ghost use Rattle.item_store.specs.Rows.{IsKept, attributes_of, candidates, first_id, ids_where, is_equal, next_id, pair_lists, passes_at, row_at, rows_changed, rows_without};
+ghost use Rattle.attribute_index.specs.Index.{IsAtJust, IsMoved, IsPut, IsSame};
+ghost use Rattle.item_store.specs.Rows.{HasJustRows, IsKept, IsRising, attributes_of, candidates, first_id, has_just, ids_where, most_attributes, next_id, pair_lists, row_at, rows_changed, rows_without};
 
+use crate::uncounted::{first_equal, found};
 use crate::{ItemFault, Row, rows};
 use attribute_index::AttributeIndex;
-use attribute_match::matches;
 use keyring_file::FullItem;
 use kr_base::{Attributes, Bytes, IdList, ItemId, OutOfMemory, Steps, Text};
 use std::alloc::{AllocError, Global};
 use std::collections::BTreeMap;
-use std::marker::{Brand, Model};
-use std::sync::ledger::{Blank, Ledger};
-
-/// How many attributes an item may have that a call gives.
-const MOST_ATTRIBUTES: usize = 256;
+use std::marker::Model;
+use std::sync::ledger::Ledger;
 
 /// The items of one collection, by rising id. A contract sees the rows; the index beside them is equal to
 /// them at each moment.
@@ -38,6 +35,13 @@ impl Model for ItemStore {
     ghost invariant = { λ s. IsKept s.rows.entries s.index };
 }
 
+/// How many attributes an item may have that a call gives.
+fn most() -> usize
+    ensures { result ≡ most_attributes }
+{
+    256
+}
+
 impl ItemStore {
     /// No items. It takes no memory.
     pub fn new(alloc: Global) -> ItemStore
@@ -49,27 +53,40 @@ impl ItemStore {
         }
     }
 
+    /// The items of a file that was opened, each with its id and its kind; their ids are distinct.
+    pub fn loaded(rows: Vec<(ItemId, u32, FullItem)>) -> Result<ItemStore, OutOfMemory>
+        requires distinct { IsDistinct nat_eq (map (λ row. row.0.0) rows.items) }
+        ensures { IfOk result (λ store. HasJustRows rows.items store) }
+    {
+        let alloc = *rows.allocator();
+        let mut kept = BTreeMap::new(alloc);
+        let mut index = AttributeIndex::new(alloc);
+        for (id, kind, item) in rows {
+            put_row(&mut kept, &mut index, id.0, Row { kind, item })?;
+        }
+        Ok(ItemStore { rows: kept, index })
+    }
+
     /// Adds an item, with the greatest id plus 1 as its own, or 1.
     ///
-    /// Refused with `IdsSpent` where the greatest id is 4294967295, and with `TooManyAttributes` where the
-    /// item has over 256.
+    /// Refused with `IdsSpent` where the greatest id is 4294967295, and after that with `TooManyAttributes`
+    /// where the item has over 256.
     pub fn add(&mut self, item: FullItem, kind: u32) -> Result<ItemId, ItemFault>
         ensures id { IfOk result (λ id. Some id.0 ≡ next_id self.old) }
         ensures added { IfOk result (λ id. self.new
             ≡ self.old ++ (id.0, record { kind = kind; item = item }) ∷ []) }
-        ensures few { OnOk result (length item.attributes ≤ 256) }
 
-        // After a refusal the rows are as before.
-        ensures spent { IsErrOf result ItemFault.IdsSpent → next_id self.old ≡ None }
+        // The refusals, in their order. After each of them the rows are as before.
+        ensures ids_spent { IsErrOf result ItemFault.IdsSpent ↔ (next_id self.old ≡ None) }
         ensures too_many { IsErrOf result ItemFault.TooManyAttributes
-            → 256 < length item.attributes }
-        ensures no_other { IsErrOf result ItemFault.NoItem → ⊥ }
+            ↔ (IsSome (next_id self.old) × (most_attributes < length item.attributes)) }
+        ensures never_no_item { IsErrOf result ItemFault.NoItem → ⊥ }
         ensures unchanged { OnErr result (self.new ≡ self.old) }
     {
         let Some(number) = rows::next_number(&self.rows) else {
             return Err(ItemFault::IdsSpent);
         };
-        if item.attributes.len() > MOST_ATTRIBUTES {
+        if item.attributes.len() > most() {
             return Err(ItemFault::TooManyAttributes);
         }
         if let Err(_) = add_row(&mut self.rows, &mut self.index, number, Row { kind, item }) {
@@ -85,7 +102,7 @@ impl ItemStore {
         }) self.old) }
         ensures there { OnOk result (is_some (row_at id.0 self.old) ≡ true) }
         ensures no_item { OnErr result (is_some (row_at id.0 self.old) ≡ false) }
-        ensures cause { OnErr result (IsErrOf result ItemFault.NoItem) }
+        ensures only_no_item { OnErr result (IsErrOf result ItemFault.NoItem) }
         ensures unchanged { OnErr result (self.new ≡ self.old) }
     {
         if !rows::set_secret(&mut self.rows, id.0, value, now) {
@@ -101,7 +118,7 @@ impl ItemStore {
         }) self.old) }
         ensures there { OnOk result (is_some (row_at id.0 self.old) ≡ true) }
         ensures no_item { OnErr result (is_some (row_at id.0 self.old) ≡ false) }
-        ensures cause { OnErr result (IsErrOf result ItemFault.NoItem) }
+        ensures only_no_item { OnErr result (IsErrOf result ItemFault.NoItem) }
         ensures unchanged { OnErr result (self.new ≡ self.old) }
     {
         if !rows::set_label(&mut self.rows, id.0, label, now) {
@@ -112,8 +129,8 @@ impl ItemStore {
 
     /// Sets the attributes of an item, and when it was changed.
     ///
-    /// Refused with `NoItem` where there is no such item, and with `TooManyAttributes` where they are over
-    /// 256.
+    /// Refused with `NoItem` where there is no such item, and after that with `TooManyAttributes` where they
+    /// are over 256.
     pub fn set_attributes(
         &mut self,
         id: ItemId,
@@ -123,19 +140,19 @@ impl ItemStore {
         ensures set { OnOk result (self.new ≡ rows_changed id.0 (λ row. record row {
           item = record row.item { attributes = attributes; modified = now };
         }) self.old) }
-        ensures there { OnOk result (is_some (row_at id.0 self.old) ≡ true) }
-        ensures few { OnOk result (length attributes ≤ 256) }
 
-        // After a refusal the rows are as before.
-        ensures no_item { IsErrOf result ItemFault.NoItem → is_some (row_at id.0 self.old) ≡ false }
-        ensures too_many { IsErrOf result ItemFault.TooManyAttributes → 256 < length attributes }
-        ensures no_other { IsErrOf result ItemFault.IdsSpent → ⊥ }
+        // The refusals, in their order. After each of them the rows are as before.
+        ensures no_item { IsErrOf result ItemFault.NoItem
+            ↔ (is_some (row_at id.0 self.old) ≡ false) }
+        ensures too_many { IsErrOf result ItemFault.TooManyAttributes
+            ↔ ((is_some (row_at id.0 self.old) ≡ true) × (most_attributes < length attributes)) }
+        ensures never_ids_spent { IsErrOf result ItemFault.IdsSpent → ⊥ }
         ensures unchanged { OnErr result (self.new ≡ self.old) }
     {
         if !rows::has(&self.rows, id.0) {
             return Err(ItemFault::NoItem);
         }
-        if attributes.len() > MOST_ATTRIBUTES {
+        if attributes.len() > most() {
             return Err(ItemFault::TooManyAttributes);
         }
         if let Err(_) = move_row(&mut self.rows, &mut self.index, id.0, attributes, now) {
@@ -150,7 +167,7 @@ impl ItemStore {
             ≡ Some item) }
         ensures taken { OnOk result (self.new ≡ rows_without id.0 self.old) }
         ensures no_item { OnErr result (is_some (row_at id.0 self.old) ≡ false) }
-        ensures cause { OnErr result (IsErrOf result ItemFault.NoItem) }
+        ensures only_no_item { OnErr result (IsErrOf result ItemFault.NoItem) }
         ensures unchanged { OnErr result (self.new ≡ self.old) }
     {
         match remove_row(&mut self.rows, &mut self.index, id.0) {
@@ -171,7 +188,8 @@ impl ItemStore {
 
     /// The rows, lent, by rising id: a collection's file is written from them without copying an item.
     pub fn rows(&self) -> &BTreeMap<u32, Row>
-        ensures { result.now.entries ≡ self.now }
+        ensures rows { result.now.entries ≡ self.now }
+        ensures rising { IsRising self.now }
     {
         &self.rows
     }
@@ -179,19 +197,18 @@ impl ItemStore {
     /// The least id of an item that has just the given attributes, as texts. It takes no memory.
     pub fn by_equal(&self, attributes: &Attributes) -> Option<ItemId>
         ensures { option_map (λ id. id.0) result
-            ≡ first_id (ids_where (is_equal attributes.now) self.now) }
+            ≡ first_id (ids_where (has_just attributes.now) self.now) }
     {
-        first_equal::<Brand>(
+        first_equal(
             &self.rows,
             candidate_ids(&self.index, attributes),
             attributes,
-            Blank::new(1),
         )
     }
 
     /// The ids of the items that have each wanted attribute, in rising order (Secret Service API, "Lookup
     /// Attributes"), with the steps that it took: each id that is read out of the index or looked up in it
-    /// is one.
+    /// is one, so each id that is found is one at least.
     pub fn find<L: Ledger>(
         &self,
         wanted: &Attributes,
@@ -202,6 +219,7 @@ impl ItemStore {
         ensures few { (pair : ℕ) → pair < length wanted.now → steps.new ≤ steps.old
             + length (slice_index_or (pair_lists wanted.now self.now) pair []) * length wanted.now }
         ensures few_of_all { wanted.now ≡ [] → steps.new ≤ steps.old + length self.now }
+        ensures counted { IfOk result (λ found. steps.old + length found.items ≤ steps.new) }
     {
         self.index.find(wanted, steps)
     }
@@ -212,23 +230,8 @@ impl ItemStore {
         ensures { IfOk result (λ found. map (λ id. id.0) found.items
             ≡ ids_where (λ row. matches_all wanted.now (attributes_of row)) self.now) }
     {
-        found::<Brand>(&self.index, wanted, Blank::new(1))
+        found(&self.index, wanted)
     }
-}
-
-/// What an index finds, its steps counted by nobody.
-fn found<L: Ledger>(
-    index: &AttributeIndex,
-    wanted: &Attributes,
-    blank: Blank,
-) -> Result<Vec<ItemId>, OutOfMemory>
-    requires name { blank.name ≡ L.name }
-    requires parts { blank.parts ≡ L.parts }
-    requires some { 0 < L.parts }
-    ensures { IfOk result (λ found. IsFound index.now wanted.now (map (λ id. id.0) found.items)) }
-{
-    let mut steps = Steps::<L>::new(blank);
-    index.find(wanted, &mut steps)
 }
 
 /// The ids of the items that have the first of the attributes, or of all items where there is none.
@@ -239,50 +242,6 @@ fn candidate_ids<'a>(index: &'a AttributeIndex, attributes: &Attributes) -> &'a 
         Some((name, value)) => index.ids(name, value),
         None => index.all(),
     }
-}
-
-/// Whether the attributes are just the given ones, as texts.
-fn is_equal_to(given: &Attributes, attributes: &Attributes) -> bool
-    ensures { result ≡ (nat_eq (length given.now) (length attributes.now)
-        && matches_all given.now attributes.now) }
-{
-    if given.len() != attributes.len() {
-        return false;
-    }
-    matches(given, attributes)
-}
-
-/// Whether the item of an id has just the given attributes, as texts.
-fn is_equal_at(rows: &BTreeMap<u32, Row>, id: ItemId, attributes: &Attributes) -> bool
-    ensures { result ≡ passes_at (is_equal attributes.now) (row_at id.0 rows.now.entries) }
-{
-    match rows.get(&id.0) {
-        Some(row) => is_equal_to(attributes, &row.item.attributes),
-        None => false,
-    }
-}
-
-/// The first of the ids whose item has just the given attributes, as texts.
-fn first_equal<L: Ledger>(
-    rows: &BTreeMap<u32, Row>,
-    ids: &IdList,
-    attributes: &Attributes,
-    blank: Blank,
-) -> Option<ItemId>
-    requires name { blank.name ≡ L.name }
-    requires parts { blank.parts ≡ L.parts }
-    requires some { 0 < L.parts }
-    ensures { option_map (λ id. id.0) result ≡ first_id (filter
-        (λ id. passes_at (is_equal attributes.now) (row_at id rows.now.entries)) ids.now) }
-{
-    let mut steps = Steps::<L>::new(blank);
-    for place in 0..ids.len() {
-        let id = ids.at(place, &mut steps);
-        if is_equal_at(rows, id, attributes) {
-            return Some(id);
-        }
-    }
-    None
 }
 
 /// Adds the id of a row to the index.
@@ -343,6 +302,26 @@ fn add_row(
     rows::put_last(rows, number, row)?;
     if let Err(_) = add_id(rows, index, number) {
         rows::take_out(rows, number);
+        return Err(AllocError);
+    }
+    Ok(())
+}
+
+/// Puts a row at a number that has none, and its id into the index.
+fn put_row(
+    rows: &mut BTreeMap<u32, Row>,
+    index: &mut AttributeIndex,
+    number: u32,
+    row: Row,
+) -> Result<(), OutOfMemory>
+    requires kept { IsKept rows.old.entries index.old }
+    requires fresh { row_at number rows.old.entries ≡ None }
+    ensures kept { OnOk result (IsKept rows.new.entries index.new) }
+    ensures put { OnOk result ((id : ℕ) → row_at id rows.new.entries
+        ≡ (if nat_eq id number then Some row else row_at id rows.old.entries)) }
+{
+    rows::put(rows, number, row)?;
+    if let Err(_) = add_id(rows, index, number) {
         return Err(AllocError);
     }
     Ok(())
