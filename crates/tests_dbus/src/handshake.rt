@@ -181,12 +181,10 @@ fn bytes_of(alloc: Global, line: &str) -> Result<Vec<u8>, Fail> {
 #[test]
 fn each_line_of_a_conversation_is_answered_by_its_row(rt: HostRuntime) -> Result<(), Fail> {
     let mut auth = Auth::new(1000, GUID);
-    let mut client = "";
-    for row in CONVERSATIONS.lines() {
+    for (place, row) in CONVERSATIONS.lines().enumerate() {
         if let Some(head) = row.strip_prefix("> ") {
-            let (uid, name) = head.split_once(' ').ok_or("row")?;
+            let (uid, _) = head.split_once(' ').ok_or("row")?;
             auth = Auth::new(uid.parse::<u32>().ok().ok_or("uid")?, GUID);
-            client = name;
         } else {
             let (line, want) = row.split_once('|').ok_or("row")?;
             let bytes = bytes_of(rt.alloc(), line)?;
@@ -194,7 +192,7 @@ fn each_line_of_a_conversation_is_answered_by_its_row(rt: HostRuntime) -> Result
             assert_eq!(rt;
                 step.as_slice(),
                 whole(want).as_bytes(),
-                "{client}, at {row}"
+                "at {row}, line {place} of the table"
             );
         }
     }
