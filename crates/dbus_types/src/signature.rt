@@ -44,7 +44,7 @@ impl<T: Drop> From<AllocFailed<T>> for SignatureFault {
 
 /// A signature: a list of complete types whose text has at most 255 bytes, and in which at most 32
 /// arrays and 32 structs are open at once (D-Bus Specification, "Type System", "Valid Signatures").
-#[derive(Debug, Drop)]
+#[derive(Drop)]
 pub struct Signature {
     types: Vec<CompleteType>,
     ghost checked: { IsTrue (is_signature (types_of types.items)) },

@@ -12,7 +12,7 @@ use std::collections::BTreeMap;
 use std::marker::Model;
 
 /// The value of an attribute. A call gives texts alone; a keyring file may hold numbers too.
-#[derive(Debug, Drop, PartialEq, Eq, PartialOrd, Ord)]
+#[derive(Drop, PartialEq, Eq, PartialOrd, Ord)]
 pub enum AttrValue {
     /// A text, as a call gives it.
     Text(Text),
@@ -35,7 +35,7 @@ impl AttrValue {
 /// The attributes of an item, or those that a search wants (Secret Service API, "Lookup
 /// Attributes"). A contract sees the list of names with their values, in byte order of names; no
 /// name stands twice.
-#[derive(Debug, Drop)]
+#[derive(Drop)]
 pub struct Attributes {
     pairs: Vec<(Text, AttrValue)>,
 }

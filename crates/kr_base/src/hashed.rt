@@ -4,7 +4,7 @@ use crate::{Bytes, OutOfMemory, Text};
 
 /// What a keyring file's clear part tells of an attribute's value: the hash of the value, by which
 /// the attribute is found while the file is locked.
-#[derive(Debug, Drop, PartialEq, Eq, PartialOrd, Ord)]
+#[derive(Drop, PartialEq, Eq, PartialOrd, Ord)]
 pub enum HashedValue {
     /// The hash of a text: any bytes, as the file has them.
     Text(Bytes),
@@ -25,7 +25,7 @@ impl HashedValue {
 }
 
 /// One hashed attribute of a keyring file: a name, and the hash of its value.
-#[derive(Debug, Drop, PartialEq, Eq, PartialOrd, Ord)]
+#[derive(Drop, PartialEq, Eq, PartialOrd, Ord)]
 pub struct HashedPair {
     /// The attribute's name, as it is.
     pub name: Text,

@@ -1,6 +1,6 @@
-ghost use Rattle.std.specs.Prelude.{◌≡◌, ℕ, ◌↔◌, List, IsNone, IfSome, IfOk, Ok, Some, None, nat_eq, refl};
+ghost use Rattle.std.specs.Prelude.{◌≡◌, ℕ, ◌++◌, ◌↔◌, List, length, IsNone, IfSome, IfOk, Ok, Some, None, decimal, codes, nat_eq, refl};
 ghost use Rattle.std.specs.Bool.{OnTrue, OnFalse};
-ghost use Rattle.std.specs.Fmt.{styled_text, debug_str};
+ghost use Rattle.std.specs.Fmt.{styled_text};
 ghost use Rattle.std.specs.Hash as fed;
 ghost use Rattle.std.specs.Ordering.{nat_cmp};
 ghost use Rattle.std.specs.Cmp.{partial_equiv_from_equiv};
@@ -166,7 +166,7 @@ impl fmt::Display for Stem {
 }
 
 impl fmt::Debug for Stem {
-    ghost debug_output = { debug_str };
+    ghost debug_output = { λ s. Some (decimal (length s) ++ codes " bytes") };
 
     fn fmt<W: fmt::Write>(&self, f: &mut fmt::Formatter<W>) -> fmt::Result {
         fmt::Debug::fmt(&self.text, f)

@@ -1,5 +1,5 @@
-ghost use Rattle.std.specs.Prelude.{◌≡◌, ℕ, ◌↔◌, List, [], length, IsTrue, IsNone, IsSome, IfSome, IfOk, Ok, Some, None, decimal, string_bytes, nat_eq, refl};
-ghost use Rattle.std.specs.Fmt.{styled_text, debug_str};
+ghost use Rattle.std.specs.Prelude.{◌≡◌, ℕ, ◌++◌, ◌↔◌, List, [], length, IsTrue, IsNone, IsSome, IfSome, IfOk, Ok, Some, None, decimal, codes, string_bytes, nat_eq, refl};
+ghost use Rattle.std.specs.Fmt.{styled_text};
 ghost use Rattle.std.specs.Hash as fed;
 ghost use Rattle.std.specs.Ordering.{nat_cmp};
 ghost use Rattle.std.specs.Cmp.{partial_equiv_from_equiv};
@@ -208,10 +208,12 @@ impl fmt::Display for Text {
     }
 }
 
+// A text may be a client's, so a message or a log is to tell no more than how long it is.
 impl fmt::Debug for Text {
-    ghost debug_output = { debug_str };
+    ghost debug_output = { λ t. Some (decimal (length t) ++ codes " bytes") };
 
     fn fmt<W: fmt::Write>(&self, f: &mut fmt::Formatter<W>) -> fmt::Result {
-        fmt::Debug::fmt(&self.as_str(), f)
+        let len = self.len();
+        write!(f, "{len} bytes")
     }
 }

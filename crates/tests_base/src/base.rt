@@ -116,14 +116,17 @@ fn numbers_are_printed(rt: HostRuntime) -> Result<(), Fail> {
 }
 
 #[test]
-fn texts_are_printed_and_secrets_are_not(rt: HostRuntime) -> Result<(), Fail> {
+fn texts_are_shown_as_they_are_and_for_debugging_by_their_length(
+    rt: HostRuntime,
+) -> Result<(), Fail> {
     let alloc = rt.alloc();
     let text = text_of(alloc, "a \"b\"")?;
-    let secret = HashedValue::Text(Bytes::from_slice(alloc, b"hunter2")?);
-    let printed = format!(in alloc; "{text}|{text:?}|{text:>8}|{secret:?}")?;
+    let stem = Stem::new(alloc, "My keys")?.ok_or("no stem")?;
+    let secret = Bytes::from_slice(alloc, b"hunter2")?;
+    let printed = format!(in alloc; "{text}|{text:?}|{text:>8}|{stem}|{stem:?}|{secret:?}")?;
     assert_eq!(rt;
         printed.as_str(),
-        "a \"b\"|\"a \\\"b\\\"\"|   a \"b\"|Text(7 bytes)"
+        "a \"b\"|5 bytes|   a \"b\"|My keys|7 bytes|7 bytes"
     );
     Ok(())
 }

@@ -45,6 +45,16 @@ fn a_stem_is_spelled_in_one_way(rt: HostRuntime) -> Result<(), Fail> {
     Ok(())
 }
 
+// A name with its texts, which its Debug doesn't print.
+fn shown(alloc: Global, name: &ObjectName) -> Result<String, Fail> {
+    match name {
+        ObjectName::Collection(stem) => Ok(format!(in alloc; "Collection(\"{stem}\")")?),
+        ObjectName::Item(stem, item) => Ok(format!(in alloc; "Item(\"{stem}\", {item:?})")?),
+        ObjectName::Alias(alias) => Ok(format!(in alloc; "Alias(\"{alias}\")")?),
+        other => Ok(format!(in alloc; "{other:?}")?),
+    }
+}
+
 // Prints the name that has this path, if the path of that name is this one again.
 fn read(alloc: Global, path: &str) -> Result<String, Fail> {
     let Some(name) = parse_path(alloc, path)? else {
@@ -53,7 +63,7 @@ fn read(alloc: Global, path: &str) -> Result<String, Fail> {
     if !name.has_path() || path_of(alloc, &name.copy()?)?.as_str() != path {
         return Ok(String::from_str(alloc, "another path")?);
     }
-    Ok(format!(in alloc; "{name:?}")?)
+    shown(alloc, &name)
 }
 
 // What follows the root of a path, and the name.

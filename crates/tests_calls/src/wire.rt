@@ -3,12 +3,23 @@ use dbus_framing::Framer;
 use dbus_marshal::unmarshal;
 use dbus_types::{Endian, Message, Signature};
 use kr_base::{SessionId, Text};
-use secret_calls::{Body, ErrorName, Out, size_of_out};
+use secret_calls::{Body, Call, CallFault, ErrorName, Out, size_of_out};
 use std::alloc::Global;
 use std::test::Fail;
 
 fn bytes_of(alloc: Global, text: &str) -> Result<Vec<u8>, Fail> {
     Ok(hex::decode(alloc, text).ok().ok_or("no hex")?)
+}
+
+// A call with its algorithm, which its Debug doesn't print, or the fault.
+fn shown(alloc: Global, call: &Result<Call, CallFault>) -> Result<String, Fail> {
+    match call {
+        Ok(Call::OpenSession { algorithm }) => {
+            let text = algorithm.as_str();
+            Ok(format!(in alloc; "Ok(OpenSession {{ algorithm: {text:?} }})")?)
+        }
+        other => Ok(format!(in alloc; "{other:?}")?),
+    }
 }
 
 // What a call is read as: its serial, whether a reply is wanted, its length, and the call or its fault.
@@ -18,8 +29,8 @@ fn told(alloc: Global, message: &Message) -> Result<String, Fail> {
     }
     let request = call_of(alloc, message)?;
     let (serial, wanted, length) = (request.serial, request.wants_reply, request.length);
-    let call = request.call;
-    Ok(format!(in alloc; "{serial} {wanted} {length} {call:?}")?)
+    let call = shown(alloc, &request.call)?;
+    Ok(format!(in alloc; "{serial} {wanted} {length} {call}")?)
 }
 
 // A message in a row, and what is told of it. Those in little-endian are as libdbus 1.14 marshals them,
