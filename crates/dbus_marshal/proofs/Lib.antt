@@ -11,3 +11,4 @@ pub mod HeldLemmas
 pub mod UnmarshalLaws
 pub mod WritingLemmas
 pub mod MarshalLaws
+pub mod PutLemmas

@@ -156,12 +156,12 @@ bytes_array endian bytes place =
 four : {a b c d e f g h : ℕ} → a ≡ e → b ≡ f → c ≡ g → d ≡ h → a ∷ b ∷ c ∷ d ∷ [] ≡ e ∷ f ∷ g ∷ h ∷ []
 four {a} {b} {c} {d} {e} {f} {g} {h} p q r s = rw (p, q, r, s) refl
 
-number_mod8 : (endian : Endian) (n : ℕ) → number_bytes endian w8 (n % 256) ≡ number_bytes endian w8 n
+pub number_mod8 : (endian : Endian) (n : ℕ) → number_bytes endian w8 (n % 256) ≡ number_bytes endian w8 n
 unfolding number_bytes
 number_mod8 Little n = let same : n % 256 % 256 ≡ n % 256 = omega arith in ap (λ (k : ℕ). k ∷ []) same
 number_mod8 Big n = let same : n % 256 % 256 ≡ n % 256 = omega arith in ap (λ (k : ℕ). k ∷ []) same
 
-number_mod32 : (endian : Endian) (n : ℕ) → number_bytes endian w32 (n % 4294967296) ≡ number_bytes endian w32 n
+pub number_mod32 : (endian : Endian) (n : ℕ) → number_bytes endian w32 (n % 4294967296) ≡ number_bytes endian w32 n
 unfolding number_bytes
 number_mod32 Little n = four (omega arith) (omega arith) (omega arith) (omega arith)
 number_mod32 Big n = four (omega arith) (omega arith) (omega arith) (omega arith)

@@ -7,3 +7,4 @@ pub mod Cursors
 pub mod Counting
 pub mod Writing
 pub mod Held
+pub mod Putting

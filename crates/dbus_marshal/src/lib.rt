@@ -7,6 +7,8 @@ mod cursor;
 mod laws;
 mod marshalling;
 mod places;
+mod put;
+mod putting;
 mod reading;
 mod refused;
 mod type_text;
@@ -17,6 +19,11 @@ mod writing;
 pub use laws::{a_value_has_one_spelling, no_spelling_goes_on};
 pub use marshalling::marshal;
 pub use places::{alignment, is_byte};
+pub use put::{Counter, Never, Put};
+pub use putting::{
+    PutValues, count_from, pad_to, put_array, put_byte, put_bytes, put_long_path, put_path,
+    put_signature, put_text, put_text_variant, put_u32, put_u64, size_of_values,
+};
 pub use refused::{MarshalFault, ValueFault};
 pub use values::unmarshal;
 
