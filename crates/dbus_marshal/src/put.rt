@@ -102,7 +102,8 @@ impl Counter {
     /// The lower 32 bits of how many bytes were put after those that were there at first.
     pub fn low_after(&self, place: usize) -> u32
         requires { place < 8 }
-        ensures { (before : List ℕ) → Counts self.now.size self.now.low (replicate place 0 ++ before)
+        ensures { (before : List ℕ)
+            → Counts self.now.size self.now.low (replicate place 0 ++ before)
             → result ≡ length before % 4294967296 }
     {
         self.low.wrapping_sub(place as u32)
