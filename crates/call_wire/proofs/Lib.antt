@@ -2,8 +2,5 @@ mod CallLemmas
 mod FrontLemmas
 mod MemberLemmas
 mod ValueLemmas
-mod WritingLemmas
 mod PlainLemmas
-mod SentLemmas
-mod SaidLemmas
 mod AgainLemmas

@@ -1,13 +1,17 @@
 -- What the service sends, and how it is spelled: D-Bus Specification, "Message Format"; Secret Service API draft
 -- 0.2, the interfaces' methods and errors.
-use Rattle.std.specs.Prelude.{◌≢◌, ℕ, ◌^◌, ◌<◌, List, [], ◌∷◌, ◌++◌, length, codes, decimal}
+use Rattle.std.specs.Prelude.{◌≢◌, ℕ, ◌^◌, ◌<◌, List, [], ◌++◌, Some, None, codes, decimal}
 use Rattle.secret_calls.specs.declared.out.Body.{Body}
 use Rattle.secret_calls.specs.declared.out.Body.TheVariants as body
 use Rattle.secret_calls.specs.declared.out.ErrorName.{ErrorName}
 use Rattle.secret_calls.specs.declared.out.ErrorName.TheVariants as name
 use Rattle.secret_calls.specs.declared.out.Out.{Out}
 use Rattle.secret_calls.specs.declared.out.Out.TheVariants as out
-use Rattle.secret_calls.specs.Message.{uint32, padding, string, signature, field, fields_of, method_return, error, error_name, reply_serial, signature_field, message}
+use Rattle.dbus_types.specs.declared.complete_type.BasicType.TheVariants as basics
+use Rattle.dbus_types.specs.declared.endian.Endian.TheVariants.{Little}
+use Rattle.dbus_types.specs.Values.{Val, Vals}
+use Rattle.dbus_marshal.specs.Spelling.{all_spelled}
+use Rattle.dbus_sending.specs.Sent.{SentHeader, Sent, bare_header, spelled_message}
 
 -- an error's name
 abbrev pub error_text : ErrorName → List ℕ
@@ -23,31 +27,34 @@ error_text name.NoSession = codes "org.freedesktop.Secret.Error.NoSession"
 abbrev pub session_path : ℕ → List ℕ
 session_path number = codes "/org/freedesktop/secrets/session/s" ++ decimal number
 
--- the types of a body's values
-abbrev pub types_of : Body → List ℕ
-types_of body.Empty = []
-types_of (body.Session session) = codes "vo"
+-- A body's values: none; or the output of `plain`, which is the empty text, and the session's path.
+abbrev pub values_of : Body → Vals
+values_of body.Empty = Vals.end
+values_of (body.Session session) =
+    Vals.more (Val.variant (Val.text basics.String [])) (Vals.more (Val.text basics.ObjectPath (session_path session.0)) Vals.end)
 
--- a VARIANT of the empty STRING
-abbrev pub empty_variant : List ℕ
-empty_variant = signature (codes "s") ++ padding 4 (length (signature (codes "s"))) ++ string []
-
--- a body's values: none; or the output of `plain`, which is the empty text, and the session's path
+-- a body's bytes
 abbrev pub spelled_body : Body → List ℕ
-spelled_body body.Empty = []
-spelled_body (body.Session session) = empty_variant ++ padding 4 (length empty_variant) ++ string (session_path session.0)
+spelled_body body = all_spelled Little (values_of body) 0
 
--- the field that tells a body's types: there is none without a body
-abbrev pub types_field : List ℕ → List (List ℕ)
-types_field [] = []
-types_field (type ∷ types) = field signature_field (codes "g") (signature (type ∷ types)) ∷ []
+-- The header of an output: a METHOD_RETURN, or an ERROR with its name, each with the flag NO_REPLY_EXPECTED and the serial of
+-- the call that it answers.
+abbrev pub header_of : Out → ℕ → SentHeader
+header_of (out.Return to body) serial = record (bare_header 2 1 serial) { reply_serial = Some to }
+header_of (out.Error to name) serial = record (bare_header 3 1 serial) { error_name = Some (error_text name); reply_serial = Some to }
+
+-- the body of an output: an error has none
+abbrev pub body_of : Out → Body
+body_of (out.Return to body) = body
+body_of (out.Error to name) = body.Empty
 
 -- the message that an output is, with this serial
+abbrev pub sent : Out → ℕ → Sent
+sent out serial = record { header = header_of out serial; body = values_of (body_of out) }
+
+-- its bytes
 abbrev pub spelled : Out → ℕ → List ℕ
-spelled (out.Return to body) serial =
-    message method_return serial (fields_of (field reply_serial (codes "u") (uint32 to) ∷ types_field (types_of body))) (spelled_body body)
-spelled (out.Error to name) serial =
-    message error serial (fields_of (field error_name (codes "s") (string (error_text name)) ∷ field reply_serial (codes "u") (uint32 to) ∷ [])) []
+spelled out serial = spelled_message (sent out serial)
 
 -- the serial of the call that an output answers
 abbrev pub answered : Out → ℕ

@@ -1,6 +1,15 @@
-ghost use Rattle.std.specs.Prelude.{◌≡◌, IfOk};
+ghost use Rattle.std.specs.Prelude.{◌≡◌, ℕ, List, [], IfOk, OnOk};
+ghost use Rattle.dbus_marshal.specs.Putting.{puts};
+ghost use Rattle.dbus_sending.specs.HeaderViews.{seen};
+ghost use Rattle.secret_calls.specs.Outs.{values_of, header_of, spelled};
 
+use dbus_marshal::{Put, PutValues, put_long_path, put_text_variant};
+use dbus_sending::{Header, put_message};
+use itoa::Buffer;
 use kr_base::{OutOfMemory, SessionId};
+
+/// What comes before a session's number in its path.
+const SESSIONS: &str = "/org/freedesktop/secrets/session/s";
 
 /// The name of an error, of the D-Bus Specification or of the Secret Service API.
 #[derive(Clone, Copy, Debug, PartialEq, Eq)]
@@ -61,6 +70,52 @@ impl Body {
     }
 }
 
+impl Body {
+    ghost use Rattle.dbus_types.specs.Types.{texts_of};
+    ghost use Rattle.dbus_types.specs.Values.{tys_of};
+
+    /// The signature of the values.
+    pub fn signature(&self) -> &'static str
+        ensures { result.now ≡ texts_of (tys_of (values_of self.now)) }
+    {
+        match self {
+            Body::Empty => "",
+            Body::Session(_) => "vo",
+        }
+    }
+}
+
+// Puts the return of OpenSession.
+fn put_session<P: Put>(out: &mut P, session: SessionId) -> Result<(), P::Refused>
+    ensures { (before : List ℕ) → P.stands out.old before
+        → OnOk result (P.stands out.new (puts before (values_of (Body.Session session)))) }
+{
+    let mut buffer = Buffer::new();
+    let number = buffer.format(session.0);
+    put_text_variant(out, b"")?;
+    put_long_path(out, SESSIONS.as_bytes(), number.as_bytes())
+}
+
+impl PutValues for Body {
+    ghost use Rattle.secret_calls.specs.Outs.{values_of};
+
+    ghost values = { λ body. values_of body };
+
+    fn put_to<P: Put>(&self, out: &mut P) -> Result<(), P::Refused> {
+        match self {
+            Body::Empty => Ok(()),
+            Body::Session(session) => put_session(out, *session),
+        }
+    }
+}
+
+/// A METHOD_RETURN and an ERROR, and the flag that each has (D-Bus Specification, "Message Format").
+const METHOD_RETURN: u8 = 2;
+
+const ERROR: u8 = 3;
+
+const NO_REPLY_EXPECTED: u8 = 1;
+
 /// A message that the service sends, but for its serial.
 #[derive(PartialEq, Eq, Drop)]
 pub enum Out {
@@ -94,6 +149,36 @@ impl Out {
                 to: *to,
                 name: *name,
             }),
+        }
+    }
+
+    /// The header of the message that it is with this serial.
+    fn header(&self, serial: u32) -> Header<'static>
+        ensures { seen result ≡ header_of self.now serial }
+    {
+        match self {
+            Out::Return { to, body: _ } => Header {
+                reply_serial: Some(*to),
+                ..Header::bare(METHOD_RETURN, NO_REPLY_EXPECTED, serial)
+            },
+            Out::Error { to, name } => Header {
+                error_name: Some(name.as_str()),
+                reply_serial: Some(*to),
+                ..Header::bare(ERROR, NO_REPLY_EXPECTED, serial)
+            },
+        }
+    }
+
+    /// Puts the message that it is with this serial into a writer that was given nothing before: with
+    /// the flag NO_REPLY_EXPECTED, header fields in the order of their codes, and SIGNATURE only with
+    /// a body (D-Bus Specification, "Message Format").
+    pub fn put<P: Put>(&self, serial: u32, out: &mut P) -> Result<(), P::Refused>
+        ensures { P.stands out.old [] → OnOk result (P.stands out.new (spelled self.now serial)) }
+    {
+        let header = self.header(serial);
+        match self {
+            Out::Return { to: _, body } => put_message(out, &header, body.signature(), body),
+            Out::Error { to: _, name: _ } => put_message(out, &header, "", &Body::Empty),
         }
     }
 }

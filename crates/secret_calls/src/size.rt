@@ -1,36 +1,46 @@
 // How many bytes an output has when it is sent. What waits for a connection is counted by it.
-ghost use Rattle.std.specs.Prelude.{◌≡◌, ℕ, ◌+◌, ◌^◌, ◌<◌, ◌≤◌, length, decimal};
-ghost use Rattle.secret_calls.specs.Outs.{spelled, spelled_body, error_text};
+ghost use Rattle.std.specs.Prelude.{◌≡◌, ℕ, ◌+◌, ◌^◌, ◌<◌, length, min};
+ghost use Rattle.secret_calls.specs.Outs.{spelled, spelled_body, FitsBody, FitsOut};
 
-use crate::{Body, ErrorName, Out};
-use itoa::Buffer;
+use crate::{Body, Out};
+use dbus_marshal::{Counter, size_of_values};
 
-// How many digits a number has in decimal.
-fn digits(number: u64) -> u64
-    ensures value { result ≡ length (decimal number) }
-    ensures few { result ≤ 20 }
+// A number of 64 bits.
+fn has_64_bits(number: u64)
+    ensures { number < 2 ^ 64 }
 {
-    Buffer::new().format(number).len() as u64
+    let _ = number;
 }
 
-/// The length of a body's spelling (D-Bus Specification, "Marshaling").
-pub fn body_size(body: &Body) -> u64
-    ensures length { result ≡ length (spelled_body body.now) }
-    ensures fits { result + 64 < 2 ^ 64 }
+// The numbers of a body fit their types.
+fn body_fits(body: &Body)
+    ensures { FitsBody body.now }
 {
     match body {
-        Body::Empty => 0,
-        // the variant, up to a multiple of 4; then the path's length, its bytes and a zero byte
-        Body::Session(session) => 12 + 4 + 34 + digits(session.0) + 1,
+        Body::Empty => {}
+        Body::Session(session) => has_64_bits(session.0),
     }
 }
 
-// The length of an error's spelling: the header's start, the name, the serial that it answers.
-fn error_size(name: ErrorName) -> u64
-    ensures { (to serial : ℕ) → result ≡ length (spelled (Out.Error to name) serial) }
+// The numbers of an output fit their types.
+fn out_fits(out: &Out)
+    ensures { FitsOut out.now }
 {
-    let name = 4 + 4 + name.as_str().len() as u64 + 1;
-    16 + name.next_multiple_of(8) + 8
+    match out {
+        Out::Return { to: _, body } => body_fits(body),
+        Out::Error { to: _, name: _ } => {}
+    }
+}
+
+/// The length of a body's spelling (D-Bus Specification, "Marshaling"), or 18,446,744,073,709,551,615
+/// if it is longer. It takes no memory.
+pub fn body_size(body: &Body) -> u64
+    ensures saturates { result ≡ min 18446744073709551615 (length (spelled_body body.now)) }
+    ensures length { result ≡ length (spelled_body body.now) }
+    ensures fits { result + 64 < 2 ^ 64 }
+{
+    body_fits(body);
+    size_of_values(body)
 }
 
 /// The length of the output's spelling as a message (D-Bus Specification, "Message Format"), whatever
@@ -38,11 +48,11 @@ fn error_size(name: ErrorName) -> u64
 pub fn size_of_out(out: &Out) -> u64
     ensures { (serial : ℕ) → result ≡ length (spelled out.now serial) }
 {
-    match out {
-        Out::Return { to: _, body } => match body {
-            Body::Empty => 16 + 8,
-            Body::Session(_) => 16 + 8 + 8 + body_size(body),
-        },
-        Out::Error { to: _, name } => error_size(*name),
+    out_fits(out);
+    let mut counter = Counter::new();
+    match out.put(1, &mut counter) {
+        Ok(()) => {}
+        Err(never) => match never {},
     }
+    counter.size()
 }

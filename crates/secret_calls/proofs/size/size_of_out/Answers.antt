@@ -1,9 +1,11 @@
-use Rattle.std.proofs.Common.{sym}
-use Rattle.secret_calls.proofs.SizeLemmas.{empty_return-length, session_return-length}
+-- An output is short, so its length is what is counted, whatever its serial.
+use Rattle.std.proofs.Common.{◌≡◌, min, length, ◌∙◌}
+use Rattle.secret_calls.specs.Outs.{spelled}
+use Rattle.secret_calls.proofs.SizeLemmas.{any_serial, out-short, counted}
 use Rattle.secret_calls.proofs.size.size_of_out.Goals as goal
 
-pub returns-in-Empty : goal.returns-in-Empty
-returns-in-Empty c = λ serial. rw (c.in-Return.is, c.in-Empty.is) (sym (empty_return-length c.in-Return.to serial))
-
-pub returns-in-Session : goal.returns-in-Session
-returns-in-Session c = λ serial. rw (c.body_size.ensures.length, c.in-Return.is, c.in-Session.is) (sym (session_return-length c.in-Return.to serial c.in-Session.field-0))
+pub returns : goal.returns
+returns c = λ serial.
+    let out = c.args.out.now in
+    let is : c.size.result ≡ min 18446744073709551615 (length (spelled out 1)) = c.size.ensures (spelled out 1) (c.in-Ok.ensures c.new-counter.ensures) in
+    counted c.size.result (length (spelled out 1)) is (out-short out 1 c.out_fits.ensures) ∙ any_serial out 1 serial
