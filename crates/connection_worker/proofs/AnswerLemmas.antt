@@ -1,7 +1,6 @@
 -- The answer to a call is short, so it waits behind the call, and nothing is lost.
 use Rattle.std.proofs.Common.{◌≡◌, ℕ, ◌+◌, ◌-◌, ◌%◌, ◌<◌, ◌≤◌, Bool, true, false, ◌||◌, nat_le, cond, min, List, [], ◌∷◌, ◌++◌, length, codes, decimal, Result, Ok, Err, refl, sym, ◌∙◌, ap, arith}
 use Rattle.std.proofs.lemmas.Bool.{leb-false, le-leb, lt-ltb}
-use Rattle.std.proofs.lemmas.Fmt.{length-decimal-le}
 use Rattle.kr_base.specs.declared.ids.ConnId.{ConnId}
 use Rattle.kr_base.specs.declared.ids.SessionId.{SessionId}
 use Rattle.secret_calls.specs.declared.call.Call.{Call}
@@ -15,9 +14,8 @@ use Rattle.secret_calls.specs.declared.out.ErrorName.TheVariants as name
 use Rattle.secret_calls.specs.declared.out.Out.{Out}
 use Rattle.secret_calls.specs.declared.out.Out.TheVariants as out
 use Rattle.secret_calls.specs.Calls.{error_of}
-use Rattle.secret_calls.specs.Message.{uint32, string, field, fields_of, error, error_name, reply_serial, message}
-use Rattle.secret_calls.specs.Outs.{spelled, spelled_body, error_text, most_waiting}
-use Rattle.secret_calls.proofs.SizeLemmas.{message-length, name_field-length, two_fields-length, reply_field-length, empty_return-length, session_return-length, session_body-length}
+use Rattle.secret_calls.specs.Outs.{most_waiting}
+use Rattle.secret_calls.proofs.SizeLemmas.{out-short}
 use Rattle.service_machine.specs.declared.rows.Rows.{Rows}
 use Rattle.service_machine.specs.declared.rows.ConnRow.{ConnRow}
 use Rattle.service_machine.specs.Connections.{is_row, size_of, size_waiting, with_out, changed, emptied, waiting_for, Sent, delivered}
@@ -32,31 +30,17 @@ use Rattle.connection_worker.specs.Single.{Asked, arrival, taking}
 use Rattle.connection_worker.specs.Serving.{IsOwed, owed, HasGiven}
 use Rattle.connection_worker.proofs.ServingLemmas.{same}
 
--- an error's name is short
-name-short : (name : ErrorName) → length (error_text name) ≤ 100
-name-short name.NotSupported = omega arith
-name-short name.UnknownObject = omega arith
-name-short name.UnknownInterface = omega arith
-name-short name.UnknownMethod = omega arith
-name-short name.InvalidArgs = omega arith
-name-short name.LimitsExceeded = omega arith
-name-short name.NoSession = omega arith
-
 error-short : (to : ℕ) (name : ErrorName) → size_of (out.Error to name) ≤ most_waiting
 unfolding size_of
-error-short to name =
-    let first : List ℕ = field error_name (codes "s") (string (error_text name)) in
-    let second : List ℕ = field reply_serial (codes "u") (uint32 to) in
-    omega (arith, message-length error 1 (fields_of (first ∷ second ∷ [])) [], two_fields-length first second, name_field-length (error_text name), reply_field-length to, name-short name)
+error-short to name = out-short (out.Error to name) 1 tt
 
 empty-short : (to : ℕ) → size_of (out.Return to body.Empty) ≤ most_waiting
 unfolding size_of
-empty-short to = omega (arith, empty_return-length to 1)
+empty-short to = out-short (out.Return to body.Empty) 1 tt
 
 session-short : (to : ℕ) (session : SessionId) → session.0 < 18446744073709551615 → size_of (out.Return to (body.Session session)) ≤ most_waiting
 unfolding size_of
-session-short to session small =
-    omega (arith, session_return-length to 1 session, session_body-length session, length-decimal-le 20 session.0 (omega arith) (omega (arith, small)) (omega (arith, small)))
+session-short to session small = out-short (out.Return to (body.Session session)) 1 (omega (arith, small))
 
 -- where no limit of sessions is reached, the next number is one of 64 bits
 number-left : (many : Bool) (next : ℕ) → (many || nat_le 18446744073709551615 next) ≡ false → next < 18446744073709551615

@@ -1,14 +1,27 @@
 // Outputs that were taken, to bytes that are written.
-ghost use Rattle.std.specs.Prelude.{◌≡◌, IfOk, OnErr, IsErrOf};
+ghost use Rattle.std.specs.Prelude.{◌≡◌, ◌++◌, IfOk, OnErr, IsErrOf};
 ghost use Rattle.connection_worker.specs.Streams.{output_of};
 ghost use Rattle.connection_worker.specs.Sending.{Spells, Sends};
 
 use crate::ending::End;
 use crate::serials::Serials;
 use call_wire::message_of;
+use kr_base::OutOfMemory;
 use kr_outside::{Failed, Sink, write_all};
 use secret_calls::Out;
 use std::alloc::Global;
+
+// Bytes, and a message after them. The first message isn't copied.
+fn joined(bytes: Vec<u8>, message: Vec<u8>) -> Result<Vec<u8>, OutOfMemory>
+    ensures { IfOk result (λ all. all.items ≡ bytes.items ++ message.items) }
+{
+    if bytes.is_empty() {
+        return Ok(message);
+    }
+    let mut all = bytes;
+    all.extend_from_slice(message.as_slice())?;
+    Ok(all)
+}
 
 // The outputs as messages, one behind the other.
 fn messages_of(alloc: Global, outs: &[Out], serials: &mut Serials) -> Result<Vec<u8>, End>
@@ -21,9 +34,10 @@ fn messages_of(alloc: Global, outs: &[Out], serials: &mut Serials) -> Result<Vec
         let Ok(message) = message_of(alloc, out, serials.next()) else {
             return Err(End::Memory);
         };
-        if let Err(_) = bytes.extend_from_slice(message.as_slice()) {
+        let Ok(all) = joined(bytes, message) else {
             return Err(End::Memory);
-        }
+        };
+        bytes = all;
     }
     Ok(bytes)
 }

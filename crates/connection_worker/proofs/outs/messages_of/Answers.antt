@@ -1,4 +1,4 @@
-use Rattle.std.proofs.Common.{take, ◌∙◌}
+use Rattle.std.proofs.Common.{take}
 use Rattle.std.proofs.lemmas.List.{take_more}
 use Rattle.secret_calls.specs.declared.out.Out.TheVariants as out
 use Rattle.secret_calls.specs.declared.out.Body.TheVariants as body
@@ -8,6 +8,6 @@ use Rattle.connection_worker.proofs.outs.messages_of.Goals as goal
 -- one more output stands as its message
 pub loop-out-preserved : goal.loop-out-preserved
 loop-out-preserved c =
-    rw (c.in_default-extend_from_slice.ensures.items, take_more c.args.outs.now c.loop-out.out-index (out.Return 0 body.Empty) c.loop-out-test.true)
+    rw (c.in-Ok-joined.ensures, take_more c.args.outs.now c.loop-out.out-index (out.Return 0 body.Empty) c.loop-out-test.true)
     (spells-push (take c.loop-out.out-index c.args.outs.now) _ c.args.serials.now c.loop-out.serials c.next.new.self c.next.result c.loop-out.bytes.items _
-    c.loop-out.invariant c.next.ensures.serial c.next.ensures.taken (c.as_slice.ensures.value ∙ c.in-Ok.ensures))
+    c.loop-out.invariant c.next.ensures.serial c.next.ensures.taken c.in-Ok.ensures)
