@@ -21,7 +21,7 @@ use Rattle.service_machine.specs.declared.rows.ConnRow.{ConnRow}
 use Rattle.service_machine.specs.Connections.{is_row, size_of, size_waiting, with_out, changed, emptied, waiting_for, Sent, delivered}
 use Rattle.service_machine.specs.Plan.{Questions, Plan, Change, Open_session, Close_session, refused, answered}
 use Rattle.service_machine.specs.SessionCalls.{is_plain}
-use Rattle.service_machine.specs.Step.{asked, sessions_of, plan_of, planned, performed, performed_all, message_of, replies, step}
+use Rattle.service_machine.specs.Step.{asked, plan_of, planned, performed, performed_all, message_of, replies, step}
 use Rattle.service_machine.specs.declared.event.Event.TheVariants as event
 use Rattle.service_machine.specs.Replay.{replay}
 use Rattle.service_desk.specs.Places.{Told, Place}
@@ -75,13 +75,13 @@ call-short conn state to (Err fault) = error-short to (error_of fault)
 call-short conn state to (Ok call.Ping) = empty-short to
 call-short conn state to (Ok (call.OpenSession algorithm)) =
     opened-short to (is_plain algorithm) (asked conn state)
-    (λ left. number-left (nat_le 64 (length (rows_of conn state.sessions))) state.next_session left)
+    (λ left. number-left (nat_le 64 (length (rows_of conn state.sessions.rows))) state.sessions.next left)
 call-short conn state to (Ok (call.CloseSession session)) = closed-short to session (asked conn state)
 
 -- ---- what waits behind a request
 
 -- no call changes the connections
-pub performed-connections : (conn : ConnId) (changes : List Change) (state : Rows) → (performed_all conn changes state).connections ≡ state.connections
+pub performed-connections : (conn : ConnId) (changes : List Change) (state : Rows) → (performed_all conn changes state).connections.rows ≡ state.connections.rows
 performed-connections conn [] state = refl
 performed-connections conn (Open_session ∷ changes) state = performed-connections conn changes (performed conn Open_session state)
 performed-connections conn (Close_session session ∷ changes) state = performed-connections conn changes (performed conn (Close_session session) state)
@@ -112,8 +112,8 @@ pub owed-all : (told : Told) (outs : List Out) → IsOwed told outs → IsOwed t
 owed-all told outs is = rw (owed-is told outs is) is
 
 -- what waits behind a request is its reply
-pub arrived-rows : (conn : ConnId) (state : Rows) (a : Asked) (taken : ℕ) → state.connections ≡ row_with conn [] taken ∷ []
-    → (step state (arrival conn a)).connections ≡ row_with conn (waiting_behind a.request.wants_reply (message_of a.request.serial (planned conn a.request state).answer)) taken ∷ []
+pub arrived-rows : (conn : ConnId) (state : Rows) (a : Asked) (taken : ℕ) → state.connections.rows ≡ row_with conn [] taken ∷ []
+    → (step state (arrival conn a)).connections.rows ≡ row_with conn (waiting_behind a.request.wants_reply (message_of a.request.serial (planned conn a.request state).answer)) taken ∷ []
 arrived-rows conn state a taken only =
     let request = a.request in
     let plan = planned conn request state in
@@ -126,8 +126,8 @@ arrived-owed told new a is conn state =
     let request = a.request in
     let plan = planned told.conn request told.state in
     let out = message_of request.serial plan.answer in
-    let behind : new.state.connections ≡ row_with told.conn (waiting_behind request.wants_reply out) is.taken ∷ [] =
-    ap (λ (s : Rows). s.connections) state ∙ arrived-rows told.conn told.state a is.taken is.only in
+    let behind : new.state.connections.rows ≡ row_with told.conn (waiting_behind request.wants_reply out) is.taken ∷ [] =
+    ap (λ (s : Rows). s.connections.rows) state ∙ arrived-rows told.conn told.state a is.taken is.only in
     owed-all new (waiting_behind request.wants_reply out) (record {
       taken = is.taken;
       only = behind ∙ ap (λ c. row_with c (waiting_behind request.wants_reply out) is.taken ∷ []) (sym conn);
@@ -139,14 +139,14 @@ given-idle-by mid new [] is so =
     let conn = mid.told.conn in
     let none : taking conn mid.told.state ≡ [] = rw is.only (rw (same conn.0) refl) in
     let state : new.told.state ≡ mid.told.state = so.state ∙ ap (replay mid.told.state) none in
-    record { taken = is.taken; only = ap (λ (s : Rows). s.connections) state ∙ is.only ∙ ap (λ c. row_with c [] is.taken ∷ []) (sym so.same.conn) }
+    record { taken = is.taken; only = ap (λ (s : Rows). s.connections.rows) state ∙ is.only ∙ ap (λ c. row_with c [] is.taken ∷ []) (sym so.same.conn) }
 given-idle-by mid new (out ∷ outs) is so =
     let conn = mid.told.conn in
     let some : taking conn mid.told.state ≡ event.Take conn ∷ [] =
     rw is.only (rw (same conn.0) (ap (λ b. cond b (event.Take conn ∷ []) []) (lt-ltb 0 (length (out ∷ outs)) (omega arith)))) in
     let state : new.told.state ≡ step mid.told.state (event.Take conn) = so.state ∙ ap (replay mid.told.state) some in
-    let rows : new.told.state.connections ≡ changed conn emptied (row_with conn (out ∷ outs) is.taken ∷ []) =
-    ap (λ (s : Rows). s.connections) state ∙ ap (changed conn emptied) is.only in
+    let rows : new.told.state.connections.rows ≡ changed conn emptied (row_with conn (out ∷ outs) is.taken ∷ []) =
+    ap (λ (s : Rows). s.connections.rows) state ∙ ap (changed conn emptied) is.only in
     let row : changed conn emptied (row_with conn (out ∷ outs) is.taken ∷ []) ≡ row_with conn [] (min (is.taken + length (out ∷ outs)) 18446744073709551615) ∷ [] =
     rw (same conn.0) refl in
     record {

@@ -62,7 +62,7 @@ unasked parts request old new serials o _ call idle asks = absurd asks
 given-owed : (old mid : World) (a : Asked) → HasArrived old mid a → given_by old.told.conn old.told.state (turns old.told.conn old.told.state (a ∷ [])) ≡ owed mid.told
 given-owed old mid a so =
     given-turn old.told.conn old.told.state a
-    ∙ ap (λ (s : Rows). waiting_for old.told.conn s.connections) (sym so.state) ∙ ap (λ c. waiting_for c mid.told.state.connections) (sym so.same.conn)
+    ∙ ap (λ (s : Rows). waiting_for old.told.conn s.connections.rows) (sym so.state) ∙ ap (λ c. waiting_for c mid.told.state.connections.rows) (sym so.same.conn)
 
 -- what was owed for it was given, and written or not
 pub answers : (parts : Parts) (request : Request) (old mid : World) (new : Place) (serials behind : ℕ) (from to : Output) (result : Result Unit End) → CallOf parts request

@@ -119,10 +119,10 @@ recorded-refused old new a p = record {
 }
 
 -- what one request gives is what is owed behind it
-pub given-turn : (conn : ConnId) (state : Rows) (a : Asked) → given_by conn state (turns conn state (a ∷ [])) ≡ waiting_for conn (step state (arrival conn a)).connections
+pub given-turn : (conn : ConnId) (state : Rows) (a : Asked) → given_by conn state (turns conn state (a ∷ [])) ≡ waiting_for conn (step state (arrival conn a)).connections.rows
 given-turn conn state a =
     let behind = step state (arrival conn a) in
-    let waiting = waiting_for conn behind.connections in
+    let waiting = waiting_for conn behind.connections.rows in
     let pass : (outs : List Out) → waiting ≡ outs → given_by conn behind (taking conn behind) ≡ waiting = elim [
       | [] ↦ λ is. let none : is_owed conn behind ≡ false = ap (λ l. nat_lt 0 (length l)) is in rw none (sym is)
       | out ∷ outs ↦ λ is. let some : is_owed conn behind ≡ true = ap (λ l. nat_lt 0 (length l)) is ∙ lt-ltb 0 (length (out ∷ outs)) (omega arith) in rw some (rw (same conn.0) (append-nil waiting))

@@ -37,7 +37,7 @@ idle-turn told a idle =
     let before : Place = record { told = mid; has_seen = λ view. Unit {0} } in
     let after : Place = record { told = new; has_seen = λ view. Unit {0} } in
     let gives : HasGiven before after = record {
-      legal = taking-legal mid (waiting_for mid.conn mid.state.connections) owes;
+      legal = taking-legal mid (waiting_for mid.conn mid.state.connections.rows) owes;
       state = refl;
       count = refl;
       same = record { conn = refl; alone = refl; steady = refl; waiting = refl };
@@ -56,7 +56,7 @@ reply-one : (told : Told) (a : Asked) → IsOwed told [] → given_by told.conn 
 reply-one told a idle =
     let out = message_of a.request.serial (planned told.conn a.request told.state).answer in
     let rows = arrived-rows told.conn told.state a idle.taken idle.only in
-    let waits : waiting_for told.conn (step told.state (arrival told.conn a)).connections ≡ waiting_behind a.request.wants_reply out =
+    let waits : waiting_for told.conn (step told.state (arrival told.conn a)).connections.rows ≡ waiting_behind a.request.wants_reply out =
     ap (waiting_for told.conn) rows ∙ rw (same told.conn.0) refl in
     ap (given_by told.conn told.state) (sym (append-nil (turn told.conn told.state a))) ∙ given-turn told.conn told.state a ∙ waits ∙ sym (outs-of a.request.wants_reply told.conn out)
 

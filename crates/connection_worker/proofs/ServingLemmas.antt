@@ -17,12 +17,12 @@ use Rattle.service_machine.specs.declared.event.Output.{Output}
 use Rattle.service_machine.specs.declared.event.Output.TheVariants as output
 use Rattle.service_machine.specs.Connections.{has, desk_of, waiting_for}
 use Rattle.service_machine.specs.Limits.{most_events}
-use Rattle.service_machine.specs.Step.{step, output_of, Fits}
+use Rattle.service_machine.specs.Step.{step, output_of, IsMissing, Fits}
 use Rattle.service_machine.specs.Replay.{replay, Legal}
 use Rattle.service_desk.specs.Places.{Told, Place, IsSame, Looks, Extends}
 use Rattle.service_desk.specs.Views.{View, with_others, with_own}
 use Rattle.service_desk.proofs.ViewLemmas.{with-no-others}
-use Rattle.service_desk.specs.Calls.{IsToldOf, IsMissing, Arrives, IsRefusal, Takes}
+use Rattle.service_desk.specs.Calls.{IsToldOf, Arrives, IsRefusal, Takes}
 use Rattle.connection_worker.specs.Salts.{Salting, words_at}
 use Rattle.connection_worker.specs.Single.{Asked, arrival, is_owed, taking}
 use Rattle.connection_worker.specs.Serving.{IsOwed, owed, behind_salt, HasArrived, HasAsked, HasGiven}
@@ -78,10 +78,10 @@ told-is old new same state count = λ i. record {
 }
 
 -- the row of the only connection
-pub only-desk : (told : Told) (outs : List Out) → IsOwed told outs → desk_of told.conn told.state.connections ≡ Some (record { waits = nat_lt 0 (length outs); overrun = false; leaving = false })
+pub only-desk : (told : Told) (outs : List Out) → IsOwed told outs → desk_of told.conn told.state.connections.rows ≡ Some (record { waits = nat_lt 0 (length outs); overrun = false; leaving = false })
 only-desk told outs is = rw is.only (rw (same told.conn.0) refl)
 
-pub only-there : (told : Told) (outs : List Out) → IsOwed told outs → has told.conn told.state.connections ≡ true
+pub only-there : (told : Told) (outs : List Out) → IsOwed told outs → has told.conn told.state.connections.rows ≡ true
 only-there told outs is = rw is.only (rw (same told.conn.0) refl)
 
 -- nothing was owed, and nothing given

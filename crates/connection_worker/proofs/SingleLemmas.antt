@@ -10,12 +10,12 @@ use Rattle.service_machine.specs.declared.rows.Rows.{Rows}
 use Rattle.service_machine.specs.declared.event.Event.TheVariants as event
 use Rattle.service_machine.specs.declared.event.Output.TheVariants as output
 use Rattle.service_machine.specs.Connections.{has}
-use Rattle.service_machine.specs.Step.{step, Fits}
+use Rattle.service_machine.specs.Step.{step, IsMissing, Fits}
 use Rattle.service_machine.specs.Replay.{replay, Legal}
 use Rattle.service_machine.proofs.ReplayLemmas.{replay-append, Legal-append}
 use Rattle.service_desk.specs.Places.{Told, Place, Looks, Extends, Records}
 use Rattle.service_desk.specs.Views.{View, with_own, with_all_own}
-use Rattle.service_desk.specs.Calls.{IsMissing, Goes}
+use Rattle.service_desk.specs.Calls.{Goes}
 use Rattle.service_desk.proofs.ViewLemmas.{with-all-append}
 use Rattle.connection_worker.specs.declared.ending.End.{End}
 use Rattle.connection_worker.specs.declared.ending.End.TheVariants as end
@@ -39,15 +39,15 @@ pub goes-alone : (old new : Place) → IsTrue old.told.is_alone → IsOwed old.t
 goes-alone old new alone idle (inl gone) = alone-extends old new (event.Gone old.told.conn) output.Gone alone gone
 goes-alone old new alone idle (inr (looks, missing)) =
     let it = alone-looks old new alone looks in
-    let there : has new.told.conn new.told.state.connections ≡ true =
-    ap (λ c. has c new.told.state.connections) looks.same.conn ∙ ap (λ (s : Rows). has old.told.conn s.connections) it.0 ∙ only-there old.told [] idle in
+    let there : has new.told.conn new.told.state.connections.rows ≡ true =
+    ap (λ c. has c new.told.state.connections.rows) looks.same.conn ∙ ap (λ (s : Rows). has old.told.conn s.connections.rows) it.0 ∙ only-there old.told [] idle in
     let e : true ≡ false = sym there ∙ missing in cc
 
 -- a connection that has just joined is owed nothing, and has taken nothing
 pub joined-idle : (told : Told) → HasJoined told → IsOwed told []
 joined-idle told joined = record { taken = 0; only = joined }
 
-taken-none : (told : Told) → HasJoined told → taken_by told.conn told.state.connections ≡ 0
+taken-none : (told : Told) → HasJoined told → taken_by told.conn told.state.connections.rows ≡ 0
 taken-none told joined = rw joined (rw (same told.conn.0) refl)
 
 -- the events of the whole

@@ -39,16 +39,16 @@ world told has_seen coming desk clock salting = record { told = told desk; has_s
 
 -- the connection is the only one, and has just joined: nothing waits for it, and it has taken nothing
 abbrev pub HasJoined : Told → Type 0
-HasJoined told = told.state.connections ≡ new_row told.conn ∷ []
+HasJoined told = told.state.connections.rows ≡ new_row told.conn ∷ []
 
 -- The connection is the only one; what waits for it is this, it has lost no output, and it isn't leaving.
 pub record IsOwed (told : Told) (outs : List Out) : Type 0 where
   pub taken : ℕ
-  pub only : told.state.connections ≡ record { conn = told.conn; waiting = outs; overrun = false; leaving = false; taken = taken } ∷ []
+  pub only : told.state.connections.rows ≡ record { conn = told.conn; waiting = outs; overrun = false; leaving = false; taken = taken } ∷ []
 
 -- the outputs that wait for the connection
 abbrev pub owed : Told → List Out
-owed told = waiting_for told.conn told.state.connections
+owed told = waiting_for told.conn told.state.connections.rows
 
 -- moments that a clock gave one after the other
 abbrev pub GivesMoments : Option (ℕ → ℕ) → List ℕ → Option (ℕ → ℕ) → Type 0

@@ -21,11 +21,11 @@ requests_of asked = map (λ (a : Asked). a.request) asked
 
 -- the event of a request
 abbrev pub arrival : ConnId → Asked → Event
-arrival conn asked = event.Arrive conn asked.request asked.now asked.salt
+arrival conn asked = event.Arrive (record { conn = conn; request = asked.request; now = asked.now; salt = asked.salt })
 
 -- whether something waits for the connection
 abbrev pub is_owed : ConnId → Rows → Bool
-is_owed conn state = nat_lt 0 (length (waiting_for conn state.connections))
+is_owed conn state = nat_lt 0 (length (waiting_for conn state.connections.rows))
 
 -- what waits for the connection is taken, where anything does
 abbrev pub taking : ConnId → Rows → List Event

@@ -12,9 +12,9 @@ use Rattle.service_machine.specs.Step.{step}
 
 -- what an event gives to the connection
 abbrev pub given : ConnId → Rows → Event → List Out
-given conn state (event.Take other) = if other.0 == conn.0 then waiting_for conn state.connections else []
+given conn state (event.Take other) = if other.0 == conn.0 then waiting_for conn state.connections.rows else []
 given conn state (event.Connect other) = []
-given conn state (event.Arrive other request now salt) = []
+given conn state (event.Arrive arrival) = []
 given conn state (event.Leave other) = []
 given conn state (event.Gone other) = []
 
@@ -43,4 +43,4 @@ taken_by conn (row ∷ rows) = if is_row conn row then row.taken else taken_by c
 
 -- all that is written of what events give to the connection: its serials go on from the outputs that it has taken
 abbrev pub written : ConnId → Rows → List Event → List ℕ
-written conn state events = written_after conn (taken_by conn state.connections) state events
+written conn state events = written_after conn (taken_by conn state.connections.rows) state events

@@ -34,7 +34,7 @@ joins : Fits opened_rows (event.Connect the_connection)
 joins = (refl, omega arith, omega arith)
 
 -- and is there
-there : has the_connection joined.connections ≡ true
+there : has the_connection joined.connections.rows ≡ true
 there = refl
 
 -- the number of the connection that joined
@@ -43,7 +43,7 @@ first-connection conn fits = λ i. record { 0 = fits.0 i }
 
 -- it has just joined
 pub just-joined : (told : Told) → told.conn ≡ the_connection → told.state ≡ joined → HasJoined told
-just-joined told conn state = ap (λ (s : Rows). s.connections) state ∙ ap (λ c. new_row c ∷ []) (sym conn)
+just-joined told conn state = ap (λ (s : Rows). s.connections.rows) state ∙ ap (λ c. new_row c ∷ []) (sym conn)
 
 -- ---- the end
 

@@ -13,7 +13,7 @@ use Rattle.service_machine.specs.declared.event.Incoming.TheVariants as incoming
 use Rattle.service_machine.specs.Connections.{is_row, has, desk_of}
 use Rattle.service_machine.specs.Limits.{most_events}
 use Rattle.service_machine.specs.Step.{step, output_of, Fits}
-use Rattle.secret_calls.specs.declared.call.Request.{Request}
+use Rattle.service_machine.specs.declared.event.Arrival.{Arrival}
 use Rattle.service_machine.specs.Machine.{Records}
 use Rattle.service_history.specs.declared.service.EventRefused.{EventRefused}
 use Rattle.service_history.specs.declared.service.EventRefused.TheVariants as refused
@@ -111,59 +111,58 @@ total-cut old =
     pass (is_due old) refl
 
 pub arrives : (conn : ConnId) (old new : History) (came : Event) (event : Event) (answer : Output) → event ≡ came
-    → Fits old.state event → answer ≡ output_of old.state event → new ≡ with_event event (cut_where_due old) → output_of old.state came ≡ output.Arrived
+    → Fits old.state event → answer ≡ output_of old.state event → new ≡ with_event event (cut_where_due old) → output_of old.state came ≡ output.Arrived (record {})
     → total old < most_events → Arrives (spot conn old) (spot conn new) came
 arrives conn old new came event answer is fits answers appends arrived left =
     let counted : total new ≡ total old + 1 = ap total appends ∙ total-with event (cut_where_due old) ∙ ap (λ n. n + 1) (total-cut old) in
     record {
-      recorded = extends conn old new came output.Arrived (rw (← is) fits) (sym arrived)
+      recorded = extends conn old new came (output.Arrived (record {})) (rw (← is) fits) (sym arrived)
           (ap (λ (h : History). h.state) appends ∙ ap (λ s. step s event) (state-cut old) ∙ ap (step old.state) is) counted;
       counted = omega (arith, counted, left);
     }
 
 pub takes-some : (conn : ConnId) (old : History) (waits overrun leaving : Bool)
-    → Some (record { waits = waits; overrun = overrun; leaving = leaving }) ≡ desk_of conn old.state.connections
+    → Some (record { waits = waits; overrun = overrun; leaving = leaving }) ≡ desk_of conn old.state.connections.rows
     → Takes (spot conn old) (spot conn (taken_by conn (Some (record { waits = waits; overrun = overrun; leaving = leaving })) old))
     (given_for conn old.state (Some (record { waits = waits; overrun = overrun; leaving = leaving })))
 unfolding extends-with extends
 takes-some conn old true overrun leaving told = extends-with conn old (event.Take conn) (rw (← told) refl)
 takes-some conn old false true true told = (looks conn old, (true, sym told))
 takes-some conn old false true false told = (looks conn old, (false, sym told))
-takes-some conn old false false true told = (extends-with conn old (event.Gone conn) (has-told conn old.state.connections _ told), sym told)
+takes-some conn old false false true told = (extends-with conn old (event.Gone conn) (has-told conn old.state.connections.rows _ told), sym told)
 takes-some conn old false false false told = (looks conn old, sym told, refl)
 
-pub takes : (conn : ConnId) (old : History) (desk : Option DeskRow) → desk ≡ desk_of conn old.state.connections
+pub takes : (conn : ConnId) (old : History) (desk : Option DeskRow) → desk ≡ desk_of conn old.state.connections.rows
     → Takes (spot conn old) (spot conn (taken_by conn desk old)) (given_for conn old.state desk)
-takes conn old None told = (looks conn old, has-none conn old.state.connections told)
+takes conn old None told = (looks conn old, has-none conn old.state.connections.rows told)
 takes conn old (Some desk) told = takes-some conn old desk.waits desk.overrun desk.leaving told
 
 pub leaves-some : (conn : ConnId) (old : History) (waits overrun leaving : Bool)
-    → Some (record { waits = waits; overrun = overrun; leaving = leaving }) ≡ desk_of conn old.state.connections
+    → Some (record { waits = waits; overrun = overrun; leaving = leaving }) ≡ desk_of conn old.state.connections.rows
     → Leaves (spot conn old) (spot conn (left_by conn (Some (record { waits = waits; overrun = overrun; leaving = leaving })) old))
 leaves-some conn old waits overrun true told = inr (looks conn old, inr (waits, overrun, sym told))
 leaves-some conn old waits overrun false told = inl (extends-with conn old (event.Leave conn) (rw (← told) refl))
 
-pub leaves : (conn : ConnId) (old : History) (desk : Option DeskRow) → desk ≡ desk_of conn old.state.connections → Leaves (spot conn old) (spot conn (left_by conn desk old))
-leaves conn old None told = inr (looks conn old, inl (has-none conn old.state.connections told))
+pub leaves : (conn : ConnId) (old : History) (desk : Option DeskRow) → desk ≡ desk_of conn old.state.connections.rows → Leaves (spot conn old) (spot conn (left_by conn desk old))
+leaves conn old None told = inr (looks conn old, inl (has-none conn old.state.connections.rows told))
 leaves conn old (Some desk) told = leaves-some conn old desk.waits desk.overrun desk.leaving told
 
-pub goes : (conn : ConnId) (old : History) (desk : Option DeskRow) → desk ≡ desk_of conn old.state.connections → Goes (spot conn old) (spot conn (gone_by conn desk old))
-goes conn old None told = inr (looks conn old, has-none conn old.state.connections told)
-goes conn old (Some desk) told = inl (extends-with conn old (event.Gone conn) (has-told conn old.state.connections desk told))
+pub goes : (conn : ConnId) (old : History) (desk : Option DeskRow) → desk ≡ desk_of conn old.state.connections.rows → Goes (spot conn old) (spot conn (gone_by conn desk old))
+goes conn old None told = inr (looks conn old, has-none conn old.state.connections.rows told)
+goes conn old (Some desk) told = inl (extends-with conn old (event.Gone conn) (has-told conn old.state.connections.rows desk told))
 
 -- a request is recorded as itself
-pub request-is : (conn : ConnId) (request : Request) (now : ℕ) (salt : List ℕ) (recorded : Event) → Records (incoming.Arrive conn request now salt) recorded
-    → recorded ≡ event.Arrive conn request now salt
-request-is conn request now salt (event.Arrive conn' request' now' salt') records = λ i. event.Arrive (records.0 i) (records.1 i) (records.2 i) (records.3 i)
-request-is conn request now salt _ records = absurd records
+pub request-is : (arrival : Arrival) (recorded : Event) → Records (incoming.Arrive arrival) recorded → recorded ≡ event.Arrive arrival
+request-is arrival (event.Arrive came) records = ap (λ a. event.Arrive a) records
+request-is arrival _ records = absurd records
 
 -- what the service says of a request that it answered
-pub arrives-recorded : (conn : ConnId) (old new : History) (request : Request) (now : ℕ) (salt : List ℕ) (result : Result Output EventRefused) (answer : Output)
-    → result ≡ Ok answer → IfOk result (λ answer. IsRecorded old (incoming.Arrive conn request now salt) answer new)
+pub arrives-recorded : (conn : ConnId) (old new : History) (arrival : Arrival) (result : Result Output EventRefused) (answer : Output)
+    → result ≡ Ok answer → IfOk result (λ answer. IsRecorded old (incoming.Arrive arrival) answer new)
     → ((result ≡ Err refused.EventsSpent → ⊥) → most_events ≤ total old → ⊥)
-    → Arrives (spot conn old) (spot conn new) (event.Arrive conn request now salt)
-arrives-recorded conn old new request now salt result answer is recorded left =
-    let r : IsRecorded old (incoming.Arrive conn request now salt) answer new = rw is at recorded in
+    → Arrives (spot conn old) (spot conn new) (event.Arrive arrival)
+arrives-recorded conn old new arrival result answer is recorded left =
+    let r : IsRecorded old (incoming.Arrive arrival) answer new = rw is at recorded in
     let not_spent : most_events ≤ total old → ⊥ = left (λ (spent : result ≡ Err refused.EventsSpent). let h : Ok answer ≡ Err refused.EventsSpent = sym is ∙ spent in cc) in
-    arrives conn old new (event.Arrive conn request now salt) r.event answer (request-is conn request now salt r.event r.records) r.fits r.answers r.appends refl
+    arrives conn old new (event.Arrive arrival) r.event answer (request-is arrival r.event r.records) r.fits r.answers r.appends refl
     (omega (arith, not_spent))

@@ -9,7 +9,7 @@ use kr_base::ConnId;
 use secret_calls::{Refused, Request, Taken};
 use service_desk::{Desk, JoinRefused, ReadDesk, WriteDesk};
 use service_history::{EventRefused, Service};
-use service_machine::{Event, Incoming, Output};
+use service_machine::{Arrival, Event, Incoming, Output};
 
 /// A connection's desk over a service that is its own.
 #[derive(Drop)]
@@ -71,13 +71,13 @@ impl Desk for LoneDesk {
 
 impl ReadDesk for LoneDesk {
     fn arrive(&mut self, request: Request, now: u64, salt: [u8; 8]) -> Result<(), Refused> {
-        let event = Incoming::Arrive {
+        let arrival = Arrival {
             conn: self.conn,
             request,
             now,
             salt,
         };
-        match self.service.event(event) {
+        match self.service.event(Incoming::Arrive(arrival)) {
             Ok(_) => Ok(()),
             Err(EventRefused::EventsSpent) => Err(Refused::EventsSpent),
             Err(EventRefused::NoConnection) => Err(Refused::Gone),

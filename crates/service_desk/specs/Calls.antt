@@ -9,27 +9,24 @@ use Rattle.service_machine.specs.declared.rows.Rows.{Rows}
 use Rattle.service_machine.specs.declared.event.Event.{Event}
 use Rattle.service_machine.specs.declared.event.Event.TheVariants as event
 use Rattle.service_machine.specs.declared.event.Output.TheVariants as output
-use Rattle.service_machine.specs.Connections.{has, desk_of}
-use Rattle.service_machine.specs.Limits.{most_events}
+use Rattle.service_machine.specs.Connections.{desk_of}
+use Rattle.service_machine.specs.Limits.{most_events, IsSpent}
+use Rattle.service_machine.specs.Step.{IsMissing}
 use Rattle.service_desk.specs.Places.{Told, Place, Looks, Extends}
 
 -- the connection is there, and this is told of it
 abbrev pub IsToldOf : ConnId → Rows → Bool → Bool → Bool → Type 0
 IsToldOf conn state waits overrun leaving =
-    desk_of conn state.connections ≡ Some (record { waits = waits; overrun = overrun; leaving = leaving })
-
--- the connection isn't there
-abbrev pub IsMissing : ConnId → Rows → Type 0
-IsMissing conn state = has conn state.connections ≡ false
+    desk_of conn state.connections.rows ≡ Some (record { waits = waits; overrun = overrun; leaving = leaving })
 
 -- the request was recorded; not all events that can be counted were
 pub record Arrives (old new : Place) (event : Event) : Type 0 where
-  pub recorded : Extends old new event output.Arrived
+  pub recorded : Extends old new event (output.Arrived (record {}))
   pub counted : new.told.count ≤ most_events
 
 -- why a request wasn't recorded: all events that can be counted are; else the connection isn't there; or for want of memory
 abbrev pub IsRefusal : Refused → Told → Type 0
-IsRefusal refused.EventsSpent told = most_events ≤ told.count
+IsRefusal refused.EventsSpent told = IsSpent told.count
 IsRefusal refused.Gone told = (told.count < most_events) × IsMissing told.conn told.state
 IsRefusal refused.OutOfMemory told = Unit {0}
 

@@ -16,7 +16,12 @@ pub trait ReadDesk: Desk {
     fn arrive(&mut self, request: Request, now: u64, salt: [u8; 8]) -> Result<(), Refused>
         ensures recorded { OnOk result (Arrives
             (place Self.told Self.has_seen self.old) (place Self.told Self.has_seen self.new)
-            (Event.Arrive (Self.told self.old).conn request now salt)) }
+            (Event.Arrive (record {
+              conn = (Self.told self.old).conn;
+              request = request;
+              now = now;
+              salt = salt;
+            }))) }
         ensures looked { OnErr result (Looks
             (place Self.told Self.has_seen self.old) (place Self.told Self.has_seen self.new)) }
         ensures cause { IfErr result (λ refused. IsRefusal refused (Self.told self.new)) };

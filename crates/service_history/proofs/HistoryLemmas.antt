@@ -29,12 +29,12 @@ pub history-sound : (history : History) → IsHistory history → IsSound histor
 history-sound history is = rw is.replayed (sound-replay history.base history.events is.sound is.legal)
 
 -- what sure events take behind an event
-pub room-behind : (state : Rows) (event : Event) → IsSound state → Fits state event → room (step state event).connections ≤ 768
+pub room-behind : (state : Rows) (event : Event) → IsSound state → Fits state event → room (step state event).connections.rows ≤ 768
 room-behind state event sound fits =
-    omega (arith, room-few (step state event).connections, (sound-step state event sound fits).few)
+    omega (arith, room-few (step state event).connections.rows, (sound-step state event sound fits).connections.few)
 
 pub history-push : (history : History) (event : Event) → IsHistory history → Fits history.state event
-    → total history + 1 + room (step history.state event).connections ≤ most_counted → IsHistory (with_event event history)
+    → total history + 1 + room (step history.state event).connections.rows ≤ most_counted → IsHistory (with_event event history)
 history-push history event is fits counted = record {
   sound = is.sound;
   legal = Legal-append history.base history.events (event ∷ []) is.legal (rw (← is.replayed) fits, tt);
@@ -52,16 +52,16 @@ history-cut history is = record {
 
 -- an event that settles leaves less room to be kept
 pub settled-less : (state : Rows) (came : Incoming) (event : Event) → Settles state came → Records came event → Fits state event
-    → room (step state event).connections + 1 ≤ room state.connections
+    → room (step state event).connections.rows + 1 ≤ room state.connections.rows
 settled-less state incoming.Connect event settles records fits = absurd settles
-settled-less state (incoming.Arrive conn request now salt) event settles records fits = absurd settles
+settled-less state (incoming.Arrive arrival) event settles records fits = absurd settles
 settled-less state (incoming.Leave conn) (event.Leave left_conn) settles records fits =
-    room-changed_one (λ desk. desk.leaving ≡ false) left_conn left room-left room-left_one state.connections fits
+    room-changed_one (λ desk. desk.leaving ≡ false) left_conn left room-left room-left_one state.connections.rows fits
 settled-less state (incoming.Leave conn) _ settles records fits = absurd records
 settled-less state (incoming.Take conn) (event.Take taken_conn) settles records fits =
-    room-changed_one (λ desk. desk.waits ≡ true) taken_conn emptied room-emptied room-emptied_one state.connections fits
+    room-changed_one (λ desk. desk.waits ≡ true) taken_conn emptied room-emptied room-emptied_one state.connections.rows fits
 settled-less state (incoming.Take conn) _ settles records fits = absurd records
-settled-less state (incoming.Gone conn) (event.Gone gone_conn) settles records fits = room-without_one gone_conn state.connections fits
+settled-less state (incoming.Gone conn) (event.Gone gone_conn) settles records fits = room-without_one gone_conn state.connections.rows fits
 settled-less state (incoming.Gone conn) _ settles records fits = absurd records
 
 -- the cost with one more event, counted up to the last number
@@ -72,7 +72,7 @@ cost-push events event counted is = rw (sum_by_push cost_of events event) (omega
 -- one that settles is recorded as itself
 pub settled-is : (state : Rows) (came : Incoming) (event : Event) → Settles state came → Records came event → event ≡ settled came
 settled-is state incoming.Connect event settles records = absurd settles
-settled-is state (incoming.Arrive conn request now salt) event settles records = absurd settles
+settled-is state (incoming.Arrive arrival) event settles records = absurd settles
 settled-is state (incoming.Leave conn) (event.Leave left_conn) settles records = ap (λ c. event.Leave c) records
 settled-is state (incoming.Leave conn) _ settles records = absurd records
 settled-is state (incoming.Take conn) (event.Take taken_conn) settles records = ap (λ c. event.Take c) records

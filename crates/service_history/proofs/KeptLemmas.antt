@@ -25,11 +25,11 @@ pub kept_push : (machine machine' : Machine) (base : Rows) (events events' : Vec
     → rows_of machine' ≡ step (rows_of machine) event → events'.items ≡ events.items ++ event ∷ []
     → vec_len events' ≡ vec_len events + 1 → vec_capacity events ≤ vec_capacity events'
     → counted' ≡ min (counted + cost_of event) 18446744073709551615
-    → total (history_of machine base events era) + 1 + room (step (rows_of machine) event).connections ≤ most_counted
-    → vec_len events + 1 + room (step (rows_of machine) event).connections ≤ vec_capacity events
+    → total (history_of machine base events era) + 1 + room (step (rows_of machine) event).connections.rows ≤ most_counted
+    → vec_len events + 1 + room (step (rows_of machine) event).connections.rows ≤ vec_capacity events
     → IsKept machine' base events' era counted'
 kept_push machine machine' base events events' era counted counted' event kept fits stepped items len capacity cost_is few space =
-    let rooms : room (rows_of machine').connections ≡ room (step (rows_of machine) event).connections = ap (λ (s : Rows). room s.connections) stepped in
+    let rooms : room (rows_of machine').connections.rows ≡ room (step (rows_of machine) event).connections.rows = ap (λ (s : Rows). room s.connections.rows) stepped in
     record {
       history = rw (view_push machine machine' base events events' era event stepped items) (history-push (history_of machine base events era) event kept.history fits few);
       costs = cost_is ∙ cost-push events.items event counted kept.costs ∙ ap (λ es. min (cost es) 18446744073709551615) (sym items);
@@ -55,18 +55,18 @@ pub kept_cut : (machine : Machine) (base base' : Rows) (events events' : Vec Eve
     → base' ≡ rows_of machine → events'.items ≡ [] → era' ≡ era + length events.items → vec_len events' ≡ 0 → 769 ≤ vec_capacity events'
     → IsKept machine base' events' era' 0
 kept_cut machine base base' events events' era era' counted kept copied none is len capacity =
-    let few = (history-sound (history_of machine base events era) kept.history).few in
+    let few = (history-sound (history_of machine base events era) kept.history).connections.few in
     record {
       history = rw (view_cut machine base base' events events' era era' (copied ∙ kept.history.replayed) none is) (history-cut (history_of machine base events era) kept.history);
       costs = ap (λ es. min (cost es) 18446744073709551615) (sym none);
-      fits = omega (arith, room-few (rows_of machine).connections, few, len, capacity);
+      fits = omega (arith, room-few (rows_of machine).connections.rows, few, len, capacity);
     }
 
 -- a refusal of the machine changes no row
 pub kept_refused : (machine machine' : Machine) (base : Rows) (events : Vec Event Global) (era counted : ℕ) → IsKept machine base events era counted
     → rows_of machine' ≡ rows_of machine → IsKept machine' base events era counted
 kept_refused machine machine' base events era counted kept rows =
-    let rooms : room (rows_of machine').connections ≡ room (rows_of machine).connections = ap (λ (s : Rows). room s.connections) rows in
+    let rooms : room (rows_of machine').connections.rows ≡ room (rows_of machine).connections.rows = ap (λ (s : Rows). room s.connections.rows) rows in
     record {
       history = let same : history_of machine' base events era ≡ history_of machine base events era = λ i. record { state = rows i; base = base; events = events.items; era = era } in rw same kept.history;
       costs = kept.costs;

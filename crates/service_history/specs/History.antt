@@ -41,7 +41,7 @@ pub record IsHistory (history : History) : Type 0 where
   pub sound : IsSound history.base
   pub legal : Legal history.base history.events
   pub replayed : history.state ≡ replay history.base history.events
-  pub counted : total history + room history.state.connections ≤ most_counted
+  pub counted : total history + room history.state.connections.rows ≤ most_counted
 
 -- a cut is due: the stored events are many, or cost much
 abbrev pub is_due : History → Bool
@@ -90,14 +90,14 @@ IsSpent history = most_events ≤ total history
 -- the events that `event` takes: a connection joins, or asks for something
 abbrev pub IsAsked : Incoming → Type 0
 IsAsked incoming.Connect = Unit {0}
-IsAsked (incoming.Arrive conn request now salt) = Unit {0}
+IsAsked (incoming.Arrive arrival) = Unit {0}
 IsAsked _ = ⊥
 
 -- what a connection is given that takes: by what is told of it
 abbrev pub given_for : ConnId → Rows → Option DeskRow → Taken
 given_for conn state None = taken.Missing
 given_for conn state (Some desk) =
-    if desk.waits then taken.Outs (waiting_for conn state.connections)
+    if desk.waits then taken.Outs (waiting_for conn state.connections.rows)
     else (if desk.overrun then taken.Overrun
     else (if desk.leaving then taken.Closed else taken.Empty))
 
@@ -120,4 +120,4 @@ gone_by conn (Some desk) history = with_event (event.Gone conn) history
 
 -- what is told of a connection of the history's state
 abbrev pub told : ConnId → History → Option DeskRow
-told conn history = desk_of conn history.state.connections
+told conn history = desk_of conn history.state.connections.rows

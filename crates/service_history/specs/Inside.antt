@@ -18,4 +18,4 @@ history_of machine base events era = record { state = rows_of machine; base = ba
 pub record IsKept (machine : Machine) (base : Rows) (events : Vec Event Global) (era counted : ℕ) : Type 0 where
   pub history : IsHistory (history_of machine base events era)
   pub costs : counted ≡ min (cost events.items) 18446744073709551615
-  pub fits : vec_len events + room (rows_of machine).connections ≤ vec_capacity events
+  pub fits : vec_len events + room (rows_of machine).connections.rows ≤ vec_capacity events

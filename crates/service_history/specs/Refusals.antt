@@ -28,16 +28,16 @@ IsRefused state came refused.OutOfMemory = Unit {0}
 
 -- a connection that is there leaves, takes or is gone
 abbrev pub Settles : Rows → Incoming → Type 0
-Settles state (incoming.Leave conn) = has conn state.connections ≡ true
-Settles state (incoming.Take conn) = has conn state.connections ≡ true
-Settles state (incoming.Gone conn) = has conn state.connections ≡ true
+Settles state (incoming.Leave conn) = has conn state.connections.rows ≡ true
+Settles state (incoming.Take conn) = has conn state.connections.rows ≡ true
+Settles state (incoming.Gone conn) = has conn state.connections.rows ≡ true
 Settles state _ = ⊥
 
 -- The event as which one that settles is recorded. A connection that asks or joins doesn't settle; one that joins has
 -- no number yet.
 abbrev pub settled : Incoming → Event
 settled incoming.Connect = event.Connect (record { 0 = 0 })
-settled (incoming.Arrive conn request now salt) = event.Arrive conn request now salt
+settled (incoming.Arrive arrival) = event.Arrive arrival
 settled (incoming.Leave conn) = event.Leave conn
 settled (incoming.Take conn) = event.Take conn
 settled (incoming.Gone conn) = event.Gone conn

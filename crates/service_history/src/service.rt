@@ -10,7 +10,8 @@ ghost use Rattle.service_history.specs.Refusals.{refusal_of, IsRefused, Settles,
 use kr_base::ConnId;
 use kr_items::Items;
 use secret_calls::Taken;
-use service_machine::{ApplyRefused, DeskRow, Event, Incoming, Machine, Output, Rows};
+use session_table::Sessions;
+use service_machine::{ApplyRefused, ConnRows, DeskRow, Event, Incoming, Machine, Output, Rows};
 use std::alloc::Global;
 use std::marker::Model;
 use thiserror::Error;
@@ -73,10 +74,14 @@ fn opened(alloc: Global) -> Rows
     ensures { result ≡ opened_rows }
 {
     Rows {
-        connections: Items::empty(alloc),
-        sessions: Items::empty(alloc),
-        next_conn: 1,
-        next_session: 1,
+        connections: ConnRows {
+            rows: Items::empty(alloc),
+            next: 1,
+        },
+        sessions: Sessions {
+            rows: Items::empty(alloc),
+            next: 1,
+        },
     }
 }
 
@@ -85,12 +90,7 @@ fn cost_of(event: &Event) -> u64
     ensures { result ≡ cost_of event.now }
 {
     match event {
-        Event::Arrive {
-            conn: _,
-            request,
-            now: _,
-            salt: _,
-        } => 64 + request.length as u64,
+        Event::Arrive(arrival) => 64 + arrival.request.length as u64,
         _ => 64,
     }
 }

@@ -20,17 +20,20 @@ use Rattle.secret_calls.specs.declared.out.ErrorName.{ErrorName}
 use Rattle.secret_calls.specs.declared.out.ErrorName.TheVariants as name
 use Rattle.secret_calls.specs.Calls.{error_of}
 use Rattle.secret_calls.specs.Outs.{FitsBody, HasSpelling, most_waiting}
-use Rattle.session_table.specs.Sessions.{is_of, rows_of, is_full, most_sessions, last_session}
+use Rattle.session_table.specs.declared.row.Sessions.{Sessions}
+use Rattle.session_table.specs.Sessions.{is_of, rows_of, is_full, opened, abandoned, most_sessions, last_session}
 use Rattle.service_machine.specs.declared.rows.Rows.{Rows}
 use Rattle.service_machine.specs.declared.rows.ConnRow.{ConnRow}
+use Rattle.service_machine.specs.declared.rows.ConnRows.{ConnRows}
 use Rattle.service_machine.specs.declared.event.Event.{Event}
 use Rattle.service_machine.specs.declared.event.Event.TheVariants as event
-use Rattle.service_machine.specs.Connections.{new_row, is_row, has, changed, without, left, emptied, size_of, size_waiting, with_out, Sent, delivered}
+use Rattle.service_machine.specs.Connections.{new_row, joined, is_row, has, changed, without, left, emptied, size_of, size_waiting, with_out, Sent, delivered}
+use Rattle.service_machine.specs.Limits.{most_connections}
 use Rattle.service_machine.specs.Plan.{Plan, Change, Open_session, Close_session, refused, answered}
 use Rattle.service_machine.specs.SessionCalls.{is_plain}
-use Rattle.service_machine.specs.Step.{opened_rows, sessions_of, asked, plan_of, performed, performed_all, planned, message_of, replies, step, Fits}
+use Rattle.service_machine.specs.Step.{opened_rows, with_rows, with_delivered, asked, plan_of, performed, performed_all, planned, message_of, replies, step, Fits}
 use Rattle.service_machine.specs.Replay.{replay, Legal}
-use Rattle.service_machine.specs.Sound.{AreJoined, AreApart, WaitsWell, AreWaiting, AreOpened, AreOnce, AreFew, IsSound}
+use Rattle.service_machine.specs.Sound.{AreJoined, AreApart, WaitsWell, AreWaiting, AreOpened, AreOnce, AreFew, AreSoundConnections, AreSoundSessions, IsSound}
 
 -- what isn't true is false
 not_true : (b : Bool) → not b ≡ true → b ≡ false
@@ -161,18 +164,31 @@ waiting-changed conn change well (row ∷ rows) all =
     elim [ true ↦ λ is. rw is (well row all.0) | false ↦ λ is. rw is all.0 ] in
     (pass (is_row conn row) refl, waiting-changed conn change well rows all.1)
 
-pub sound-changed : (conn : ConnId) (change : ConnRow → ConnRow) → KeepsNumber change → ((row : ConnRow) → WaitsWell row → WaitsWell (change row)) → (state : Rows) → IsSound state
-    → IsSound (record state { connections = changed conn change state.connections })
-sound-changed conn change keeps well state sound = record {
-  joined = joined-changed state.next_conn conn change keeps state.connections sound.joined;
-  apart = apart-changed conn change keeps state.connections sound.apart;
-  few = rw (length-changed conn change state.connections) sound.few;
-  waiting = waiting-changed conn change well state.connections sound.waiting;
+-- connections with a change of one
+connections-changed : (conn : ConnId) (change : ConnRow → ConnRow) → KeepsNumber change → ((row : ConnRow) → WaitsWell row → WaitsWell (change row)) → (connections : ConnRows)
+    → AreSoundConnections connections → AreSoundConnections (record connections { rows = changed conn change connections.rows })
+connections-changed conn change keeps well connections sound = record {
+  joined = joined-changed connections.next conn change keeps connections.rows sound.joined;
+  apart = apart-changed conn change keeps connections.rows sound.apart;
+  few = rw (length-changed conn change connections.rows) sound.few;
+  waiting = waiting-changed conn change well connections.rows sound.waiting;
+}
+
+-- sessions among other connections, of which none is missing
+sessions-among : (old new : List ConnRow) → ((owner : ConnId) → has owner old ≡ true → has owner new ≡ true) → (sessions : Sessions) → AreSoundSessions old sessions → AreSoundSessions new sessions
+sessions-among old new there sessions sound = record {
   opened = sound.opened;
   once = sound.once;
   limited = sound.limited;
-  owned = each-weaker _ _ (λ row there. has-changed row.owner conn change keeps state.connections ∙ there) state.sessions sound.owned;
+  owned = each-weaker _ _ (λ row. there row.owner) sessions.rows sound.owned;
   numbered = sound.numbered;
+}
+
+pub sound-changed : (conn : ConnId) (change : ConnRow → ConnRow) → KeepsNumber change → ((row : ConnRow) → WaitsWell row → WaitsWell (change row)) → (state : Rows) → IsSound state
+    → IsSound (with_rows (changed conn change state.connections.rows) state)
+sound-changed conn change keeps well state sound = record {
+  connections = connections-changed conn change keeps well state.connections sound.connections;
+  sessions = sessions-among state.connections.rows (changed conn change state.connections.rows) (λ owner there. has-changed owner conn change keeps state.connections.rows ∙ there) state.sessions sound.sessions;
 }
 
 pub keeps-with_out : (out : Out) → KeepsNumber (with_out out)
@@ -203,10 +219,10 @@ well-with_out out spells row well =
 abbrev pub AreSpelled : List Sent → Type 0
 AreSpelled sent = AllByRecursion (λ one. HasSpelling one.out) sent
 
-pub sound-delivered : (sent : List Sent) → AreSpelled sent → (state : Rows) → IsSound state → IsSound (record state { connections = delivered sent state.connections })
+pub sound-delivered : (sent : List Sent) → AreSpelled sent → (state : Rows) → IsSound state → IsSound (with_delivered sent state)
 sound-delivered [] spelled state sound = sound
 sound-delivered (one ∷ more) spelled state sound =
-    sound-delivered more spelled.1 (record state { connections = changed one.to (with_out one.out) state.connections })
+    sound-delivered more spelled.1 (with_rows (changed one.to (with_out one.out) state.connections.rows) state)
     (sound-changed one.to (with_out one.out) (keeps-with_out one.out) (well-with_out one.out spelled.0) state sound)
 
 -- ---- connections: one more behind all, one less
@@ -264,6 +280,25 @@ has-without other conn (row ∷ rows) differs there =
     ] in
     pass (is_row conn row) refl
 
+-- connections with one more
+connections-joined : (conn : ConnId) (connections : ConnRows) → conn.0 ≡ connections.next → length connections.rows < most_connections → AreSoundConnections connections
+    → AreSoundConnections (joined conn connections)
+connections-joined conn connections is room sound = record {
+  joined = each-append _ connections.rows (new_row conn ∷ []) (joined-longer connections.next connections.rows sound.joined) (omega (arith, is), tt);
+  apart = apart-push connections.next connections.rows (new_row conn) is sound.joined sound.apart;
+  few = rw length-append (omega (arith, room));
+  waiting = each-append _ connections.rows (new_row conn ∷ []) sound.waiting (record { within = omega arith; spelled = tt }, tt);
+}
+
+-- connections without one
+connections-without : (conn : ConnId) (connections : ConnRows) → AreSoundConnections connections → AreSoundConnections (record connections { rows = without conn connections.rows })
+connections-without conn connections sound = record {
+  joined = each-filter _ _ connections.rows sound.joined;
+  apart = apart-without conn connections.rows sound.apart;
+  few = omega (arith, length-without conn connections.rows, sound.few);
+  waiting = each-filter _ _ connections.rows sound.waiting;
+}
+
 -- ---- sessions: one more, one less, all of an owner less
 
 pub opened-longer : (next : ℕ) (rows : List SessionRow) → AreOpened next rows → AreOpened (next + 1) rows
@@ -281,64 +316,82 @@ none-next next (row ∷ rows) all =
     rw not_it (none-next next rows all.1)
 
 -- one more session
-pub once-opened : (caller : ConnId) (state : Rows) → IsSound state → AreOnce (performed caller Open_session state).sessions
-once-opened caller state sound number =
-    let new : SessionRow = record { owner = caller; session = record { 0 = state.next_session } } in
-    let some = between_fewer (λ row. row.session.0 == number) (λ row. nat_le row.owner.0 caller.0) (λ row. nat_lt caller.0 row.owner.0) new (parts-apart caller.0) state.sessions in
-    let was = sound.once number in
-    let pass : (b : Bool) → (state.next_session == number) ≡ b → length (filter (λ row. row.session.0 == number) (performed caller Open_session state).sessions) ≤ 1 =
+once-opened : (caller : ConnId) (sessions : Sessions) → AreOpened sessions.next sessions.rows → AreOnce sessions.rows → AreOnce (opened caller sessions).rows
+once-opened caller sessions given once number =
+    let new : SessionRow = record { owner = caller; session = record { 0 = sessions.next } } in
+    let some = between_fewer (λ row. row.session.0 == number) (λ row. nat_le row.owner.0 caller.0) (λ row. nat_lt caller.0 row.owner.0) new (parts-apart caller.0) sessions.rows in
+    let was = once number in
+    let pass : (b : Bool) → (sessions.next == number) ≡ b → length (filter (λ row. row.session.0 == number) (opened caller sessions).rows) ≤ 1 =
     elim [
       | true ↦ λ is.
-          let same : state.next_session ≡ number = grind (arith, nat_tests) in
-          let none : length (filter (λ row. row.session.0 == number) state.sessions) ≡ 0 =
-          ap (λ n. length (filter (λ row. row.session.0 == n) state.sessions)) (sym same) ∙ none-next state.next_session state.sessions sound.opened in
+          let same : sessions.next ≡ number = grind (arith, nat_tests) in
+          let none : length (filter (λ row. row.session.0 == number) sessions.rows) ≡ 0 =
+          ap (λ n. length (filter (λ row. row.session.0 == n) sessions.rows)) (sym same) ∙ none-next sessions.next sessions.rows given in
           omega (arith, rw is at some, none)
       | false ↦ λ is. omega (arith, rw is at some, was)
     ] in
-    pass (state.next_session == number) refl
+    pass (sessions.next == number) refl
 
-pub limited-opened : (caller : ConnId) (state : Rows) → length (rows_of caller state.sessions) < most_sessions → IsSound state → AreFew (performed caller Open_session state).sessions
-limited-opened caller state left sound owner =
-    let new : SessionRow = record { owner = caller; session = record { 0 = state.next_session } } in
-    let some = between_fewer (λ row. row.owner.0 == owner.0) (λ row. nat_le row.owner.0 caller.0) (λ row. nat_lt caller.0 row.owner.0) new (parts-apart caller.0) state.sessions in
-    let was = sound.limited owner in
-    let pass : (b : Bool) → (caller.0 == owner.0) ≡ b → length (rows_of owner (performed caller Open_session state).sessions) ≤ most_sessions =
+limited-opened : (caller : ConnId) (sessions : Sessions) → length (rows_of caller sessions.rows) < most_sessions → AreFew sessions.rows → AreFew (opened caller sessions).rows
+limited-opened caller sessions left limited owner =
+    let new : SessionRow = record { owner = caller; session = record { 0 = sessions.next } } in
+    let some = between_fewer (λ row. row.owner.0 == owner.0) (λ row. nat_le row.owner.0 caller.0) (λ row. nat_lt caller.0 row.owner.0) new (parts-apart caller.0) sessions.rows in
+    let was = limited owner in
+    let pass : (b : Bool) → (caller.0 == owner.0) ≡ b → length (rows_of owner (opened caller sessions).rows) ≤ most_sessions =
     elim [
       | true ↦ λ is.
           let same : caller.0 ≡ owner.0 = grind (arith, nat_tests) in
-          let here : length (filter (λ row. row.owner.0 == owner.0) state.sessions) < most_sessions =
-          subst (λ n. length (filter (λ (row : SessionRow). row.owner.0 == n) state.sessions) < most_sessions) same left in
+          let here : length (filter (λ row. row.owner.0 == owner.0) sessions.rows) < most_sessions =
+          subst (λ n. length (filter (λ (row : SessionRow). row.owner.0 == n) sessions.rows) < most_sessions) same left in
           omega (arith, rw is at some, here)
       | false ↦ λ is. omega (arith, rw is at some, was)
     ] in
     pass (caller.0 == owner.0) refl
 
-pub sound-opened : (caller : ConnId) (state : Rows) → has caller state.connections ≡ true → length (rows_of caller state.sessions) < most_sessions → state.next_session < last_session
+sessions-opened : (caller : ConnId) (rows : List ConnRow) (sessions : Sessions) → has caller rows ≡ true → length (rows_of caller sessions.rows) < most_sessions → sessions.next < last_session
+    → AreSoundSessions rows sessions → AreSoundSessions rows (opened caller sessions)
+sessions-opened caller rows sessions there left number sound = record {
+  opened = each-append _ _ _ (each-filter _ _ sessions.rows (opened-longer sessions.next sessions.rows sound.opened))
+      (omega arith, each-filter _ _ sessions.rows (opened-longer sessions.next sessions.rows sound.opened));
+  once = once-opened caller sessions sound.opened sound.once;
+  limited = limited-opened caller sessions left sound.limited;
+  owned = each-append _ _ _ (each-filter _ _ sessions.rows sound.owned) (there, each-filter _ _ sessions.rows sound.owned);
+  numbered = omega (arith, number);
+}
+
+-- fewer sessions
+sessions-fewer : (rows : List ConnRow) (p : SessionRow → Bool) (sessions : Sessions) → AreSoundSessions rows sessions → AreSoundSessions rows (record sessions { rows = filter p sessions.rows })
+sessions-fewer rows p sessions sound = record {
+  opened = each-filter _ _ sessions.rows sound.opened;
+  once = λ number. omega (arith, sound.once number, fewer (λ row. row.session.0 == number) p sessions.rows);
+  limited = λ owner. omega (arith, sound.limited owner, fewer (λ row. row.owner.0 == owner.0) p sessions.rows);
+  owned = each-filter _ _ sessions.rows sound.owned;
+  numbered = sound.numbered;
+}
+
+-- those of a connection that goes are none of the others'
+sessions-without : (conn : ConnId) (rows : List ConnRow) (sessions : Sessions) → AreSoundSessions rows sessions → AreSoundSessions (without conn rows) (abandoned conn sessions)
+sessions-without conn rows sessions sound =
+    let left = sessions-fewer rows (λ row. not (row.owner.0 == conn.0)) sessions sound in
+    record {
+      opened = left.opened;
+      once = left.once;
+      limited = left.limited;
+      owned = each-passing _ _ (λ row. not (row.owner.0 == conn.0)) (λ row passes there. has-without row.owner conn rows (not_true (row.owner.0 == conn.0) passes) there) sessions.rows sound.owned;
+      numbered = left.numbered;
+    }
+
+pub sound-opened : (caller : ConnId) (state : Rows) → has caller state.connections.rows ≡ true → length (rows_of caller state.sessions.rows) < most_sessions → state.sessions.next < last_session
     → IsSound state → IsSound (performed caller Open_session state)
 sound-opened caller state there left number sound = record {
-  joined = sound.joined;
-  apart = sound.apart;
-  few = sound.few;
-  waiting = sound.waiting;
-  opened = each-append _ _ _ (each-filter _ _ state.sessions (opened-longer state.next_session state.sessions sound.opened))
-      (omega arith, each-filter _ _ state.sessions (opened-longer state.next_session state.sessions sound.opened));
-  once = once-opened caller state sound;
-  limited = limited-opened caller state left sound;
-  owned = each-append _ _ _ (each-filter _ _ state.sessions sound.owned) (there, each-filter _ _ state.sessions sound.owned);
-  numbered = omega (arith, number);
+  connections = sound.connections;
+  sessions = sessions-opened caller state.connections.rows state.sessions there left number sound.sessions;
 }
 
 pub sound-closed : (caller : ConnId) (session : SessionId) (state : Rows) → IsSound state → IsSound (performed caller (Close_session session) state)
 sound-closed caller session state sound = record {
-  joined = sound.joined;
-  apart = sound.apart;
-  few = sound.few;
-  waiting = sound.waiting;
-  opened = each-filter _ _ state.sessions sound.opened;
-  once = λ number. omega (arith, sound.once number, fewer (λ row. row.session.0 == number) (λ row. not (is_of caller session row)) state.sessions);
-  limited = λ owner. omega (arith, sound.limited owner, fewer (λ row. row.owner.0 == owner.0) (λ row. not (is_of caller session row)) state.sessions);
-  owned = each-filter _ _ state.sessions sound.owned;
-  numbered = sound.numbered;
+  connections = sound.connections;
+  sessions = sessions-fewer state.connections.rows (λ row. not (is_of caller session row)) state.sessions sound.sessions;
 }
 
 -- ---- a call's plan
@@ -348,19 +401,19 @@ pub not-full : (few spent : Bool) → (few || spent) ≡ false → (few ≡ fals
 not-full true spent is = let no : ⊥ = cc in absurd no
 not-full false spent is = (refl, is)
 
-opened-plan : (caller : ConnId) (state : Rows) (plain : Bool) → has caller state.connections ≡ true → IsSound state
-    → IsSound (performed_all caller (cond plain (cond (is_full caller (sessions_of state)) (refused name.LimitsExceeded) (answered (body.Session (record { 0 = state.next_session })) (Open_session ∷ []))) (refused name.NotSupported)).changes state)
+opened-plan : (caller : ConnId) (state : Rows) (plain : Bool) → has caller state.connections.rows ≡ true → IsSound state
+    → IsSound (performed_all caller (cond plain (cond (is_full caller state.sessions) (refused name.LimitsExceeded) (answered (body.Session (record { 0 = state.sessions.next })) (Open_session ∷ []))) (refused name.NotSupported)).changes state)
 opened-plan caller state false there sound = sound
 opened-plan caller state true there sound =
-    let pass : (full : Bool) → is_full caller (sessions_of state) ≡ full
-    → IsSound (performed_all caller (cond full (refused name.LimitsExceeded) (answered (body.Session (record { 0 = state.next_session })) (Open_session ∷ []))).changes state) =
+    let pass : (full : Bool) → is_full caller state.sessions ≡ full
+    → IsSound (performed_all caller (cond full (refused name.LimitsExceeded) (answered (body.Session (record { 0 = state.sessions.next })) (Open_session ∷ []))).changes state) =
     elim [
       | true ↦ λ is. sound
       | false ↦ λ is.
-          let room = not-full (nat_le most_sessions (length (rows_of caller state.sessions))) (nat_le last_session state.next_session) is in
-          sound-opened caller state there (leb-false most_sessions (length (rows_of caller state.sessions)) room.0) (leb-false last_session state.next_session room.1) sound
+          let room = not-full (nat_le most_sessions (length (rows_of caller state.sessions.rows))) (nat_le last_session state.sessions.next) is in
+          sound-opened caller state there (leb-false most_sessions (length (rows_of caller state.sessions.rows)) room.0) (leb-false last_session state.sessions.next room.1) sound
     ] in
-    pass (is_full caller (sessions_of state)) refl
+    pass (is_full caller state.sessions) refl
 
 closed-plan : (caller : ConnId) (session : SessionId) (state : Rows) (owns : Bool) → IsSound state
     → IsSound (performed_all caller (cond owns (answered body.Empty (Close_session session ∷ [])) (refused name.NoSession)).changes state)
@@ -368,7 +421,7 @@ closed-plan caller session state true sound = sound-closed caller session state 
 closed-plan caller session state false sound = sound
 
 -- the changes of any call keep a sound state sound
-pub sound-planned : (caller : ConnId) (state : Rows) (call : Result Call CallFault) → has caller state.connections ≡ true → IsSound state
+pub sound-planned : (caller : ConnId) (state : Rows) (call : Result Call CallFault) → has caller state.connections.rows ≡ true → IsSound state
     → IsSound (performed_all caller (plan_of call (asked caller state)).changes state)
 sound-planned caller state (Err fault) there sound = sound
 sound-planned caller state (Ok call.Ping) there sound = sound
@@ -390,10 +443,10 @@ closed-answer : (owns : Bool) (session : SessionId) → FitsAnswer (cond owns (a
 closed-answer true session = tt
 closed-answer false session = tt
 
-pub answer-fits : (caller : ConnId) (state : Rows) (call : Result Call CallFault) → state.next_session ≤ last_session → FitsAnswer (plan_of call (asked caller state)).answer
+pub answer-fits : (caller : ConnId) (state : Rows) (call : Result Call CallFault) → state.sessions.next ≤ last_session → FitsAnswer (plan_of call (asked caller state)).answer
 answer-fits caller state (Err fault) small = tt
 answer-fits caller state (Ok call.Ping) small = tt
-answer-fits caller state (Ok (call.OpenSession algorithm)) small = opened-answer (is_full caller (sessions_of state)) (is_plain algorithm) state.next_session small
+answer-fits caller state (Ok (call.OpenSession algorithm)) small = opened-answer (is_full caller state.sessions) (is_plain algorithm) state.sessions.next small
 answer-fits caller state (Ok (call.CloseSession session)) small = closed-answer ((asked caller state).owns session) session
 
 -- and so it has a spelling
@@ -409,47 +462,26 @@ replies-spelled false caller out spelled = tt
 
 pub sound-start : IsSound opened_rows
 sound-start = record {
-  joined = tt;
-  apart = tt;
-  few = omega arith;
-  waiting = tt;
-  opened = tt;
-  once = λ number. omega arith;
-  limited = λ owner. omega arith;
-  owned = tt;
-  numbered = omega arith;
+  connections = record { joined = tt; apart = tt; few = omega arith; waiting = tt };
+  sessions = record { opened = tt; once = λ number. omega arith; limited = λ owner. omega arith; owned = tt; numbered = omega arith };
 }
 
 pub sound-step : (state : Rows) (event : Event) → IsSound state → Fits state event → IsSound (step state event)
 sound-step state (event.Connect conn) sound fits = record {
-  joined = each-append _ state.connections (new_row conn ∷ []) (joined-longer state.next_conn state.connections sound.joined) (omega (arith, fits.0), tt);
-  apart = apart-push state.next_conn state.connections (new_row conn) fits.0 sound.joined sound.apart;
-  few = rw length-append (omega (arith, fits.1));
-  waiting = each-append _ state.connections (new_row conn ∷ []) sound.waiting (record { within = omega arith; spelled = tt }, tt);
-  opened = sound.opened;
-  once = sound.once;
-  limited = sound.limited;
-  owned = each-weaker _ _ (λ row there. has-push row.owner state.connections (new_row conn) there) state.sessions sound.owned;
-  numbered = sound.numbered;
+  connections = connections-joined conn state.connections fits.0 fits.1 sound.connections;
+  sessions = sessions-among state.connections.rows (joined conn state.connections).rows (λ owner there. has-push owner state.connections.rows (new_row conn) there) state.sessions sound.sessions;
 }
-sound-step state (event.Arrive conn request now salt) sound fits =
-    let answer = (planned conn request state).answer in
-    sound-delivered (replies conn request (planned conn request state))
-    (replies-spelled request.wants_reply conn (message_of request.serial answer) (message-spelled request answer (answer-fits conn state request.call sound.numbered)))
-    (performed_all conn (planned conn request state).changes state)
-    (sound-planned conn state request.call fits sound)
+sound-step state (event.Arrive arrival) sound fits =
+    let plan = planned arrival.conn arrival.request state in
+    sound-delivered (replies arrival.conn arrival.request plan)
+    (replies-spelled arrival.request.wants_reply arrival.conn (message_of arrival.request.serial plan.answer) (message-spelled arrival.request plan.answer (answer-fits arrival.conn state arrival.request.call sound.sessions.numbered)))
+    (performed_all arrival.conn plan.changes state)
+    (sound-planned arrival.conn state arrival.request.call fits sound)
 sound-step state (event.Leave conn) sound fits = sound-changed conn left (λ row. refl) (λ row well. record { within = well.within; spelled = well.spelled }) state sound
 sound-step state (event.Take conn) sound fits = sound-changed conn emptied (λ row. refl) (λ row well. record { within = omega arith; spelled = tt }) state sound
 sound-step state (event.Gone conn) sound fits = record {
-  joined = each-filter _ _ state.connections sound.joined;
-  apart = apart-without conn state.connections sound.apart;
-  few = omega (arith, length-without conn state.connections, sound.few);
-  waiting = each-filter _ _ state.connections sound.waiting;
-  opened = each-filter _ _ state.sessions sound.opened;
-  once = λ number. omega (arith, sound.once number, fewer (λ row. row.session.0 == number) (λ row. not (row.owner.0 == conn.0)) state.sessions);
-  limited = λ owner. omega (arith, sound.limited owner, fewer (λ row. row.owner.0 == owner.0) (λ row. not (row.owner.0 == conn.0)) state.sessions);
-  owned = each-passing _ _ (λ row. not (row.owner.0 == conn.0)) (λ row passes there. has-without row.owner conn state.connections (not_true (row.owner.0 == conn.0) passes) there) state.sessions sound.owned;
-  numbered = sound.numbered;
+  connections = connections-without conn state.connections sound.connections;
+  sessions = sessions-without conn state.connections.rows state.sessions sound.sessions;
 }
 
 pub sound-replay : (state : Rows) (events : List Event) → IsSound state → Legal state events → IsSound (replay state events)

@@ -8,11 +8,16 @@ use Rattle.secret_calls.specs.declared.out.Out.{Out}
 use Rattle.secret_calls.specs.Outs.{spelled, most_waiting}
 use Rattle.service_machine.specs.Limits.{most_taken}
 use Rattle.service_machine.specs.declared.rows.ConnRow.{ConnRow}
+use Rattle.service_machine.specs.declared.rows.ConnRows.{ConnRows}
 use Rattle.service_machine.specs.declared.rows.DeskRow.{DeskRow}
 
 -- the row of a connection that joins
 abbrev pub new_row : ConnId → ConnRow
 new_row conn = record { conn = conn; waiting = []; overrun = false; leaving = false; taken = 0 }
+
+-- the connections with one more
+abbrev pub joined : ConnId → ConnRows → ConnRows
+joined conn connections = record { rows = connections.rows ++ new_row conn ∷ []; next = connections.next + 1 }
 
 -- whether the row is this connection's
 abbrev pub is_row : ConnId → ConnRow → Bool

@@ -1,6 +1,6 @@
 -- The limits of the service (docs/SERVICE.md, "Limits"). Each number is written here alone; those of sessions and of what waits
 -- are in the definitions of their tables.
-use Rattle.std.specs.Prelude.{ℕ}
+use Rattle.std.specs.Prelude.{ℕ, ◌≤◌}
 
 -- how many connections may be there at once
 abbrev pub most_connections : ℕ
@@ -17,3 +17,7 @@ most_taken = 18446744073709551615
 -- once so many events of a run are recorded, no connection joins or asks any more
 abbrev pub most_events : ℕ
 most_events = 18446744073709000000
+
+-- so many events of a run are recorded that no connection joins or asks any more
+abbrev pub IsSpent : ℕ → Type 0
+IsSpent count = most_events ≤ count

@@ -24,7 +24,7 @@ outputs state (event ∷ events) = output_of state event ∷ outputs (step state
 -- what an event costs of the memory that stored events take
 abbrev pub cost_of : Event → ℕ
 cost_of (event.Connect conn) = 64
-cost_of (event.Arrive conn request now salt) = 64 + request.length
+cost_of (event.Arrive arrival) = 64 + arrival.request.length
 cost_of (event.Leave conn) = 64
 cost_of (event.Take conn) = 64
 cost_of (event.Gone conn) = 64

@@ -7,9 +7,11 @@ use Rattle.std.specs.List.{AllByRecursion}
 use Rattle.kr_base.specs.declared.ids.ConnId.{ConnId}
 use Rattle.secret_calls.specs.Outs.{HasSpelling, most_waiting}
 use Rattle.session_table.specs.declared.row.SessionRow.{SessionRow}
+use Rattle.session_table.specs.declared.row.Sessions.{Sessions}
 use Rattle.session_table.specs.Sessions.{rows_of, most_sessions, last_session}
 use Rattle.service_machine.specs.declared.rows.Rows.{Rows}
 use Rattle.service_machine.specs.declared.rows.ConnRow.{ConnRow}
+use Rattle.service_machine.specs.declared.rows.ConnRows.{ConnRows}
 use Rattle.service_machine.specs.Connections.{has, size_waiting}
 use Rattle.service_machine.specs.Limits.{most_connections}
 
@@ -47,14 +49,22 @@ AreFew rows = (owner : ConnId) → length (rows_of owner rows) ≤ most_sessions
 abbrev pub AreOwned : List ConnRow → List SessionRow → Type 0
 AreOwned connections rows = AllByRecursion (λ row. IsTrue (has row.owner connections)) rows
 
--- a sound state
+-- sound connections
+pub record AreSoundConnections (connections : ConnRows) : Type 0 where
+  pub joined : AreJoined connections.next connections.rows
+  pub apart : AreApart connections.rows
+  pub few : length connections.rows ≤ most_connections
+  pub waiting : AreWaiting connections.rows
+
+-- sound sessions, among the connections that are there
+pub record AreSoundSessions (connections : List ConnRow) (sessions : Sessions) : Type 0 where
+  pub opened : AreOpened sessions.next sessions.rows
+  pub once : AreOnce sessions.rows
+  pub limited : AreFew sessions.rows
+  pub owned : AreOwned connections sessions.rows
+  pub numbered : sessions.next ≤ last_session
+
+-- a sound state: each table is
 pub record IsSound (state : Rows) : Type 0 where
-  pub joined : AreJoined state.next_conn state.connections
-  pub apart : AreApart state.connections
-  pub few : length state.connections ≤ most_connections
-  pub waiting : AreWaiting state.connections
-  pub opened : AreOpened state.next_session state.sessions
-  pub once : AreOnce state.sessions
-  pub limited : AreFew state.sessions
-  pub owned : AreOwned state.connections state.sessions
-  pub numbered : state.next_session ≤ last_session
+  pub connections : AreSoundConnections state.connections
+  pub sessions : AreSoundSessions state.connections.rows state.sessions

@@ -1,6 +1,6 @@
 -- One event of the service, as a step from rows to rows. What an event puts out stands beside what becomes of it,
 -- so that laws can speak of the outputs before the limit on what waits.
-use Rattle.std.specs.Prelude.{◌≡◌, ℕ, ◌+◌, ◌<◌, ◌≤◌, ◌⊎◌, true, false, if◌then◌else◌, IsTrue, IsSomeAnd, List, [], ◌∷◌, ◌++◌, length, Result, Ok, Err}
+use Rattle.std.specs.Prelude.{◌≡◌, ℕ, ◌<◌, ◌≤◌, ◌⊎◌, true, false, if◌then◌else◌, IsTrue, IsSomeAnd, List, [], ◌∷◌, length, Result, Ok, Err}
 use Rattle.kr_base.specs.declared.ids.ConnId.{ConnId}
 use Rattle.secret_calls.specs.declared.call.Call.{Call}
 use Rattle.secret_calls.specs.declared.call.Call.TheVariants as call
@@ -11,35 +11,32 @@ use Rattle.secret_calls.specs.declared.out.ErrorName.{ErrorName}
 use Rattle.secret_calls.specs.declared.out.Out.{Out}
 use Rattle.secret_calls.specs.declared.out.Out.TheVariants as out
 use Rattle.secret_calls.specs.Calls.{error_of}
-use Rattle.session_table.specs.Sessions.{Sessions, owns, is_full, opened, closed, abandoned}
+use Rattle.session_table.specs.Sessions.{no_sessions, owns, is_full, opened, closed, abandoned}
+use Rattle.service_machine.specs.declared.rows.ConnRow.{ConnRow}
 use Rattle.service_machine.specs.declared.rows.Rows.{Rows}
 use Rattle.service_machine.specs.declared.event.Event.{Event}
 use Rattle.service_machine.specs.declared.event.Event.TheVariants as event
 use Rattle.service_machine.specs.declared.event.Output.{Output}
 use Rattle.service_machine.specs.declared.event.Output.TheVariants as output
-use Rattle.service_machine.specs.Connections.{new_row, has, changed, without, left, emptied, waiting_for, desk_of, Sent, delivered}
+use Rattle.service_machine.specs.Connections.{joined, has, changed, without, left, emptied, waiting_for, desk_of, Sent, delivered}
 use Rattle.service_machine.specs.Limits.{most_connections, last_connection}
 use Rattle.service_machine.specs.Plan.{Questions, Plan, Change, Open_session, Close_session, refused}
 use Rattle.service_machine.specs.SessionCalls.{ping, open_session, close_session}
 
 -- the service as it starts
 abbrev pub opened_rows : Rows
-opened_rows = record { connections = []; sessions = []; next_conn = 1; next_session = 1 }
+opened_rows = record { connections = record { rows = []; next = 1 }; sessions = no_sessions }
 
--- the sessions of the state, as their table knows them
-abbrev pub sessions_of : Rows → Sessions
-sessions_of state = record { rows = state.sessions; next = state.next_session }
-
--- the state with other sessions
-abbrev pub with_sessions : Sessions → Rows → Rows
-with_sessions sessions state = record state { sessions = sessions.rows; next_session = sessions.next }
+-- the state with other rows of connections
+abbrev pub with_rows : List ConnRow → Rows → Rows
+with_rows rows state = record state { connections = record state.connections { rows = rows } }
 
 -- the answers to a caller's questions
 abbrev pub asked : ConnId → Rows → Questions
 asked caller state = record {
-  owns = λ session. owns caller session (sessions_of state);
-  is_full = is_full caller (sessions_of state);
-  next_session = state.next_session;
+  owns = λ session. owns caller session state.sessions;
+  is_full = is_full caller state.sessions;
+  next_session = state.sessions.next;
 }
 
 -- the table of calls: one row for each
@@ -55,8 +52,8 @@ plan_of (Err fault) asked = refused (error_of fault)
 
 -- a change of the state
 abbrev pub performed : ConnId → Change → Rows → Rows
-performed caller Open_session state = with_sessions (opened caller (sessions_of state)) state
-performed caller (Close_session session) state = with_sessions (closed caller session (sessions_of state)) state
+performed caller Open_session state = record state { sessions = opened caller state.sessions }
+performed caller (Close_session session) state = record state { sessions = closed caller session state.sessions }
 
 -- changes in order
 abbrev pub performed_all : ConnId → List Change → Rows → Rows
@@ -82,14 +79,14 @@ planned caller request state = plan_of request.call (asked caller state)
 -- what an event puts out
 abbrev pub puts_out : Rows → Event → List Sent
 puts_out state (event.Connect conn) = []
-puts_out state (event.Arrive conn request now salt) = replies conn request (planned conn request state)
+puts_out state (event.Arrive arrival) = replies arrival.conn arrival.request (planned arrival.conn arrival.request state)
 puts_out state (event.Leave conn) = []
 puts_out state (event.Take conn) = []
 puts_out state (event.Gone conn) = []
 
 -- the state with outputs delivered
 abbrev pub with_delivered : List Sent → Rows → Rows
-with_delivered sent state = record state { connections = delivered sent state.connections }
+with_delivered sent state = with_rows (delivered sent state.connections.rows) state
 
 -- the state after a request
 abbrev pub arrived : ConnId → Request → Rows → Rows
@@ -99,28 +96,32 @@ arrived conn request state =
 
 -- the state after an event
 abbrev pub step : Rows → Event → Rows
-step state (event.Connect conn) = record state { connections = state.connections ++ new_row conn ∷ []; next_conn = state.next_conn + 1 }
-step state (event.Arrive conn request now salt) = arrived conn request state
-step state (event.Leave conn) = record state { connections = changed conn left state.connections }
-step state (event.Take conn) = record state { connections = changed conn emptied state.connections }
-step state (event.Gone conn) = with_sessions (abandoned conn (sessions_of state)) (record state { connections = without conn state.connections })
+step state (event.Connect conn) = record state { connections = joined conn state.connections }
+step state (event.Arrive arrival) = arrived arrival.conn arrival.request state
+step state (event.Leave conn) = with_rows (changed conn left state.connections.rows) state
+step state (event.Take conn) = with_rows (changed conn emptied state.connections.rows) state
+step state (event.Gone conn) = with_rows (without conn state.connections.rows) (record state { sessions = abandoned conn state.sessions })
 
 -- what an event answers
 abbrev pub output_of : Rows → Event → Output
 output_of state (event.Connect conn) = output.Joined conn
-output_of state (event.Arrive conn request now salt) = output.Arrived
+output_of state (event.Arrive arrival) = output.Arrived (record {})
 output_of state (event.Leave conn) = output.Left
-output_of state (event.Take conn) = output.Taken (waiting_for conn state.connections)
+output_of state (event.Take conn) = output.Taken (waiting_for conn state.connections.rows)
 output_of state (event.Gone conn) = output.Gone
+
+-- the connection isn't there
+abbrev pub IsMissing : ConnId → Rows → Type 0
+IsMissing conn state = has conn state.connections.rows ≡ false
 
 -- no further connection can join: as many are there as may be, or no number is left
 abbrev pub IsCrowded : Rows → Type 0
-IsCrowded state = (most_connections ≤ length state.connections) ⊎ (last_connection ≤ state.next_conn)
+IsCrowded state = (most_connections ≤ length state.connections.rows) ⊎ (last_connection ≤ state.connections.next)
 
 -- the event can happen in the state
 abbrev pub Fits : Rows → Event → Type 0
-Fits state (event.Connect conn) = (conn.0 ≡ state.next_conn) × (length state.connections < most_connections) × (state.next_conn < last_connection)
-Fits state (event.Arrive conn request now salt) = IsTrue (has conn state.connections)
-Fits state (event.Leave conn) = IsSomeAnd (desk_of conn state.connections) (λ desk. desk.leaving ≡ false)
-Fits state (event.Take conn) = IsSomeAnd (desk_of conn state.connections) (λ desk. desk.waits ≡ true)
-Fits state (event.Gone conn) = IsTrue (has conn state.connections)
+Fits state (event.Connect conn) = (conn.0 ≡ state.connections.next) × (length state.connections.rows < most_connections) × (state.connections.next < last_connection)
+Fits state (event.Arrive arrival) = IsTrue (has arrival.conn state.connections.rows)
+Fits state (event.Leave conn) = IsSomeAnd (desk_of conn state.connections.rows) (λ desk. desk.leaving ≡ false)
+Fits state (event.Take conn) = IsSomeAnd (desk_of conn state.connections.rows) (λ desk. desk.waits ≡ true)
+Fits state (event.Gone conn) = IsTrue (has conn state.connections.rows)

@@ -4,7 +4,7 @@ ghost use Rattle.service_machine.specs.Limits.{most_connections, last_connection
 ghost use Rattle.service_machine.specs.Connections.{new_row, has, changed, without, with_out, left, emptied, waiting_for, desk_of};
 
 use crate::desk::Desk;
-use crate::{ApplyRefused, ConnRow, DeskRow, desks};
+use crate::{ApplyRefused, ConnRows, DeskRow, desks};
 use kr_base::{ConnId, OutOfMemory};
 use kr_items::Items;
 use secret_calls::Out;
@@ -72,9 +72,7 @@ impl Connections {
             return Err(ApplyRefused::TooManyConnections);
         }
         self.ready = None;
-        if let Err(_) = desks::add(&mut self.desks, number, Desk::new(self.alloc)) {
-            return Err(ApplyRefused::OutOfMemory);
-        }
+        desks::add(&mut self.desks, number, Desk::new(self.alloc))?;
         self.next = number + 1;
         Ok(ConnId(number))
     }
@@ -143,17 +141,14 @@ impl Connections {
         desks::remove(&mut self.desks, conn.0);
     }
 
-    /// The number that the next connection gets.
-    pub fn next(&self) -> u64
-        ensures { result ≡ self.now.next }
+    /// The connections as plain rows. One pass over them.
+    pub fn rows(&self) -> Result<ConnRows, OutOfMemory>
+        ensures { IfOk result (λ connections.
+            connections ≡ record { rows = self.now.rows; next = self.now.next }) }
     {
-        self.next
-    }
-
-    /// The connections as rows, in order. One pass over them.
-    pub fn rows(&self) -> Result<Vec<ConnRow>, OutOfMemory>
-        ensures { IfOk result (λ rows. rows.items ≡ self.now.rows) }
-    {
-        desks::rows(self.alloc, &self.desks)
+        Ok(ConnRows {
+            rows: Items::new(desks::rows(self.alloc, &self.desks)?),
+            next: self.next,
+        })
     }
 }

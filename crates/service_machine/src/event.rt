@@ -1,7 +1,24 @@
+ghost use Rattle.std.specs.Prelude.{◌≡◌};
+ghost use Rattle.service_machine.specs.declared.event.ApplyRefused.TheVariants.{OutOfMemory};
+
 use kr_base::ConnId;
 use kr_items::Items;
 use secret_calls::{Out, Request};
+use std::alloc::AllocError;
 use thiserror::Error;
+
+/// A request of a connection.
+#[derive(Drop)]
+pub struct Arrival {
+    /// The connection.
+    pub conn: ConnId,
+    /// What it asks.
+    pub request: Request,
+    /// The moment, in seconds since 1970.
+    pub now: u64,
+    /// Random bytes, should a key be derived.
+    pub salt: [u8; 8],
+}
 
 /// What may happen to the service.
 #[derive(Drop)]
@@ -9,16 +26,7 @@ pub enum Incoming {
     /// A connection joins.
     Connect,
     /// A connection asks for something.
-    Arrive {
-        /// The connection.
-        conn: ConnId,
-        /// What it asks.
-        request: Request,
-        /// The moment, in seconds since 1970.
-        now: u64,
-        /// Random bytes, should a key be derived.
-        salt: [u8; 8],
-    },
+    Arrive(Arrival),
     /// A connection asks no more.
     Leave(ConnId),
     /// A connection takes what waits for it.
@@ -33,16 +41,7 @@ pub enum Event {
     /// A connection joined, and got this number.
     Connect(ConnId),
     /// A connection asked for something.
-    Arrive {
-        /// The connection.
-        conn: ConnId,
-        /// What it asked.
-        request: Request,
-        /// The moment, in seconds since 1970.
-        now: u64,
-        /// Random bytes.
-        salt: [u8; 8],
-    },
+    Arrive(Arrival),
     /// A connection asked no more.
     Leave(ConnId),
     /// A connection took what waited for it.
@@ -51,13 +50,17 @@ pub enum Event {
     Gone(ConnId),
 }
 
+/// What is answered at once to a connection that asked: nothing yet, since its reply waits for it.
+#[derive(Drop)]
+pub struct Arrived {}
+
 /// What an event answers to the one who brought it. Replies to calls wait for their connection.
 #[derive(Drop)]
 pub enum Output {
     /// The number of the connection that joined.
     Joined(ConnId),
     /// The request was taken.
-    Arrived,
+    Arrived(Arrived),
     /// The connection is leaving.
     Left,
     /// What waited, in order.
@@ -78,4 +81,12 @@ pub enum ApplyRefused {
     /// No memory was left.
     #[error("no memory was left")]
     OutOfMemory,
+}
+
+impl From<AllocError> for ApplyRefused {
+    ghost from_gives = { λ _ e. e ≡ OutOfMemory };
+
+    fn from(_error: AllocError) -> Self {
+        ApplyRefused::OutOfMemory
+    }
 }

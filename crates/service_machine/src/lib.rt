@@ -14,7 +14,7 @@ mod laws;
 mod machine;
 mod rows;
 
-pub use event::{ApplyRefused, Event, Incoming, Output};
+pub use event::{ApplyRefused, Arrival, Arrived, Event, Incoming, Output};
 pub use laws::{lists_of_events_go_on, steps_keep_the_rows_sound};
 pub use machine::Machine;
-pub use rows::{ConnRow, DeskRow, Rows};
+pub use rows::{ConnRow, ConnRows, DeskRow, Rows};

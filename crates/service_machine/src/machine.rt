@@ -1,16 +1,16 @@
 ghost use Rattle.std.specs.Prelude.{◌≡◌, ◌≢◌, true, false, IfOk, OnOk, OnErr, IsErrOf};
-ghost use Rattle.service_machine.specs.Connections.{has, changed, left, emptied, waiting_for, desk_of};
+ghost use Rattle.service_machine.specs.Connections.{has, waiting_for, desk_of};
 ghost use Rattle.service_machine.specs.Machine.{Records, IsDue, IsOfNone, IsConnect, TakesMemory};
 ghost use Rattle.service_machine.specs.SessionCalls.{is_plain, open_session, close_session};
-ghost use Rattle.service_machine.specs.Step.{opened_rows, step, output_of, arrived, asked, plan_of, performed_all, message_of, IsCrowded, Fits};
+ghost use Rattle.service_machine.specs.Step.{opened_rows, step, output_of, arrived, asked, plan_of, performed_all, message_of, IsMissing, IsCrowded, Fits};
 
 use crate::connections::Connections;
-use crate::{ApplyRefused, DeskRow, Event, Incoming, Output, Rows};
+use crate::{ApplyRefused, Arrived, DeskRow, Event, Incoming, Output, Rows};
 use kr_base::{ConnId, OutOfMemory, SessionId, Text};
 use kr_items::Items;
 use secret_calls::{Body, Call, CallFault, ErrorName, Out, Request};
 use session_table::{SessionRefused, SessionTable};
-use std::alloc::Global;
+use std::alloc::{AllocError, Global};
 
 /// The service: its connections and sessions, and what waits.
 #[derive(Drop)]
@@ -64,52 +64,52 @@ impl Machine {
                 let conn = self.connections.join()?;
                 Ok((Output::Joined(conn), Event::Connect(conn)))
             }
-            Incoming::Arrive {
-                conn,
-                request,
-                now,
-                salt,
-            } => {
-                self.arrive(conn, &request)?;
-                let event = Event::Arrive {
-                    conn,
-                    request,
-                    now,
-                    salt,
-                };
-                Ok((Output::Arrived, event))
+            Incoming::Arrive(arrival) => {
+                self.arrive(arrival.conn, &arrival.request)?;
+                Ok((Output::Arrived(Arrived {}), Event::Arrive(arrival)))
             }
             Incoming::Leave(conn) => {
-                self.leave(conn)?;
+                self.there(conn)?;
+                self.leave(conn);
                 Ok((Output::Left, Event::Leave(conn)))
             }
             Incoming::Take(conn) => {
-                let outs = self.take(conn)?;
+                self.there(conn)?;
+                let outs = self.take(conn);
                 Ok((Output::Taken(outs), Event::Take(conn)))
             }
             Incoming::Gone(conn) => {
-                self.gone(conn)?;
+                self.there(conn)?;
+                self.gone(conn);
                 Ok((Output::Gone, Event::Gone(conn)))
             }
         }
+    }
+
+    // The connection is there.
+    fn there(&self, conn: ConnId) -> Result<(), ApplyRefused>
+        ensures there { OnOk result (has conn (rows_of self.now).connections.rows ≡ true) }
+        ensures missing { OnErr result (IsMissing conn (rows_of self.now)) }
+        ensures cause { OnErr result (IsErrOf result ApplyRefused.NoConnection) }
+    {
+        if !self.connections.has(conn) {
+            return Err(ApplyRefused::NoConnection);
+        }
+        Ok(())
     }
 
     // A request of a connection that is there: its call is answered, and the reply waits.
     fn arrive(&mut self, conn: ConnId, request: &Request) -> Result<(), ApplyRefused>
         ensures arrived { OnOk result
             (rows_of self.new ≡ arrived conn request.now (rows_of self.old)) }
-        ensures there { OnOk result (has conn (rows_of self.old).connections ≡ true) }
-        ensures no_connection { IsErrOf result ApplyRefused.NoConnection
-            → has conn (rows_of self.old).connections ≡ false }
+        ensures there { OnOk result (has conn (rows_of self.old).connections.rows ≡ true) }
+        ensures missing { IsErrOf result ApplyRefused.NoConnection
+            → IsMissing conn (rows_of self.old) }
         ensures no_other { result ≢ Err ApplyRefused.TooManyConnections }
         ensures unchanged { OnErr result (rows_of self.new ≡ rows_of self.old) }
     {
-        if !self.connections.has(conn) {
-            return Err(ApplyRefused::NoConnection);
-        }
-        if let Err(_) = self.connections.reserve(conn) {
-            return Err(ApplyRefused::OutOfMemory);
-        }
+        self.there(conn)?;
+        self.connections.reserve(conn)?;
         let answer = self.call(conn, &request.call)?;
         if request.wants_reply {
             self.connections.push(conn, message(request.serial, answer));
@@ -118,13 +118,12 @@ impl Machine {
     }
 
     // The row of a call. The connection's room stays.
-    fn call(&mut self, conn: ConnId, call: &Result<Call, CallFault>) -> Result<Answer, ApplyRefused>
+    fn call(&mut self, conn: ConnId, call: &Result<Call, CallFault>) -> Result<Answer, OutOfMemory>
         ensures answer { IfOk result (λ answer.
             answer ≡ (plan_of call.now (asked conn (rows_of self.old))).answer) }
         ensures changes { OnOk result (rows_of self.new ≡ performed_all conn
             (plan_of call.now (asked conn (rows_of self.old))).changes (rows_of self.old)) }
         ensures room { self.new.connections ≡ self.old.connections }
-        ensures memory { OnErr result (IsErrOf result ApplyRefused.OutOfMemory) }
         ensures unchanged { OnErr result (rows_of self.new ≡ rows_of self.old) }
     {
         match call {
@@ -136,14 +135,13 @@ impl Machine {
     }
 
     // The row of OpenSession.
-    fn open_session(&mut self, conn: ConnId, algorithm: &Text) -> Result<Answer, ApplyRefused>
+    fn open_session(&mut self, conn: ConnId, algorithm: &Text) -> Result<Answer, OutOfMemory>
         ensures answer { IfOk result (λ answer.
             answer ≡ (open_session algorithm.now (asked conn (rows_of self.old))).answer) }
         ensures changes { OnOk result (rows_of self.new ≡ performed_all conn
             (open_session algorithm.now (asked conn (rows_of self.old))).changes
             (rows_of self.old)) }
         ensures room { self.new.connections ≡ self.old.connections }
-        ensures memory { OnErr result (IsErrOf result ApplyRefused.OutOfMemory) }
         ensures unchanged { OnErr result (rows_of self.new ≡ rows_of self.old) }
     {
         if !is_plain(algorithm) {
@@ -151,7 +149,7 @@ impl Machine {
         }
         match self.sessions.open(conn) {
             Ok(session) => Ok(Ok(Body::Session(session))),
-            Err(SessionRefused::OutOfMemory) => Err(ApplyRefused::OutOfMemory),
+            Err(SessionRefused::OutOfMemory) => Err(AllocError),
             Err(_) => Ok(Err(ErrorName::LimitsExceeded)),
         }
     }
@@ -169,60 +167,35 @@ impl Machine {
         }
     }
 
-    // A connection asks no more.
-    fn leave(&mut self, conn: ConnId) -> Result<(), ApplyRefused>
-        ensures left { OnOk result (rows_of self.new ≡ record (rows_of self.old) {
-          connections = changed conn left (rows_of self.old).connections;
-        }) }
-        ensures there { OnOk result (has conn (rows_of self.old).connections ≡ true) }
-        ensures no_connection { OnErr result (has conn (rows_of self.old).connections ≡ false) }
-        ensures cause { OnErr result (IsErrOf result ApplyRefused.NoConnection) }
-        ensures unchanged { OnErr result (rows_of self.new ≡ rows_of self.old) }
+    /// A connection asks no more. It takes no memory.
+    pub fn leave(&mut self, conn: ConnId)
+        requires { Fits (rows_of self.old) (Event.Leave conn) }
+        ensures { rows_of self.new ≡ step (rows_of self.old) (Event.Leave conn) }
     {
-        if !self.connections.has(conn) {
-            return Err(ApplyRefused::NoConnection);
-        }
         self.connections.leave(conn);
-        Ok(())
     }
 
-    // A connection takes what waits for it.
-    fn take(&mut self, conn: ConnId) -> Result<Items<Out>, ApplyRefused>
-        ensures outs { IfOk result (λ outs.
-            outs ≡ waiting_for conn (rows_of self.old).connections) }
-        ensures taken { OnOk result (rows_of self.new ≡ record (rows_of self.old) {
-          connections = changed conn emptied (rows_of self.old).connections;
-        }) }
-        ensures there { OnOk result (has conn (rows_of self.old).connections ≡ true) }
-        ensures no_connection { OnErr result (has conn (rows_of self.old).connections ≡ false) }
-        ensures cause { OnErr result (IsErrOf result ApplyRefused.NoConnection) }
-        ensures unchanged { OnErr result (rows_of self.new ≡ rows_of self.old) }
+    /// A connection takes what waits for it. It takes no memory.
+    pub fn take(&mut self, conn: ConnId) -> Items<Out>
+        requires { Fits (rows_of self.old) (Event.Take conn) }
+        ensures outs { result ≡ waiting_for conn (rows_of self.old).connections.rows }
+        ensures stepped { rows_of self.new ≡ step (rows_of self.old) (Event.Take conn) }
     {
-        if !self.connections.has(conn) {
-            return Err(ApplyRefused::NoConnection);
-        }
-        Ok(self.connections.take(conn))
+        self.connections.take(conn)
     }
 
-    // A connection is gone, and its sessions with it.
-    fn gone(&mut self, conn: ConnId) -> Result<(), ApplyRefused>
-        ensures gone { OnOk result (rows_of self.new ≡ step (rows_of self.old) (Event.Gone conn)) }
-        ensures there { OnOk result (has conn (rows_of self.old).connections ≡ true) }
-        ensures no_connection { OnErr result (has conn (rows_of self.old).connections ≡ false) }
-        ensures cause { OnErr result (IsErrOf result ApplyRefused.NoConnection) }
-        ensures unchanged { OnErr result (rows_of self.new ≡ rows_of self.old) }
+    /// A connection is gone, and its sessions with it. It takes no memory.
+    pub fn gone(&mut self, conn: ConnId)
+        requires { Fits (rows_of self.old) (Event.Gone conn) }
+        ensures { rows_of self.new ≡ step (rows_of self.old) (Event.Gone conn) }
     {
-        if !self.connections.has(conn) {
-            return Err(ApplyRefused::NoConnection);
-        }
         self.connections.remove(conn);
         self.sessions.gone(conn);
-        Ok(())
     }
 
     /// What is told of the connection. None where it isn't there. It takes no memory.
     pub fn desk(&self, conn: ConnId) -> Option<DeskRow>
-        ensures { result ≡ desk_of conn (rows_of self.now).connections }
+        ensures { result ≡ desk_of conn (rows_of self.now).connections.rows }
     {
         self.connections.desk(conn)
     }
@@ -232,10 +205,8 @@ impl Machine {
         ensures { IfOk result (λ rows. rows ≡ rows_of self.now) }
     {
         Ok(Rows {
-            connections: Items::new(self.connections.rows()?),
-            sessions: Items::new(self.sessions.rows()?),
-            next_conn: self.connections.next(),
-            next_session: self.sessions.next(),
+            connections: self.connections.rows()?,
+            sessions: self.sessions.rows()?,
         })
     }
 }

@@ -1,7 +1,7 @@
 use kr_base::ConnId;
 use kr_items::Items;
 use secret_calls::Out;
-use session_table::SessionRow;
+use session_table::Sessions;
 
 /// A connection.
 #[derive(Drop)]
@@ -18,6 +18,15 @@ pub struct ConnRow {
     pub taken: u64,
 }
 
+/// The connections that are there, and the number that the next one gets.
+#[derive(Drop)]
+pub struct ConnRows {
+    /// The connections, by rising number.
+    pub rows: Items<ConnRow>,
+    /// The number that the next connection gets.
+    pub next: u64,
+}
+
 /// What is told of a connection.
 #[derive(Clone, Copy, PartialEq, Eq)]
 pub struct DeskRow {
@@ -29,15 +38,11 @@ pub struct DeskRow {
     pub leaving: bool,
 }
 
-/// What the service is at a moment: rows, with no trace of how they are kept.
+/// What the service is at a moment: the rows of each table, with no trace of how they are kept.
 #[derive(Drop)]
 pub struct Rows {
-    /// The connections, by rising number.
-    pub connections: Items<ConnRow>,
-    /// The sessions, by their owners' numbers and then their own.
-    pub sessions: Items<SessionRow>,
-    /// The number that the next connection gets.
-    pub next_conn: u64,
-    /// The number that the next session gets.
-    pub next_session: u64,
+    /// The connections.
+    pub connections: ConnRows,
+    /// The sessions.
+    pub sessions: Sessions,
 }

@@ -4,8 +4,8 @@ use Rattle.std.specs.Ordering.{nat_cmp, ordering_then}
 use Rattle.std.specs.List.{AllByRecursion}
 use Rattle.std.specs.List.Sorted.{IsStrictlySortedBy}
 use Rattle.std.specs.declared.cmp.Ordering.{Ordering}
-use Rattle.session_table.specs.Sessions.{Sessions}
 use Rattle.session_table.specs.declared.row.SessionRow.{SessionRow}
+use Rattle.session_table.specs.declared.row.Sessions.{Sessions}
 
 -- the order of pairs: by the owner, then by the session
 abbrev pub pair_cmp : ℕ × ℕ → ℕ × ℕ → Ordering

@@ -4,11 +4,7 @@ use Rattle.std.specs.List.{list_any}
 use Rattle.kr_base.specs.declared.ids.ConnId.{ConnId}
 use Rattle.kr_base.specs.declared.ids.SessionId.{SessionId}
 use Rattle.session_table.specs.declared.row.SessionRow.{SessionRow}
-
--- the open sessions, by their owners' numbers and then their own, and the number of the next one
-pub record Sessions : Type 0 where
-  pub rows : List SessionRow
-  pub next : ℕ
+use Rattle.session_table.specs.declared.row.Sessions.{Sessions}
 
 -- no session is open, and none was
 abbrev pub no_sessions : Sessions

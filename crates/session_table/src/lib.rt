@@ -9,5 +9,5 @@ mod keys;
 mod row;
 mod table;
 
-pub use row::SessionRow;
+pub use row::{SessionRow, Sessions};
 pub use table::{SessionRefused, SessionTable};

@@ -1,8 +1,9 @@
 ghost use Rattle.std.specs.Prelude.{◌≡◌, IsTrue, IfOk, OnOk, OnErr, IsErrOf, true, false};
 ghost use Rattle.session_table.specs.Sessions.{no_sessions, owns, is_full, opened, closed, abandoned};
 
-use crate::{SessionRow, keys};
+use crate::{Sessions, keys};
 use kr_base::{ConnId, OutOfMemory, SessionId};
+use kr_items::Items;
 use std::alloc::Global;
 use std::collections::BTreeSet;
 use std::marker::Model;
@@ -35,7 +36,7 @@ pub struct SessionTable {
 }
 
 impl Model for SessionTable {
-    ghost use Rattle.session_table.specs.Sessions.{Sessions};
+    ghost use Rattle.session_table.specs.declared.row.Sessions.{Sessions};
 
     ghost Value = { Sessions };
 
@@ -122,17 +123,13 @@ impl SessionTable {
         keys::take_all(&mut self.keys, owner.0);
     }
 
-    /// The number that the next session gets.
-    pub fn next(&self) -> u64
-        ensures { result ≡ self.now.next }
+    /// The sessions as plain rows. One pass over them.
+    pub fn rows(&self) -> Result<Sessions, OutOfMemory>
+        ensures { IfOk result (λ sessions. sessions ≡ self.now) }
     {
-        self.next
-    }
-
-    /// The sessions as rows, in order. One pass over them.
-    pub fn rows(&self) -> Result<Vec<SessionRow>, OutOfMemory>
-        ensures { IfOk result (λ rows. rows.items ≡ self.now.rows) }
-    {
-        keys::rows(self.alloc, &self.keys)
+        Ok(Sessions {
+            rows: Items::new(keys::rows(self.alloc, &self.keys)?),
+            next: self.next,
+        })
     }
 }

@@ -3,7 +3,7 @@ ghost use Rattle.service_history.specs.History.{IsAsked};
 use kr_base::{ConnId, SessionId, Text};
 use secret_calls::{Body, Call, ErrorName, Out, Request, Taken};
 use service_history::Service;
-use service_machine::{Incoming, Output};
+use service_machine::{Arrival, Incoming, Output};
 use std::test::Fail;
 
 // A request of this length.
@@ -16,12 +16,12 @@ fn asks(conn: ConnId, length: u32, call: Call) -> Incoming
         length,
         call: Ok(call),
     };
-    Incoming::Arrive {
+    Incoming::Arrive(Arrival {
         conn,
         request,
         now: 1_700_000_000,
         salt: [0; 8],
-    }
+    })
 }
 
 // The number of a session, or the name of the error.

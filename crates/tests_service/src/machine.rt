@@ -1,6 +1,6 @@
 use kr_base::{ConnId, SessionId, Text};
 use secret_calls::{Body, Call, CallFault, ErrorName, Out, Request};
-use service_machine::{ApplyRefused, Incoming, Machine, Output};
+use service_machine::{ApplyRefused, Arrival, Incoming, Machine, Output};
 use std::alloc::Global;
 use std::test::Fail;
 
@@ -92,12 +92,12 @@ fn two_connections_talk(rt: HostRuntime) -> Result<(), Fail> {
             machine.apply(Incoming::Gone(conn))
         } else {
             let request = request(alloc, does)?;
-            machine.apply(Incoming::Arrive {
+            machine.apply(Incoming::Arrive(Arrival {
                 conn,
                 request,
                 now: 0,
                 salt: [0; 8],
-            })
+            }))
         };
         if let Err(refused) = applied {
             assert_eq!(rt; refused, ApplyRefused::NoConnection);
@@ -106,9 +106,9 @@ fn two_connections_talk(rt: HostRuntime) -> Result<(), Fail> {
         assert_eq!(rt; told.as_str(), want, "of {row}");
     }
     let rows = machine.rows()?;
-    assert_eq!(rt; rows.connections.len(), 1);
-    assert_eq!(rt; rows.sessions.len(), 1);
-    assert_eq!(rt; (rows.next_conn, rows.next_session), (3, 4));
+    assert_eq!(rt; rows.connections.rows.len(), 1);
+    assert_eq!(rt; rows.sessions.rows.len(), 1);
+    assert_eq!(rt; (rows.connections.next, rows.sessions.next), (3, 4));
     Ok(())
 }
 
@@ -126,12 +126,12 @@ fn a_connection_that_takes_nothing_is_overrun(rt: HostRuntime) -> Result<(), Fai
             call: Ok(Call::Ping),
         };
         assert!(rt; !machine.desk(conn).ok_or("desk")?.overrun);
-        machine.apply(Incoming::Arrive {
+        machine.apply(Incoming::Arrive(Arrival {
             conn,
             request,
             now: 0,
             salt: [0; 8],
-        })?;
+        }))?;
     }
     let desk = machine.desk(conn).ok_or("desk")?;
     assert!(rt; desk.overrun && desk.waits && !desk.leaving);

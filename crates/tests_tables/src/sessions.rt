@@ -47,11 +47,12 @@ fn two_connections_have_their_own_sessions(rt: HostRuntime) -> Result<(), Fail> 
         let answer = answer(&mut table, asked)?;
         assert_eq!(rt; answer, want, "of {row}");
     }
-    let rows = table.rows()?;
+    let sessions = table.rows()?;
+    let rows = sessions.rows.as_slice();
     assert_eq!(rt; rows.len(), 2);
     assert_eq!(rt; (rows[0].owner.0, rows[0].session.0), (3, 2));
     assert_eq!(rt; (rows[1].owner.0, rows[1].session.0), (8, 5));
-    assert_eq!(rt; table.next(), 6);
+    assert_eq!(rt; sessions.next, 6);
     Ok(())
 }
 

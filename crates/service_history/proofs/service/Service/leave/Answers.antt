@@ -3,4 +3,4 @@ use Rattle.service_history.proofs.service.Service.leave.Goals as goal
 
 -- a connection of which something is told is there
 pub settle-requires-clause-settles : goal.settle-requires-clause-settles
-settle-requires-clause-settles c = has-from_told c.args.conn c.args.self.now.state.connections _ c.in-Some.ensures.value
+settle-requires-clause-settles c = has-from_told c.args.conn c.args.self.now.state.connections.rows _ c.in-Some.ensures.value

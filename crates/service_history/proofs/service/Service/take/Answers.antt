@@ -3,7 +3,7 @@ use Rattle.service_history.proofs.service.Service.take.Goals as goal
 
 -- a connection of which something is told is there
 pub settle-requires-clause-settles : goal.settle-requires-clause-settles
-settle-requires-clause-settles c = has-from_told c.args.conn c.args.self.now.state.connections _ c.in-Some.ensures.value
+settle-requires-clause-settles c = has-from_told c.args.conn c.args.self.now.state.connections.rows _ c.in-Some.ensures.value
 
 pub settle-requires-2-clause-settles : goal.settle-requires-2-clause-settles
-settle-requires-2-clause-settles c = has-from_told c.args.conn c.args.self.now.state.connections _ c.in-Some.ensures.value
+settle-requires-2-clause-settles c = has-from_told c.args.conn c.args.self.now.state.connections.rows _ c.in-Some.ensures.value

@@ -9,11 +9,11 @@ use Rattle.service_machine.proofs.connections.Connections.join.Goals as goal
 pub invariant_of-self-2 : goal.invariant_of-self-2
 invariant_of-self-2 c = record {
   ordered = c.add.ensures.ordered;
-  given = rw (c.in_default.ensures.added, map-append) (given-push (c.self.inside.next + 1) _ c.self.inside.next (given-longer c.self.inside.next (c.self.inside.next + 1) _ (omega arith) c.self.invariant.given) (omega arith));
-  counts = rw c.in_default.ensures.added (counts-push c.self.inside.desks.entries (c.self.inside.next, c.new.result) c.self.invariant.counts c.new.ensures.counts);
+  given = rw (c.in_ok-add.ensures.added, map-append) (given-push (c.self.inside.next + 1) _ c.self.inside.next (given-longer c.self.inside.next (c.self.inside.next + 1) _ (omega arith) c.self.invariant.given) (omega arith));
+  counts = rw c.in_ok-add.ensures.added (counts-push c.self.inside.desks.entries (c.self.inside.next, c.new.result) c.self.invariant.counts c.new.ensures.counts);
   room = λ other is. absurd (none-some other is);
 }
 
 pub returns-clause-joined : goal.returns-clause-joined
 returns-clause-joined c =
-    rw (← c.self.view_is, c.in_default.ensures.added, map-append) (ap (λ row. map row_of c.self.inside.desks.entries ++ row ∷ []) (c.new.ensures.row c.self.inside.next))
+    rw (← c.self.view_is, c.in_ok-add.ensures.added, map-append) (ap (λ row. map row_of c.self.inside.desks.entries ++ row ∷ []) (c.new.ensures.row c.self.inside.next))

@@ -3,11 +3,19 @@ use Rattle.service_machine.proofs.FitLemmas.{told_of-there}
 use Rattle.service_machine.proofs.machine.Machine.apply.Goals as goal
 
 -- it is there, and isn't leaving
-pub returns-in_ok-leave-in-Leave-clause-fits : goal.returns-in_ok-leave-in-Leave-clause-fits
-returns-in_ok-leave-in-Leave-clause-fits c =
-    told_of-there (λ desk. desk.leaving ≡ false) c.in-Leave.conn c.args.self.now.connections.rows c.in_ok-leave-in-Leave.ensures.there (rw c.in-Leave.is at c.requires)
+pub leave-requires : goal.leave-requires
+leave-requires c =
+    told_of-there (λ desk. desk.leaving ≡ false) c.in-Leave.conn c.args.self.now.connections.rows c.in_ok-there-in-Leave.ensures.there (rw c.in-Leave.is at c.requires)
+
+pub returns-in_ok-there-in-Leave-clause-fits : goal.returns-in_ok-there-in-Leave-clause-fits
+returns-in_ok-there-in-Leave-clause-fits c =
+    told_of-there (λ desk. desk.leaving ≡ false) c.in-Leave.conn c.args.self.now.connections.rows c.in_ok-there-in-Leave.ensures.there (rw c.in-Leave.is at c.requires)
 
 -- it is there, and something waits for it
-pub returns-in_ok-outs-in-Take-clause-fits : goal.returns-in_ok-outs-in-Take-clause-fits
-returns-in_ok-outs-in-Take-clause-fits c =
-    told_of-there (λ desk. desk.waits ≡ true) c.in-Take.conn c.args.self.now.connections.rows c.in_ok-outs-in-Take.ensures.there (rw c.in-Take.is at c.requires)
+pub take-outs-requires : goal.take-outs-requires
+take-outs-requires c =
+    told_of-there (λ desk. desk.waits ≡ true) c.in-Take.conn c.args.self.now.connections.rows c.in_ok-there-in-Take.ensures.there (rw c.in-Take.is at c.requires)
+
+pub returns-in_ok-there-in-Take-clause-fits : goal.returns-in_ok-there-in-Take-clause-fits
+returns-in_ok-there-in-Take-clause-fits c =
+    told_of-there (λ desk. desk.waits ≡ true) c.in-Take.conn c.args.self.now.connections.rows c.in_ok-there-in-Take.ensures.there (rw c.in-Take.is at c.requires)
