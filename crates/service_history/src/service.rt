@@ -10,8 +10,8 @@ ghost use Rattle.service_history.specs.Refusals.{refusal_of, IsRefused, Settles,
 use kr_base::ConnId;
 use kr_items::Items;
 use secret_calls::Taken;
-use session_table::Sessions;
 use service_machine::{ApplyRefused, ConnRows, DeskRow, Event, Incoming, Machine, Output, Rows};
+use session_table::Sessions;
 use std::alloc::Global;
 use std::marker::Model;
 use thiserror::Error;
