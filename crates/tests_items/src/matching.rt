@@ -1,5 +1,5 @@
 use attribute_hash::{number_hash, text_hash};
-use attribute_match::{hashed_matches, matches};
+use attribute_match::{hashed_matches, is_equal, matches};
 use kr_base::{AttrValue, Attributes, Bytes, HashedPair, HashedValue, Text};
 use std::alloc::Global;
 use std::test::Fail;
@@ -112,5 +112,34 @@ fn a_hash_of_the_same_length_is_another(rt: HostRuntime) -> Result<(), Fail> {
     ]?;
     assert!(rt; hashed_matches(&wanted, one.as_slice()));
     assert!(rt; !hashed_matches(&wanted, other.as_slice()));
+    Ok(())
+}
+
+// Two lists of attributes, and whether they show the same. A value that begins with # is a number.
+const EQUALS: &str = "\
+a=1 b=2 | a=1 b=2 | yes
+b=2 a=1 | a=1 b=2 | yes
+a=1 b=2 | a=1 b=3 | no
+a=1 b=2 | a=1 c=2 | no
+a=1 b=2 | a=1 | no
+a=1 | a=1 b=2 | no
+| | yes
+| a= | no
+a=#7 | a=7 | yes
+a=#7 | a=#7 | yes
+a=7 | a=07 | no
+a=#7 | a=#8 | no
+";
+
+#[test]
+fn attributes_are_equal_by_their_names_and_texts(rt: HostRuntime) -> Result<(), Fail> {
+    let alloc = rt.alloc();
+    for row in EQUALS.lines() {
+        let (one, rest) = row.split_once('|').ok_or("one")?;
+        let (other, want) = rest.split_once('|').ok_or("other")?;
+        let one = attributes(alloc, one)?;
+        let other = attributes(alloc, other)?;
+        assert_eq!(rt; is_equal(&one, &other), want.trim() == "yes", "of {row}");
+    }
     Ok(())
 }
