@@ -1,5 +1,7 @@
+use crate::checks::{bytes_of, cells, number, same_text};
 use dbus_auth::{Auth, AuthFault, Step};
-use std::alloc::Global;
+use std::alloc::{AllocGlobal, Global};
+use std::process::Abort;
 use std::test::Fail;
 
 const GUID: [u8; 32] = *b"0123456789abcdef0123456789abcdef";
@@ -171,45 +173,63 @@ fn shown(alloc: Global, step: &Step) -> Result<Vec<u8>, Fail> {
 }
 
 // The bytes of a line of the table.
-fn bytes_of(alloc: Global, line: &str) -> Result<Vec<u8>, Fail> {
+fn line_of(alloc: Global, line: &str) -> Result<Vec<u8>, Fail> {
     match line.strip_prefix('#') {
-        Some(digits) => Ok(hex::decode(alloc, digits).ok().ok_or("hex")?),
+        Some(digits) => bytes_of(alloc, digits),
         None => Ok(line.as_bytes().to_vec(alloc)?),
     }
+}
+
+// What a line of the table is answered with.
+fn answer(alloc: Global, auth: &mut Auth, line: &str) -> Result<Vec<u8>, Fail> {
+    let bytes = line_of(alloc, line)?;
+    shown(alloc, &auth.line(bytes.as_slice()))
+}
+
+fn is_answered(
+    rt: &(impl AllocGlobal + Abort),
+    auth: &mut Auth,
+    row: &str,
+    place: usize,
+) -> Result<(), Fail> {
+    let (line, want) = cells(row)?;
+    let found = answer(rt.alloc(), auth, line)?;
+    assert_eq!(rt;
+        found.as_slice(),
+        whole(want).as_bytes(),
+        "at {row}, line {place} of the table"
+    );
+    Ok(())
+}
+
+// The server at the start of a conversation, by its first line behind the `>`.
+fn server(head: &str) -> Result<Auth, Fail> {
+    let (uid, _) = head.split_once(' ').ok_or("row")?;
+    Ok(Auth::new(number(uid)?, GUID))
 }
 
 #[test]
 fn each_line_of_a_conversation_is_answered_by_its_row(rt: HostRuntime) -> Result<(), Fail> {
     let mut auth = Auth::new(1000, GUID);
     for (place, row) in CONVERSATIONS.lines().enumerate() {
-        if let Some(head) = row.strip_prefix("> ") {
-            let (uid, _) = head.split_once(' ').ok_or("row")?;
-            auth = Auth::new(uid.parse::<u32>().ok().ok_or("uid")?, GUID);
-        } else {
-            let (line, want) = row.split_once('|').ok_or("row")?;
-            let bytes = bytes_of(rt.alloc(), line)?;
-            let step = shown(rt.alloc(), &auth.line(bytes.as_slice()))?;
-            assert_eq!(rt;
-                step.as_slice(),
-                whole(want).as_bytes(),
-                "at {row}, line {place} of the table"
-            );
+        match row.strip_prefix("> ") {
+            Some(head) => auth = server(head)?,
+            None => is_answered(&rt, &mut auth, row, place)?,
         }
     }
     Ok(())
 }
 
+fn is_printed(rt: &(impl AllocGlobal + Abort), fault: AuthFault, want: &str) -> Result<(), Fail> {
+    let printed = fault.to_string(rt.alloc())?;
+    same_text(rt, printed.as_str(), want, want);
+    Ok(())
+}
+
 #[test]
 fn faults_are_printed_by_their_names(rt: HostRuntime) -> Result<(), Fail> {
-    let cases = [
-        (AuthFault::NoZero, "NoZero"),
-        (AuthFault::LineTooLong, "LineTooLong"),
-        (AuthFault::BeginTooSoon, "BeginTooSoon"),
-        (AuthFault::EndedEarly, "EndedEarly"),
-    ];
-    for (fault, want) in cases {
-        let printed = fault.to_string(rt.alloc())?;
-        assert_eq!(rt; printed.as_str(), want, "at {fault:?}");
-    }
-    Ok(())
+    is_printed(&rt, AuthFault::NoZero, "NoZero")?;
+    is_printed(&rt, AuthFault::LineTooLong, "LineTooLong")?;
+    is_printed(&rt, AuthFault::BeginTooSoon, "BeginTooSoon")?;
+    is_printed(&rt, AuthFault::EndedEarly, "EndedEarly")
 }

@@ -1,5 +1,14 @@
+ghost use Rattle.dbus_types.specs.ValueViews.{values_of};
+ghost use Rattle.dbus_marshal.specs.Fitting.{HaveSpelling};
+
+use crate::checks::{bytes_of, cells, holds, number, same_text};
 use dbus_marshal::{ValueFault, marshal, unmarshal};
-use dbus_types::{CompleteType, Endian, Signature, Value, element_of, fields_in, held_of, lone_in};
+use dbus_types::{
+    CompleteType, DictEntry, Endian, Signature, Value, element_of, fields_in, held_of, lone_in,
+};
+use std::alloc::{AllocGlobal, Global};
+use std::fmt::Display;
+use std::process::Abort;
 use std::test::Fail;
 
 // What GLib 2.74.4 (GDBusMessage) marshals as a message's body, which stands at a multiple of 8: a
@@ -160,42 +169,115 @@ a(a(a(a(a(a(a(a(a(a(a(a(a(a(a(a(a(a(a(a(a(a(a(a(a(a(a(a(a(a(a(v)))))))))))))))))
 a(a(a(a(a(a(a(a(a(a(a(a(a(a(a(a(a(a(a(a(a(a(a(a(a(a(a(a(a(a(a(v)))))))))))))))))))))))))))))))|0101000000000000f900000000000000f100000000000000e900000000000000e100000000000000d900000000000000d100000000000000c900000000000000c100000000000000b900000000000000b100000000000000a900000000000000a1000000000000009900000000000000910000000000000089000000000000008100000000000000790000000000000071000000000000006900000000000000610000000000000059000000000000005100000000000000490000000000000041000000000000003900000000000000310000000000000029000000000000002100000000000000190000000000000011000000000000000361617900000000050000000100000007|TooDeep
 ";
 
+// A signature of the tables.
+fn types_of(alloc: Global, signature: &str) -> Result<Signature, Fail> {
+    Ok(
+        Signature::parse(alloc, signature.as_bytes())
+            .ok()
+            .ok_or("signature")?,
+    )
+}
+
+fn fault_text(alloc: Global, fault: ValueFault) -> Result<String, Fail> {
+    Ok(format!(in alloc; "{fault:?}")?)
+}
+
+// The digits of the values' spelling, or the fault.
+fn digits_of(alloc: Global, values: &[Value], to: Endian) -> Result<String, Fail>
+    requires { HaveSpelling (values_of values.now) }
+{
+    match marshal(alloc, values, to, 0) {
+        Ok(bytes) => Ok(hex::encode(alloc, bytes.as_slice())?),
+        Err(fault) => Ok(format!(in alloc; "{fault:?}")?),
+    }
+}
+
 // The values that the bytes are in one order, written in another, or the fault.
 fn turned(
-    rt: &HostRuntime,
+    alloc: Global,
     signature: &str,
     from: Endian,
     bytes: &[u8],
     to: Endian,
 ) -> Result<String, Fail> {
-    let signature = Signature::parse(rt.alloc(), signature.as_bytes());
-    let signature = signature.ok().ok_or("signature")?;
-    match unmarshal(rt.alloc(), &signature, from, 0, bytes) {
-        Ok(values) => match marshal(rt.alloc(), values.as_slice(), to, 0) {
-            Ok(written) => Ok(hex::encode(rt.alloc(), written.as_slice())?),
-            Err(fault) => Ok(format!(in rt.alloc(); "{fault:?}")?),
-        },
-        Err(fault) => Ok(format!(in rt.alloc(); "{fault:?}")?),
+    let types = types_of(alloc, signature)?;
+    match unmarshal(alloc, &types, from, 0, bytes) {
+        Ok(values) => digits_of(alloc, values.as_slice(), to),
+        Err(fault) => fault_text(alloc, fault),
     }
+}
+
+// The values of a row, spelled so in one order, are spelled as is wanted in another.
+fn is_turned(
+    rt: &(impl AllocGlobal + Abort),
+    row: &str,
+    from: Endian,
+    digits: &str,
+    to: Endian,
+    want: &str,
+) -> Result<(), Fail> {
+    let (signature, _) = cells(row)?;
+    let bytes = bytes_of(rt.alloc(), digits)?;
+    let told = turned(rt.alloc(), signature, from, bytes.as_slice(), to)?;
+    same_text(rt, told.as_str(), want, row);
+    Ok(())
+}
+
+fn is_read_and_written(rt: &(impl AllocGlobal + Abort), row: &str) -> Result<(), Fail> {
+    let (_, spellings) = cells(row)?;
+    let (little, big) = cells(spellings)?;
+    is_turned(rt, row, Endian::Little, little, Endian::Big, big)?;
+    is_turned(rt, row, Endian::Big, big, Endian::Little, little)?;
+    is_turned(rt, row, Endian::Little, little, Endian::Little, little)
 }
 
 #[test]
 fn what_another_program_marshals_is_read_and_written(rt: HostRuntime) -> Result<(), Fail> {
     for row in VECTORS.lines() {
-        let (signature, spellings) = row.split_once('|').ok_or("row")?;
-        let (little, big) = spellings.split_once('|').ok_or("row")?;
-        let low_first = hex::decode(rt.alloc(), little).ok().ok_or("hex")?;
-        let high_first = hex::decode(rt.alloc(), big).ok().ok_or("hex")?;
-        let low = low_first.as_slice();
-        let high = high_first.as_slice();
-        let written = turned(&rt, signature, Endian::Little, low, Endian::Big)?;
-        assert_eq!(rt; written.as_str(), big, "{row}");
-        let written = turned(&rt, signature, Endian::Big, high, Endian::Little)?;
-        assert_eq!(rt; written.as_str(), little, "{row}");
-        let written = turned(&rt, signature, Endian::Little, low, Endian::Little)?;
-        assert_eq!(rt; written.as_str(), little, "{row}");
+        is_read_and_written(&rt, row)?;
     }
     Ok(())
+}
+
+// Each front of the bytes is short.
+fn is_short(
+    rt: &(impl AllocGlobal + Abort),
+    signature: &str,
+    bytes: &[u8],
+    row: &str,
+) -> Result<(), Fail> {
+    for cut in 0..bytes.len() {
+        let told = turned(
+            rt.alloc(),
+            signature,
+            Endian::Little,
+            &bytes[..cut],
+            Endian::Big,
+        )?;
+        assert_eq!(rt; told.as_str(), "Short", "at {cut} of {row}");
+    }
+    Ok(())
+}
+
+// With a byte behind them the bytes have a rest.
+fn has_a_rest(rt: &(impl AllocGlobal + Abort), row: &str, digits: &str) -> Result<(), Fail> {
+    let longer = format!(in rt.alloc(); "{digits}00")?;
+    is_turned(
+        rt,
+        row,
+        Endian::Little,
+        longer.as_str(),
+        Endian::Big,
+        "Rest",
+    )
+}
+
+fn is_short_and_has_a_rest(rt: &(impl AllocGlobal + Abort), row: &str) -> Result<(), Fail> {
+    let (signature, spellings) = cells(row)?;
+    let (little, _) = cells(spellings)?;
+    let bytes = bytes_of(rt.alloc(), little)?;
+    is_short(rt, signature, bytes.as_slice(), row)?;
+    has_a_rest(rt, row, little)
 }
 
 #[test]
@@ -203,56 +285,83 @@ fn a_spelling_that_is_cut_is_short_and_one_that_goes_on_has_a_rest(
     rt: HostRuntime,
 ) -> Result<(), Fail> {
     for row in VECTORS.lines() {
-        let (signature, spellings) = row.split_once('|').ok_or("row")?;
-        let (little, _) = spellings.split_once('|').ok_or("row")?;
-        let mut bytes = hex::decode(rt.alloc(), little).ok().ok_or("hex")?;
-        for cut in 0..bytes.len() {
-            let told = turned(&rt, signature, Endian::Little, &bytes[..cut], Endian::Big)?;
-            assert_eq!(rt; told.as_str(), "Short", "at {cut} of {row}");
-        }
-        bytes.push(0)?;
-        let told = turned(
-            &rt,
-            signature,
-            Endian::Little,
-            bytes.as_slice(),
-            Endian::Big,
-        )?;
-        assert_eq!(rt; told.as_str(), "Rest", "{row}");
+        is_short_and_has_a_rest(&rt, row)?;
     }
     Ok(())
 }
 
+fn values_text(alloc: Global, values: &[Value]) -> Result<String, Fail> {
+    let mut out = String::new(alloc);
+    show_each(&mut out, values, &CompleteType::Variant)?;
+    Ok(out)
+}
+
 // What the values print, or the fault.
 fn read(
-    rt: &HostRuntime,
+    alloc: Global,
     signature: &str,
     endian: Endian,
-    place: &str,
-    spelling: &str,
+    place: u64,
+    bytes: &[u8],
 ) -> Result<String, Fail> {
-    let bytes = hex::decode(rt.alloc(), spelling).ok().ok_or("hex")?;
-    let place = place.parse::<u64>().ok().ok_or("place")?;
-    let signature = Signature::parse(rt.alloc(), signature.as_bytes());
-    let signature = signature.ok().ok_or("signature")?;
-    match unmarshal(rt.alloc(), &signature, endian, place, bytes.as_slice()) {
-        Ok(values) => {
-            let mut out = String::new(rt.alloc());
-            show_each(rt, &mut out, values.as_slice(), &CompleteType::Variant)?;
-            Ok(out)
-        }
-        Err(fault) => Ok(format!(in rt.alloc(); "{fault:?}")?),
+    let types = types_of(alloc, signature)?;
+    match unmarshal(alloc, &types, endian, place, bytes) {
+        Ok(values) => values_text(alloc, values.as_slice()),
+        Err(fault) => fault_text(alloc, fault),
+    }
+}
+
+// A name, and what it is of in brackets.
+fn put(out: &mut String, name: &str, number: &impl Display) -> Result<(), Fail> {
+    Ok(write!(out, "{name}({number})")?)
+}
+
+fn show_number(out: &mut String, value: &Value) -> Result<(), Fail> {
+    match value {
+        Value::Byte(it) => put(out, "Byte", it),
+        Value::Boolean(it) => put(out, "Boolean", it),
+        Value::Int16(it) => put(out, "Int16", it),
+        Value::Uint16(it) => put(out, "Uint16", it),
+        Value::Int32(it) => put(out, "Int32", it),
+        Value::Uint32(it) => put(out, "Uint32", it),
+        Value::Int64(it) => put(out, "Int64", it),
+        Value::Uint64(it) => put(out, "Uint64", it),
+        Value::Double(it) => put(out, "Double", it),
+        Value::UnixFd(it) => put(out, "UnixFd", it),
+        _ => Ok(()),
+    }
+}
+
+fn show_string(out: &mut String, text: &str) -> Result<(), Fail> {
+    Ok(write!(out, "String({text:?})")?)
+}
+
+fn show_path(out: &mut String, text: &str) -> Result<(), Fail> {
+    Ok(write!(out, "ObjectPath(ObjectPath {{ text: {text:?} }})")?)
+}
+
+fn show_signature(out: &mut String, types: &[CompleteType]) -> Result<(), Fail> {
+    Ok(write!(out, "Signature(Signature {{ types: {types:?} }})")?)
+}
+
+fn show_bytes(out: &mut String, count: usize) -> Result<(), Fail> {
+    Ok(write!(out, "Bytes({count} bytes)")?)
+}
+
+// A value that holds no other one.
+fn show_leaf(out: &mut String, value: &Value) -> Result<(), Fail> {
+    match value {
+        Value::String(it) => show_string(out, it.as_str()),
+        Value::ObjectPath(it) => show_path(out, it.as_str()),
+        Value::Signature(it) => show_signature(out, it.types()),
+        Value::Bytes(it) => show_bytes(out, it.len()),
+        _ => show_number(out, value),
     }
 }
 
 // A value that lies where its type is known, as a text.
 #[cycle(shown)]
-fn show(
-    rt: &HostRuntime,
-    out: &mut String,
-    value: &Value,
-    known: &CompleteType,
-) -> Result<(), Fail> {
+fn show(out: &mut String, value: &Value, known: &CompleteType) -> Result<(), Fail> {
     let mut around = 0usize;
     let mut core = known;
     for _ in 0..64 {
@@ -264,7 +373,11 @@ fn show(
             core = only;
         }
     }
-    show_core(rt, out, value, core)?;
+    show_core(out, value, core)?;
+    close(out, around)
+}
+
+fn close(out: &mut String, around: usize) -> Result<(), Fail> {
     for _ in 0..around {
         out.push_str("])")?;
     }
@@ -272,141 +385,138 @@ fn show(
 }
 
 #[cycle(shown)]
-fn show_core(
-    rt: &HostRuntime,
-    out: &mut String,
-    value: &Value,
-    known: &CompleteType,
-) -> Result<(), Fail> {
-    let alloc = rt.alloc();
+fn show_core(out: &mut String, value: &Value, known: &CompleteType) -> Result<(), Fail> {
     match value {
-        Value::Byte(it) => out.push_str(format!(in alloc; "Byte({it})")?.as_str())?,
-        Value::Boolean(it) => out.push_str(format!(in alloc; "Boolean({it})")?.as_str())?,
-        Value::Int16(it) => out.push_str(format!(in alloc; "Int16({it})")?.as_str())?,
-        Value::Uint16(it) => out.push_str(format!(in alloc; "Uint16({it})")?.as_str())?,
-        Value::Int32(it) => out.push_str(format!(in alloc; "Int32({it})")?.as_str())?,
-        Value::Uint32(it) => out.push_str(format!(in alloc; "Uint32({it})")?.as_str())?,
-        Value::Int64(it) => out.push_str(format!(in alloc; "Int64({it})")?.as_str())?,
-        Value::Uint64(it) => out.push_str(format!(in alloc; "Uint64({it})")?.as_str())?,
-        Value::Double(it) => out.push_str(format!(in alloc; "Double({it})")?.as_str())?,
-        Value::UnixFd(it) => out.push_str(format!(in alloc; "UnixFd({it})")?.as_str())?,
-        Value::String(it) => {
-            out.push_str(format!(in alloc; "String({:?})", it.as_str())?.as_str())?;
-        }
-        Value::ObjectPath(it) => {
-            let text = it.as_str();
-            out.push_str(format!(in alloc;
-                "ObjectPath(ObjectPath {{ text: {text:?} }})"
-            )?.as_str())?;
-        }
-        Value::Signature(it) => {
-            out.push_str(format!(in alloc;
-                "Signature(Signature {{ types: {:?} }})",
-                it.types()
-            )?.as_str())?;
-        }
-        Value::Bytes(it) => {
-            out.push_str(format!(in alloc; "Bytes({} bytes)", it.len())?.as_str())?;
-        }
-        Value::Variant(inner) => {
-            out.push_str("Variant(")?;
-            show(rt, out, inner, &CompleteType::Variant)?;
-            out.push_str(")")?;
-        }
-        Value::Array(array) => {
-            out.push_str(format!(in alloc; "Array({:?}, ", array.element)?.as_str())?;
-            show_each(rt, out, array.values.as_slice(), &array.element)?;
-            out.push_str(")")?;
-        }
-        Value::InnerArray(values) => {
-            let element = element_of(known);
-            out.push_str(format!(in alloc; "Array({element:?}, ")?.as_str())?;
-            show_each(rt, out, values.as_slice(), element)?;
-            out.push_str(")")?;
-        }
-        Value::Struct(fields) => {
-            out.push_str("Struct(")?;
-            show_fields(rt, out, fields.as_slice(), known)?;
-            out.push_str(")")?;
-        }
-        Value::DictEntry(entry) => {
-            out.push_str("DictEntry(DictEntry { key: ")?;
-            show(rt, out, &entry.key, known)?;
-            out.push_str(", value: ")?;
-            show(rt, out, &entry.value, held_of(known))?;
-            out.push_str(" })")?;
-        }
+        Value::Variant(inner) => show_variant(out, inner),
+        Value::Array(array) => show_array(out, array.values.as_slice(), &array.element),
+        Value::InnerArray(values) => show_array(out, values.as_slice(), element_of(known)),
+        Value::Struct(fields) => show_struct(out, fields.as_slice(), known),
+        Value::DictEntry(entry) => show_entry(out, entry, known),
+        _ => show_leaf(out, value),
     }
-    Ok(())
 }
 
 #[cycle(shown)]
-fn show_each(
-    rt: &HostRuntime,
-    out: &mut String,
-    values: &[Value],
-    known: &CompleteType,
-) -> Result<(), Fail> {
+fn show_variant(out: &mut String, inner: &Value) -> Result<(), Fail> {
+    out.push_str("Variant(")?;
+    show(out, inner, &CompleteType::Variant)?;
+    Ok(out.push_str(")")?)
+}
+
+#[cycle(shown)]
+fn show_array(out: &mut String, values: &[Value], element: &CompleteType) -> Result<(), Fail> {
+    write!(out, "Array({element:?}, ")?;
+    show_each(out, values, element)?;
+    Ok(out.push_str(")")?)
+}
+
+#[cycle(shown)]
+fn show_struct(out: &mut String, fields: &[Value], known: &CompleteType) -> Result<(), Fail> {
+    out.push_str("Struct(")?;
+    show_fields(out, fields, known)?;
+    Ok(out.push_str(")")?)
+}
+
+#[cycle(shown)]
+fn show_entry(out: &mut String, entry: &DictEntry, known: &CompleteType) -> Result<(), Fail> {
+    out.push_str("DictEntry(DictEntry { key: ")?;
+    show(out, &entry.key, known)?;
+    out.push_str(", value: ")?;
+    show(out, &entry.value, held_of(known))?;
+    Ok(out.push_str(" })")?)
+}
+
+#[cycle(shown)]
+fn show_each(out: &mut String, values: &[Value], known: &CompleteType) -> Result<(), Fail> {
     let mut is_first = true;
     for each in values {
         out.push_str(if is_first { "[" } else { ", " })?;
-        show(rt, out, each, known)?;
+        show(out, each, known)?;
         is_first = false;
     }
-    out.push_str(if values.is_empty() { "[]" } else { "]" })?;
-    Ok(())
+    Ok(out.push_str(if values.is_empty() { "[]" } else { "]" })?)
+}
+
+// The type of a struct's field.
+fn field_of(known: &CompleteType, place: usize) -> &CompleteType {
+    match fields_in(known) {
+        Some(types) => types.get(place).unwrap_or(known),
+        None => known,
+    }
 }
 
 #[cycle(shown)]
-fn show_fields(
-    rt: &HostRuntime,
-    out: &mut String,
-    fields: &[Value],
-    known: &CompleteType,
-) -> Result<(), Fail> {
+fn show_fields(out: &mut String, fields: &[Value], known: &CompleteType) -> Result<(), Fail> {
     let mut place = 0usize;
     for each in fields {
         out.push_str(if place == 0 { "[" } else { ", " })?;
-        let field = match fields_in(known) {
-            Some(types) => types.get(place).unwrap_or(known),
-            None => known,
-        };
-        show(rt, out, each, field)?;
+        show(out, each, field_of(known, place))?;
         place = place.saturating_add(1);
     }
-    out.push_str("]")?;
+    Ok(out.push_str("]")?)
+}
+
+// Bytes in digits are values that print so, or the fault.
+fn prints(
+    rt: &(impl AllocGlobal + Abort),
+    row: &str,
+    endian: Endian,
+    digits: &str,
+    want: &str,
+) -> Result<(), Fail> {
+    let (signature, rest) = cells(row)?;
+    let (place, _) = cells(rest)?;
+    let bytes = bytes_of(rt.alloc(), digits)?;
+    let told = read(
+        rt.alloc(),
+        signature,
+        endian,
+        number(place)? as u64,
+        bytes.as_slice(),
+    )?;
+    same_text(rt, told.as_str(), want, row);
     Ok(())
 }
 
-// The four parts of a row.
-fn parts_of(row: &str) -> Option<(&str, &str, &str, &str)> {
-    let (signature, behind) = row.split_once('|')?;
-    let (place, behind) = behind.split_once('|')?;
-    let (spelling, behind) = behind.split_once('|')?;
-    Some((signature, place, spelling, behind))
+// What stands behind a row's signature and place.
+fn behind_place(row: &str) -> Result<(&str, &str), Fail> {
+    let (_, rest) = cells(row)?;
+    let (_, rest) = cells(rest)?;
+    cells(rest)
+}
+
+fn is_read(rt: &(impl AllocGlobal + Abort), row: &str) -> Result<(), Fail> {
+    let (little, rest) = behind_place(row)?;
+    let (big, want) = cells(rest)?;
+    prints(rt, row, Endian::Little, little, want)?;
+    prints(rt, row, Endian::Big, big, want)
 }
 
 #[test]
 fn values_are_read_in_both_byte_orders(rt: HostRuntime) -> Result<(), Fail> {
     for row in VALUES.lines() {
-        let (signature, place, little, behind) = parts_of(row).ok_or("row")?;
-        let (big, want) = behind.split_once('|').ok_or("row")?;
-        let told = read(&rt, signature, Endian::Little, place, little)?;
-        assert_eq!(rt; told.as_str(), want, "{row}");
-        let told = read(&rt, signature, Endian::Big, place, big)?;
-        assert_eq!(rt; told.as_str(), want, "{row}");
+        is_read(&rt, row)?;
     }
     Ok(())
+}
+
+fn is_told(rt: &(impl AllocGlobal + Abort), row: &str) -> Result<(), Fail> {
+    let (digits, want) = behind_place(row)?;
+    prints(rt, row, Endian::Little, digits, want)
 }
 
 #[test]
 fn the_first_fault_from_the_left_is_told(rt: HostRuntime) -> Result<(), Fail> {
     for row in FAULTS.lines() {
-        let (signature, place, spelling, want) = parts_of(row).ok_or("row")?;
-        let told = read(&rt, signature, Endian::Little, place, spelling)?;
-        assert_eq!(rt; told.as_str(), want, "{row}");
+        is_told(&rt, row)?;
     }
     Ok(())
+}
+
+fn is_read_or_too_deep(rt: &(impl AllocGlobal + Abort), row: &str) -> Result<(), Fail> {
+    let (_, rest) = cells(row)?;
+    let (little, want) = cells(rest)?;
+    is_turned(rt, row, Endian::Little, little, Endian::Big, want)
 }
 
 #[test]
@@ -414,24 +524,14 @@ fn sixty_four_containers_of_any_kinds_are_read_and_one_more_is_too_deep(
     rt: HostRuntime,
 ) -> Result<(), Fail> {
     for row in NESTED.lines() {
-        let (signature, behind) = row.split_once('|').ok_or("row")?;
-        let (little, want) = behind.split_once('|').ok_or("row")?;
-        let bytes = hex::decode(rt.alloc(), little).ok().ok_or("hex")?;
-        let told = turned(
-            &rt,
-            signature,
-            Endian::Little,
-            bytes.as_slice(),
-            Endian::Big,
-        )?;
-        assert_eq!(rt; told.as_str(), want, "{row}");
+        is_read_or_too_deep(&rt, row)?;
     }
     Ok(())
 }
 
 // A variant of a variant, so many times, around a byte.
-fn variants(rt: &HostRuntime, count: usize) -> Result<Vec<u8>, Fail> {
-    let mut bytes = Vec::new(rt.alloc());
+fn variants(alloc: Global, count: usize) -> Result<Vec<u8>, Fail> {
+    let mut bytes = Vec::new(alloc);
     for _ in 0..count {
         bytes.extend_from_slice(b"\x01v\0")?;
     }
@@ -439,16 +539,22 @@ fn variants(rt: &HostRuntime, count: usize) -> Result<Vec<u8>, Fail> {
     Ok(bytes)
 }
 
+// "read", or the fault, of so many variants around a byte.
+fn variants_told(alloc: Global, count: usize) -> Result<String, Fail> {
+    let types = types_of(alloc, "v")?;
+    let bytes = variants(alloc, count)?;
+    match unmarshal(alloc, &types, Endian::Big, 0, bytes.as_slice()) {
+        Ok(_) => Ok(String::from_str(alloc, "read")?),
+        Err(fault) => fault_text(alloc, fault),
+    }
+}
+
 #[test]
 fn sixty_four_variants_are_read_and_one_more_is_too_deep(rt: HostRuntime) -> Result<(), Fail> {
-    let signature = Signature::parse(rt.alloc(), b"v").ok().ok_or("signature")?;
-    let whole = variants(&rt, 63)?;
-    let read = unmarshal(rt.alloc(), &signature, Endian::Big, 0, whole.as_slice());
-    assert!(rt; read.is_ok());
-    let deep = variants(&rt, 64)?;
-    let read = unmarshal(rt.alloc(), &signature, Endian::Big, 0, deep.as_slice());
-    let fault = read.err().ok_or("read")?;
-    assert_eq!(rt; fault, ValueFault::TooDeep);
+    let whole = variants_told(rt.alloc(), 63)?;
+    same_text(&rt, whole.as_str(), "read", "64");
+    let deep = variants_told(rt.alloc(), 64)?;
+    same_text(&rt, deep.as_str(), "TooDeep", "65");
     Ok(())
 }
 
@@ -461,13 +567,8 @@ a{uu}|4|200000
 ";
 
 // The spelling of an array whose numbers count up from 0.
-fn long_array(
-    rt: &HostRuntime,
-    endian: Endian,
-    padding: usize,
-    count: u32,
-) -> Result<Vec<u8>, Fail> {
-    let mut bytes = Vec::new(rt.alloc());
+fn long_array(alloc: Global, endian: Endian, padding: usize, count: u32) -> Result<Vec<u8>, Fail> {
+    let mut bytes = Vec::new(alloc);
     bytes.extend_from_slice(&word(endian, count.saturating_mul(4)))?;
     bytes.resize(bytes.len().saturating_add(padding), 0)?;
     for number in 0..count {
@@ -483,22 +584,33 @@ fn word(endian: Endian, number: u32) -> [u8; 4] {
     }
 }
 
+// The array of a row.
+fn array_in(alloc: Global, row: &str, endian: Endian) -> Result<Vec<u8>, Fail> {
+    let (_, rest) = cells(row)?;
+    let (padding, count) = cells(rest)?;
+    long_array(alloc, endian, number(padding)? as usize, number(count)?)
+}
+
+// Little-endian bytes that are written in big-endian order again; none where they are refused.
+fn big_of(alloc: Global, types: &Signature, little: &[u8]) -> Option<Vec<u8>> {
+    let values = unmarshal(alloc, types, Endian::Little, 0, little).ok()?;
+    marshal(alloc, values.as_slice(), Endian::Big, 0).ok()
+}
+
+fn is_written(rt: &(impl AllocGlobal + Abort), row: &str) -> Result<(), Fail> {
+    let (signature, _) = cells(row)?;
+    let types = types_of(rt.alloc(), signature)?;
+    let little = array_in(rt.alloc(), row, Endian::Little)?;
+    let big = array_in(rt.alloc(), row, Endian::Big)?;
+    let written = big_of(rt.alloc(), &types, little.as_slice()).ok_or("bytes")?;
+    holds(rt, written.as_slice() == big.as_slice(), row);
+    Ok(())
+}
+
 #[test]
 fn an_array_of_100_000_elements_is_read_and_written(rt: HostRuntime) -> Result<(), Fail> {
     for row in LONG.lines() {
-        let (signature, behind) = row.split_once('|').ok_or("row")?;
-        let (padding, count) = behind.split_once('|').ok_or("row")?;
-        let padding = padding.parse::<usize>().ok().ok_or("padding")?;
-        let count = count.parse::<u32>().ok().ok_or("count")?;
-        let little = long_array(&rt, Endian::Little, padding, count)?;
-        let big = long_array(&rt, Endian::Big, padding, count)?;
-        let signature = Signature::parse(rt.alloc(), signature.as_bytes());
-        let signature = signature.ok().ok_or("signature")?;
-        let read = unmarshal(rt.alloc(), &signature, Endian::Little, 0, little.as_slice());
-        let values = read.ok().ok_or("values")?;
-        let written = marshal(rt.alloc(), values.as_slice(), Endian::Big, 0);
-        let written = written.ok().ok_or("bytes")?;
-        assert!(rt; written.as_slice() == big.as_slice(), "{row}");
+        is_written(&rt, row)?;
     }
     Ok(())
 }

@@ -1,11 +1,9 @@
-use dbus_framing::{FrameRefused, Framer, is_interface_name, is_member_name};
+use crate::checks::{bytes_of, cells, holds, number, same_number, same_text};
+use dbus_framing::{FrameRefused, Framer, Violation, is_interface_name, is_member_name};
 use dbus_types::Message;
-use std::alloc::Global;
+use std::alloc::{AllocGlobal, Global};
+use std::process::Abort;
 use std::test::Fail;
-
-fn bytes_of(alloc: Global, text: &str) -> Result<Vec<u8>, Fail> {
-    Ok(hex::decode(alloc, text).ok().ok_or("no hex")?)
-}
 
 // The message's type, serial and member, how many values its body has, and how many bytes it has.
 fn tell(text: &mut String, message: &Message) -> Result<(), Fail> {
@@ -18,26 +16,44 @@ fn tell(text: &mut String, message: &Message) -> Result<(), Fail> {
     Ok(write!(text, "{kind} {serial} {member} {count} {length};")?)
 }
 
+fn tell_violation(text: &mut String, cause: Violation) -> Result<(), Fail> {
+    Ok(write!(text, "{cause};")?)
+}
+
+// Whether the framer answers a message, told of in the text as a violation is.
+fn answer(framer: &mut Framer, text: &mut String) -> Result<bool, Fail> {
+    match framer.next() {
+        Ok(Some(message)) => tell(text, &message)?,
+        Ok(None) => return Ok(false),
+        Err(FrameRefused::Violation(cause)) => {
+            tell_violation(text, cause)?;
+            return Ok(false);
+        }
+        Err(FrameRefused::OutOfMemory) => return Err("no memory")?,
+    }
+    Ok(true)
+}
+
 // What the framer answers, up to None or a violation.
 fn answers(framer: &mut Framer, text: &mut String) -> Result<(), Fail> {
     for _ in 0..1000 {
-        match framer.next() {
-            Ok(Some(message)) => tell(text, &message)?,
-            Ok(None) => return Ok(()),
-            Err(FrameRefused::Violation(cause)) => return Ok(write!(text, "{cause};")?),
-            Err(FrameRefused::OutOfMemory) => return Ok(text.push_str("no memory;")?),
+        if !answer(framer, text)? {
+            return Ok(());
         }
     }
     Ok(())
 }
 
+fn feed(framer: &mut Framer, piece: &[u8], text: &mut String) -> Result<(), Fail> {
+    framer.feed(piece)?;
+    answers(framer, text)
+}
+
 fn in_two(alloc: Global, most: u32, front: &[u8], back: &[u8]) -> Result<String, Fail> {
     let mut framer = Framer::new(alloc, most);
     let mut text = String::new(alloc);
-    framer.feed(front)?;
-    answers(&mut framer, &mut text)?;
-    framer.feed(back)?;
-    answers(&mut framer, &mut text)?;
+    feed(&mut framer, front, &mut text)?;
+    feed(&mut framer, back, &mut text)?;
     Ok(text)
 }
 
@@ -65,45 +81,76 @@ const STREAM: &str = "\
 6c01000101000000010000008000000001016f00020000002f610000000000000201730003000000612e620000000000030173000100000043000000000000000401730005000000612e5f623900000005017500090000000601730008000000616e7920746578740000000000000000070173000000000000000000000000000801670001790000090175000300000005|1 1 C 1 145;
 ";
 
-fn stream_of(alloc: Global) -> Result<(Vec<u8>, String), Fail> {
+// The messages, one behind the other.
+fn stream(alloc: Global) -> Result<Vec<u8>, Fail> {
     let mut stream = Vec::new(alloc);
-    let mut told = String::new(alloc);
     for row in STREAM.lines() {
-        let (message, want) = row.split_once('|').ok_or("row")?;
+        let (message, _) = cells(row)?;
         stream.extend_from_slice(bytes_of(alloc, message)?.as_slice())?;
-        told.push_str(want)?;
     }
-    Ok((stream, told))
+    Ok(stream)
 }
 
+// What is told of them.
+fn stream_told(alloc: Global) -> Result<String, Fail> {
+    let mut told = String::new(alloc);
+    for row in STREAM.lines() {
+        let (_, want) = cells(row)?;
+        told.push_str(want)?;
+    }
+    Ok(told)
+}
+
+// How many bytes are left of the stream that is fed in pieces.
 fn in_pieces(alloc: Global, size: usize, stream: &[u8], text: &mut String) -> Result<usize, Fail> {
     let mut framer = Framer::new(alloc, MOST);
     for piece in stream.chunks(size.max(1)) {
-        framer.feed(piece)?;
-        answers(&mut framer, text)?;
+        feed(&mut framer, piece, text)?;
     }
     Ok(framer.rest())
 }
 
+fn is_told_in_pieces(
+    rt: &(impl AllocGlobal + Abort),
+    size: usize,
+    stream: &[u8],
+    told: &str,
+) -> Result<(), Fail> {
+    let mut text = String::new(rt.alloc());
+    let rest = in_pieces(rt.alloc(), size, stream, &mut text)?;
+    assert_eq!(rt; text.as_str(), told, "in pieces of {size}");
+    same_number(rt, rest, 0);
+    Ok(())
+}
+
 #[test]
 fn a_stream_in_pieces_is_the_same_messages(rt: HostRuntime) -> Result<(), Fail> {
-    let (stream, told) = stream_of(rt.alloc())?;
+    let stream = stream(rt.alloc())?;
+    let told = stream_told(rt.alloc())?;
     for size in [1, 2, 7, 16, 100, 4096] {
-        let mut text = String::new(rt.alloc());
-        let rest = in_pieces(rt.alloc(), size, stream.as_slice(), &mut text)?;
-        assert_eq!(rt; text.as_str(), told.as_str(), "in pieces of {size}");
-        assert_eq!(rt; rest, 0);
+        is_told_in_pieces(&rt, size, stream.as_slice(), told.as_str())?;
     }
+    Ok(())
+}
+
+fn is_told_in_two(
+    rt: &(impl AllocGlobal + Abort),
+    cut: usize,
+    stream: &[u8],
+    told: &str,
+) -> Result<(), Fail> {
+    let (front, back) = stream.split_at(cut.min(stream.len()));
+    let text = in_two(rt.alloc(), MOST, front, back)?;
+    assert_eq!(rt; text.as_str(), told, "cut at {cut}");
     Ok(())
 }
 
 #[test]
 fn a_stream_in_any_two_pieces_is_the_same_messages(rt: HostRuntime) -> Result<(), Fail> {
-    let (stream, told) = stream_of(rt.alloc())?;
+    let stream = stream(rt.alloc())?;
+    let told = stream_told(rt.alloc())?;
     for cut in 0..=stream.len() {
-        let (front, back) = stream.as_slice().split_at(cut);
-        let text = in_two(rt.alloc(), MOST, front, back)?;
-        assert_eq!(rt; text.as_str(), told.as_str(), "cut at {cut}");
+        is_told_in_two(&rt, cut, stream.as_slice(), told.as_str())?;
     }
     Ok(())
 }
@@ -115,8 +162,16 @@ fn behind_a_call(alloc: Global, message: &[u8]) -> Result<String, Fail> {
     in_two(alloc, MOST, stream.as_slice(), b"\0l")
 }
 
-fn broken_behind_a_call(alloc: Global, cause: &str) -> Result<String, Fail> {
-    Ok(format!(in alloc; "{OPENED}{cause};{cause};")?)
+fn breaks_behind_a_call(
+    rt: &(impl AllocGlobal + Abort),
+    message: &[u8],
+    cause: &str,
+    at: &str,
+) -> Result<(), Fail> {
+    let text = behind_a_call(rt.alloc(), message)?;
+    let want = format!(in rt.alloc(); "{OPENED}{cause};{cause};")?;
+    same_text(rt, text.as_str(), want.as_str(), at);
+    Ok(())
 }
 
 // What breaks a rule, the message, and the cause. libdbus 1.14 refuses each.
@@ -154,15 +209,17 @@ Dict with padding that isn't zero|6c01000108000000010000002b00000001016f00010000
 Number cut short|6c01000103000000010000002700000001016f00010000002f00000000000000030173000400000050696e67000000000801670001750000010000|BadBody
 ";
 
+fn is_broken(rt: &(impl AllocGlobal + Abort), row: &str) -> Result<(), Fail> {
+    let (what, rest) = cells(row)?;
+    let (message, cause) = cells(rest)?;
+    let message = bytes_of(rt.alloc(), message)?;
+    breaks_behind_a_call(rt, message.as_slice(), cause, what)
+}
+
 #[test]
 fn a_rule_is_broken_for_ever(rt: HostRuntime) -> Result<(), Fail> {
     for row in BROKEN.lines() {
-        let (what, behind) = row.split_once('|').ok_or("row")?;
-        let (message, cause) = behind.split_once('|').ok_or("row")?;
-        let message = bytes_of(rt.alloc(), message)?;
-        let text = behind_a_call(rt.alloc(), message.as_slice())?;
-        let want = broken_behind_a_call(rt.alloc(), cause)?;
-        assert_eq!(rt; text.as_str(), want.as_str(), "{what}");
+        is_broken(&rt, row)?;
     }
     Ok(())
 }
@@ -187,23 +244,37 @@ const CHANGED: &str = "\
 12|f0ffffff|TooLarge
 ";
 
+// The bytes with others from this place on.
+fn changed(bytes: &mut Vec<u8>, place: usize, others: &[u8]) {
+    for (at, byte) in others.iter().enumerate() {
+        if let Some(cell) = bytes.get_mut(place.saturating_add(at)) {
+            *cell = *byte;
+        }
+    }
+}
+
+fn is_changed(rt: &(impl AllocGlobal + Abort), row: &str) -> Result<(), Fail> {
+    let (place, rest) = cells(row)?;
+    let (change, cause) = cells(rest)?;
+    let mut message = bytes_of(rt.alloc(), OPEN_SESSION)?;
+    let change = bytes_of(rt.alloc(), change)?;
+    changed(&mut message, number(place)? as usize, change.as_slice());
+    breaks_behind_a_call(rt, message.as_slice(), cause, row)
+}
+
 #[test]
 fn a_call_with_changed_bytes_breaks_the_first_rule_in_order(rt: HostRuntime) -> Result<(), Fail> {
-    let call = bytes_of(rt.alloc(), OPEN_SESSION)?;
     for row in CHANGED.lines() {
-        let (place, behind) = row.split_once('|').ok_or("row")?;
-        let (change, cause) = behind.split_once('|').ok_or("row")?;
-        let change = bytes_of(rt.alloc(), change)?;
-        let place = place.parse::<usize>().ok().ok_or("place")?;
-        let mut message = Vec::new(rt.alloc());
-        for (at, byte) in call.as_slice().iter().enumerate() {
-            let other = at.checked_sub(place).and_then(|it| change.get(it));
-            message.push(*other.unwrap_or(byte))?;
-        }
-        let text = behind_a_call(rt.alloc(), message.as_slice())?;
-        let want = broken_behind_a_call(rt.alloc(), cause)?;
-        assert_eq!(rt; text.as_str(), want.as_str(), "{row}");
+        is_changed(&rt, row)?;
     }
+    Ok(())
+}
+
+fn is_left(rt: &(impl AllocGlobal + Abort), front: &[u8], size: usize) -> Result<(), Fail> {
+    let mut text = String::new(rt.alloc());
+    let rest = in_pieces(rt.alloc(), size, front, &mut text)?;
+    same_number(rt, rest, front.len());
+    same_text(rt, text.as_str(), "", "a front");
     Ok(())
 }
 
@@ -213,12 +284,8 @@ fn a_front_of_a_message_is_left(rt: HostRuntime) -> Result<(), Fail> {
     let bytes = bytes_of(rt.alloc(), OPEN_SESSION)?;
     for count in 1..bytes.len() {
         let (front, _) = bytes.as_slice().split_at(count);
-        let mut text = String::new(rt.alloc());
-        for size in [1, 4096] {
-            let rest = in_pieces(rt.alloc(), size, front, &mut text)?;
-            assert_eq!(rt; rest, count);
-        }
-        assert_eq!(rt; text.as_str(), "");
+        is_left(&rt, front, 1)?;
+        is_left(&rt, front, 4096)?;
     }
     Ok(())
 }
@@ -230,24 +297,40 @@ const LONGEST: &str =
 // The first 16 bytes of a call that is one byte longer.
 const TOO_LONG: &str = "6c010001c9ff0f000100000028000000";
 
-#[test]
-fn a_message_has_at_most_so_many_bytes(rt: HostRuntime) -> Result<(), Fail> {
+// What is told of a message of these bytes and so many more, where a message may have so many.
+fn is_told_of(
+    rt: &(impl AllocGlobal + Abort),
+    most: u32,
+    front: &[u8],
+    back: &[u8],
+    want: &str,
+) -> Result<(), Fail> {
+    let text = in_two(rt.alloc(), most, front, back)?;
+    same_text(rt, text.as_str(), want, want);
+    Ok(())
+}
+
+fn longest_is_told(rt: &(impl AllocGlobal + Abort)) -> Result<(), Fail> {
     let array = vec![in rt.alloc(); 7u8; 1_048_516]?;
     let longest = bytes_of(rt.alloc(), LONGEST)?;
-    let text = in_two(rt.alloc(), MOST, longest.as_slice(), array.as_slice())?;
-    assert_eq!(rt; text.as_str(), "1 1 Ping 1 1048576;");
+    let (front, back) = (longest.as_slice(), array.as_slice());
+    is_told_of(rt, MOST, front, back, "1 1 Ping 1 1048576;")
+}
+
+fn longer_is_too_large(rt: &(impl AllocGlobal + Abort)) -> Result<(), Fail> {
     let begun = bytes_of(rt.alloc(), TOO_LONG)?;
     let (few, last) = begun.as_slice().split_at(begun.len().min(15));
-    assert_eq!(rt; in_two(rt.alloc(), MOST, few, b"")?.as_str(), "");
-    assert_eq!(rt; in_two(rt.alloc(), MOST, few, last)?.as_str(), "TooLarge;");
+    is_told_of(rt, MOST, few, b"", "")?;
+    is_told_of(rt, MOST, few, last, "TooLarge;")
+}
+
+#[test]
+fn a_message_has_at_most_so_many_bytes(rt: HostRuntime) -> Result<(), Fail> {
+    longest_is_told(&rt)?;
+    longer_is_too_large(&rt)?;
     let call = bytes_of(rt.alloc(), OPEN_SESSION)?;
-    assert_eq!(rt;
-        in_two(rt.alloc(), 149, call.as_slice(), b"")?.as_str(),
-        OPENED
-    );
-    let text = in_two(rt.alloc(), 148, call.as_slice(), b"")?;
-    assert_eq!(rt; text.as_str(), "TooLarge;TooLarge;");
-    Ok(())
+    is_told_of(&rt, 149, call.as_slice(), b"", OPENED)?;
+    is_told_of(&rt, 148, call.as_slice(), b"", "TooLarge;TooLarge;")
 }
 
 // Texts, and whether each is a member name or an interface name.
@@ -267,19 +350,36 @@ a.b.|false false
 é|false false
 ";
 
+// "true" or "false".
+fn word(fact: bool) -> &'static str {
+    if fact { "true" } else { "false" }
+}
+
+fn is_a_name(rt: &(impl AllocGlobal + Abort), row: &str) -> Result<(), Fail> {
+    let (name, want) = cells(row)?;
+    let (member, interface) = want.split_once(' ').ok_or("row")?;
+    same_text(rt, word(is_member_name(name.as_bytes())), member, name);
+    same_text(
+        rt,
+        word(is_interface_name(name.as_bytes())),
+        interface,
+        name,
+    );
+    Ok(())
+}
+
+fn has_at_most_255_bytes(rt: &(impl AllocGlobal + Abort)) -> Result<(), Fail> {
+    let letters = vec![in rt.alloc(); b'a'; 256]?;
+    let (short, _) = letters.as_slice().split_at(255);
+    holds(rt, is_member_name(short), "255");
+    holds(rt, !is_member_name(letters.as_slice()), "256");
+    Ok(())
+}
+
 #[test]
 fn names_are_elements_of_at_most_255_bytes(rt: HostRuntime) -> Result<(), Fail> {
     for row in NAMES.lines() {
-        let (name, want) = row.split_once('|').ok_or("row")?;
-        let (member, interface) = (
-            is_member_name(name.as_bytes()),
-            is_interface_name(name.as_bytes()),
-        );
-        let told = format!(in rt.alloc(); "{member} {interface}")?;
-        assert_eq!(rt; told.as_str(), want, "{name}");
+        is_a_name(&rt, row)?;
     }
-    let letters = vec![in rt.alloc(); b'a'; 256]?;
-    let (short, _) = letters.as_slice().split_at(255);
-    assert!(rt; is_member_name(short) && !is_member_name(letters.as_slice()));
-    Ok(())
+    has_at_most_255_bytes(&rt)
 }

@@ -1,8 +1,13 @@
 ghost use Rattle.std.specs.Prelude.{◌<◌, IfOk};
+ghost use Rattle.dbus_types.specs.ValueViews.{values_of};
+ghost use Rattle.dbus_marshal.specs.Fitting.{HaveSpelling};
 
+use crate::checks::{bytes_of, cells, holds, number, same_bytes, same_text};
 use dbus_marshal::{MarshalFault, ValueFault, marshal, unmarshal};
 use dbus_spelling::spelling_of_all;
-use dbus_types::{Endian, Signature};
+use dbus_types::{Endian, Signature, Value};
+use std::alloc::{AllocGlobal, Global};
+use std::process::Abort;
 use std::test::Fail;
 
 // A signature, and bytes of its types in little-endian order at a multiple of 8, as GLib 2.74.4
@@ -29,28 +34,73 @@ yyyyuua(yv)|6c01000100000000010000001700000001016f00020000002f610000000000000801
 v|0261790003000000010203
 ";
 
+fn types_of(alloc: Global, signature: &str) -> Result<Signature, Fail> {
+    Ok(
+        Signature::parse(alloc, signature.as_bytes())
+            .ok()
+            .ok_or("signature")?,
+    )
+}
+
+// The values that the bytes are in little-endian order at a multiple of 8.
+fn read(alloc: Global, signature: &str, bytes: &[u8]) -> Result<Vec<Value>, Fail>
+    ensures { IfOk result (λ values. HaveSpelling (values_of values.items)) }
+{
+    let types = types_of(alloc, signature)?;
+    let read = unmarshal(alloc, &types, Endian::Little, 0, bytes);
+    Ok(read.ok().ok_or("values")?)
+}
+
+fn marshalled(alloc: Global, values: &[Value], place: u64) -> Result<Vec<u8>, Fail>
+    requires { HaveSpelling (values_of values.now) }
+{
+    Ok(
+        marshal(alloc, values, Endian::Big, place)
+            .ok()
+            .ok_or("no bytes")?,
+    )
+}
+
+fn is_plain_at(
+    rt: &(impl AllocGlobal + Abort),
+    values: &[Value],
+    place: u8,
+    row: &str,
+) -> Result<(), Fail>
+    requires { HaveSpelling (values_of values.now) }
+{
+    let plain = spelling_of_all(rt.alloc(), Endian::Big, values, (place % 8) as usize)?;
+    let fast = marshalled(rt.alloc(), values, place as u64)?;
+    assert_eq!(rt; fast.as_slice(), plain.as_slice(), "{row} at {place}");
+    Ok(())
+}
+
+fn is_plain_at_any_place(
+    rt: &(impl AllocGlobal + Abort),
+    values: &[Value],
+    row: &str,
+) -> Result<(), Fail>
+    requires { HaveSpelling (values_of values.now) }
+{
+    for place in 0..8u8 {
+        is_plain_at(rt, values, place, row)?;
+    }
+    Ok(())
+}
+
+fn is_plain(rt: &(impl AllocGlobal + Abort), row: &str) -> Result<(), Fail> {
+    let (signature, digits) = cells(row)?;
+    let bytes = bytes_of(rt.alloc(), digits)?;
+    let values = read(rt.alloc(), signature, bytes.as_slice())?;
+    let plain = spelling_of_all(rt.alloc(), Endian::Little, values.as_slice(), 0)?;
+    same_bytes(rt, plain.as_slice(), bytes.as_slice(), row);
+    is_plain_at_any_place(rt, values.as_slice(), row)
+}
+
 #[test]
 fn what_is_marshalled_at_any_place_is_the_plain_spelling(rt: HostRuntime) -> Result<(), Fail> {
     for row in CASES.lines() {
-        let (signature, spelling) = row.split_once('|').ok_or("row")?;
-        let bytes = hex::decode(rt.alloc(), spelling).ok().ok_or("hex")?;
-        let types = Signature::parse(rt.alloc(), signature.as_bytes());
-        let types = types.ok().ok_or("signature")?;
-        let read = unmarshal(rt.alloc(), &types, Endian::Little, 0, bytes.as_slice());
-        let values = read.ok().ok_or("values")?;
-        let plain = spelling_of_all(rt.alloc(), Endian::Little, values.as_slice(), 0)?;
-        assert_eq!(rt; plain.as_slice(), bytes.as_slice(), "{row}");
-        for place in 0..8u8 {
-            let plain = spelling_of_all(
-                rt.alloc(),
-                Endian::Big,
-                values.as_slice(),
-                place as usize,
-            )?;
-            let fast = marshal(rt.alloc(), values.as_slice(), Endian::Big, place as u64);
-            let fast = fast.ok().ok_or("no bytes")?;
-            assert_eq!(rt; fast.as_slice(), plain.as_slice(), "{signature} at {place}");
-        }
+        is_plain(&rt, row)?;
     }
     Ok(())
 }
@@ -82,10 +132,10 @@ a{yy}|0|0002|10| 8 112 1920 0 0 0 0 0 0 8
 ";
 
 // One of the strings of so many of the letters.
-fn string_of(rt: &HostRuntime, letters: &[u8], length: u32, number: u64) -> Result<Vec<u8>, Fail> {
+fn string_of(alloc: Global, letters: &[u8], length: u32, number: u64) -> Result<Vec<u8>, Fail> {
     let count = letters.len() as u64;
     let mut left = number;
-    let mut bytes = Vec::new(rt.alloc());
+    let mut bytes = Vec::new(alloc);
     for _ in 0..length {
         let letter = left.checked_rem(count).ok_or("letters")?;
         bytes.push(*letters.get(letter as usize).ok_or("letter")?)?;
@@ -112,9 +162,21 @@ fn column(fault: ValueFault) -> usize
     }
 }
 
+// Whether the values are plainly spelled so.
+fn is_spelled(
+    alloc: Global,
+    values: &[Value],
+    endian: Endian,
+    place: u8,
+    bytes: &[u8],
+) -> Result<bool, Fail> {
+    let plain = spelling_of_all(alloc, endian, values, (place % 8) as usize)?;
+    Ok(plain.as_slice() == bytes)
+}
+
 // Which column the bytes count in. What is read of them is plainly spelled so.
 fn answer_to(
-    rt: &HostRuntime,
+    alloc: Global,
     types: &Signature,
     endian: Endian,
     place: u8,
@@ -123,10 +185,9 @@ fn answer_to(
     ensures { IfOk result (λ answer. answer < 10) }
 {
     let at = place % 8;
-    match unmarshal(rt.alloc(), types, endian, at as u64, bytes) {
+    match unmarshal(alloc, types, endian, at as u64, bytes) {
         Ok(values) => {
-            let plain = spelling_of_all(rt.alloc(), endian, values.as_slice(), at as usize)?;
-            if plain.as_slice() != bytes {
+            if !is_spelled(alloc, values.as_slice(), endian, at, bytes)? {
                 return Err("the plain spelling differs")?;
             }
             Ok(0)
@@ -136,29 +197,31 @@ fn answer_to(
     }
 }
 
-#[test]
-fn of_all_small_strings_those_are_read_that_are_plainly_spelled(
-    rt: HostRuntime,
+fn count_in(
+    alloc: Global,
+    counts: &mut [u32; 10],
+    types: &Signature,
+    place: u8,
+    bytes: &[u8],
 ) -> Result<(), Fail> {
-    for row in STRINGS.lines() {
-        let (signature, rest) = row.split_once('|').ok_or("row")?;
-        let (place, rest) = rest.split_once('|').ok_or("row")?;
-        let (letters, rest) = rest.split_once('|').ok_or("row")?;
-        let (length, counts) = rest.split_once('|').ok_or("row")?;
-        let types = Signature::parse(rt.alloc(), signature.as_bytes());
-        let types = types.ok().ok_or("signature")?;
-        let place = place.parse::<u8>().ok().ok_or("place")?;
-        let letters = hex::decode(rt.alloc(), letters).ok().ok_or("hex")?;
-        let length = length.parse::<u32>().ok().ok_or("length")?;
-        let told = counts_of(&rt, &types, place, letters.as_slice(), length)?;
-        assert_eq!(rt; told.as_str(), counts, "{signature}");
+    for endian in [Endian::Little, Endian::Big] {
+        let answer = answer_to(alloc, types, endian, place, bytes)?;
+        counts[answer] = counts[answer].saturating_add(1);
     }
     Ok(())
 }
 
+fn counts_text(alloc: Global, counts: [u32; 10]) -> Result<String, Fail> {
+    let mut told = String::new(alloc);
+    for count in counts {
+        write!(told, " {count}")?;
+    }
+    Ok(told)
+}
+
 // The columns of a row.
 fn counts_of(
-    rt: &HostRuntime,
+    alloc: Global,
     types: &Signature,
     place: u8,
     letters: &[u8],
@@ -166,51 +229,79 @@ fn counts_of(
 ) -> Result<String, Fail> {
     let mut counts = [0u32; 10];
     for number in 0..(letters.len() as u64).saturating_pow(length) {
-        let bytes = string_of(rt, letters, length, number)?;
-        for endian in [Endian::Little, Endian::Big] {
-            let answer = answer_to(rt, types, endian, place, bytes.as_slice())?;
-            counts[answer] = counts[answer].saturating_add(1);
-        }
+        let bytes = string_of(alloc, letters, length, number)?;
+        count_in(alloc, &mut counts, types, place, bytes.as_slice())?;
     }
-    let mut told = String::new(rt.alloc());
-    for count in counts {
-        told = format!(in rt.alloc(); "{told} {count}")?;
+    counts_text(alloc, counts)
+}
+
+// The columns of a signature's row, by the place, the letters and the length in it.
+fn columns(alloc: Global, signature: &str, rest: &str) -> Result<String, Fail> {
+    let types = types_of(alloc, signature)?;
+    let (place, rest) = cells(rest)?;
+    let (letters, length) = cells(rest)?;
+    let letters = bytes_of(alloc, letters)?;
+    let place = (number(place)? % 8) as u8;
+    counts_of(alloc, &types, place, letters.as_slice(), number(length)?)
+}
+
+fn is_counted(rt: &(impl AllocGlobal + Abort), row: &str) -> Result<(), Fail> {
+    let (rest, counts) = row.rsplit_once('|').ok_or("row")?;
+    let (signature, rest) = cells(rest)?;
+    let told = columns(rt.alloc(), signature, rest)?;
+    same_text(rt, told.as_str(), counts, signature);
+    Ok(())
+}
+
+#[test]
+fn of_all_small_strings_those_are_read_that_are_plainly_spelled(
+    rt: HostRuntime,
+) -> Result<(), Fail> {
+    for row in STRINGS.lines() {
+        is_counted(&rt, row)?;
     }
-    Ok(told)
+    Ok(())
 }
 
 // An `av` of 67,108,864 bytes at a multiple of 8: variants of many bytes, of a number of 64 bits, and
 // of a byte. Where it stands 4 bytes further, there are 4 more bytes of padding in it.
-fn longest_array(rt: &HostRuntime) -> Result<Vec<u8>, Fail> {
-    let mut bytes = Vec::new(rt.alloc());
-    bytes.extend_from_slice(&67_108_864u32.to_le_bytes())?;
-    bytes.extend_from_slice(b"\x02ay\0")?;
-    bytes.extend_from_slice(&67_108_841u32.to_le_bytes())?;
+fn longest_array(alloc: Global) -> Result<Vec<u8>, Fail> {
+    let mut bytes = Vec::new(alloc);
+    bytes.extend_from_slice(b"\0\0\0\x04\x02ay\0\xe9\xff\xff\x03")?;
     bytes.resize(12 + 67_108_841, 7)?;
     bytes.extend_from_slice(b"\x01t\0\x01\x01\x01\x01\x01\x01\x01\x01\x01y\0\x09")?;
     Ok(bytes)
 }
 
-// The values that the bytes are at a multiple of 8, written where they stand at a place.
-fn written(
-    rt: &HostRuntime,
-    bytes: &[u8],
-    place: u64,
-) -> Result<Result<Vec<u8>, MarshalFault>, Fail> {
-    let types = Signature::parse(rt.alloc(), b"av");
-    let types = types.ok().ok_or("signature")?;
-    let read = unmarshal(rt.alloc(), &types, Endian::Little, 0, bytes);
-    let values = read.ok().ok_or("values")?;
-    Ok(marshal(rt.alloc(), values.as_slice(), Endian::Little, place))
+// Whether the values are written as these bytes at a multiple of 8.
+fn is_written_so(alloc: Global, values: &[Value], bytes: &[u8]) -> bool
+    requires { HaveSpelling (values_of values.now) }
+{
+    match marshal(alloc, values, Endian::Little, 0) {
+        Ok(written) => written.as_slice() == bytes,
+        Err(_) => false,
+    }
+}
+
+// Whether the values are too long where they stand 4 bytes further.
+fn is_too_long(alloc: Global, values: &[Value]) -> bool
+    requires { HaveSpelling (values_of values.now) }
+{
+    match marshal(alloc, values, Endian::Little, 4) {
+        Ok(_) => false,
+        Err(fault) => fault == MarshalFault::TooLong,
+    }
 }
 
 #[test]
 fn an_array_has_67_108_864_bytes_at_most(rt: HostRuntime) -> Result<(), Fail> {
-    let bytes = longest_array(&rt)?;
-    let same = written(&rt, bytes.as_slice(), 0)?;
-    let same = same.ok().ok_or("no bytes")?;
-    assert!(rt; same.as_slice() == bytes.as_slice());
-    let longer = written(&rt, bytes.as_slice(), 4)?;
-    assert_eq!(rt; longer.err(), Some(MarshalFault::TooLong));
+    let bytes = longest_array(rt.alloc())?;
+    let values = read(rt.alloc(), "av", bytes.as_slice())?;
+    holds(
+        &rt,
+        is_written_so(rt.alloc(), values.as_slice(), bytes.as_slice()),
+        "0",
+    );
+    holds(&rt, is_too_long(rt.alloc(), values.as_slice()), "4");
     Ok(())
 }

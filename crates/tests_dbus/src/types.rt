@@ -1,5 +1,8 @@
-use dbus_types::{ObjectPath, Signature, Value};
-use kr_base::{Bytes, Text};
+use crate::checks::{cells, holds, number, same_bytes, same_number, same_text};
+use dbus_types::{ObjectPath, Signature};
+use kr_base::Text;
+use std::alloc::{AllocGlobal, Global};
+use std::process::Abort;
 use std::test::Fail;
 
 // A signature, and whether it is read or how it is refused.
@@ -29,19 +32,29 @@ z|BadType
 ";
 
 // "read", or the fault.
-fn told_of(rt: &HostRuntime, text: &[u8]) -> Result<String, Fail> {
-    match Signature::parse(rt.alloc(), text) {
-        Ok(_) => Ok(format!(in rt.alloc(); "read")?),
-        Err(fault) => Ok(format!(in rt.alloc(); "{fault:?}")?),
+fn told_of(alloc: Global, text: &[u8]) -> Result<String, Fail> {
+    match Signature::parse(alloc, text) {
+        Ok(_) => Ok(String::from_str(alloc, "read")?),
+        Err(fault) => Ok(format!(in alloc; "{fault:?}")?),
     }
+}
+
+fn is_told(
+    rt: &(impl AllocGlobal + Abort),
+    text: &[u8],
+    want: &str,
+    row: &str,
+) -> Result<(), Fail> {
+    let told = told_of(rt.alloc(), text)?;
+    same_text(rt, told.as_str(), want, row);
+    Ok(())
 }
 
 #[test]
 fn signatures_are_read_or_refused_with_their_first_fault(rt: HostRuntime) -> Result<(), Fail> {
     for row in SIGNATURES.lines() {
-        let (text, want) = row.split_once('|').ok_or("row")?;
-        let told = told_of(&rt, text.as_bytes())?;
-        assert_eq!(rt; told.as_str(), want, "{row}");
+        let (text, want) = cells(row)?;
+        is_told(&rt, text.as_bytes(), want, row)?;
     }
     Ok(())
 }
@@ -60,36 +73,58 @@ const REPEATED: &str = "\
 32|a|((((((((((((((((((((((((((((((((y))))))))))))))))))))))))))))))))|read
 ";
 
+// The code, so many times, and the ending.
+fn repeated(alloc: Global, count: u32, code: &str, ending: &str) -> Result<Vec<u8>, Fail> {
+    let mut text = Vec::new(alloc);
+    for _ in 0..count {
+        text.extend_from_slice(code.as_bytes())?;
+    }
+    text.extend_from_slice(ending.as_bytes())?;
+    Ok(text)
+}
+
+fn ends_where_told(rt: &(impl AllocGlobal + Abort), row: &str) -> Result<(), Fail> {
+    let (count, rest) = cells(row)?;
+    let (code, rest) = cells(rest)?;
+    let (ending, want) = cells(rest)?;
+    let text = repeated(rt.alloc(), number(count)?, code, ending)?;
+    is_told(rt, text.as_slice(), want, row)
+}
+
 #[test]
 fn nesting_and_length_end_where_the_standard_says(rt: HostRuntime) -> Result<(), Fail> {
     for row in REPEATED.lines() {
-        let (count, behind) = row.split_once('|').ok_or("row")?;
-        let (code, behind) = behind.split_once('|').ok_or("row")?;
-        let (ending, want) = behind.split_once('|').ok_or("row")?;
-        let mut text = Vec::new(rt.alloc());
-        for _ in 0..count.parse::<usize>().ok().ok_or("count")? {
-            text.extend_from_slice(code.as_bytes())?;
-        }
-        text.extend_from_slice(ending.as_bytes())?;
-        let told = told_of(&rt, text.as_slice())?;
-        assert_eq!(rt; told.as_str(), want, "{row}");
+        ends_where_told(&rt, row)?;
     }
     Ok(())
 }
 
+fn parsed(alloc: Global) -> Result<Signature, Fail> {
+    let made = Signature::parse(alloc, b"a{s(yv)}h");
+    Ok(made.ok().ok_or("refused")?)
+}
+
+fn all_shown(alloc: Global, made: &Signature) -> Result<String, Fail> {
+    Ok(format!(in alloc; "{:?}", made.types())?)
+}
+
+// The first type, copied.
+fn first_shown(alloc: Global, made: &Signature) -> Result<String, Fail> {
+    let first = made.types().first().ok_or("no type")?;
+    let copied = first.copy(alloc)?;
+    Ok(format!(in alloc; "{copied:?}")?)
+}
+
 #[test]
 fn a_signature_lists_its_types(rt: HostRuntime) -> Result<(), Fail> {
-    let made = Signature::parse(rt.alloc(), b"a{s(yv)}h")
-        .ok()
-        .ok_or("refused")?;
-    assert_eq!(rt; made.types().len(), 2);
-    assert_eq!(rt; Signature::empty(rt.alloc()).types().len(), 0);
+    let made = parsed(rt.alloc())?;
+    same_number(&rt, made.types().len(), 2);
+    same_number(&rt, Signature::empty(rt.alloc()).types().len(), 0);
     let want = "[Array(DictEntry(String, Struct([Basic(Byte), Variant]))), Basic(UnixFd)]";
-    let shown = format!(in rt.alloc(); "{:?}", made.types())?;
-    assert_eq!(rt; shown.as_str(), want);
-    let first = made.types().first().ok_or("no type")?;
-    let copied = format!(in rt.alloc(); "{:?}", first.copy(rt.alloc())?)?;
-    assert!(rt; want[1..].starts_with(copied.as_str()));
+    let shown = all_shown(rt.alloc(), &made)?;
+    same_text(&rt, shown.as_str(), want, "all");
+    let copied = first_shown(rt.alloc(), &made)?;
+    holds(&rt, want[1..].starts_with(copied.as_str()), "the first");
     Ok(())
 }
 
@@ -109,20 +144,39 @@ a|false
 /ä|false
 ";
 
+fn made_of(alloc: Global, path: &str) -> Result<Option<ObjectPath>, Fail> {
+    let text = Text::from_utf8(path.as_bytes().to_vec(alloc)?).ok_or("no text")?;
+    Ok(ObjectPath::new(text))
+}
+
+// An object path is its text, and so is its copy.
+fn is_its_text(rt: &(impl AllocGlobal + Abort), made: ObjectPath, path: &str) -> Result<(), Fail> {
+    let copied = made.copy()?;
+    same_text(rt, copied.as_str(), path, path);
+    same_bytes(rt, copied.as_bytes(), path.as_bytes(), path);
+    holds(rt, copied == made, path);
+    same_bytes(rt, copied.into_text().as_bytes(), path.as_bytes(), path);
+    Ok(())
+}
+
+fn is_taken_or_refused(rt: &(impl AllocGlobal + Abort), row: &str) -> Result<(), Fail> {
+    let (path, want) = cells(row)?;
+    match made_of(rt.alloc(), path)? {
+        Some(made) => {
+            holds(rt, want == "true", row);
+            is_its_text(rt, made, path)
+        }
+        None => {
+            holds(rt, want == "false", row);
+            Ok(())
+        }
+    }
+}
+
 #[test]
 fn object_paths_are_taken_or_refused(rt: HostRuntime) -> Result<(), Fail> {
     for row in PATHS.lines() {
-        let (path, want) = row.split_once('|').ok_or("row")?;
-        let text = Text::from_utf8(path.as_bytes().to_vec(rt.alloc())?).ok_or("no text")?;
-        let made = ObjectPath::new(text);
-        assert_eq!(rt; made.is_some(), want == "true", "{row}");
-        if let Some(made) = made {
-            let copied = made.copy()?;
-            assert_eq!(rt; copied.as_str(), path, "{row}");
-            assert_eq!(rt; copied.as_bytes(), path.as_bytes(), "{row}");
-            assert!(rt; copied == made, "{row}");
-            assert_eq!(rt; copied.into_text().as_bytes(), path.as_bytes(), "{row}");
-        }
+        is_taken_or_refused(&rt, row)?;
     }
     Ok(())
 }
