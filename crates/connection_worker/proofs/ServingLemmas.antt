@@ -116,7 +116,7 @@ pub has-arrived : (old new : Place) (coming behind : Option (ℕ → ℕ)) (salt
     → HasArrived (record { told = old.told; has_seen = old.has_seen; coming = coming; salting = salting })
     (record { told = new.told; has_seen = new.has_seen; coming = behind; salting = next }) asked
 has-arrived old new coming behind salting next asked alone so moment salt salted =
-    let it = alone-extends old new (arrival old.told.conn asked) output.Arrived alone so.recorded in
+    let it = alone-extends old new (arrival old.told.conn asked) (output.Arrived (record {})) alone so.recorded in
     record { same = it.same; fits = it.fits; state = it.state; count = it.count; views = it.views; moment = moment; salt = salt; salting = salted }
 
 pub has-asked : (old new : Place) (coming behind : Option (ℕ → ℕ)) (salting next : Salting) (asked : Asked) → IsTrue old.told.is_alone → Looks old new
