@@ -6,7 +6,7 @@ use Rattle.dbus_auth.specs.Handshake as shaking
 use Rattle.dbus_framing.specs.declared.violation.Violation.{Violation}
 use Rattle.dbus_framing.specs.declared.violation.Violation.TheVariants as violation
 use Rattle.dbus_framing.specs.Streams.{Breaks}
-use Rattle.service_machine.specs.Limits.{most_events}
+use Rattle.service_machine.specs.Limits.{IsSpent}
 use Rattle.connection_worker.specs.declared.ending.End.{End}
 use Rattle.connection_worker.specs.declared.ending.End.TheVariants as end
 use Rattle.connection_worker.specs.Arrivals.{AllRequests, FirstRequests}
@@ -46,7 +46,7 @@ HasCause end.ReadFault run asked count from to sink after =
 -- the output's count rose
 HasCause end.WriteFault run asked count from to sink after = Rose sink.faults after.faults × FirstServed run asked × IsStill from to
 -- all events that can be counted were
-HasCause end.EventsSpent run asked count from to sink after = (most_events ≤ count) × FirstServed run asked × IsStill from to
+HasCause end.EventsSpent run asked count from to sink after = IsSpent count × FirstServed run asked × IsStill from to
 -- free
 HasCause end.Memory run asked count from to sink after = FirstServed run asked × IsStill from to
 -- the only connection of a service is ended by nobody else, and loses no output

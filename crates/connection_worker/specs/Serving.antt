@@ -7,7 +7,7 @@ use Rattle.service_machine.specs.declared.rows.Rows.{Rows}
 use Rattle.service_machine.specs.declared.event.Event.{Event}
 use Rattle.service_machine.specs.declared.event.Event.TheVariants as event
 use Rattle.service_machine.specs.Connections.{new_row, waiting_for}
-use Rattle.service_machine.specs.Limits.{most_events}
+use Rattle.service_machine.specs.Limits.{IsSpent}
 use Rattle.service_machine.specs.Step.{step, Fits}
 use Rattle.service_machine.specs.Replay.{replay, Legal}
 use Rattle.secret_calls.specs.declared.call.Request.{Request}
@@ -78,7 +78,7 @@ pub record Recorded (old new : World) (asked refused : List Asked) : Type 0 wher
 -- Why the serving ended early, and what was then written of this text: all of it where no further event can be counted; a
 -- front of it where the sink failed or memory ran out.
 abbrev pub EndsEarly : End → ℕ → Output → Output → List ℕ → Type 0
-EndsEarly end.EventsSpent count from to text = (most_events ≤ count) × Gave from to text
+EndsEarly end.EventsSpent count from to text = IsSpent count × Gave from to text
 EndsEarly end.WriteFault count from to text = Rose from.faults to.faults × GaveFront from to text
 EndsEarly end.Memory count from to text = GaveFront from to text
 EndsEarly _ count from to text = ⊥
@@ -105,7 +105,7 @@ pub record HasAsked (old new : World) (asked : Asked) : Type 0 where
 -- the request was recorded; or it was refused, for its cause
 abbrev pub Asks : Request → World → World → Result Unit End → Type 0
 Asks request old new (Ok done) = (asked : Asked) × (asked.request ≡ request) × HasArrived old new asked
-Asks request old new (Err end.EventsSpent) = (asked : Asked) × (asked.request ≡ request) × HasAsked old new asked × (most_events ≤ old.told.count)
+Asks request old new (Err end.EventsSpent) = (asked : Asked) × (asked.request ≡ request) × HasAsked old new asked × IsSpent old.told.count
 Asks request old new (Err end.Memory) = (asked : Asked) × (asked.request ≡ request) × HasAsked old new asked
 Asks request old new (Err _) = ⊥
 

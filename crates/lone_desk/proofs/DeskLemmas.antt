@@ -1,23 +1,23 @@
 -- What a service records, as a desk over it tells it.
-use Rattle.std.proofs.Common.{◌≡◌, ℕ, ◌+◌, ◌<◌, ◌≤◌, Bool, true, false, List, [], ◌∷◌, Option, Some, None, Result, Ok, Err, IfOk, refl, ap, ◌∙◌, sym, subst, arith, inl, inr}
+use Rattle.std.proofs.Common.{◌≡◌, ◌+◌, ◌<◌, ◌≤◌, Bool, true, false, [], Option, Some, None, Result, Ok, Err, IfOk, refl, ap, ◌∙◌, sym, subst, arith, inl, inr}
 use Rattle.std.proofs.lemmas.List.{length_push}
-use Rattle.std.proofs.lemmas.Bool.{or_right}
 use Rattle.kr_base.specs.declared.ids.ConnId.{ConnId}
-use Rattle.service_machine.specs.declared.rows.ConnRow.{ConnRow}
 use Rattle.service_machine.specs.declared.rows.DeskRow.{DeskRow}
 use Rattle.service_machine.specs.declared.event.Event.{Event}
 use Rattle.service_machine.specs.declared.event.Event.TheVariants as event
 use Rattle.service_machine.specs.declared.event.Output.{Output}
 use Rattle.service_machine.specs.declared.event.Output.TheVariants as output
 use Rattle.service_machine.specs.declared.event.Incoming.TheVariants as incoming
-use Rattle.service_machine.specs.Connections.{is_row, has, desk_of}
+use Rattle.service_machine.specs.Connections.{desk_of}
 use Rattle.service_machine.specs.Limits.{most_events}
+use Rattle.service_machine.proofs.FitLemmas.{has-told, has-none}
 use Rattle.service_machine.specs.Step.{step, output_of, Fits}
 use Rattle.service_machine.specs.declared.event.Arrival.{Arrival}
 use Rattle.service_machine.specs.Machine.{Records}
-use Rattle.service_history.specs.declared.service.EventRefused.{EventRefused}
-use Rattle.service_history.specs.declared.service.EventRefused.TheVariants as refused
-use Rattle.service_history.specs.History.{History, total, is_due, cut_where_due, with_event, IsRecorded, given_for, taken_by, left_by, gone_by}
+use Rattle.service_history.specs.declared.refused.EventRefused.{EventRefused}
+use Rattle.service_history.specs.declared.refused.EventRefused.TheVariants as refused
+use Rattle.service_history.specs.History.{History, cut_where_due, with_event, IsRecorded, given_for, taken_by, left_by, gone_by}
+use Rattle.service_history.specs.Windows.{total, is_due}
 use Rattle.service_desk.specs.Places.{Place, Looks, Extends}
 use Rattle.service_desk.specs.Views.{View, IsView, with_others, with_own}
 use Rattle.service_desk.specs.Calls.{Arrives, Leaves, Goes, Takes}
@@ -26,37 +26,15 @@ use Rattle.service_desk.proofs.ViewLemmas.{view-others, view-own}
 -- where the desk of a connection over a service with this history stands
 abbrev pub spot : ConnId → History → Place
 spot conn history = record {
-  told = record { conn = conn; state = history.state; count = total history; is_alone = true; is_steady = true; is_waiting = false };
-  has_seen = λ view. IsView history.state (total history) view;
+  told = record { conn = conn; state = history.state; count = total history.window; is_alone = true; is_steady = true; is_waiting = false };
+  has_seen = λ view. IsView history.state (total history.window) view;
 }
 
--- a connection of which something is told is there
-pub has-told : (conn : ConnId) (rows : List ConnRow) (desk : DeskRow) → Some desk ≡ desk_of conn rows → has conn rows ≡ true
-has-told conn [] desk told = cc
-has-told conn (row ∷ rows) desk told =
-    let pass : (b : Bool) → is_row conn row ≡ b → has conn (row ∷ rows) ≡ true =
-    elim [
-      | true ↦ λ is. rw is refl
-      | false ↦ λ is. or_right (is_row conn row) (has conn rows) (has-told conn rows desk (rw is at told))
-    ] in
-    pass (is_row conn row) refl
-
--- one of which nothing is told isn't
-pub has-none : (conn : ConnId) (rows : List ConnRow) → None ≡ desk_of conn rows → has conn rows ≡ false
-has-none conn [] told = refl
-has-none conn (row ∷ rows) told =
-    let pass : (b : Bool) → is_row conn row ≡ b → has conn (row ∷ rows) ≡ false =
-    elim [
-      | true ↦ λ is. let h : None ≡ Some _ = rw is at told in cc
-      | false ↦ λ is. rw is (has-none conn rows (rw is at told))
-    ] in
-    pass (is_row conn row) refl
-
 -- a view is the same after no events of others
-seen-none : (old : History) (view : View) → IsView old.state (total old) view → IsView old.state (total old) (with_others [] view)
+seen-none : (old : History) (view : View) → IsView old.state (total old.window) view → IsView old.state (total old.window) (with_others [] view)
 seen-none old view is =
-    let none : total old + 0 ≡ total old = omega arith in
-    subst (λ n. IsView old.state n (with_others [] view)) none (view-others old.state (total old) view [] is tt)
+    let none : total old.window + 0 ≡ total old.window = omega arith in
+    subst (λ n. IsView old.state n (with_others [] view)) none (view-others old.state (total old.window) view [] is tt)
 
 -- nothing was recorded
 pub looks : (conn : ConnId) (old : History) → Looks (spot conn old) (spot conn old)
@@ -72,7 +50,7 @@ looks conn old = record {
 
 -- one event was recorded
 pub extends : (conn : ConnId) (old new : History) (event : Event) (answer : Output) → Fits old.state event → answer ≡ output_of old.state event
-    → new.state ≡ step old.state event → total new ≡ total old + 1 → Extends (spot conn old) (spot conn new) event answer
+    → new.state ≡ step old.state event → total new.window ≡ total old.window + 1 → Extends (spot conn old) (spot conn new) event answer
 extends conn old new event answer fits answers state counted = record {
   between = [];
   alone = λ _. refl;
@@ -85,13 +63,13 @@ extends conn old new event answer fits answers state counted = record {
   count = omega (arith, counted);
   same = record { conn = refl; alone = refl; steady = refl; waiting = refl };
   views = λ view is.
-      let own = view-own old.state (total old) (with_others [] view) event (seen-none old view is) fits in
-      subst (λ s. IsView s (total new) (with_own event (with_others [] view))) (sym state)
+      let own = view-own old.state (total old.window) (with_others [] view) event (seen-none old view is) fits in
+      subst (λ s. IsView s (total new.window) (with_own event (with_others [] view))) (sym state)
       (subst (λ n. IsView (step old.state event) n (with_own event (with_others [] view))) (sym counted) own);
 }
 
-pub total-with : (event : Event) (old : History) → total (with_event event old) ≡ total old + 1
-total-with event old = rw (length_push old.events event) (omega arith)
+pub total-with : (event : Event) (old : History) → total (with_event event old).window ≡ total old.window + 1
+total-with event old = rw (length_push old.window.events event) (omega arith)
 
 -- and that is the whole history with one event more
 pub extends-with : (conn : ConnId) (old : History) (event : Event) → Fits old.state event → Extends (spot conn old) (spot conn (with_event event old)) event (output_of old.state event)
@@ -100,21 +78,21 @@ extends-with conn old event fits = extends conn old (with_event event old) event
 -- a cut changes neither the state nor the number of all events
 pub state-cut : (old : History) → (cut_where_due old).state ≡ old.state
 state-cut old =
-    let pass : (b : Bool) → is_due old ≡ b → (cut_where_due old).state ≡ old.state =
+    let pass : (b : Bool) → is_due old.window ≡ b → (cut_where_due old).state ≡ old.state =
     elim [ true ↦ λ is. rw is refl | false ↦ λ is. rw is refl ] in
-    pass (is_due old) refl
+    pass (is_due old.window) refl
 
-pub total-cut : (old : History) → total (cut_where_due old) ≡ total old
+pub total-cut : (old : History) → total (cut_where_due old).window ≡ total old.window
 total-cut old =
-    let pass : (b : Bool) → is_due old ≡ b → total (cut_where_due old) ≡ total old =
+    let pass : (b : Bool) → is_due old.window ≡ b → total (cut_where_due old).window ≡ total old.window =
     elim [ true ↦ λ is. rw is (omega arith) | false ↦ λ is. rw is refl ] in
-    pass (is_due old) refl
+    pass (is_due old.window) refl
 
 pub arrives : (conn : ConnId) (old new : History) (came : Event) (event : Event) (answer : Output) → event ≡ came
     → Fits old.state event → answer ≡ output_of old.state event → new ≡ with_event event (cut_where_due old) → output_of old.state came ≡ output.Arrived (record {})
-    → total old < most_events → Arrives (spot conn old) (spot conn new) came
+    → total old.window < most_events → Arrives (spot conn old) (spot conn new) came
 arrives conn old new came event answer is fits answers appends arrived left =
-    let counted : total new ≡ total old + 1 = ap total appends ∙ total-with event (cut_where_due old) ∙ ap (λ n. n + 1) (total-cut old) in
+    let counted : total new.window ≡ total old.window + 1 = ap (λ (h : History). total h.window) appends ∙ total-with event (cut_where_due old) ∙ ap (λ n. n + 1) (total-cut old) in
     record {
       recorded = extends conn old new came (output.Arrived (record {})) (rw (← is) fits) (sym arrived)
           (ap (λ (h : History). h.state) appends ∙ ap (λ s. step s event) (state-cut old) ∙ ap (step old.state) is) counted;
@@ -159,10 +137,10 @@ request-is arrival _ records = absurd records
 -- what the service says of a request that it answered
 pub arrives-recorded : (conn : ConnId) (old new : History) (arrival : Arrival) (result : Result Output EventRefused) (answer : Output)
     → result ≡ Ok answer → IfOk result (λ answer. IsRecorded old (incoming.Arrive arrival) answer new)
-    → ((result ≡ Err refused.EventsSpent → ⊥) → most_events ≤ total old → ⊥)
+    → ((result ≡ Err refused.EventsSpent → ⊥) → most_events ≤ total old.window → ⊥)
     → Arrives (spot conn old) (spot conn new) (event.Arrive arrival)
 arrives-recorded conn old new arrival result answer is recorded left =
     let r : IsRecorded old (incoming.Arrive arrival) answer new = rw is at recorded in
-    let not_spent : most_events ≤ total old → ⊥ = left (λ (spent : result ≡ Err refused.EventsSpent). let h : Ok answer ≡ Err refused.EventsSpent = sym is ∙ spent in cc) in
+    let not_spent : most_events ≤ total old.window → ⊥ = left (λ (spent : result ≡ Err refused.EventsSpent). let h : Ok answer ≡ Err refused.EventsSpent = sym is ∙ spent in cc) in
     arrives conn old new (event.Arrive arrival) r.event answer (request-is arrival r.event r.records) r.fits r.answers r.appends refl
     (omega (arith, not_spent))

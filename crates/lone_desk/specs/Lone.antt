@@ -1,6 +1,6 @@
 -- The desk over a service of one thread, as contracts see it.
 use Rattle.std.specs.Prelude.{true, false}
-use Rattle.service_history.specs.History.{total}
+use Rattle.service_history.specs.Windows.{total}
 use Rattle.service_desk.specs.Places.{Told}
 use Rattle.service_desk.specs.Views.{View, IsView}
 use Rattle.lone_desk.specs.declared.lone.LoneDesk.{LoneDesk}
@@ -11,7 +11,7 @@ abbrev pub told : LoneDesk → Told
 told desk = record {
   conn = desk.conn;
   state = desk.service.state;
-  count = total desk.service;
+  count = total desk.service.window;
   is_alone = true;
   is_steady = true;
   is_waiting = false;
@@ -19,4 +19,4 @@ told desk = record {
 
 -- it may have seen any events that lead to the service's state, and that are as many as the service has recorded since then
 abbrev pub has_seen : LoneDesk → View → Type 0
-has_seen desk view = IsView desk.service.state (total desk.service) view
+has_seen desk view = IsView desk.service.state (total desk.service.window) view

@@ -1,6 +1,7 @@
 ghost use Rattle.std.specs.Prelude.{◌≡◌, ◌≤◌, ◌+◌, IfOk, IsErrOf};
 ghost use Rattle.service_machine.specs.Step.{step, IsCrowded, Fits};
-ghost use Rattle.service_history.specs.History.{total, IsSpent};
+ghost use Rattle.service_machine.specs.Limits.{IsSpent};
+ghost use Rattle.service_history.specs.Windows.{total};
 ghost use Rattle.service_desk.specs.Views.{IsView};
 ghost use Rattle.service_desk.specs.Places.{place, Looks, Extends};
 ghost use Rattle.service_desk.specs.Calls.{Arrives, IsRefusal, Leaves, Takes, Goes};
@@ -28,8 +29,9 @@ impl LoneDesk {
         ensures joined { IfOk result (λ desk.
             desk.service.state ≡ step service.state (Event.Connect desk.conn)) }
         ensures fits { IfOk result (λ desk. Fits service.state (Event.Connect desk.conn)) }
-        ensures count { IfOk result (λ desk. total desk.service ≡ total service + 1) }
-        ensures spent { IsErrOf result JoinRefused.EventsSpent → IsSpent service }
+        ensures count { IfOk result (λ desk. total desk.service.window ≡ total service.window + 1) }
+        ensures spent { IsErrOf result JoinRefused.EventsSpent
+            → IsSpent (total service.window) }
         ensures crowded { IsErrOf result JoinRefused.TooManyConnections
             → IsCrowded service.state }
     {
@@ -60,7 +62,7 @@ impl Desk for LoneDesk {
 
     ghost has_seen = { has_seen };
 
-    ghost has_view = { λ desk. view-now desk.service.state (total desk.service) };
+    ghost has_view = { λ desk. view-now desk.service.state (total desk.service.window) };
 
     ghost views_lead = { λ desk view seen. seen };
 

@@ -1,74 +1,78 @@
--- What a service keeps, behind one more event, behind a reservation, and at a cut.
-use Rattle.std.proofs.Common.{◌≡◌, ℕ, ◌+◌, ◌≤◌, min, [], ◌∷◌, ◌++◌, length, Vec, vec_len, vec_capacity, ap, ◌∙◌, sym, arith}
-use Rattle.std.specs.declared.alloc.Global.{Global}
+-- What a service keeps, after one more event.
+use Rattle.std.proofs.Common.{◌≡◌, ◌+◌, ◌<◌, ◌≤◌, true, false, Option, Some, None, ap, ◌∙◌, sym, subst, arith}
+use Rattle.kr_base.specs.declared.ids.ConnId.{ConnId}
 use Rattle.service_machine.specs.declared.event.Event.{Event}
-use Rattle.service_machine.specs.declared.machine.Machine.{Machine}
+use Rattle.service_machine.specs.declared.event.Event.TheVariants as event
+use Rattle.service_machine.specs.declared.rows.DeskRow.{DeskRow}
 use Rattle.service_machine.specs.declared.rows.Rows.{Rows}
-use Rattle.service_machine.specs.Rows.{rows_of}
+use Rattle.service_machine.specs.Connections.{left, emptied, desk_of}
+use Rattle.service_machine.specs.Limits.{most_events}
 use Rattle.service_machine.specs.Step.{step, Fits}
-use Rattle.service_machine.specs.Replay.{replay, cost, cost_of}
+use Rattle.service_machine.proofs.FitLemmas.{has-told}
 use Rattle.service_history.specs.Limits.{most_counted}
-use Rattle.service_history.specs.History.{total, cut, with_event}
-use Rattle.service_history.specs.Inside.{history_of, IsKept}
+use Rattle.service_history.specs.History.{IsHistory}
+use Rattle.service_history.specs.Inside.{Held, IsReady, chosen, in_window, IsKept}
 use Rattle.service_history.specs.Room.{room}
-use Rattle.service_history.proofs.RoomLemmas.{room-few}
-use Rattle.service_history.proofs.HistoryLemmas.{history-push, history-cut, history-sound, cost-push}
+use Rattle.service_history.specs.Windows.{Window, total, stored, begun, next_window}
+use Rattle.service_history.proofs.RoomLemmas.{room-changed_one, room-left, room-left_one, room-emptied, room-emptied_one, room-without_one}
+use Rattle.service_history.proofs.HistoryLemmas.{history-sound, room-behind, history-push, history-cut}
 
--- the history behind one more event
-pub view_push : (machine machine' : Machine) (base : Rows) (events events' : Vec Event Global) (era : ℕ) (event : Event)
-    → rows_of machine' ≡ step (rows_of machine) event → events'.items ≡ events.items ++ event ∷ []
-    → history_of machine' base events' era ≡ with_event event (history_of machine base events era)
-view_push machine machine' base events events' era event stepped items = λ i. record { state = stepped i; base = base; events = items i; era = era }
-
-pub kept_push : (machine machine' : Machine) (base : Rows) (events events' : Vec Event Global) (era counted counted' : ℕ) (event : Event)
-    → IsKept machine base events era counted → Fits (rows_of machine) event
-    → rows_of machine' ≡ step (rows_of machine) event → events'.items ≡ events.items ++ event ∷ []
-    → vec_len events' ≡ vec_len events + 1 → vec_capacity events ≤ vec_capacity events'
-    → counted' ≡ min (counted + cost_of event) 18446744073709551615
-    → total (history_of machine base events era) + 1 + room (step (rows_of machine) event).connections.rows ≤ most_counted
-    → vec_len events + 1 + room (step (rows_of machine) event).connections.rows ≤ vec_capacity events
-    → IsKept machine' base events' era counted'
-kept_push machine machine' base events events' era counted counted' event kept fits stepped items len capacity cost_is few space =
-    let rooms : room (rows_of machine').connections.rows ≡ room (step (rows_of machine) event).connections.rows = ap (λ (s : Rows). room s.connections.rows) stepped in
-    record {
-      history = rw (view_push machine machine' base events events' era event stepped items) (history-push (history_of machine base events era) event kept.history fits few);
-      costs = cost_is ∙ cost-push events.items event counted kept.costs ∙ ap (λ es. min (cost es) 18446744073709551615) (sym items);
-      fits = omega (arith, rooms, len, capacity, space);
-    }
-
--- more room is kept
-pub kept_reserved : (machine : Machine) (base : Rows) (events events' : Vec Event Global) (era counted : ℕ) → IsKept machine base events era counted
-    → events'.items ≡ events.items → vec_len events' ≡ vec_len events → vec_capacity events ≤ vec_capacity events'
-    → IsKept machine base events' era counted
-kept_reserved machine base events events' era counted kept items len capacity = record {
-  history = let same : history_of machine base events' era ≡ history_of machine base events era = λ i. record { state = rows_of machine; base = base; events = items i; era = era } in rw same kept.history;
-  costs = kept.costs ∙ ap (λ es. min (cost es) 18446744073709551615) (sym items);
-  fits = omega (arith, kept.fits, len, capacity);
+-- an event that is stored
+kept-push : (state : Rows) (old new : Held) (event : Event) → IsHistory (in_window state old.window) → Fits state event
+    → total old.window + 1 + room (step state event).connections.rows ≤ most_counted → room (step state event).connections.rows + 1 ≤ old.spare
+    → new.window ≡ stored event old.window → old.spare ≤ new.spare + 1 → IsKept (step state event) new
+kept-push state old new event history fits counted space is spare = record {
+  history = subst (λ (w : Window). IsHistory (in_window (step state event) w)) (sym is) (history-push (in_window state old.window) event history fits counted);
+  fits = omega (arith, space, spare);
 }
 
--- a cut
-pub view_cut : (machine : Machine) (base base' : Rows) (events events' : Vec Event Global) (era era' : ℕ) → base' ≡ replay base events.items → events'.items ≡ [] → era' ≡ era + length events.items
-    → history_of machine base' events' era' ≡ cut (history_of machine base events era)
-view_cut machine base base' events events' era era' copied none counted = λ i. record { state = rows_of machine; base = copied i; events = none i; era = counted i }
+-- ---- events that are sure to come
 
-pub kept_cut : (machine : Machine) (base base' : Rows) (events events' : Vec Event Global) (era era' counted : ℕ) → IsKept machine base events era counted
-    → base' ≡ rows_of machine → events'.items ≡ [] → era' ≡ era + length events.items → vec_len events' ≡ 0 → 769 ≤ vec_capacity events'
-    → IsKept machine base' events' era' 0
-kept_cut machine base base' events events' era era' counted kept copied none is len capacity =
-    let few = (history-sound (history_of machine base events era) kept.history).connections.few in
-    record {
-      history = rw (view_cut machine base base' events events' era era' (copied ∙ kept.history.replayed) none is) (history-cut (history_of machine base events era) kept.history);
-      costs = ap (λ es. min (cost es) 18446744073709551615) (sym none);
-      fits = omega (arith, room-few (rows_of machine).connections.rows, few, len, capacity);
-    }
+-- there is room for the event, and what is kept after it
+pub record IsSure (state : Rows) (old : Held) (event : Event) : Type 0 where
+  pub fits : Fits state event
+  pub room : 0 < old.spare
+  pub counted : total old.window < most_counted
+  pub kept : (new : Held) → new.window ≡ stored event old.window → old.spare ≤ new.spare + 1 → IsKept (step state event) new
 
--- a refusal of the machine changes no row
-pub kept_refused : (machine machine' : Machine) (base : Rows) (events : Vec Event Global) (era counted : ℕ) → IsKept machine base events era counted
-    → rows_of machine' ≡ rows_of machine → IsKept machine' base events era counted
-kept_refused machine machine' base events era counted kept rows =
-    let rooms : room (rows_of machine').connections.rows ≡ room (rows_of machine).connections.rows = ap (λ (s : Rows). room s.connections.rows) rows in
-    record {
-      history = let same : history_of machine' base events era ≡ history_of machine base events era = λ i. record { state = rows i; base = base; events = events.items; era = era } in rw same kept.history;
-      costs = kept.costs;
-      fits = omega (arith, rooms, kept.fits);
-    }
+sure : (state : Rows) (held : Held) (event : Event) → IsKept state held → Fits state event → room (step state event).connections.rows + 1 ≤ room state.connections.rows → IsSure state held event
+sure state held event kept fits less = record {
+  fits = fits;
+  room = omega (arith, less, kept.fits);
+  counted = omega (arith, less, kept.history.counted);
+  kept = λ new is spare. kept-push state held new event kept.history fits (omega (arith, less, kept.history.counted)) (omega (arith, less, kept.fits)) is spare;
+}
+
+-- a connection that is there and isn't leaving leaves
+pub sure-leave : (conn : ConnId) (desk : DeskRow) (state : Rows) (held : Held) → IsKept state held → Some desk ≡ desk_of conn state.connections.rows → desk.leaving ≡ false → IsSure state held (event.Leave conn)
+sure-leave conn desk state held kept told stays =
+    let fits : Fits state (event.Leave conn) = rw (← told) stays in
+    sure state held (event.Leave conn) kept fits (room-changed_one (λ desk. desk.leaving ≡ false) conn left room-left room-left_one state.connections.rows fits)
+
+-- one for which something waits takes it
+pub sure-take : (conn : ConnId) (desk : DeskRow) (state : Rows) (held : Held) → IsKept state held → Some desk ≡ desk_of conn state.connections.rows → desk.waits ≡ true → IsSure state held (event.Take conn)
+sure-take conn desk state held kept told some =
+    let fits : Fits state (event.Take conn) = rw (← told) some in
+    sure state held (event.Take conn) kept fits (room-changed_one (λ desk. desk.waits ≡ true) conn emptied room-emptied room-emptied_one state.connections.rows fits)
+
+-- one that is there is gone
+pub sure-gone : (conn : ConnId) (desk : DeskRow) (state : Rows) (held : Held) → IsKept state held → Some desk ≡ desk_of conn state.connections.rows → IsSure state held (event.Gone conn)
+sure-gone conn desk state held kept told =
+    let fits = has-told conn state.connections.rows desk told in
+    sure state held (event.Gone conn) kept fits (room-without_one conn state.connections.rows fits)
+
+-- ---- an event for which room was prepared
+
+-- what is kept after it, in this window or in the next
+pub kept-event : (state : Rows) (window : Window) (held : Held) (next : Option Held) (event : Event) (new : Held) → IsHistory (in_window state window) → held.window ≡ window
+    → IsReady window state held.spare next → total window < most_events → Fits state event → new.window ≡ stored event (chosen held next).window → (chosen held next).spare ≤ new.spare + 1
+    → IsKept (step state event) new
+kept-event state window held None event new history same ready left fits stores less =
+    let behind = room-behind state event (history-sound (in_window state window) history) fits in
+    let begins : IsHistory (in_window state held.window) = subst (λ (w : Window). IsHistory (in_window state w)) (sym same) history in
+    kept-push state held new event begins fits (omega (arith, ap total same, left, behind)) (omega (arith, ready.1, behind)) stores less
+kept-event state window held (Some next) event new history same ready left fits stores less =
+    let behind = room-behind state event (history-sound (in_window state window) history) fits in
+    let cuts : next.window ≡ next_window window = ready.1.begins ∙ ap (begun (total window)) history.replayed in
+    let begins : IsHistory (in_window state next.window) = subst (λ (w : Window). IsHistory (in_window state w)) (sym cuts) (history-cut (in_window state window) history) in
+    kept-push state next new event begins fits (omega (arith, ap total ready.1.begins, left, behind)) (omega (arith, ready.1.room, behind)) stores less

@@ -1,5 +1,5 @@
 -- The windows of a service, one call after another, are those of a run.
-use Rattle.std.proofs.Common.{◌≡◌, ℕ, ◌+◌, ◌<◌, ◌≤◌, ◌==◌, ◌⊎◌, inl, inr, Bool, true, false, ◌||◌, ◌&&◌, not, nat_le, cond, List, [], ◌∷◌, ◌++◌, length, Option, Some, None, refl, ap, ◌∙◌, sym, subst, arith, append-nil}
+use Rattle.std.proofs.Common.{◌≡◌, ◌+◌, ◌<◌, ◌==◌, inl, inr, Bool, true, false, ◌||◌, ◌&&◌, not, nat_le, cond, List, [], ◌∷◌, length, Option, Some, None, refl, ap, ◌∙◌, sym, subst, arith, append-nil}
 use Rattle.std.proofs.lemmas.Bool.Decides.{nat_tests}
 use Rattle.kr_base.specs.declared.ids.ConnId.{ConnId}
 use Rattle.service_machine.specs.declared.rows.DeskRow.{DeskRow}
@@ -7,22 +7,21 @@ use Rattle.service_machine.specs.declared.event.Event.{Event}
 use Rattle.service_machine.specs.declared.event.Event.TheVariants as event
 use Rattle.service_machine.specs.declared.event.Incoming.{Incoming}
 use Rattle.service_machine.specs.declared.event.Output.{Output}
-use Rattle.service_machine.specs.Step.{opened_rows}
 use Rattle.service_machine.specs.Replay.{Legal, cost}
-use Rattle.service_history.specs.History.{History, opened_history, IsHistory, window_of, is_due, cut_where_due, with_event, IsRecorded, told, taken_by, left_by, gone_by}
+use Rattle.service_history.specs.History.{History, opened_history, cut_where_due, with_event, IsRecorded, told, taken_by, left_by, gone_by}
 use Rattle.service_history.specs.Limits.{most_stored, most_cost}
-use Rattle.service_history.specs.Runs.{GoesOn, Ends, Follows, AreCalls, windows_of}
-use Rattle.service_history.specs.Windows.{Window, first_window, next_window, Begins, AreInRow, AreWindows}
+use Rattle.service_history.specs.Runs.{GoesOn, Follows, AreCalls, windows_of}
+use Rattle.service_history.specs.Windows.{Window, is_due, first_window, next_window, Begins, AreInRow, AreWindows}
 
 -- ---- one call
 
 same-window : (window : Window) → GoesOn window window
 same-window window = record { more = []; is = sym (λ i. record window { events = append-nil window.events i }) }
 
-one-more : (event : Event) (old : History) → GoesOn (window_of old) (window_of (with_event event old))
+one-more : (event : Event) (old : History) → GoesOn old.window (with_event event old).window
 one-more event old = record { more = event ∷ []; is = refl }
 
-choice : (window : Window) (b : Bool) (x y : History) → GoesOn window (window_of x) → GoesOn window (window_of y) → GoesOn window (window_of (cond b x y))
+choice : (window : Window) (b : Bool) (x y : History) → GoesOn window x.window → GoesOn window y.window → GoesOn window (cond b x y).window
 choice window true x y p q = p
 choice window false x y p q = q
 
@@ -31,36 +30,36 @@ cut-some : (events : List Event) → (nat_le most_stored (length events) || nat_
 cut-some [] due = let no : ⊥ = cc in absurd no
 cut-some (event ∷ events) due = omega arith
 
-pub recorded-follows : (old new : History) (came : Incoming) (answer : Output) → IsRecorded old came answer new → Follows old new
+pub recorded-follows : (old new : History) (came : Incoming) (answer : Output) → IsRecorded old came answer new → Follows old.window new.window
 recorded-follows old new came answer so =
-    let pass : (b : Bool) → is_due old ≡ b → Follows old (with_event so.event (cut_where_due old)) =
+    let pass : (b : Bool) → is_due old.window ≡ b → Follows old.window (with_event so.event (cut_where_due old)).window =
     elim [
-      | true ↦ λ is. rw is (inr (record { some = cut-some old.events is; next = record { more = so.event ∷ []; is = refl } }))
+      | true ↦ λ is. rw is (inr (record { some = cut-some old.window.events is; next = record { more = so.event ∷ []; is = refl } }))
       | false ↦ λ is. rw is (inl (one-more so.event old))
     ] in
-    subst (λ h. Follows old h) (sym so.appends) (pass (is_due old) refl)
+    subst (λ (h : History). Follows old.window h.window) (sym so.appends) (pass (is_due old.window) refl)
 
-take-goes : (conn : ConnId) (desk : Option DeskRow) (old : History) → GoesOn (window_of old) (window_of (taken_by conn desk old))
-take-goes conn None old = same-window (window_of old)
+take-goes : (conn : ConnId) (desk : Option DeskRow) (old : History) → GoesOn old.window (taken_by conn desk old).window
+take-goes conn None old = same-window old.window
 take-goes conn (Some desk) old =
-    choice (window_of old) desk.waits (with_event (event.Take conn) old) (cond (desk.leaving && not desk.overrun) (with_event (event.Gone conn) old) old) (one-more (event.Take conn) old)
-    (choice (window_of old) (desk.leaving && not desk.overrun) (with_event (event.Gone conn) old) old (one-more (event.Gone conn) old) (same-window (window_of old)))
+    choice old.window desk.waits (with_event (event.Take conn) old) (cond (desk.leaving && not desk.overrun) (with_event (event.Gone conn) old) old) (one-more (event.Take conn) old)
+    (choice old.window (desk.leaving && not desk.overrun) (with_event (event.Gone conn) old) old (one-more (event.Gone conn) old) (same-window old.window))
 
-leave-goes : (conn : ConnId) (desk : Option DeskRow) (old : History) → GoesOn (window_of old) (window_of (left_by conn desk old))
-leave-goes conn None old = same-window (window_of old)
-leave-goes conn (Some desk) old = choice (window_of old) desk.leaving old (with_event (event.Leave conn) old) (same-window (window_of old)) (one-more (event.Leave conn) old)
+leave-goes : (conn : ConnId) (desk : Option DeskRow) (old : History) → GoesOn old.window (left_by conn desk old).window
+leave-goes conn None old = same-window old.window
+leave-goes conn (Some desk) old = choice old.window desk.leaving old (with_event (event.Leave conn) old) (same-window old.window) (one-more (event.Leave conn) old)
 
-gone-goes : (conn : ConnId) (desk : Option DeskRow) (old : History) → GoesOn (window_of old) (window_of (gone_by conn desk old))
-gone-goes conn None old = same-window (window_of old)
+gone-goes : (conn : ConnId) (desk : Option DeskRow) (old : History) → GoesOn old.window (gone_by conn desk old).window
+gone-goes conn None old = same-window old.window
 gone-goes conn (Some desk) old = one-more (event.Gone conn) old
 
-pub take-window : (old : History) (conn : ConnId) → GoesOn (window_of old) (window_of (taken_by conn (told conn old) old))
+pub take-window : (old : History) (conn : ConnId) → GoesOn old.window (taken_by conn (told conn old) old).window
 take-window old conn = take-goes conn (told conn old) old
 
-pub leave-window : (old : History) (conn : ConnId) → GoesOn (window_of old) (window_of (left_by conn (told conn old) old))
+pub leave-window : (old : History) (conn : ConnId) → GoesOn old.window (left_by conn (told conn old) old).window
 leave-window old conn = leave-goes conn (told conn old) old
 
-pub gone-window : (old : History) (conn : ConnId) → GoesOn (window_of old) (window_of (gone_by conn (told conn old) old))
+pub gone-window : (old : History) (conn : ConnId) → GoesOn old.window (gone_by conn (told conn old) old).window
 gone-window old conn = gone-goes conn (told conn old) old
 
 -- ---- one call after another
@@ -82,21 +81,21 @@ row-front : (start window : Window) (windows : List Window) → Begins start win
 row-front start window [] begins some row = begins
 row-front start window (next ∷ windows) begins some row = (begins, some, row)
 
-row-from : (start : Window) (old : History) (more : List History) → Begins start (window_of old) → AreCalls old more → AreInRow start (windows_of old more)
+row-from : (start : Window) (old : History) (more : List History) → Begins start old.window → AreCalls old more → AreInRow start (windows_of old more)
 row-from start old [] begins calls = begins
 row-from start old (new ∷ more) begins calls =
-    let legal : Legal new.base new.events = calls.0.legal in
+    let legal : Legal new.window.base new.window.events = calls.0.legal in
     elim calls.1 [
       | inl on ↦
-          let same : (new.era == old.era) ≡ true = let e : new.era ≡ old.era = ap (λ (w : Window). w.era) on.is in grind (arith, nat_tests) in
-          rw same (row-from start new more (begins-on start (window_of old) (window_of new) begins on legal) calls.2)
+          let same : (new.window.era == old.window.era) ≡ true = let e : new.window.era ≡ old.window.era = ap (λ (w : Window). w.era) on.is in grind (arith, nat_tests) in
+          rw same (row-from start new more (begins-on start old.window new.window begins on legal) calls.2)
       | inr ended ↦
-          let differs : (new.era == old.era) ≡ false =
-          let e : new.era ≡ old.era + length old.events = ap (λ (w : Window). w.era) ended.next.is in
-          let some : 0 < length old.events = ended.some in
+          let differs : (new.window.era == old.window.era) ≡ false =
+          let e : new.window.era ≡ old.window.era + length old.window.events = ap (λ (w : Window). w.era) ended.next.is in
+          let some : 0 < length old.window.events = ended.some in
           grind (arith, nat_tests) in
-          rw differs (row-front start (window_of old) (windows_of new more) begins ended.some
-          (row-from (next_window (window_of old)) new more (begins-next (next_window (window_of old)) (window_of new) ended.next legal) calls.2))
+          rw differs (row-front start old.window (windows_of new more) begins ended.some
+          (row-from (next_window old.window) new more (begins-next (next_window old.window) new.window ended.next legal) calls.2))
     ]
 
 pub calls-row : (histories : List History) → AreCalls opened_history histories → AreWindows (windows_of opened_history histories)

@@ -31,9 +31,9 @@ era-in_row start (window ∷ next ∷ windows) row =
     omega (arith, row.0.era, era-in_row (next_window window) (next ∷ windows) row.2, length-append window.events (history_of (next ∷ windows)))
 
 pub output-behind : (old new : History) (came : Incoming) (answer : Output) → IsHistory old → IsAppended old came answer new
-    → outputs new.base new.events ≡ outputs old.base old.events ++ answer ∷ []
+    → outputs new.window.base new.window.events ≡ outputs old.window.base old.window.events ++ answer ∷ []
 output-behind old new came answer is appended =
     rw appended.appends (
-    outputs-append old.base old.events (appended.event ∷ [])
-    ∙ ap (λ state. outputs old.base old.events ++ output_of state appended.event ∷ []) (sym is.replayed)
-    ∙ ap (λ out. outputs old.base old.events ++ out ∷ []) (sym appended.answers))
+    outputs-append old.window.base old.window.events (appended.event ∷ [])
+    ∙ ap (λ state. outputs old.window.base old.window.events ++ output_of state appended.event ∷ []) (sym is.replayed)
+    ∙ ap (λ out. outputs old.window.base old.window.events ++ out ∷ []) (sym appended.answers))

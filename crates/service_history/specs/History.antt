@@ -1,5 +1,5 @@
 -- The service and its history, as contracts see it: the state, and the window whose events led to it.
-use Rattle.std.specs.Prelude.{◌≡◌, ℕ, ◌+◌, ◌≤◌, Bool, ◌&&◌, ◌||◌, not, nat_le, if◌then◌else◌, List, [], ◌∷◌, ◌++◌, length, Option, Some, None}
+use Rattle.std.specs.Prelude.{◌≡◌, ◌+◌, ◌≤◌, ◌&&◌, not, if◌then◌else◌, Option, Some, None}
 use Rattle.kr_base.specs.declared.ids.ConnId.{ConnId}
 use Rattle.secret_calls.specs.declared.taken.Taken.{Taken}
 use Rattle.secret_calls.specs.declared.taken.Taken.TheVariants as taken
@@ -13,59 +13,40 @@ use Rattle.service_machine.specs.declared.event.Output.{Output}
 use Rattle.service_machine.specs.Connections.{waiting_for, desk_of}
 use Rattle.service_machine.specs.Machine.{Records}
 use Rattle.service_machine.specs.Step.{opened_rows, step, output_of, Fits}
-use Rattle.service_machine.specs.Replay.{replay, Legal, cost}
+use Rattle.service_machine.specs.Replay.{replay, Legal}
 use Rattle.service_machine.specs.Sound.{IsSound}
-use Rattle.service_machine.specs.Limits.{most_events}
-use Rattle.service_history.specs.Limits.{most_stored, most_cost, most_counted}
+use Rattle.service_history.specs.Limits.{most_counted}
 use Rattle.service_history.specs.Room.{room}
-use Rattle.service_history.specs.Windows.{Window, next_window}
+use Rattle.service_history.specs.Windows.{Window, total, is_due, stored, first_window, next_window}
 
 -- the state, and the window that it is in
 pub record History : Type 0 where
   pub state : Rows
-  pub base : Rows
-  pub events : List Event
-  pub era : ℕ
+  pub window : Window
 
 -- the service as it starts
 abbrev pub opened_history : History
-opened_history = record { state = opened_rows; base = opened_rows; events = []; era = 0 }
-
--- how many events the run has had
-abbrev pub total : History → ℕ
-total history = history.era + length history.events
+opened_history = record { state = opened_rows; window = first_window }
 
 -- What every service keeps: its base is sound, its events are legal from there and lead to its state, and its events
 -- are counted, those that are sure to come included.
 pub record IsHistory (history : History) : Type 0 where
-  pub sound : IsSound history.base
-  pub legal : Legal history.base history.events
-  pub replayed : history.state ≡ replay history.base history.events
-  pub counted : total history + room history.state.connections.rows ≤ most_counted
-
--- a cut is due: the stored events are many, or cost much
-abbrev pub is_due : History → Bool
-is_due history = nat_le most_stored (length history.events) || nat_le most_cost (cost history.events)
-
--- the window that the history is in
-abbrev pub window_of : History → Window
-window_of history = record { era = history.era; base = history.base; events = history.events }
-
--- the history in another window
-abbrev pub within : Window → History → History
-within window history = record history { era = window.era; base = window.base; events = window.events }
+  pub sound : IsSound history.window.base
+  pub legal : Legal history.window.base history.window.events
+  pub replayed : history.state ≡ replay history.window.base history.window.events
+  pub counted : total history.window + room history.state.connections.rows ≤ most_counted
 
 -- a cut ends the window, and the next one begins
 abbrev pub cut : History → History
-cut history = within (next_window (window_of history)) history
+cut history = record history { window = next_window history.window }
 
 -- a cut where one is due
 abbrev pub cut_where_due : History → History
-cut_where_due history = if is_due history then cut history else history
+cut_where_due history = if is_due history.window then cut history else history
 
 -- one more event
 abbrev pub with_event : Event → History → History
-with_event event history = record history { state = step history.state event; events = history.events ++ event ∷ [] }
+with_event event history = record { state = step history.state event; window = stored event history.window }
 
 -- The event that came is recorded, behind a cut where one is due, and answered as the step answers it.
 pub record IsRecorded (old : History) (came : Incoming) (answer : Output) (new : History) : Type 0 where
@@ -82,10 +63,6 @@ pub record IsAppended (old : History) (came : Incoming) (answer : Output) (new :
   pub fits : Fits old.state event
   pub answers : answer ≡ output_of old.state event
   pub appends : new ≡ with_event event old
-
--- all that events can be counted has been recorded
-abbrev pub IsSpent : History → Type 0
-IsSpent history = most_events ≤ total history
 
 -- the events that `event` takes: a connection joins, or asks for something
 abbrev pub IsAsked : Incoming → Type 0

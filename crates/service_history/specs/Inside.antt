@@ -1,21 +1,58 @@
--- What a service keeps of its history beside what contracts see: the cost of the stored events, and the room for
+-- What is kept of a window and of a service beside what contracts see: the cost of the stored events, and the room for
 -- those that are sure to come.
-use Rattle.std.specs.Prelude.{◌≡◌, ◌+◌, ◌≤◌, ℕ, min, Vec, vec_len, vec_capacity}
+use Rattle.std.specs.Prelude.{◌≡◌, ◌+◌, ◌-◌, ◌≤◌, ℕ, true, false, min, List, length, Vec, vec_len, vec_capacity, Option, Some, None}
 use Rattle.std.specs.declared.alloc.Global.{Global}
 use Rattle.service_machine.specs.declared.event.Event.{Event}
-use Rattle.service_machine.specs.declared.machine.Machine.{Machine}
 use Rattle.service_machine.specs.declared.rows.Rows.{Rows}
+use Rattle.service_machine.specs.declared.machine.Machine.{Machine}
 use Rattle.service_machine.specs.Rows.{rows_of}
 use Rattle.service_machine.specs.Replay.{cost}
 use Rattle.service_history.specs.History.{History, IsHistory}
-use Rattle.service_history.specs.Room.{room}
+use Rattle.service_history.specs.Limits.{most_counted}
+use Rattle.service_history.specs.Room.{room, enough}
+use Rattle.service_history.specs.Windows.{Window, total, is_due, begun}
 
--- the history that a machine, a base, stored events and an era are
-abbrev pub history_of : Machine → Rows → Vec Event Global → ℕ → History
-history_of machine base events era = record { state = rows_of machine; base = base; events = events.items; era = era }
+-- a window, and for how many further events there is room in it
+pub record Held : Type 0 where
+  pub window : Window
+  pub spare : ℕ
 
--- the cost is that of the events, and there is room for those that are sure to come
-pub record IsKept (machine : Machine) (base : Rows) (events : Vec Event Global) (era counted : ℕ) : Type 0 where
-  pub history : IsHistory (history_of machine base events era)
-  pub costs : counted ≡ min (cost events.items) 18446744073709551615
-  pub fits : vec_len events + room (rows_of machine).connections.rows ≤ vec_capacity events
+-- what an era, a base and stored events are
+abbrev pub held_of : ℕ → Rows → Vec Event Global → Held
+held_of era base events = record {
+  window = record { era = era; base = base; events = events.items };
+  spare = vec_capacity events - vec_len events;
+}
+
+-- the cost is that of the events, and they are counted
+pub record AreStored (era : ℕ) (events : List Event) (counted : ℕ) : Type 0 where
+  pub costs : counted ≡ min (cost events) 18446744073709551615
+  pub few : era + length events ≤ most_counted
+
+-- the window after one, as it begins from this state, with room for an event and all that are sure to come after it
+pub record IsNext (window : Window) (state : Rows) (next : Held) : Type 0 where
+  pub begins : next.window ≡ begun (total window) state
+  pub room : enough ≤ next.spare
+
+-- What was prepared for an event: the next window where a cut is due, and else room in this one.
+abbrev pub IsReady : Window → Rows → ℕ → Option Held → Type 0
+IsReady window state spare None = (is_due window ≡ false) × (enough ≤ spare)
+IsReady window state spare (Some next) = (is_due window ≡ true) × IsNext window state next
+
+-- the window in which an event is stored: the one that was prepared, if one was
+abbrev pub chosen : Held → Option Held → Held
+chosen held None = held
+chosen held (Some next) = next
+
+-- the history of a service in this state and this window
+abbrev pub in_window : Rows → Window → History
+in_window state window = record { state = state; window = window }
+
+-- the history that a machine and what is held of a window are
+abbrev pub service_of : Machine → Held → History
+service_of machine held = in_window (rows_of machine) held.window
+
+-- a service in this state and this window keeps a history, and room for the events that are sure to come
+pub record IsKept (state : Rows) (held : Held) : Type 0 where
+  pub history : IsHistory (in_window state held.window)
+  pub fits : room state.connections.rows ≤ held.spare

@@ -12,3 +12,7 @@ room_of row = 1 + (if row.leaving then 0 else 1) + (if waits row then 1 else 0)
 abbrev pub room : List ConnRow → ℕ
 room [] = 0
 room (row ∷ rows) = room_of row + room rows
+
+-- room for an event, and for all that 256 connections may bring after it
+abbrev pub enough : ℕ
+enough = 769

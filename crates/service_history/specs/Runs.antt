@@ -1,7 +1,7 @@
 -- The windows of a service, from its start on, one call after another.
 use Rattle.std.specs.Prelude.{◌≡◌, ◌<◌, ◌==◌, ◌⊎◌, if◌then◌else◌, List, [], ◌∷◌, ◌++◌, length}
 use Rattle.service_machine.specs.declared.event.Event.{Event}
-use Rattle.service_history.specs.History.{History, IsHistory, window_of}
+use Rattle.service_history.specs.History.{History, IsHistory}
 use Rattle.service_history.specs.Windows.{Window, next_window}
 
 -- the window goes on: more events are stored in it
@@ -15,15 +15,15 @@ pub record Ends (old new : Window) : Type 0 where
   pub next : GoesOn (next_window old) new
 
 -- what one call does to the window of a service
-abbrev pub Follows : History → History → Type 0
-Follows old new = GoesOn (window_of old) (window_of new) ⊎ Ends (window_of old) (window_of new)
+abbrev pub Follows : Window → Window → Type 0
+Follows old new = GoesOn old new ⊎ Ends old new
 
 -- histories of a service one call after another: each follows on the one before
 abbrev pub AreCalls : History → List History → Type 0
 AreCalls old [] = Unit {0}
-AreCalls old (new ∷ more) = IsHistory new × Follows old new × AreCalls new more
+AreCalls old (new ∷ more) = IsHistory new × Follows old.window new.window × AreCalls new more
 
 -- the windows that these histories are in, in order: one has ended where the era is another
 abbrev pub windows_of : History → List History → List Window
-windows_of old [] = window_of old ∷ []
-windows_of old (new ∷ more) = if new.era == old.era then windows_of new more else window_of old ∷ windows_of new more
+windows_of old [] = old.window ∷ []
+windows_of old (new ∷ more) = if new.window.era == old.window.era then windows_of new more else old.window ∷ windows_of new more

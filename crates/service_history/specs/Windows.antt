@@ -1,11 +1,12 @@
 -- A run's history in windows. A window is an era, the number of the run's events before it; a base, the state that
 -- these led to; and the events since then. A cut ends one window, and the next one follows.
-use Rattle.std.specs.Prelude.{◌≡◌, ℕ, ◌+◌, ◌<◌, List, [], ◌∷◌, length}
+use Rattle.std.specs.Prelude.{◌≡◌, ℕ, ◌+◌, ◌<◌, Bool, ◌||◌, nat_le, List, [], ◌∷◌, ◌++◌, length}
 use Rattle.std.specs.List.{flat_map}
 use Rattle.service_machine.specs.declared.rows.Rows.{Rows}
 use Rattle.service_machine.specs.declared.event.Event.{Event}
 use Rattle.service_machine.specs.Step.{opened_rows}
-use Rattle.service_machine.specs.Replay.{replay, Legal}
+use Rattle.service_machine.specs.Replay.{replay, Legal, cost}
+use Rattle.service_history.specs.Limits.{most_stored, most_cost}
 
 -- a window
 pub record Window : Type 0 where
@@ -13,17 +14,29 @@ pub record Window : Type 0 where
   pub base : Rows
   pub events : List Event
 
+-- how many events the run has had
+abbrev pub total : Window → ℕ
+total window = window.era + length window.events
+
+-- a cut is due: the events are many, or cost much
+abbrev pub is_due : Window → Bool
+is_due window = nat_le most_stored (length window.events) || nat_le most_cost (cost window.events)
+
+-- the window with one more event
+abbrev pub stored : Event → Window → Window
+stored event window = record window { events = window.events ++ event ∷ [] }
+
+-- a window as it begins
+abbrev pub begun : ℕ → Rows → Window
+begun era base = record { era = era; base = base; events = [] }
+
 -- the first window, as it begins
 abbrev pub first_window : Window
-first_window = record { era = 0; base = opened_rows; events = [] }
+first_window = begun 0 opened_rows
 
 -- the window after one, as it begins
 abbrev pub next_window : Window → Window
-next_window window = record {
-  era = window.era + length window.events;
-  base = replay window.base window.events;
-  events = [];
-}
+next_window window = begun (total window) (replay window.base window.events)
 
 -- the window begins as that one does, and its events are legal
 pub record Begins (start window : Window) : Type 0 where

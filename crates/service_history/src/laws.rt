@@ -6,7 +6,7 @@ ghost use Rattle.service_machine.specs.declared.event.Output.{Output};
 ghost use Rattle.service_machine.specs.Step.{opened_rows};
 ghost use Rattle.service_machine.specs.Replay.{replay, Legal, outputs};
 ghost use Rattle.kr_base.specs.declared.ids.ConnId.{ConnId};
-ghost use Rattle.service_history.specs.History.{History, opened_history, IsHistory, IsRecorded, IsAppended, window_of, told, taken_by, left_by, gone_by};
+ghost use Rattle.service_history.specs.History.{History, opened_history, IsHistory, IsRecorded, IsAppended, told, taken_by, left_by, gone_by};
 ghost use Rattle.service_history.specs.Runs.{GoesOn, Follows, AreCalls, windows_of};
 ghost use Rattle.service_history.specs.Windows.{Window, first_window, AreWindows, history_of, window_behind};
 
@@ -25,13 +25,13 @@ pub fn windows_are_one_history()
 /// a service is in, one call after another, are the windows of a run.
 pub fn calls_yield_windows_in_a_row()
     ensures event { (old new : History) (came : Incoming) (answer : Output)
-        → IsRecorded old came answer new → Follows old new }
+        → IsRecorded old came answer new → Follows old.window new.window }
     ensures take { (old : History) (conn : ConnId)
-        → GoesOn (window_of old) (window_of (taken_by conn (told conn old) old)) }
+        → GoesOn old.window (taken_by conn (told conn old) old).window }
     ensures leave { (old : History) (conn : ConnId)
-        → GoesOn (window_of old) (window_of (left_by conn (told conn old) old)) }
+        → GoesOn old.window (left_by conn (told conn old) old).window }
     ensures gone { (old : History) (conn : ConnId)
-        → GoesOn (window_of old) (window_of (gone_by conn (told conn old) old)) }
+        → GoesOn old.window (gone_by conn (told conn old) old).window }
     ensures row { (histories : List History) → AreCalls opened_history histories
         → AreWindows (windows_of opened_history histories) }
 {}
@@ -41,5 +41,6 @@ pub fn calls_yield_windows_in_a_row()
 pub fn an_answer_is_the_output_at_its_place()
     ensures { (old new : History) (came : Incoming) (answer : Output) → IsHistory old
         → IsAppended old came answer new
-        → outputs new.base new.events ≡ outputs old.base old.events ++ answer ∷ [] }
+        → outputs new.window.base new.window.events
+        ≡ outputs old.window.base old.window.events ++ answer ∷ [] }
 {}

@@ -8,9 +8,12 @@
 #![tactic(auto)]
 
 mod laws;
+mod refused;
 mod service;
+mod window;
 
 pub use laws::{
     an_answer_is_the_output_at_its_place, calls_yield_windows_in_a_row, windows_are_one_history,
 };
-pub use service::{EventRefused, Service};
+pub use refused::EventRefused;
+pub use service::Service;

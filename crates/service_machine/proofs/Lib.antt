@@ -1,4 +1,4 @@
 mod DeskLemmas
-mod FitLemmas
+pub mod FitLemmas
 pub mod ReplayLemmas
 pub mod SoundLemmas

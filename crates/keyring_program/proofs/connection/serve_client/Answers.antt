@@ -5,7 +5,8 @@ use Rattle.dbus_auth.specs.Exchange.{Exchange}
 use Rattle.service_machine.specs.declared.rows.Rows.{Rows}
 use Rattle.service_machine.specs.declared.event.Event.TheVariants as event
 use Rattle.service_machine.specs.Step.{opened_rows, step, Fits}
-use Rattle.service_history.specs.History.{History, total}
+use Rattle.service_history.specs.History.{History}
+use Rattle.service_history.specs.Windows.{total}
 use Rattle.lone_desk.specs.Lone.{told, has_seen}
 use Rattle.connection_worker.specs.OneThread.{IsServed}
 use Rattle.connection_worker.specs.Salts.{Salting}
@@ -30,7 +31,7 @@ returns g c =
     let conn = first-connection desk.conn fits in
     let state : desk.service.state ≡ joined =
     c.in-Ok.ensures.joined ∙ ap (λ (h : History). step h.state (event.Connect desk.conn)) c.open.ensures ∙ ap (λ d. step opened_rows (event.Connect d)) conn in
-    let count : total desk.service ≡ 1 = c.in-Ok.ensures.count ∙ ap (λ (h : History). total h + 1) c.open.ensures in
+    let count : total desk.service.window ≡ 1 = c.in-Ok.ensures.count ∙ ap (λ (h : History). total h.window + 1) c.open.ensures in
     let number : c.conn.result.0 ≡ the_connection.0 = ap (λ (d : ConnId). d.0) (c.conn.ensures ∙ conn) in
     let start : ℕ → Salting = λ stream. record { key = key_of c.args.seed; stream = stream; place = 0 } in
     let salting = c.new-salts.ensures ∙ ap start number in

@@ -1,0 +1,188 @@
+ghost use Rattle.std.specs.Prelude.{◌≡◌, ◌+◌, ◌<◌, ◌≤◌, IfOk, OnOk};
+ghost use Rattle.service_machine.specs.Rows.{rows_of};
+ghost use Rattle.service_machine.specs.Step.{opened_rows};
+ghost use Rattle.service_machine.specs.Replay.{cost_of};
+ghost use Rattle.service_history.specs.Limits.{most_counted};
+ghost use Rattle.service_history.specs.Room.{enough};
+ghost use Rattle.service_history.specs.Windows.{first_window, total, is_due, stored};
+ghost use Rattle.service_history.specs.Inside.{IsNext, IsReady, chosen};
+
+use kr_base::OutOfMemory;
+use kr_items::Items;
+use service_machine::{ConnRows, Event, Machine, Rows};
+use session_table::Sessions;
+use std::alloc::Global;
+use std::marker::Model;
+
+/// With so many stored events a cut is due.
+const MOST_EVENTS: usize = 65_536;
+
+/// With stored events of so much cost a cut is due.
+const MOST_COST: u64 = 268_435_456;
+
+/// Room for an event and for all that 256 connections may bring without memory: three of each.
+const ROOM: usize = 769;
+
+/// A window of a run. A contract sees its era, which is the number of all events before it, its base,
+/// which is the state that these led to, the events since then, and for how many more there is room.
+#[derive(Drop)]
+pub struct Window {
+    alloc: Global,
+    era: u64,
+    base: Rows,
+    events: Vec<Event>,
+    cost: u64,
+}
+
+impl Model for Window {
+    ghost use Rattle.service_history.specs.Inside.{Held};
+
+    ghost Value = { Held };
+
+    ghost use Rattle.service_history.specs.Inside.{held_of, AreStored};
+
+    ghost view = { λ w. held_of w.era w.base w.events };
+
+    ghost invariant = { λ w. AreStored w.era w.events.items w.cost };
+}
+
+// The rows as the service starts.
+fn opened(alloc: Global) -> Rows
+    ensures { result ≡ opened_rows }
+{
+    Rows {
+        connections: ConnRows {
+            rows: Items::empty(alloc),
+            next: 1,
+        },
+        sessions: Sessions {
+            rows: Items::empty(alloc),
+            next: 1,
+        },
+    }
+}
+
+// What a stored event costs.
+fn cost_of(event: &Event) -> u64
+    ensures { result ≡ cost_of event.now }
+{
+    match event {
+        Event::Arrive(arrival) => 64 + arrival.request.length as u64,
+        _ => 64,
+    }
+}
+
+impl Window {
+    /// The first window, as it begins. It takes no memory.
+    pub fn first(alloc: Global) -> Window
+        ensures { result.window ≡ first_window }
+    {
+        Window {
+            alloc,
+            era: 0,
+            base: opened(alloc),
+            events: Vec::new(alloc),
+            cost: 0,
+        }
+    }
+
+    /// The events, in order.
+    pub fn events(&self) -> &[Event]
+        ensures { result.now ≡ self.now.window.events }
+    {
+        self.events.as_slice()
+    }
+
+    /// The state that the events lead on from.
+    pub fn base(&self) -> &Rows
+        ensures { result.now ≡ self.now.window.base }
+    {
+        &self.base
+    }
+
+    /// How many events the run had before the window.
+    pub fn era(&self) -> u64
+        ensures { result ≡ self.now.window.era }
+    {
+        self.era
+    }
+
+    /// How many events the run has had.
+    pub fn total(&self) -> u64
+        ensures { result ≡ total self.now.window }
+    {
+        self.era + self.events.len() as u64
+    }
+
+    // Whether a cut is due.
+    fn is_due(&self) -> bool
+        ensures { result ≡ is_due self.now.window }
+    {
+        self.events.len() >= MOST_EVENTS || self.cost >= MOST_COST
+    }
+
+    // Makes room for an event, and for all that are sure to come after it.
+    fn reserve(&mut self) -> Result<(), OutOfMemory>
+        ensures ready { OnOk result (enough ≤ self.new.spare) }
+        ensures same { self.new.window ≡ self.old.window }
+        ensures spare { self.old.spare ≤ self.new.spare }
+    {
+        self.events.reserve(ROOM)
+    }
+
+    // The window after this one, as it begins from this state.
+    fn next(&self, base: Rows) -> Result<Window, OutOfMemory>
+        ensures { IfOk result (λ next. IsNext self.now.window base next) }
+    {
+        Ok(Window {
+            alloc: self.alloc,
+            era: self.total(),
+            base,
+            events: Vec::with_capacity(self.alloc, ROOM)?,
+            cost: 0,
+        })
+    }
+
+    /// Prepares for one more event: takes all the memory that it will need, and changes nothing. Where a
+    /// cut is due this is the next window, which begins from the machine's rows; else None.
+    pub fn prepare(&mut self, machine: &Machine) -> Result<Option<Window>, OutOfMemory>
+        ensures ready { IfOk result (λ next.
+            IsReady self.old.window (rows_of machine.now) self.new.spare next) }
+        ensures same { self.new.window ≡ self.old.window }
+        ensures spare { self.old.spare ≤ self.new.spare }
+    {
+        if self.is_due() {
+            let next = self.next(machine.rows()?)?;
+            return Ok(Some(next));
+        }
+        self.reserve()?;
+        Ok(None)
+    }
+
+    /// Stores an event. It takes no memory.
+    pub fn push(&mut self, event: Event)
+        requires room { 0 < self.old.spare }
+        requires counted { total self.old.window < most_counted }
+        ensures stored { self.new.window ≡ stored event self.old.window }
+        ensures spare { self.old.spare ≤ self.new.spare + 1 }
+    {
+        self.cost = self.cost.saturating_add(cost_of(&event));
+        self.events.push(event).unwrap();
+    }
+
+    /// Stores an event in the window that was prepared for it. It takes no memory.
+    pub fn commit(&mut self, next: Option<Window>, event: Event)
+        requires room { 0 < (chosen self.old next).spare }
+        requires counted { total (chosen self.old next).window < most_counted }
+        ensures stored { self.new.window ≡ stored event (chosen self.old next).window }
+        ensures spare { (chosen self.old next).spare ≤ self.new.spare + 1 }
+    {
+        match next {
+            Some(next) => {
+                *self = next;
+                self.push(event);
+            }
+            None => self.push(event),
+        }
+    }
+}
