@@ -11,7 +11,7 @@ ghost use Rattle.service_history.specs.History.{IsAsked};
 use kr_base::{ConnId, Text};
 use secret_calls::{Call, Request};
 use service_history::Service;
-use service_machine::Incoming;
+use service_machine::{Arrival, Incoming};
 use std::env;
 
 fn asks(conn: ConnId, call: Call) -> Incoming
@@ -23,12 +23,12 @@ fn asks(conn: ConnId, call: Call) -> Incoming
         length: 128,
         call: Ok(call),
     };
-    Incoming::Arrive {
+    Incoming::Arrive(Arrival {
         conn,
         request,
         now: 0,
         salt: [0; 8],
-    }
+    })
 }
 
 fn run(rt: &HostRuntime, connections: u64, sessions: u64, count: u64) -> Option<usize> {
