@@ -1,5 +1,7 @@
 // key_derivation.
 
+use crate::checks::{cell, number, same_text};
+use crate::words::{decimal, digits_of, joined, salt_of};
 use key_derivation::{Derived, derive};
 use kr_base::Bytes;
 use std::alloc::Global;
@@ -38,36 +40,48 @@ fn rows() -> &'static str {
 }
 
 fn derived_of(alloc: Global, row: &str) -> Result<Derived, Fail> {
-    let (password, rest) = row.split_once('|').ok_or("row")?;
-    let (digits, rest) = rest.split_once('|').ok_or("row")?;
-    let (iterations, _) = rest.split_once('|').ok_or("row")?;
-    let mut salt = [0; 8];
-    hex::decode_to_slice(digits, &mut salt)?;
-    let password = Bytes::new(hex::decode(alloc, password)?);
-    Ok(derive(password, salt, iterations.parse().ok().ok_or("row")?))
+    let password = Bytes::new(hex::decode(alloc, cell(row, 0))?);
+    let salt = salt_of(cell(row, 1))?;
+    Ok(derive(password, salt, number(cell(row, 2))?))
 }
 
-fn halves_of(alloc: Global, derived: &Derived) -> Result<String, Fail> {
-    let key = hex::encode(alloc, derived.key().as_slice())?;
-    let vector = hex::encode(alloc, derived.vector().as_slice())?;
-    Ok(format!(in alloc; "|{key}{vector}")?)
+/// The key and the vector of a row.
+fn halves_of(alloc: Global, row: &str) -> Result<String, Fail> {
+    let derived = derived_of(alloc, row)?;
+    let key = digits_of(alloc, derived.key().as_slice())?;
+    let vector = digits_of(alloc, derived.vector().as_slice())?;
+    joined(alloc, &[key.as_str(), vector.as_str()])
 }
 
 #[test]
 fn another_implementation_derives_the_same(rt: HostRuntime) -> Result<(), Fail> {
-    let alloc: Global = rt.alloc();
     for row in rows().lines() {
-        let halves = halves_of(alloc, &derived_of(alloc, row)?)?;
-        assert!(rt; row.ends_with(halves.as_str()), "at {row}");
+        let halves = halves_of(rt.alloc(), row)?;
+        same_text(&rt, halves.as_str(), cell(row, 3), row);
     }
     Ok(())
 }
 
+fn parts_told(alloc: Global, derived: &Derived) -> Result<String, Fail> {
+    let password = digits_of(alloc, derived.password().as_slice())?;
+    let salt = digits_of(alloc, derived.salt().as_slice())?;
+    let iterations = decimal(alloc, u64::from(derived.iterations()))?;
+    joined(
+        alloc,
+        &[
+            password.as_str(),
+            "|",
+            salt.as_str(),
+            "|",
+            iterations.as_str(),
+        ],
+    )
+}
+
 #[test]
 fn a_derived_value_keeps_what_it_was_derived_from(rt: HostRuntime) -> Result<(), Fail> {
-    let derived = derive(Bytes::from_slice(rt.alloc(), b"secret")?, *b"saltsalt", 3);
-    assert_eq!(rt; derived.password().as_slice(), b"secret".as_slice());
-    assert_eq!(rt; derived.salt(), *b"saltsalt");
-    assert_eq!(rt; derived.iterations(), 3);
+    let row = "736563726574|73616c7473616c74|3";
+    let parts = parts_told(rt.alloc(), &derived_of(rt.alloc(), row)?)?;
+    same_text(&rt, parts.as_str(), row, "the parts");
     Ok(())
 }

@@ -1,7 +1,9 @@
 // attribute_hash.
 
+use crate::checks::{cell, number, same_bytes, same_text};
+use crate::words::{digits_of, hashes_told, text_of};
 use attribute_hash::{hashed, number_hash, text_hash};
-use kr_base::{AttrValue, Attributes, HashedPair, HashedValue, Text};
+use kr_base::{AttrValue, Attributes};
 use std::alloc::Global;
 use std::test::Fail;
 
@@ -25,55 +27,49 @@ const NUMBERS: &str = "\
 #[test]
 fn texts_have_the_digits_of_their_digest(rt: HostRuntime) -> Result<(), Fail> {
     for row in TEXTS.lines() {
-        let (text, digits) = row.split_once('|').ok_or("row")?;
-        assert_eq!(rt; text_hash(text).as_slice(), digits.as_bytes(), "at {row}");
+        let found = text_hash(cell(row, 0));
+        same_bytes(&rt, found.as_slice(), cell(row, 1).as_bytes(), row);
     }
     Ok(())
+}
+
+fn number_hash_told(alloc: Global, digits: &str) -> Result<String, Fail> {
+    let hash = number_hash(number(digits)?);
+    Ok(format!(in alloc; "{hash:x}")?)
 }
 
 #[test]
 fn numbers_are_mixed_with_their_halves_swapped(rt: HostRuntime) -> Result<(), Fail> {
     for row in NUMBERS.lines() {
-        let (number, hash) = row.split_once('|').ok_or("row")?;
-        let found = number_hash(number.parse().ok().ok_or("row")?);
-        let found = format!(in rt.alloc(); "{found:x}")?;
-        assert_eq!(rt; found.as_str(), hash, "at {row}");
+        let found = number_hash_told(rt.alloc(), cell(row, 0))?;
+        same_text(&rt, found.as_str(), cell(row, 1), row);
     }
     Ok(())
 }
 
 fn pairs(alloc: Global) -> Result<Attributes, Fail> {
-    let port = Text::from_str(alloc, "port")?.ok_or("a zero byte")?;
-    let host = Text::from_str(alloc, "host")?.ok_or("a zero byte")?;
-    let abc = Text::from_str(alloc, "abc")?.ok_or("a zero byte")?;
+    let port = text_of(alloc, "port")?;
+    let host = text_of(alloc, "host")?;
+    let abc = text_of(alloc, "abc")?;
     let mut values = Vec::new(alloc);
     values.push((port, AttrValue::Number(1)))?;
     values.push((host, AttrValue::Text(abc)))?;
     Ok(Attributes::from_values(alloc, values)?)
 }
 
-fn pair_told(alloc: Global, pair: &HashedPair) -> Result<String, Fail> {
-    let name = pair.name.as_str();
-    match &pair.value {
-        HashedValue::Text(digits) => {
-            let digits = hex::encode(alloc, digits.as_slice())?;
-            Ok(format!(in alloc; "{name}={digits};")?)
-        }
-        HashedValue::Number(number) => Ok(format!(in alloc; "{name}=#{number:x};")?),
-    }
+fn pairs_hashed(alloc: Global) -> Result<String, Fail> {
+    let hashes = hashed(alloc, &pairs(alloc)?)?;
+    hashes_told(alloc, hashes.as_slice())
 }
+
+// The pairs in the order of their names: the digits of the digest of `abc`, each a byte in hex, and the
+// hash of 1, which is 18263644 in hex.
+const HASHED: &str =
+    "host=3930303135303938336364323466623064363936336637643238653137663732;port=#405157444;";
 
 #[test]
 fn attributes_are_hashed_in_their_order(rt: HostRuntime) -> Result<(), Fail> {
-    let alloc: Global = rt.alloc();
-    let hashes = hashed(alloc, &pairs(alloc)?)?;
-    let mut told = String::new(alloc);
-    for pair in hashes.as_slice() {
-        told.push_str(pair_told(alloc, pair)?.as_str())?;
-    }
-    // The digits of the digest of `abc`, each a byte.
-    let digits = hex::encode(alloc, b"900150983cd24fb0d6963f7d28e17f72".as_slice())?;
-    let want = format!(in alloc; "host={digits};port=#18263644;")?;
-    assert_eq!(rt; told.as_str(), want.as_str());
+    let told = pairs_hashed(rt.alloc())?;
+    same_text(&rt, told.as_str(), HASHED, "the pairs");
     Ok(())
 }

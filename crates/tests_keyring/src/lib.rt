@@ -6,6 +6,8 @@
 #[cfg(test)]
 mod blocks;
 #[cfg(test)]
+mod checks;
+#[cfg(test)]
 mod derivation;
 #[cfg(test)]
 mod fields;
@@ -19,3 +21,5 @@ mod two_texts;
 mod vectors;
 #[cfg(test)]
 mod whole_files;
+#[cfg(test)]
+mod words;

@@ -3,12 +3,18 @@
 ghost use Rattle.std.specs.Prelude.{IfOk};
 ghost use Rattle.keyring_file.specs.Short.{IsShortClear};
 
+use crate::checks::{byte, cell, number, same_bytes, same_text};
+use crate::words::{
+    area_fault_told, clear_fault_told, decimal, full_item_told, hashes_told, item_numbers_told,
+    joined,
+};
 use keyring_file::{Clear, ClearItem, FullItem, read_area, read_clear, write_area, write_clear};
 use keyring_text::ReadRefused;
-use kr_base::{AttrValue, Attributes, HashedValue, Text};
+use kr_base::Text;
 use kr_items::Items;
 use md5::{Digest, Md5};
 use std::alloc::Global;
+use std::process::Abort;
 use std::test::Fail;
 
 // A collection `login` without items, as a program in Python wrote it: the clear part up to the number
@@ -18,37 +24,83 @@ const FRONT: &[u8; 81] =
 
 const BACK: &[u8; 20] = b"\0\0\0\x10AAAAAAAAAAAAAAAA";
 
+// The functions hand the bytes on, so that no proof looks into them.
+fn front() -> &'static [u8] {
+    FRONT
+}
+
+fn back() -> &'static [u8] {
+    BACK
+}
+
 fn file_of(alloc: Global, minor: u8, items: &[u8]) -> Result<Vec<u8>, Fail> {
-    let mut file = Vec::from_slice(alloc, FRONT)?;
+    let mut file = Vec::from_slice(alloc, front())?;
     if let Some(byte) = file.get_mut(17) {
         *byte = minor;
     }
     file.extend_from_slice(items)?;
-    file.extend_from_slice(BACK)?;
+    file.extend_from_slice(back())?;
     Ok(file)
 }
 
-/// The fault of a file in words, or nothing.
-fn fault_of(alloc: Global, file: &[u8]) -> Result<String, Fail> {
+fn clear_item_told(alloc: Global, item: &ClearItem) -> Result<String, Fail> {
+    let numbers = item_numbers_told(alloc, item)?;
+    let hashes = hashes_told(alloc, item.hashed.as_slice())?;
+    let (numbers, hashes) = (numbers.as_str(), hashes.as_str());
+    joined(alloc, &[numbers, " [", hashes, "] ", item.content.as_str()])
+}
+
+fn clear_items_told(alloc: Global, items: &[ClearItem]) -> Result<String, Fail> {
+    let mut told = String::new(alloc);
+    for item in items {
+        told.push_str(clear_item_told(alloc, item)?.as_str())?;
+        told.push('~')?;
+    }
+    Ok(told)
+}
+
+/// The items of a file's clear part in words, or its fault.
+fn clear_told(alloc: Global, file: &[u8]) -> Result<String, Fail> {
     match read_clear(alloc, file) {
-        Ok(_) => Ok(String::new(alloc)),
-        Err(ReadRefused::Fault(fault)) => Ok(format!(in alloc; "{fault}")?),
+        Ok((clear, _)) => clear_items_told(alloc, clear.items.as_slice()),
+        Err(ReadRefused::Fault(fault)) => clear_fault_told(alloc, fault),
         Err(ReadRefused::OutOfMemory) => Err("memory")?,
     }
 }
 
+fn part_is_short(rt: &impl Abort, alloc: Global, file: &[u8], len: usize) -> Result<(), Fail> {
+    let part = file.get(..len).ok_or("a part")?;
+    let found = clear_told(alloc, part)?;
+    let at = decimal(alloc, len as u64)?;
+    same_text(rt, found.as_str(), "Short", at.as_str());
+    Ok(())
+}
+
+fn longer(alloc: Global, file: &[u8]) -> Result<String, Fail> {
+    let mut bytes = Vec::from_slice(alloc, file)?;
+    bytes.push(0)?;
+    clear_told(alloc, bytes.as_slice())
+}
+
 #[test]
 fn each_part_of_a_file_is_short_and_a_longer_one_trails(rt: HostRuntime) -> Result<(), Fail> {
-    let alloc = rt.alloc();
-    let mut file = file_of(alloc, 0, b"\0\0\0\0")?;
-    assert_eq!(rt; file.len(), 105);
-    assert_eq!(rt; fault_of(alloc, &file)?.as_str(), "");
+    let file = file_of(rt.alloc(), 0, b"\0\0\0\0")?;
+    assert!(rt; file.len() == 105);
+    same_text(
+        &rt,
+        clear_told(rt.alloc(), file.as_slice())?.as_str(),
+        "",
+        "the whole",
+    );
     for len in 0..105 {
-        let part = file.get(..len).ok_or("a part")?;
-        assert_eq!(rt; fault_of(alloc, part)?.as_str(), "Short", "at {len}");
+        part_is_short(&rt, rt.alloc(), file.as_slice(), len)?;
     }
-    file.push(0)?;
-    assert_eq!(rt; fault_of(alloc, &file)?.as_str(), "Trailing");
+    same_text(
+        &rt,
+        longer(rt.alloc(), file.as_slice())?.as_str(),
+        "Trailing",
+        "a longer one",
+    );
     Ok(())
 }
 
@@ -84,23 +136,25 @@ fn changed_bytes() -> &'static str {
     BYTES
 }
 
-fn changed(alloc: Global, place: &str, value: &str) -> Result<Vec<u8>, Fail> {
+fn changed(alloc: Global, place: usize, value: u8) -> Result<Vec<u8>, Fail> {
     let mut file = file_of(alloc, 0, b"\0\0\0\0")?;
-    let place: usize = place.parse().ok().ok_or("row")?;
     if let Some(byte) = file.get_mut(place) {
-        *byte = value.parse().ok().ok_or("row")?;
+        *byte = value;
     }
     Ok(file)
 }
 
+fn changed_told(alloc: Global, row: &str) -> Result<String, Fail> {
+    let place = number(cell(row, 0))? as usize;
+    let value = byte(cell(row, 1))?;
+    clear_told(alloc, changed(alloc, place, value)?.as_slice())
+}
+
 #[test]
 fn one_changed_byte_is_its_fault(rt: HostRuntime) -> Result<(), Fail> {
-    let alloc = rt.alloc();
     for row in changed_bytes().lines() {
-        let (place, rest) = row.split_once('|').ok_or("row")?;
-        let (value, want) = rest.split_once('|').ok_or("row")?;
-        let found = fault_of(alloc, &changed(alloc, place, value)?)?;
-        assert_eq!(rt; found.as_str(), want, "at {row}");
+        let found = changed_told(rt.alloc(), row)?;
+        same_text(&rt, found.as_str(), cell(row, 2), row);
     }
     Ok(())
 }
@@ -160,51 +214,17 @@ fn clear_parts() -> &'static str {
     CLEAR
 }
 
-fn clear_item_told(alloc: Global, item: &ClearItem) -> Result<String, Fail> {
-    let id = item.id;
-    let kind = item.kind;
-    let mut told = format!(in alloc; "{id} {kind} [")?;
-    for pair in item.hashed.as_slice() {
-        let name = pair.name.as_str();
-        let part = match &pair.value {
-            HashedValue::Text(hash) => {
-                let digits = hex::encode(alloc, hash.as_slice())?;
-                format!(in alloc; "{name}={digits};")?
-            }
-            HashedValue::Number(number) => format!(in alloc; "{name}=#{number};")?,
-        };
-        told.push_str(part.as_str())?;
-    }
-    let content = item.content.as_str();
-    let last = format!(in alloc; "] {content}~")?;
-    told.push_str(last.as_str())?;
-    Ok(told)
-}
-
-fn clear_told(alloc: Global, file: &[u8]) -> Result<String, Fail> {
-    match read_clear(alloc, file) {
-        Ok((clear, _place)) => {
-            let mut told = String::new(alloc);
-            for item in clear.items.as_slice() {
-                told.push_str(clear_item_told(alloc, item)?.as_str())?;
-            }
-            Ok(told)
-        }
-        Err(ReadRefused::Fault(fault)) => Ok(format!(in alloc; "{fault}")?),
-        Err(ReadRefused::OutOfMemory) => Err("memory")?,
-    }
+fn clear_part_told(alloc: Global, row: &str) -> Result<String, Fail> {
+    let items = hex::decode(alloc, cell(row, 1))?;
+    let file = file_of(alloc, byte(cell(row, 0))?, items.as_slice())?;
+    clear_told(alloc, file.as_slice())
 }
 
 #[test]
 fn items_of_the_clear_part_are_read_or_refused(rt: HostRuntime) -> Result<(), Fail> {
-    let alloc = rt.alloc();
     for row in clear_parts().lines() {
-        let (minor, rest) = row.split_once('|').ok_or("row")?;
-        let (digits, want) = rest.split_once('|').ok_or("row")?;
-        let minor: u8 = minor.parse().ok().ok_or("row")?;
-        let items = hex::decode(alloc, digits)?;
-        let file = file_of(alloc, minor, &items)?;
-        assert_eq!(rt; clear_told(alloc, &file)?.as_str(), want, "at {row}");
+        let found = clear_part_told(rt.alloc(), row)?;
+        same_text(&rt, found.as_str(), cell(row, 2), row);
     }
     Ok(())
 }
@@ -212,7 +232,6 @@ fn items_of_the_clear_part_are_read_or_refused(rt: HostRuntime) -> Result<(), Fa
 fn login(alloc: Global) -> Result<Clear, Fail>
     ensures { IfOk result IsShortClear }
 {
-    let salt = [0, 1, 2, 3, 4, 5, 6, 7];
     let name = Text::from_str(alloc, "login")?.ok_or("a zero byte")?;
     Ok(Clear {
         name,
@@ -221,22 +240,39 @@ fn login(alloc: Global) -> Result<Clear, Fail>
         flags: 0,
         timeout: 0,
         iterations: 10000,
-        salt,
+        salt: [0, 1, 2, 3, 4, 5, 6, 7],
         items: Items::empty(alloc),
         minor: 0,
     })
 }
 
+fn login_written(alloc: Global) -> Result<Vec<u8>, Fail> {
+    Ok(write_clear(alloc, &login(alloc)?, 16)?)
+}
+
+fn no_items_written(alloc: Global) -> Result<Vec<u8>, Fail> {
+    Ok(write_area(alloc, &[])?)
+}
+
 #[test]
 fn a_collection_without_items_is_written(rt: HostRuntime) -> Result<(), Fail> {
-    let alloc = rt.alloc();
-    let written = write_clear(alloc, &login(alloc)?, 16)?;
-    let file = file_of(alloc, 0, b"\0\0\0\0")?;
-    assert_eq!(rt; written.as_slice(), file.get(..89).ok_or("a front")?);
-    let none = write_area(alloc, &[])?;
+    let file = file_of(rt.alloc(), 0, b"\0\0\0\0")?;
+    let front = file.get(..89).ok_or("a front")?;
+    same_bytes(
+        &rt,
+        login_written(rt.alloc())?.as_slice(),
+        front,
+        "the clear part",
+    );
+    let area = no_items_written(rt.alloc())?;
     let want = b"\xd4\x1d\x8c\xd9\x8f\0\xb2\x04\xe9\x80\x09\x98\xec\xf8\x42\x7e";
-    assert_eq!(rt; none.as_slice(), want.as_slice());
-    assert!(rt; read_area(alloc, &none, 0).is_ok());
+    same_bytes(&rt, area.as_slice(), want.as_slice(), "the area");
+    same_text(
+        &rt,
+        area_told(rt.alloc(), area.as_slice(), 0)?.as_str(),
+        "",
+        "the area",
+    );
     Ok(())
 }
 
@@ -303,50 +339,20 @@ fn areas() -> &'static str {
     AREAS
 }
 
-fn attributes_told(alloc: Global, attributes: &Attributes) -> Result<String, Fail> {
+fn items_told(alloc: Global, items: &[FullItem]) -> Result<String, Fail> {
     let mut told = String::new(alloc);
-    for (name, value) in attributes.as_slice() {
-        let name = name.as_str();
-        let part = match value {
-            AttrValue::Text(text) => {
-                let text = text.as_str();
-                format!(in alloc; "{name}={text};")?
-            }
-            AttrValue::Number(number) => format!(in alloc; "{name}=#{number};")?,
-        };
-        told.push_str(part.as_str())?;
+    for item in items {
+        told.push_str(full_item_told(alloc, item)?.as_str())?;
+        told.push('~')?;
     }
     Ok(told)
 }
 
-fn item_told(alloc: Global, item: &FullItem) -> Result<String, Fail> {
-    let label = item.label.as_str();
-    let secret = hex::encode(alloc, item.value.as_slice())?;
-    let created = item.created;
-    let modified = item.modified;
-    let attributes = attributes_told(alloc, &item.attributes)?;
-    let mut told = format!(in alloc; "'{label}' {secret} {created} {modified} [{attributes}] [")?;
-    for entry in item.access.as_slice() {
-        let allowed = entry.allowed;
-        let display = entry.display.as_str();
-        let path = entry.path.as_str();
-        let part = format!(in alloc; "{allowed},{display},{path};")?;
-        told.push_str(part.as_str())?;
-    }
-    told.push_str("]~")?;
-    Ok(told)
-}
-
+/// The items of an area in words, or its fault.
 fn area_told(alloc: Global, area: &[u8], count: usize) -> Result<String, Fail> {
     match read_area(alloc, area, count) {
-        Ok(items) => {
-            let mut told = String::new(alloc);
-            for item in &items {
-                told.push_str(item_told(alloc, item)?.as_str())?;
-            }
-            Ok(told)
-        }
-        Err(ReadRefused::Fault(fault)) => Ok(format!(in alloc; "{fault}")?),
+        Ok(items) => items_told(alloc, items.as_slice()),
+        Err(ReadRefused::Fault(fault)) => area_fault_told(alloc, fault),
         Err(ReadRefused::OutOfMemory) => Err("memory")?,
     }
 }
@@ -355,18 +361,45 @@ fn area_told(alloc: Global, area: &[u8], count: usize) -> Result<String, Fail> {
 const AREA: &[u8; 80] =
     b"\xf7\x82\xc8\x07\xc4\x2f\xe6\x97\x59\xe1\x75\x60\xbc\x4a\x1c\x37\0\0\0\x01a\0\0\0\x01b\0\0\0\0\0\0\0\0\0\0\0\0\0\0\0\0\xff\xff\xff\xff\0\0\0\0\0\0\0\0\0\0\0\0\0\0\0\0\0\0\0\0\0\0\0\0\0\0\0\0\0\0\0\0\0\0";
 
-#[test]
-fn an_area_of_one_item_is_read_and_checked(rt: HostRuntime) -> Result<(), Fail> {
-    let alloc = rt.alloc();
-    assert_eq!(rt; area_told(alloc, AREA, 1)?.as_str(), "'a' 62 0 0 [] []~");
-    let mut area = Vec::from_slice(alloc, AREA)?;
+fn one_item() -> &'static [u8] {
+    AREA
+}
+
+// The same with another last byte.
+fn last_changed(alloc: Global) -> Result<Vec<u8>, Fail> {
+    let mut area = Vec::from_slice(alloc, one_item())?;
     if let Some(byte) = area.get_mut(79) {
         *byte = 1;
     }
-    let cut = b"\xd4\x1d\x8c\xd9\x8f\0\xb2\x04\xe9\x80\x09\x98\xec\xf8\x42";
-    assert_eq!(rt; area_told(alloc, &area, 1)?.as_str(), "CheckDiffers");
-    assert_eq!(rt; area_told(alloc, b"", 1)?.as_str(), "CheckDiffers");
-    assert_eq!(rt; area_told(alloc, cut, 1)?.as_str(), "CheckDiffers");
+    Ok(area)
+}
+
+// A check that lacks its last byte.
+const CUT: &[u8; 15] = b"\xd4\x1d\x8c\xd9\x8f\0\xb2\x04\xe9\x80\x09\x98\xec\xf8\x42";
+
+#[test]
+fn an_area_of_one_item_is_read_and_checked(rt: HostRuntime) -> Result<(), Fail> {
+    let alloc = rt.alloc();
+    same_text(
+        &rt,
+        area_told(alloc, one_item(), 1)?.as_str(),
+        "'a' 62 0 0 [] []~",
+        "the area",
+    );
+    let changed = area_told(alloc, last_changed(alloc)?.as_slice(), 1)?;
+    same_text(&rt, changed.as_str(), "CheckDiffers", "another byte");
+    same_text(
+        &rt,
+        area_told(alloc, b"", 1)?.as_str(),
+        "CheckDiffers",
+        "no bytes",
+    );
+    same_text(
+        &rt,
+        area_told(alloc, CUT, 1)?.as_str(),
+        "CheckDiffers",
+        "a short check",
+    );
     Ok(())
 }
 
@@ -377,15 +410,16 @@ fn area_of(alloc: Global, digits: &str) -> Result<Vec<u8>, Fail> {
     Ok(area)
 }
 
+fn area_row_told(alloc: Global, row: &str) -> Result<String, Fail> {
+    let count = number(cell(row, 0))? as usize;
+    area_told(alloc, area_of(alloc, cell(row, 1))?.as_slice(), count)
+}
+
 #[test]
 fn items_of_the_area_are_read_or_refused(rt: HostRuntime) -> Result<(), Fail> {
-    let alloc = rt.alloc();
     for row in areas().lines() {
-        let (count, rest) = row.split_once('|').ok_or("row")?;
-        let (digits, want) = rest.split_once('|').ok_or("row")?;
-        let count: usize = count.parse().ok().ok_or("row")?;
-        let found = area_told(alloc, &area_of(alloc, digits)?, count)?;
-        assert_eq!(rt; found.as_str(), want, "at {row}");
+        let found = area_row_told(rt.alloc(), row)?;
+        same_text(&rt, found.as_str(), cell(row, 2), row);
     }
     Ok(())
 }

@@ -2,187 +2,165 @@
 
 ghost use Rattle.std.specs.Prelude.{◌≡◌, [], IfOk};
 
+use crate::checks::{cell, number, same_bytes, same_text};
 use crate::files::whole_files_of_others;
+use crate::words::{
+    area_fault_told, clear_fault_told, decimal, digits_of, full_item_told, item_numbers_told,
+    joined, salt_of, spaced, text_of,
+};
 use key_derivation::{Derived, derive};
-use keyring_file::{Access, Clear, ClearItem, FullItem};
+use keyring_file::{Clear, ClearItem, FullItem};
 use keyring_seal::{Content, OpenFault, SealRefused, open, seal, seal_rows};
 use keyring_text::ReadRefused;
-use kr_base::{AttrValue, Attributes, Bytes, ItemId, Text};
+use kr_base::{Attributes, Bytes, ItemId};
 use kr_items::Items;
 use md5::{Digest, Md5};
 use std::alloc::Global;
 use std::test::Fail;
 
-/// A row of the table.
-#[derive(Clone, Copy)]
-struct Row<'a> {
-    password: &'a str,
-    salt: &'a str,
-    iterations: u32,
-    sealed: &'a str,
-    told: &'a str,
-    file: &'a str,
-}
-
-fn row_of(line: &str) -> Option<Row<'_>> {
-    let (password, rest) = line.split_once('|')?;
-    let (salt, rest) = rest.split_once('|')?;
-    let (iterations, rest) = rest.split_once('|')?;
-    let (sealed, rest) = rest.split_once('|')?;
-    let (told, file) = rest.split_once('|')?;
-    Some(Row {
-        password,
-        salt,
-        iterations: iterations.parse().ok()?,
-        sealed,
-        told,
-        file,
-    })
-}
-
-fn key_of(alloc: Global, row: Row<'_>, password: &str) -> Result<Derived, Fail> {
-    let mut salt = [0; 8];
-    hex::decode_to_slice(row.salt, &mut salt)?;
+// The key of a row, with this password.
+fn key_of(alloc: Global, row: &str, password: &str) -> Result<Derived, Fail> {
     let password = Bytes::new(hex::decode(alloc, password)?);
-    Ok(derive(password, salt, row.iterations))
+    let salt = salt_of(cell(row, 1))?;
+    Ok(derive(password, salt, number(cell(row, 2))?))
 }
 
-fn attributes_told(alloc: Global, attributes: &Attributes) -> Result<String, Fail> {
-    let mut told = String::new(alloc);
-    for (name, value) in attributes.as_slice() {
-        let name = name.as_str();
-        let part = match value {
-            AttrValue::Text(text) => {
-                let text = text.as_str();
-                format!(in alloc; "{name}={text};")?
-            }
-            AttrValue::Number(number) => format!(in alloc; "{name}=#{number};")?,
-        };
-        told.push_str(part.as_str())?;
-    }
-    Ok(told)
+fn item_told(alloc: Global, clear: &ClearItem, item: &FullItem) -> Result<String, Fail> {
+    let full = full_item_told(alloc, item)?;
+    let numbers = item_numbers_told(alloc, clear)?;
+    spaced(
+        alloc,
+        &[numbers.as_str(), full.as_str(), clear.content.as_str()],
+    )
 }
 
-fn access_told(alloc: Global, entries: &[Access]) -> Result<String, Fail> {
-    let mut told = String::new(alloc);
-    for entry in entries {
-        let allowed = entry.allowed;
-        let display = entry.display.as_str();
-        let path = entry.path.as_str();
-        let part = format!(in alloc; "{allowed},{display},{path};")?;
-        told.push_str(part.as_str())?;
-    }
-    Ok(told)
+fn times_told(alloc: Global, clear: &Clear) -> Result<String, Fail> {
+    let created = decimal(alloc, clear.created)?;
+    let modified = decimal(alloc, clear.modified)?;
+    spaced(alloc, &[created.as_str(), modified.as_str()])
 }
 
-fn item_told(alloc: Global, clear_item: &ClearItem, item: &FullItem) -> Result<String, Fail> {
-    let id = clear_item.id;
-    let kind = clear_item.kind;
-    let content = clear_item.content.as_str();
-    let label = item.label.as_str();
-    let secret = hex::encode(alloc, item.value.as_slice())?;
-    let created = item.created;
-    let modified = item.modified;
-    let attributes = attributes_told(alloc, &item.attributes)?;
-    let access = access_told(alloc, item.access.as_slice())?;
-    Ok(format!(in alloc;
-        "~{id} {kind} '{label}' {secret} {created} {modified} [{attributes}] [{access}] {content}"
-    )?)
+fn flags_told(alloc: Global, clear: &Clear) -> Result<String, Fail> {
+    let flags = decimal(alloc, u64::from(clear.flags))?;
+    let timeout = decimal(alloc, u64::from(clear.timeout))?;
+    spaced(alloc, &[flags.as_str(), timeout.as_str()])
+}
+
+fn version_told(alloc: Global, clear: &Clear) -> Result<String, Fail> {
+    let iterations = decimal(alloc, u64::from(clear.iterations))?;
+    let minor = decimal(alloc, u64::from(clear.minor))?;
+    joined(alloc, &[iterations.as_str(), " 0.", minor.as_str()])
 }
 
 fn clear_told(alloc: Global, clear: &Clear) -> Result<String, Fail> {
+    let times = times_told(alloc, clear)?;
+    let flags = flags_told(alloc, clear)?;
+    let version = version_told(alloc, clear)?;
     let name = clear.name.as_str();
-    let created = clear.created;
-    let modified = clear.modified;
-    let flags = clear.flags;
-    let timeout = clear.timeout;
-    let iterations = clear.iterations;
-    let minor = clear.minor;
-    Ok(format!(in alloc; "{name} {created} {modified} {flags} {timeout} {iterations} 0.{minor}")?)
+    spaced(
+        alloc,
+        &[name, times.as_str(), flags.as_str(), version.as_str()],
+    )
 }
 
 fn content_told(alloc: Global, content: &Content) -> Result<String, Fail> {
     let mut told = clear_told(alloc, &content.clear)?;
     let items = content.items.as_slice();
-    for (clear_item, item) in content.clear.items.as_slice().iter().zip(items) {
-        told.push_str(item_told(alloc, clear_item, item)?.as_str())?;
+    for (clear, item) in content.clear.items.as_slice().iter().zip(items) {
+        told.push('~')?;
+        told.push_str(item_told(alloc, clear, item)?.as_str())?;
     }
     Ok(told)
 }
 
-#[test]
-fn files_of_other_programs_open_item_by_item(rt: HostRuntime) -> Result<(), Fail> {
-    let alloc: Global = rt.alloc();
-    for line in whole_files_of_others().lines() {
-        let row = row_of(line).ok_or("row")?;
-        let file = hex::decode(alloc, row.file)?;
-        let key = key_of(alloc, row, row.password)?;
-        let content = open(alloc, file.as_slice(), &key).ok().ok_or("open")?;
-        assert_eq!(rt;
-            content_told(alloc, &content)?.as_str(),
-            row.told,
-            "at {}",
-            row.told
-        );
-    }
-    Ok(())
-}
-
-#[test]
-fn what_was_opened_is_sealed_to_the_one_file(rt: HostRuntime) -> Result<(), Fail> {
-    let alloc: Global = rt.alloc();
-    for line in whole_files_of_others().lines() {
-        let row = row_of(line).ok_or("row")?;
-        let file = hex::decode(alloc, row.file)?;
-        let key = key_of(alloc, row, row.password)?;
-        let content = open(alloc, file.as_slice(), &key).ok().ok_or("open")?;
-        let sealed = seal(alloc, &content, &key).ok().ok_or("seal")?;
-        let len = sealed.len();
-        let digest = hex::encode(alloc, Md5::digest(sealed.as_slice()).as_slice())?;
-        let found = format!(in alloc; "{len} {digest}")?;
-        assert_eq!(rt; found.as_str(), row.sealed, "at {}", row.told);
-    }
-    Ok(())
-}
-
-/// The fault of a file under a key in words, or nothing.
-fn fault_of(alloc: Global, file: &[u8], key: &Derived) -> Result<String, Fail> {
-    match open(alloc, file, key) {
-        Ok(_) => Ok(String::new(alloc)),
-        Err(ReadRefused::Fault(OpenFault::Clear(fault))) => {
-            Ok(format!(in alloc; "clear part: {fault}")?)
+fn fault_told(alloc: Global, fault: OpenFault) -> Result<String, Fail> {
+    match fault {
+        OpenFault::Clear(fault) => {
+            let told = clear_fault_told(alloc, fault)?;
+            joined(alloc, &["clear part: ", told.as_str()])
         }
-        Err(ReadRefused::Fault(OpenFault::Area(fault))) => Ok(format!(in alloc; "area: {fault}")?),
+        OpenFault::Area(fault) => {
+            let told = area_fault_told(alloc, fault)?;
+            joined(alloc, &["area: ", told.as_str()])
+        }
+    }
+}
+
+/// The content of a file under a key in words, or its fault.
+fn opened(alloc: Global, file: &[u8], key: &Derived) -> Result<String, Fail> {
+    match open(alloc, file, key) {
+        Ok(content) => content_told(alloc, &content),
+        Err(ReadRefused::Fault(fault)) => fault_told(alloc, fault),
         Err(ReadRefused::OutOfMemory) => Err("memory")?,
     }
 }
 
-fn both_faults(alloc: Global, row: Row<'_>) -> Result<String, Fail> {
-    let file = hex::decode(alloc, row.file)?;
-    let wrong = fault_of(alloc, file.as_slice(), &key_of(alloc, row, "00")?)?;
-    let (_last, front) = file.as_slice().split_last().ok_or("no byte")?;
-    let cut = fault_of(alloc, front, &key_of(alloc, row, row.password)?)?;
-    Ok(format!(in alloc; "{wrong}; {cut}")?)
+fn row_opened(alloc: Global, row: &str) -> Result<String, Fail> {
+    let file = hex::decode(alloc, cell(row, 5))?;
+    let key = key_of(alloc, row, cell(row, 0))?;
+    opened(alloc, file.as_slice(), &key)
 }
 
 #[test]
-fn a_wrong_key_and_a_cut_file_are_told_apart(rt: HostRuntime) -> Result<(), Fail> {
-    let alloc: Global = rt.alloc();
-    for line in whole_files_of_others().lines() {
-        let row = row_of(line).ok_or("row")?;
-        let found = both_faults(alloc, row)?;
-        assert_eq!(rt;
-            found.as_str(),
-            "area: CheckDiffers; clear part: Short",
-            "at {}",
-            row.told
-        );
+fn files_of_other_programs_open_item_by_item(rt: HostRuntime) -> Result<(), Fail> {
+    for row in whole_files_of_others().lines() {
+        let found = row_opened(rt.alloc(), row)?;
+        same_text(&rt, found.as_str(), cell(row, 4), cell(row, 4));
     }
     Ok(())
 }
 
-fn text_of(alloc: Global, text: &str) -> Result<Text, Fail> {
-    Ok(Text::from_str(alloc, text)?.ok_or("a zero byte")?)
+/// What is sealed of the content of a file.
+fn sealed_again(alloc: Global, file: &[u8], key: &Derived) -> Result<Vec<u8>, Fail> {
+    let content = open(alloc, file, key).ok().ok_or("open")?;
+    Ok(seal(alloc, &content, key).ok().ok_or("seal")?)
+}
+
+/// The length of bytes and their MD5.
+fn digest_told(alloc: Global, bytes: &[u8]) -> Result<String, Fail> {
+    let len = decimal(alloc, bytes.len() as u64)?;
+    let digest = digits_of(alloc, Md5::digest(bytes).as_slice())?;
+    spaced(alloc, &[len.as_str(), digest.as_str()])
+}
+
+fn row_sealed_again(alloc: Global, row: &str) -> Result<String, Fail> {
+    let file = hex::decode(alloc, cell(row, 5))?;
+    let key = key_of(alloc, row, cell(row, 0))?;
+    let sealed = sealed_again(alloc, file.as_slice(), &key)?;
+    digest_told(alloc, sealed.as_slice())
+}
+
+#[test]
+fn what_was_opened_is_sealed_to_the_one_file(rt: HostRuntime) -> Result<(), Fail> {
+    for row in whole_files_of_others().lines() {
+        let found = row_sealed_again(rt.alloc(), row)?;
+        same_text(&rt, found.as_str(), cell(row, 3), cell(row, 4));
+    }
+    Ok(())
+}
+
+fn opened_by_a_wrong_key(alloc: Global, row: &str) -> Result<String, Fail> {
+    let file = hex::decode(alloc, cell(row, 5))?;
+    let key = key_of(alloc, row, "00")?;
+    opened(alloc, file.as_slice(), &key)
+}
+
+fn opened_without_the_last_byte(alloc: Global, row: &str) -> Result<String, Fail> {
+    let mut file = hex::decode(alloc, cell(row, 5))?;
+    let _ = file.pop();
+    let key = key_of(alloc, row, cell(row, 0))?;
+    opened(alloc, file.as_slice(), &key)
+}
+
+#[test]
+fn a_wrong_key_and_a_cut_file_are_told_apart(rt: HostRuntime) -> Result<(), Fail> {
+    for row in whole_files_of_others().lines() {
+        let wrong = opened_by_a_wrong_key(rt.alloc(), row)?;
+        same_text(&rt, wrong.as_str(), "area: CheckDiffers", cell(row, 4));
+        let cut = opened_without_the_last_byte(rt.alloc(), row)?;
+        same_text(&rt, cut.as_str(), "clear part: Short", cell(row, 4));
+    }
+    Ok(())
 }
 
 fn front_of(alloc: Global) -> Result<Clear, Fail>
@@ -225,30 +203,39 @@ fn note_told_fully(alloc: Global) -> Result<FullItem, Fail>
     })
 }
 
+fn password_key(alloc: Global) -> Result<Derived, Fail> {
+    let password = Bytes::from_slice(alloc, b"password")?;
+    Ok(derive(password, *b"saltsalt", 3))
+}
+
+/// What was sealed, or no bytes where it would be too large.
+fn sealed_bytes(alloc: Global, sealed: Result<Vec<u8>, SealRefused>) -> Result<Vec<u8>, Fail> {
+    match sealed {
+        Ok(file) => Ok(file),
+        Err(SealRefused::TooLarge) => Ok(Vec::new(alloc)),
+        Err(SealRefused::OutOfMemory) => Err("memory")?,
+    }
+}
+
+fn rows_sealed(alloc: Global, room: usize, key: &Derived) -> Result<Vec<u8>, Fail> {
+    let front = front_of(alloc)?;
+    let clear = note_told_clearly(alloc)?;
+    let item = note_told_fully(alloc)?;
+    let rows = [(&clear, &item)];
+    sealed_bytes(alloc, seal_rows(alloc, room, &front, &rows, key))
+}
+
+const NOTE: &str = "rows 1 2 0 0 3 0.1~7 1 'note' 736563726574 3 4 [] [] text/html";
+
 #[test]
 fn rows_that_are_lent_are_sealed_within_the_room(rt: HostRuntime) -> Result<(), Fail> {
-    let alloc: Global = rt.alloc();
-    let key = derive(Bytes::from_slice(alloc, b"password")?, *b"saltsalt", 3);
-    let front = front_of(alloc)?;
-    let clear_item = note_told_clearly(alloc)?;
-    let item = note_told_fully(alloc)?;
-    let rows = [(&clear_item, &item)];
-    let file = seal_rows(alloc, 1_000, &front, &rows, &key)
-        .ok()
-        .ok_or("seal")?;
-    let content = open(alloc, file.as_slice(), &key).ok().ok_or("open")?;
-    assert_eq!(rt;
-        content_told(alloc, &content)?.as_str(),
-        "rows 1 2 0 0 3 0.1~7 1 'note' 736563726574 3 4 [] [] text/html"
-    );
-    let again = seal(alloc, &content, &key).ok().ok_or("seal again")?;
-    assert_eq!(rt; file.as_slice(), again.as_slice());
-    let room = file.len().saturating_sub(1);
-    assert!(rt;
-        matches!(
-            seal_rows(alloc, room, &front, &rows, &key),
-            Err(SealRefused::TooLarge)
-        )
-    );
+    let key = password_key(rt.alloc())?;
+    let file = rows_sealed(rt.alloc(), 1_000, &key)?;
+    let found = opened(rt.alloc(), file.as_slice(), &key)?;
+    same_text(&rt, found.as_str(), NOTE, "what was sealed");
+    let again = sealed_again(rt.alloc(), file.as_slice(), &key)?;
+    same_bytes(&rt, again.as_slice(), file.as_slice(), "sealed again");
+    let none = rows_sealed(rt.alloc(), file.len().saturating_sub(1), &key)?;
+    same_bytes(&rt, none.as_slice(), b"", "a byte too little");
     Ok(())
 }
