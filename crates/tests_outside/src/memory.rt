@@ -1,46 +1,37 @@
+use crate::checks::{cell, length, numbers, same_bytes, same_text};
 use kr_memory::{ListedClock, MemorySink, MemorySource, SteadySink, SteadySource};
 use kr_outside::{Clock, Sink, Source};
 use std::alloc::Global;
+use std::process::Abort;
 use std::test::Fail;
 
-// Reads the four cells of a row.
-fn cells(row: &str) -> Result<(&str, &str, &str, &str), Fail> {
-    let (first, rest) = row.split_once(';').ok_or("a row")?;
-    let (second, rest) = rest.split_once(';').ok_or("a row")?;
-    let (third, fourth) = rest.split_once(';').ok_or("a row")?;
-    Ok((first, second, third, fourth))
-}
-
-// Reads the numbers of a cell.
-fn numbers(alloc: Global, cell: &str) -> Result<Vec<u64>, Fail> {
-    let mut numbers = Vec::new(alloc);
-    for word in cell.split_whitespace() {
-        numbers.push(word.parse::<u64>().ok().ok_or("a number")?)?;
-    }
-    Ok(numbers)
-}
-
-// Reads the lengths of a cell.
+// The lengths of a cell.
 fn lengths(alloc: Global, cell: &str) -> Result<Vec<usize>, Fail> {
     let mut lengths = Vec::new(alloc);
     for word in cell.split_whitespace() {
-        lengths.push(word.parse::<usize>().ok().ok_or("a length")?)?;
+        lengths.push(length(word)?)?;
     }
     Ok(lengths)
 }
 
-// What reads into buffers of these lengths, 8 at most, return: bytes and a bar, or ! for a failure.
+// What a read into a buffer of this length, 8 at most, returns: bytes and a bar, or ! for a failure.
+fn read_once<S: Source>(source: &mut S, length: usize, given: &mut Vec<u8>) -> Result<(), Fail> {
+    let mut buffer = [b'.'; 8];
+    match source.read(&mut buffer[..length.min(8)]) {
+        Ok(count) => {
+            given.extend_from_slice(&buffer[..count])?;
+            given.push(b'|')?;
+        }
+        Err(_) => given.push(b'!')?,
+    }
+    Ok(())
+}
+
+// What reads into buffers of these lengths return.
 fn given<S: Source>(alloc: Global, source: &mut S, buffers: &str) -> Result<Vec<u8>, Fail> {
     let mut given = Vec::new(alloc);
-    let mut buffer = [b'.'; 8];
-    for length in &lengths(alloc, buffers)? {
-        match source.read(&mut buffer[..(*length).min(8)]) {
-            Ok(count) => {
-                given.extend_from_slice(&buffer[..count])?;
-                given.push(b'|')?;
-            }
-            Err(_) => given.push(b'!')?,
-        }
+    for word in buffers.split_whitespace() {
+        read_once(source, length(word)?, &mut given)?;
     }
     Ok(given)
 }
@@ -55,39 +46,55 @@ const READS: &str = "\
 ;0;8 8;!abcdef|
 ";
 
-#[test]
-fn reads_follow_the_plan(rt: HostRuntime) -> Result<(), Fail> {
-    let alloc = rt.alloc();
-    for row in READS.lines() {
-        let (pieces, failing, buffers, want) = cells(row)?;
-        let bytes = b"abcdef".as_slice().to_vec(alloc)?;
-        let mut source = MemorySource::new(
-            bytes,
-            lengths(alloc, pieces)?,
-            numbers(alloc, failing)?,
-        );
-        let found = given(alloc, &mut source, buffers)?;
-        assert_eq!(rt; found.as_slice(), want.as_bytes(), "at {row}");
-        if failing.is_empty() {
-            let bytes = b"abcdef".as_slice().to_vec(alloc)?;
-            let mut source = SteadySource::new(bytes, lengths(alloc, pieces)?);
-            let found = given(alloc, &mut source, buffers)?;
-            assert_eq!(rt; found.as_slice(), want.as_bytes(), "at {row}");
-        }
+fn letters(alloc: Global) -> Result<Vec<u8>, Fail> {
+    Ok(b"abcdef".as_slice().to_vec(alloc)?)
+}
+
+fn given_by_the_plan(alloc: Global, row: &str) -> Result<Vec<u8>, Fail> {
+    let pieces = lengths(alloc, cell(row, 0))?;
+    let failing = numbers(alloc, cell(row, 1))?;
+    let mut source = MemorySource::new(letters(alloc)?, pieces, failing);
+    given(alloc, &mut source, cell(row, 2))
+}
+
+fn given_steadily(alloc: Global, row: &str) -> Result<Vec<u8>, Fail> {
+    let pieces = lengths(alloc, cell(row, 0))?;
+    let mut source = SteadySource::new(letters(alloc)?, pieces);
+    given(alloc, &mut source, cell(row, 2))
+}
+
+fn reads_are_planned(rt: &impl Abort, alloc: Global, row: &str) -> Result<(), Fail> {
+    let found = given_by_the_plan(alloc, row)?;
+    same_bytes(rt, found.as_slice(), cell(row, 3).as_bytes(), row);
+    if cell(row, 1).is_empty() {
+        let found = given_steadily(alloc, row)?;
+        same_bytes(rt, found.as_slice(), cell(row, 3).as_bytes(), row);
     }
     Ok(())
 }
 
-// What writes of these words, in which - is no byte, take: how many bytes of each, as a digit, or ! for
-// a failure; then a bar.
+#[test]
+fn reads_follow_the_plan(rt: HostRuntime) -> Result<(), Fail> {
+    for row in READS.lines() {
+        reads_are_planned(&rt, rt.alloc(), row)?;
+    }
+    Ok(())
+}
+
+// How many bytes of a word, in which - is no byte, a write takes, as a digit, or ! for a failure.
+fn taken_of<S: Sink>(sink: &mut S, word: &str) -> u8 {
+    let bytes = if word == "-" { "" } else { word };
+    match sink.write(bytes.as_bytes()) {
+        Ok(count) => b'0'.saturating_add(count.min(9) as u8),
+        Err(_) => b'!',
+    }
+}
+
+// What writes of these words take, then a bar.
 fn taken<S: Sink>(alloc: Global, sink: &mut S, words: &str) -> Result<Vec<u8>, Fail> {
     let mut taken = Vec::new(alloc);
     for word in words.split_whitespace() {
-        let bytes = if word == "-" { "" } else { word };
-        taken.push(match sink.write(bytes.as_bytes()) {
-            Ok(count) => b'0'.saturating_add(count.min(9) as u8),
-            Err(_) => b'!',
-        })?;
+        taken.push(taken_of(sink, word))?;
     }
     taken.push(b'|')?;
     Ok(taken)
@@ -102,48 +109,76 @@ const WRITES: &str = "\
 ;0;x abcd;!4|abcd
 ";
 
-#[test]
-fn writes_follow_the_plan(rt: HostRuntime) -> Result<(), Fail> {
-    let alloc = rt.alloc();
-    for row in WRITES.lines() {
-        let (pieces, failing, words, want) = cells(row)?;
-        let mut sink = MemorySink::new(alloc, lengths(alloc, pieces)?, numbers(alloc, failing)?);
-        let mut found = taken(alloc, &mut sink, words)?;
-        found.extend_from_slice(sink.bytes())?;
-        assert_eq!(rt; found.as_slice(), want.as_bytes(), "at {row}");
-        if failing.is_empty() {
-            let mut sink = SteadySink::new(alloc, 4, lengths(alloc, pieces)?)?;
-            let mut found = taken(alloc, &mut sink, words)?;
-            found.extend_from_slice(sink.bytes())?;
-            assert_eq!(rt; found.as_slice(), want.as_bytes(), "at {row}");
-        }
+fn taken_by_the_plan(alloc: Global, row: &str) -> Result<Vec<u8>, Fail> {
+    let pieces = lengths(alloc, cell(row, 0))?;
+    let failing = numbers(alloc, cell(row, 1))?;
+    let mut sink = MemorySink::new(alloc, pieces, failing);
+    let mut found = taken(alloc, &mut sink, cell(row, 2))?;
+    found.extend_from_slice(sink.bytes())?;
+    Ok(found)
+}
+
+fn taken_steadily(alloc: Global, room: usize, pieces: &str, words: &str) -> Result<Vec<u8>, Fail> {
+    let mut sink = SteadySink::new(alloc, room, lengths(alloc, pieces)?)?;
+    let mut found = taken(alloc, &mut sink, words)?;
+    found.extend_from_slice(sink.bytes())?;
+    Ok(found)
+}
+
+fn writes_are_planned(rt: &impl Abort, alloc: Global, row: &str) -> Result<(), Fail> {
+    let found = taken_by_the_plan(alloc, row)?;
+    same_bytes(rt, found.as_slice(), cell(row, 3).as_bytes(), row);
+    if cell(row, 1).is_empty() {
+        let found = taken_steadily(alloc, 4, cell(row, 0), cell(row, 2))?;
+        same_bytes(rt, found.as_slice(), cell(row, 3).as_bytes(), row);
     }
     Ok(())
 }
 
 #[test]
-fn a_steady_sink_drops_what_exceeds_its_room(rt: HostRuntime) -> Result<(), Fail> {
-    let alloc = rt.alloc();
-    for row in "9|abcdef\n3|abc\n2|ab\n0|\n".lines() {
-        let (room, want) = row.split_once('|').ok_or("a row")?;
-        let room = room.parse::<usize>().ok().ok_or("a number")?;
-        let mut sink = SteadySink::new(alloc, room, Vec::new(alloc))?;
-        let found = taken(alloc, &mut sink, "ab cd ef")?;
-        assert_eq!(rt; found.as_slice(), b"222|".as_slice());
-        assert_eq!(rt; sink.bytes(), want.as_bytes(), "at {row}");
+fn writes_follow_the_plan(rt: HostRuntime) -> Result<(), Fail> {
+    for row in WRITES.lines() {
+        writes_are_planned(&rt, rt.alloc(), row)?;
     }
     Ok(())
+}
+
+// The room, and what is taken and kept of 6 bytes.
+const ROOMS: &str = "\
+9;222|abcdef
+3;222|abc
+2;222|ab
+0;222|
+";
+
+#[test]
+fn a_steady_sink_drops_what_exceeds_its_room(rt: HostRuntime) -> Result<(), Fail> {
+    for row in ROOMS.lines() {
+        let found = taken_steadily(rt.alloc(), length(cell(row, 0))?, "", "ab cd ef")?;
+        same_bytes(&rt, found.as_slice(), cell(row, 1).as_bytes(), row);
+    }
+    Ok(())
+}
+
+// The moments that are listed, and those that the clock gives.
+const MOMENTS: &str = "\
+;0 0 0 0
+7;7 7 7 7
+7 5;7 5 5 5
+7 5 9 1 2;7 5 9 1
+";
+
+fn moments(alloc: Global, listed: &str) -> Result<String, Fail> {
+    let mut clock = ListedClock::new(numbers(alloc, listed)?);
+    let (first, second, third, fourth) = (clock.now(), clock.now(), clock.now(), clock.now());
+    Ok(format!(in alloc; "{first} {second} {third} {fourth}")?)
 }
 
 #[test]
 fn a_clock_repeats_its_last_moment(rt: HostRuntime) -> Result<(), Fail> {
-    let alloc = rt.alloc();
-    for row in "|0 0 0 0\n7|7 7 7 7\n7 5|7 5 5 5\n7 5 9 1 2|7 5 9 1\n".lines() {
-        let (listed, want) = row.split_once('|').ok_or("a row")?;
-        let mut clock = ListedClock::new(numbers(alloc, listed)?);
-        for moment in &numbers(alloc, want)? {
-            assert_eq!(rt; clock.now(), *moment, "at {row}");
-        }
+    for row in MOMENTS.lines() {
+        let found = moments(rt.alloc(), cell(row, 0))?;
+        same_text(&rt, found.as_str(), cell(row, 1), row);
     }
     Ok(())
 }
