@@ -20,9 +20,9 @@ pub fn holds(rt: &impl Abort, fact: bool, at: &str) {
     assert!(rt; fact, "at {at}");
 }
 
-// What stands in front of the first `|`, and what stands behind it.
-pub fn cells(row: &str) -> Result<(&str, &str), Fail> {
-    Ok(row.split_once('|').ok_or("row")?)
+// The cell at this place of a row; one that isn't there is empty.
+pub fn cell(row: &str, place: usize) -> &str {
+    row.split('|').nth(place).unwrap_or("")
 }
 
 pub fn number(cell: &str) -> Result<u32, Fail> {

@@ -1,4 +1,4 @@
-use crate::checks::{bytes_of, cells, number, same_text};
+use crate::checks::{bytes_of, cell, number, same_text};
 use dbus_auth::{Auth, AuthFault, Step};
 use std::alloc::{AllocGlobal, Global};
 use std::process::Abort;
@@ -192,11 +192,11 @@ fn is_answered(
     row: &str,
     place: usize,
 ) -> Result<(), Fail> {
-    let (line, want) = cells(row)?;
-    let found = answer(rt.alloc(), auth, line)?;
+    let found = answer(rt.alloc(), auth, cell(row, 0))?;
+    let want = whole(cell(row, 1)).as_bytes();
     assert_eq!(rt;
         found.as_slice(),
-        whole(want).as_bytes(),
+        want,
         "at {row}, line {place} of the table"
     );
     Ok(())

@@ -1,7 +1,7 @@
 ghost use Rattle.dbus_types.specs.ValueViews.{values_of};
 ghost use Rattle.dbus_marshal.specs.Fitting.{HaveSpelling};
 
-use crate::checks::{bytes_of, cells, holds, number, same_text};
+use crate::checks::{bytes_of, cell, holds, number, same_text};
 use dbus_marshal::{ValueFault, marshal, unmarshal};
 use dbus_types::{
     CompleteType, DictEntry, Endian, Signature, Value, element_of, fields_in, held_of, lone_in,
@@ -216,16 +216,15 @@ fn is_turned(
     to: Endian,
     want: &str,
 ) -> Result<(), Fail> {
-    let (signature, _) = cells(row)?;
     let bytes = bytes_of(rt.alloc(), digits)?;
-    let told = turned(rt.alloc(), signature, from, bytes.as_slice(), to)?;
+    let told = turned(rt.alloc(), cell(row, 0), from, bytes.as_slice(), to)?;
     same_text(rt, told.as_str(), want, row);
     Ok(())
 }
 
 fn is_read_and_written(rt: &(impl AllocGlobal + Abort), row: &str) -> Result<(), Fail> {
-    let (_, spellings) = cells(row)?;
-    let (little, big) = cells(spellings)?;
+    let little = cell(row, 1);
+    let big = cell(row, 2);
     is_turned(rt, row, Endian::Little, little, Endian::Big, big)?;
     is_turned(rt, row, Endian::Big, big, Endian::Little, little)?;
     is_turned(rt, row, Endian::Little, little, Endian::Little, little)
@@ -239,29 +238,22 @@ fn what_another_program_marshals_is_read_and_written(rt: HostRuntime) -> Result<
     Ok(())
 }
 
-// Each front of the bytes is short.
+// The bytes up to a place are short.
 fn is_short(
     rt: &(impl AllocGlobal + Abort),
-    signature: &str,
-    bytes: &[u8],
     row: &str,
+    bytes: &[u8],
+    cut: usize,
 ) -> Result<(), Fail> {
-    for cut in 0..bytes.len() {
-        let told = turned(
-            rt.alloc(),
-            signature,
-            Endian::Little,
-            &bytes[..cut],
-            Endian::Big,
-        )?;
-        assert_eq!(rt; told.as_str(), "Short", "at {cut} of {row}");
-    }
+    let (front, _) = bytes.split_at(cut.min(bytes.len()));
+    let told = turned(rt.alloc(), cell(row, 0), Endian::Little, front, Endian::Big)?;
+    assert_eq!(rt; told.as_str(), "Short", "at {cut} of {row}");
     Ok(())
 }
 
 // With a byte behind them the bytes have a rest.
-fn has_a_rest(rt: &(impl AllocGlobal + Abort), row: &str, digits: &str) -> Result<(), Fail> {
-    let longer = format!(in rt.alloc(); "{digits}00")?;
+fn has_a_rest(rt: &(impl AllocGlobal + Abort), row: &str) -> Result<(), Fail> {
+    let longer = format!(in rt.alloc(); "{}00", cell(row, 1))?;
     is_turned(
         rt,
         row,
@@ -273,11 +265,11 @@ fn has_a_rest(rt: &(impl AllocGlobal + Abort), row: &str, digits: &str) -> Resul
 }
 
 fn is_short_and_has_a_rest(rt: &(impl AllocGlobal + Abort), row: &str) -> Result<(), Fail> {
-    let (signature, spellings) = cells(row)?;
-    let (little, _) = cells(spellings)?;
-    let bytes = bytes_of(rt.alloc(), little)?;
-    is_short(rt, signature, bytes.as_slice(), row)?;
-    has_a_rest(rt, row, little)
+    let bytes = bytes_of(rt.alloc(), cell(row, 1))?;
+    for cut in 0..bytes.len() {
+        is_short(rt, row, bytes.as_slice(), cut)?;
+    }
+    has_a_rest(rt, row)
 }
 
 #[test]
@@ -464,32 +456,17 @@ fn prints(
     digits: &str,
     want: &str,
 ) -> Result<(), Fail> {
-    let (signature, rest) = cells(row)?;
-    let (place, _) = cells(rest)?;
     let bytes = bytes_of(rt.alloc(), digits)?;
-    let told = read(
-        rt.alloc(),
-        signature,
-        endian,
-        number(place)? as u64,
-        bytes.as_slice(),
-    )?;
+    let place = number(cell(row, 1))? as u64;
+    let told = read(rt.alloc(), cell(row, 0), endian, place, bytes.as_slice())?;
     same_text(rt, told.as_str(), want, row);
     Ok(())
 }
 
-// What stands behind a row's signature and place.
-fn behind_place(row: &str) -> Result<(&str, &str), Fail> {
-    let (_, rest) = cells(row)?;
-    let (_, rest) = cells(rest)?;
-    cells(rest)
-}
-
 fn is_read(rt: &(impl AllocGlobal + Abort), row: &str) -> Result<(), Fail> {
-    let (little, rest) = behind_place(row)?;
-    let (big, want) = cells(rest)?;
-    prints(rt, row, Endian::Little, little, want)?;
-    prints(rt, row, Endian::Big, big, want)
+    let want = cell(row, 4);
+    prints(rt, row, Endian::Little, cell(row, 2), want)?;
+    prints(rt, row, Endian::Big, cell(row, 3), want)
 }
 
 #[test]
@@ -500,23 +477,12 @@ fn values_are_read_in_both_byte_orders(rt: HostRuntime) -> Result<(), Fail> {
     Ok(())
 }
 
-fn is_told(rt: &(impl AllocGlobal + Abort), row: &str) -> Result<(), Fail> {
-    let (digits, want) = behind_place(row)?;
-    prints(rt, row, Endian::Little, digits, want)
-}
-
 #[test]
 fn the_first_fault_from_the_left_is_told(rt: HostRuntime) -> Result<(), Fail> {
     for row in FAULTS.lines() {
-        is_told(&rt, row)?;
+        prints(&rt, row, Endian::Little, cell(row, 2), cell(row, 3))?;
     }
     Ok(())
-}
-
-fn is_read_or_too_deep(rt: &(impl AllocGlobal + Abort), row: &str) -> Result<(), Fail> {
-    let (_, rest) = cells(row)?;
-    let (little, want) = cells(rest)?;
-    is_turned(rt, row, Endian::Little, little, Endian::Big, want)
 }
 
 #[test]
@@ -524,7 +490,14 @@ fn sixty_four_containers_of_any_kinds_are_read_and_one_more_is_too_deep(
     rt: HostRuntime,
 ) -> Result<(), Fail> {
     for row in NESTED.lines() {
-        is_read_or_too_deep(&rt, row)?;
+        is_turned(
+            &rt,
+            row,
+            Endian::Little,
+            cell(row, 1),
+            Endian::Big,
+            cell(row, 2),
+        )?;
     }
     Ok(())
 }
@@ -586,9 +559,8 @@ fn word(endian: Endian, number: u32) -> [u8; 4] {
 
 // The array of a row.
 fn array_in(alloc: Global, row: &str, endian: Endian) -> Result<Vec<u8>, Fail> {
-    let (_, rest) = cells(row)?;
-    let (padding, count) = cells(rest)?;
-    long_array(alloc, endian, number(padding)? as usize, number(count)?)
+    let padding = number(cell(row, 1))? as usize;
+    long_array(alloc, endian, padding, number(cell(row, 2))?)
 }
 
 // Little-endian bytes that are written in big-endian order again; none where they are refused.
@@ -598,11 +570,10 @@ fn big_of(alloc: Global, types: &Signature, little: &[u8]) -> Option<Vec<u8>> {
 }
 
 fn is_written(rt: &(impl AllocGlobal + Abort), row: &str) -> Result<(), Fail> {
-    let (signature, _) = cells(row)?;
-    let types = types_of(rt.alloc(), signature)?;
+    let types = types_of(rt.alloc(), cell(row, 0))?;
     let little = array_in(rt.alloc(), row, Endian::Little)?;
-    let big = array_in(rt.alloc(), row, Endian::Big)?;
     let written = big_of(rt.alloc(), &types, little.as_slice()).ok_or("bytes")?;
+    let big = array_in(rt.alloc(), row, Endian::Big)?;
     holds(rt, written.as_slice() == big.as_slice(), row);
     Ok(())
 }

@@ -1,4 +1,4 @@
-use crate::checks::{bytes_of, cells, holds, number, same_number, same_text};
+use crate::checks::{bytes_of, cell, holds, number, same_number, same_text};
 use dbus_framing::{FrameRefused, Framer, Violation, is_interface_name, is_member_name};
 use dbus_types::Message;
 use std::alloc::{AllocGlobal, Global};
@@ -85,8 +85,7 @@ const STREAM: &str = "\
 fn stream(alloc: Global) -> Result<Vec<u8>, Fail> {
     let mut stream = Vec::new(alloc);
     for row in STREAM.lines() {
-        let (message, _) = cells(row)?;
-        stream.extend_from_slice(bytes_of(alloc, message)?.as_slice())?;
+        stream.extend_from_slice(bytes_of(alloc, cell(row, 0))?.as_slice())?;
     }
     Ok(stream)
 }
@@ -95,8 +94,7 @@ fn stream(alloc: Global) -> Result<Vec<u8>, Fail> {
 fn stream_told(alloc: Global) -> Result<String, Fail> {
     let mut told = String::new(alloc);
     for row in STREAM.lines() {
-        let (_, want) = cells(row)?;
-        told.push_str(want)?;
+        told.push_str(cell(row, 1))?;
     }
     Ok(told)
 }
@@ -210,10 +208,8 @@ Number cut short|6c01000103000000010000002700000001016f00010000002f0000000000000
 ";
 
 fn is_broken(rt: &(impl AllocGlobal + Abort), row: &str) -> Result<(), Fail> {
-    let (what, rest) = cells(row)?;
-    let (message, cause) = cells(rest)?;
-    let message = bytes_of(rt.alloc(), message)?;
-    breaks_behind_a_call(rt, message.as_slice(), cause, what)
+    let message = bytes_of(rt.alloc(), cell(row, 1))?;
+    breaks_behind_a_call(rt, message.as_slice(), cell(row, 2), cell(row, 0))
 }
 
 #[test]
@@ -254,12 +250,11 @@ fn changed(bytes: &mut Vec<u8>, place: usize, others: &[u8]) {
 }
 
 fn is_changed(rt: &(impl AllocGlobal + Abort), row: &str) -> Result<(), Fail> {
-    let (place, rest) = cells(row)?;
-    let (change, cause) = cells(rest)?;
     let mut message = bytes_of(rt.alloc(), OPEN_SESSION)?;
-    let change = bytes_of(rt.alloc(), change)?;
-    changed(&mut message, number(place)? as usize, change.as_slice());
-    breaks_behind_a_call(rt, message.as_slice(), cause, row)
+    let change = bytes_of(rt.alloc(), cell(row, 1))?;
+    let place = number(cell(row, 0))? as usize;
+    changed(&mut message, place, change.as_slice());
+    breaks_behind_a_call(rt, message.as_slice(), cell(row, 2), row)
 }
 
 #[test]
@@ -350,22 +345,17 @@ a.b.|false false
 é|false false
 ";
 
-// "true" or "false".
-fn word(fact: bool) -> &'static str {
-    if fact { "true" } else { "false" }
-}
-
-fn is_a_name(rt: &(impl AllocGlobal + Abort), row: &str) -> Result<(), Fail> {
-    let (name, want) = cells(row)?;
-    let (member, interface) = want.split_once(' ').ok_or("row")?;
-    same_text(rt, word(is_member_name(name.as_bytes())), member, name);
-    same_text(
-        rt,
-        word(is_interface_name(name.as_bytes())),
-        interface,
-        name,
-    );
-    Ok(())
+// Whether the name is a member name and an interface name, as the table says it.
+fn kinds(name: &str) -> &'static str {
+    match (
+        is_member_name(name.as_bytes()),
+        is_interface_name(name.as_bytes()),
+    ) {
+        (true, true) => "true true",
+        (true, false) => "true false",
+        (false, true) => "false true",
+        (false, false) => "false false",
+    }
 }
 
 fn has_at_most_255_bytes(rt: &(impl AllocGlobal + Abort)) -> Result<(), Fail> {
@@ -379,7 +369,7 @@ fn has_at_most_255_bytes(rt: &(impl AllocGlobal + Abort)) -> Result<(), Fail> {
 #[test]
 fn names_are_elements_of_at_most_255_bytes(rt: HostRuntime) -> Result<(), Fail> {
     for row in NAMES.lines() {
-        is_a_name(&rt, row)?;
+        same_text(&rt, kinds(cell(row, 0)), cell(row, 1), row);
     }
     has_at_most_255_bytes(&rt)
 }

@@ -1,4 +1,4 @@
-use crate::checks::{cells, holds, number, same_bytes, same_number, same_text};
+use crate::checks::{cell, holds, number, same_bytes, same_number, same_text};
 use dbus_types::{ObjectPath, Signature};
 use kr_base::Text;
 use std::alloc::{AllocGlobal, Global};
@@ -53,8 +53,7 @@ fn is_told(
 #[test]
 fn signatures_are_read_or_refused_with_their_first_fault(rt: HostRuntime) -> Result<(), Fail> {
     for row in SIGNATURES.lines() {
-        let (text, want) = cells(row)?;
-        is_told(&rt, text.as_bytes(), want, row)?;
+        is_told(&rt, cell(row, 0).as_bytes(), cell(row, 1), row)?;
     }
     Ok(())
 }
@@ -84,11 +83,13 @@ fn repeated(alloc: Global, count: u32, code: &str, ending: &str) -> Result<Vec<u
 }
 
 fn ends_where_told(rt: &(impl AllocGlobal + Abort), row: &str) -> Result<(), Fail> {
-    let (count, rest) = cells(row)?;
-    let (code, rest) = cells(rest)?;
-    let (ending, want) = cells(rest)?;
-    let text = repeated(rt.alloc(), number(count)?, code, ending)?;
-    is_told(rt, text.as_slice(), want, row)
+    let text = repeated(
+        rt.alloc(),
+        number(cell(row, 0))?,
+        cell(row, 1),
+        cell(row, 2),
+    )?;
+    is_told(rt, text.as_slice(), cell(row, 3), row)
 }
 
 #[test]
@@ -160,16 +161,12 @@ fn is_its_text(rt: &(impl AllocGlobal + Abort), made: ObjectPath, path: &str) ->
 }
 
 fn is_taken_or_refused(rt: &(impl AllocGlobal + Abort), row: &str) -> Result<(), Fail> {
-    let (path, want) = cells(row)?;
-    match made_of(rt.alloc(), path)? {
-        Some(made) => {
-            holds(rt, want == "true", row);
-            is_its_text(rt, made, path)
-        }
-        None => {
-            holds(rt, want == "false", row);
-            Ok(())
-        }
+    let path = cell(row, 0);
+    let made = made_of(rt.alloc(), path)?;
+    holds(rt, made.is_some() == (cell(row, 1) == "true"), row);
+    match made {
+        Some(made) => is_its_text(rt, made, path),
+        None => Ok(()),
     }
 }
 
