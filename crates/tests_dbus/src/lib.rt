@@ -11,6 +11,8 @@ mod marshalling;
 #[cfg(test)]
 mod messages;
 #[cfg(test)]
+mod sending;
+#[cfg(test)]
 mod spelling;
 #[cfg(test)]
 mod types;
