@@ -7,6 +7,7 @@
 
 mod call;
 mod out;
+mod returns;
 mod size;
 mod taken;
 

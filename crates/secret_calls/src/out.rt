@@ -3,13 +3,10 @@ ghost use Rattle.dbus_marshal.specs.Putting.{puts};
 ghost use Rattle.dbus_sending.specs.HeaderViews.{seen};
 ghost use Rattle.secret_calls.specs.Outs.{values_of, header_of, spelled};
 
-use dbus_marshal::{Put, PutValues, put_long_path, put_text_variant};
+use crate::returns::put_session;
+use dbus_marshal::{Put, PutValues};
 use dbus_sending::{Header, put_message};
-use itoa::Buffer;
 use kr_base::{OutOfMemory, SessionId};
-
-/// What comes before a session's number in its path.
-const SESSIONS: &str = "/org/freedesktop/secrets/session/s";
 
 /// The name of an error, of the D-Bus Specification or of the Secret Service API.
 #[derive(Clone, Copy, Debug, PartialEq, Eq)]
@@ -83,17 +80,6 @@ impl Body {
             Body::Session(_) => "vo",
         }
     }
-}
-
-// Puts the return of OpenSession.
-fn put_session<P: Put>(out: &mut P, session: SessionId) -> Result<(), P::Refused>
-    ensures { (before : List ℕ) → P.stands out.old before
-        → OnOk result (P.stands out.new (puts before (values_of (Body.Session session)))) }
-{
-    let mut buffer = Buffer::new();
-    let number = buffer.format(session.0);
-    put_text_variant(out, b"")?;
-    put_long_path(out, SESSIONS.as_bytes(), number.as_bytes())
 }
 
 impl PutValues for Body {
