@@ -1,42 +1,49 @@
-use kr_base::Text;
+use crate::checks::{cell, holds, number, same_number, same_text};
+use crate::words::call_of;
 use lone_desk::LoneDesk;
-use secret_calls::{Body, Call, Out, Refused, Request, Taken};
+use secret_calls::{Body, Call, CallFault, Out, Refused, Request, Taken};
 use service_desk::{Desk, JoinRefused, ReadDesk, WriteDesk};
 use service_history::Service;
 use std::alloc::Global;
+use std::process::Abort;
 use std::test::Fail;
 
 // A request with this serial.
-fn request(serial: u32, call: Call) -> Option<Request> {
+fn request(serial: &str, call: Result<Call, CallFault>) -> Result<Request, Fail> {
+    let serial = serial.parse::<u32>().ok().ok_or("serial")?;
     if serial == 0 {
-        return None;
+        return Err("serial")?;
     }
-    Some(Request {
+    Ok(Request {
         serial,
         wants_reply: true,
         length: 128,
-        call: Ok(call),
+        call,
     })
 }
 
+fn outs_told(outs: &[Out]) -> &'static str {
+    match outs {
+        [
+            Out::Return {
+                to: 1,
+                body: Body::Session(_),
+            },
+        ] => "a session",
+        [
+            Out::Return {
+                to: 2,
+                body: Body::Empty,
+            },
+        ] => "a pong",
+        _ => "other outputs",
+    }
+}
+
 // What a desk gives, in words.
-fn words_of(taken: Taken) -> &'static str {
+fn taken_told(taken: Taken) -> &'static str {
     match taken {
-        Taken::Outs(outs) => match outs.as_slice() {
-            [
-                Out::Return {
-                    to: 1,
-                    body: Body::Session(_),
-                },
-            ] => "a session",
-            [
-                Out::Return {
-                    to: 2,
-                    body: Body::Empty,
-                },
-            ] => "a pong",
-            _ => "other outputs",
-        },
+        Taken::Outs(outs) => outs_told(outs.as_slice()),
         Taken::Empty => "nothing yet",
         Taken::Overrun => "overrun",
         Taken::Closed => "closed",
@@ -45,7 +52,7 @@ fn words_of(taken: Taken) -> &'static str {
 }
 
 // What is answered to a request, in words.
-fn word_of(arrived: Result<(), Refused>) -> &'static str {
+fn arrived_told(arrived: Result<(), Refused>) -> &'static str {
     match arrived {
         Ok(()) => "taken",
         Err(Refused::EventsSpent) => "spent",
@@ -54,51 +61,93 @@ fn word_of(arrived: Result<(), Refused>) -> &'static str {
     }
 }
 
-// One connection asks, takes, leaves and goes, over the traits.
-fn converse<D: ReadDesk + WriteDesk>(alloc: Global, desk: &mut D) -> Result<String, Fail> {
-    let algorithm = Text::from_str(alloc, "plain")?.ok_or("text")?;
-    let first = request(1, Call::OpenSession { algorithm }).ok_or("serial")?;
-    let second = request(2, Call::Ping).ok_or("serial")?;
-    let third = request(3, Call::Ping).ok_or("serial")?;
-    let opened = word_of(desk.arrive(first, 1_700_000_000, [0; 8]));
-    let session = words_of(desk.take());
-    let empty = words_of(desk.take());
-    let pinged = word_of(desk.arrive(second, 1_700_000_001, [0; 8]));
+fn arrive<D: ReadDesk>(desk: &mut D, request: Request, now: u64) -> &'static str {
+    arrived_told(desk.arrive(request, now, [0; 8]))
+}
+
+fn take<D: WriteDesk>(desk: &mut D) -> &'static str {
+    taken_told(desk.take())
+}
+
+fn leave<D: ReadDesk>(desk: &mut D) -> &'static str {
     desk.leave();
-    let pong = words_of(desk.take());
-    let closed = words_of(desk.take());
-    let missing = words_of(desk.take());
+    ""
+}
+
+fn gone<D: WriteDesk>(desk: &mut D) -> &'static str {
     desk.gone();
-    let late = word_of(desk.arrive(third, 0, [0; 8]));
-    let said = format!(in alloc; "{opened}, {session}, {empty}, {pinged}, {pong}, {closed}")?;
-    Ok(format!(in alloc; "{said}, {missing}, {late}")?)
+    ""
+}
+
+// The request of a row arrives.
+fn ask<D: ReadDesk>(alloc: Global, desk: &mut D, row: &str) -> Result<&'static str, Fail> {
+    let request = request(cell(row, 0), call_of(alloc, row)?)?;
+    Ok(arrive(desk, request, number(cell(row, 3))?))
+}
+
+// What a desk does over the traits: takes, leaves, goes or asks. A request has a serial, a call with its
+// argument, and a moment; what is answered comes last.
+const CONVERSATION: &str = "\
+1|open|plain|1700000000|taken
+|take|||a session
+|take|||nothing yet
+2|ping||1700000001|taken
+|leave|||
+|take|||a pong
+|take|||closed
+|take|||missing
+|gone|||
+3|ping||0|gone
+";
+
+fn does<D: ReadDesk + WriteDesk>(
+    alloc: Global,
+    desk: &mut D,
+    row: &str,
+) -> Result<&'static str, Fail> {
+    match cell(row, 1) {
+        "take" => Ok(take(desk)),
+        "leave" => Ok(leave(desk)),
+        "gone" => Ok(gone(desk)),
+        _ => ask(alloc, desk, row),
+    }
+}
+
+fn stored(service: &Service) -> u64 {
+    service.events().len() as u64
 }
 
 #[test]
 fn a_desk_is_asked_and_takes_until_it_is_closed(rt: HostRuntime) -> Result<(), Fail> {
     let mut desk = LoneDesk::join(Service::open(rt.alloc()))?;
-    assert_eq!(rt; desk.conn().0, 1);
-    let said = converse(rt.alloc(), &mut desk)?;
-    let wanted = "taken, a session, nothing yet, taken, a pong, closed, missing, gone";
-    assert_eq!(rt; said.as_str(), wanted);
-    let service = desk.into_service();
-    assert_eq!(rt; service.events().len(), 7);
+    same_number(&rt, desk.conn().0, 1, "its number");
+    for row in CONVERSATION.lines() {
+        let told = does(rt.alloc(), &mut desk, row)?;
+        same_text(&rt, told, cell(row, 4), row);
+    }
+    same_number(&rt, stored(&desk.into_service()), 7, "the events");
     Ok(())
+}
+
+fn joined(rt: &impl Abort, service: Service, number: u64) -> Result<Service, Fail> {
+    let desk = LoneDesk::join(service)?;
+    same_number(rt, desk.conn().0, number, "a desk's number");
+    Ok(desk.into_service())
+}
+
+fn is_crowded(service: Service) -> bool {
+    matches!(
+        LoneDesk::join(service),
+        Err(JoinRefused::TooManyConnections)
+    )
 }
 
 #[test]
 fn a_257th_connection_is_refused(rt: HostRuntime) -> Result<(), Fail> {
     let mut service = Service::open(rt.alloc());
     for number in 1..257u64 {
-        let desk = LoneDesk::join(service)?;
-        assert_eq!(rt; desk.conn().0, number);
-        service = desk.into_service();
+        service = joined(&rt, service, number)?;
     }
-    assert!(rt;
-        matches!(
-            LoneDesk::join(service),
-            Err(JoinRefused::TooManyConnections)
-        )
-    );
+    holds(&rt, is_crowded(service), "a 257th");
     Ok(())
 }

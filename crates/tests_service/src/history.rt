@@ -1,109 +1,174 @@
-ghost use Rattle.service_history.specs.History.{IsAsked};
-
-use kr_base::{ConnId, SessionId, Text};
-use secret_calls::{Body, Call, ErrorName, Out, Request, Taken};
+use crate::checks::{cell, same_number, same_text};
+use crate::words::{call_of, decimal, last_told, session_told};
+use kr_base::ConnId;
+use secret_calls::{Call, CallFault, Request, Taken};
 use service_history::Service;
 use service_machine::{Arrival, Incoming, Output};
+use std::alloc::Global;
+use std::process::Abort;
 use std::test::Fail;
 
-// A request of this length.
-fn asks(conn: ConnId, length: u32, call: Call) -> Incoming
-    ensures { IsAsked result }
-{
+// The first connection joins; its number.
+fn join(service: &mut Service) -> Result<u64, Fail> {
+    match service.event(Incoming::Connect)? {
+        Output::Joined(conn) => Ok(conn.0),
+        _ => Err("another output")?,
+    }
+}
+
+// The first connection asks, with a request of this length.
+fn ask(service: &mut Service, length: u32, call: Result<Call, CallFault>) -> Result<(), Fail> {
     let request = Request {
         serial: 9,
         wants_reply: true,
         length,
-        call: Ok(call),
+        call,
     };
-    Incoming::Arrive(Arrival {
-        conn,
+    let arrival = Arrival {
+        conn: ConnId(1),
         request,
         now: 1_700_000_000,
         salt: [0; 8],
-    })
+    };
+    let _ = service.event(Incoming::Arrive(arrival))?;
+    Ok(())
 }
 
-// The number of a session, or the name of the error.
-fn answer(service: &mut Service, conn: ConnId) -> Result<Result<u64, ErrorName>, Fail> {
-    match service.take(conn) {
-        Taken::Outs(outs) => match outs.as_slice().last().ok_or("outs")? {
-            Out::Return {
-                to: _,
-                body: Body::Session(session),
-            } => Ok(Ok(session.0)),
-            Out::Return {
-                to: _,
-                body: Body::Empty,
-            } => Ok(Ok(0)),
-            Out::Error { to: _, name } => Ok(Err(*name)),
-        },
-        _ => Err("nothing waits".into()),
+fn take(service: &mut Service) -> Taken {
+    service.take(ConnId(1))
+}
+
+fn leave(service: &mut Service) {
+    service.leave(ConnId(1));
+}
+
+fn gone(service: &mut Service) {
+    service.gone(ConnId(1));
+}
+
+fn stored(service: &Service) -> u64 {
+    service.events().len() as u64
+}
+
+// The era after so many requests of a mebibyte.
+fn era_after(number: u64) -> u64 {
+    match number {
+        0..=256 => 0,
+        257..=512 => 257,
+        _ => 513,
     }
+}
+
+fn asks_much(
+    rt: &impl Abort,
+    alloc: Global,
+    service: &mut Service,
+    number: u64,
+) -> Result<(), Fail> {
+    ask(service, 1_048_576, Ok(Call::Ping))?;
+    let at = decimal(alloc, number)?;
+    same_number(rt, service.era(), era_after(number), at.as_str());
+    Ok(())
 }
 
 #[test]
 fn a_cut_is_made_once_the_events_cost_much(rt: HostRuntime) -> Result<(), Fail> {
     let mut service = Service::open(rt.alloc());
-    let conn = ConnId(1);
-    service.event(Incoming::Connect)?;
-    for number in 1..514u32 {
-        service.event(asks(conn, 1_048_576, Call::Ping))?;
-        let era = match number {
-            0..=256 => 0,
-            257..=512 => 257,
-            _ => 513,
-        };
-        assert_eq!(rt; service.era(), era, "after {number}");
+    join(&mut service)?;
+    for number in 1..514u64 {
+        asks_much(&rt, rt.alloc(), &mut service, number)?;
     }
-    assert_eq!(rt; service.events().len(), 1);
-    service.gone(conn);
-    assert_eq!(rt; (service.era(), service.events().len()), (513, 2));
+    same_number(&rt, stored(&service), 1, "the events behind the cut");
+    gone(&mut service);
+    same_number(&rt, service.era(), 513, "the era");
+    same_number(&rt, stored(&service), 2, "the events with the last");
     Ok(())
 }
 
+// What is answered to the call of a row.
+fn answer(alloc: Global, service: &mut Service, row: &str) -> Result<String, Fail> {
+    ask(service, 149, call_of(alloc, row)?)?;
+    match take(service) {
+        Taken::Outs(outs) => last_told(alloc, outs.as_slice()),
+        _ => Err("nothing waits")?,
+    }
+}
+
+fn opens(rt: &impl Abort, alloc: Global, service: &mut Service, number: u64) -> Result<(), Fail> {
+    let want = session_told(alloc, number)?;
+    let found = answer(alloc, service, "1|open|plain")?;
+    same_text(rt, found.as_str(), want.as_str(), want.as_str());
+    Ok(())
+}
+
+// What the connection does when it has 64 sessions, and what it is answered.
+const FULL: &str = "\
+1|open|plain|LimitsExceeded
+1|close|7|done
+1|open|plain|session 65
+";
+
 #[test]
 fn a_65th_session_is_refused(rt: HostRuntime) -> Result<(), Fail> {
-    let alloc = rt.alloc();
-    let mut service = Service::open(alloc);
-    let conn = ConnId(1);
-    service.event(Incoming::Connect)?;
-    for number in 1..66u64 {
-        let algorithm = Text::from_str(alloc, "plain")?.ok_or("text")?;
-        service.event(asks(conn, 149, Call::OpenSession { algorithm }))?;
-        let want = match number {
-            65 => Err(ErrorName::LimitsExceeded),
-            _ => Ok(number),
-        };
-        assert_eq!(rt; answer(&mut service, conn)?, want);
+    let mut service = Service::open(rt.alloc());
+    join(&mut service)?;
+    for number in 1..65u64 {
+        opens(&rt, rt.alloc(), &mut service, number)?;
     }
-    let session = SessionId(7);
-    service.event(asks(conn, 149, Call::CloseSession { session }))?;
-    assert_eq!(rt; answer(&mut service, conn)?, Ok(0));
-    let algorithm = Text::from_str(alloc, "plain")?.ok_or("text")?;
-    service.event(asks(conn, 149, Call::OpenSession { algorithm }))?;
-    assert_eq!(rt; answer(&mut service, conn)?, Ok(65));
+    for row in FULL.lines() {
+        let found = answer(rt.alloc(), &mut service, row)?;
+        same_text(&rt, found.as_str(), cell(row, 3), row);
+    }
     Ok(())
+}
+
+fn taken_told(taken: Taken) -> &'static str {
+    match taken {
+        Taken::Outs(_) => "outputs",
+        Taken::Empty => "nothing yet",
+        Taken::Overrun => "overrun",
+        Taken::Closed => "closed",
+        Taken::Missing => "missing",
+    }
+}
+
+// What the first connection does, and what is answered.
+const LIFE: &str = "\
+take|missing
+join|joined
+take|nothing yet
+ping|
+leave|
+leave|
+take|outputs
+take|closed
+take|missing
+gone|
+";
+
+fn joined_told(number: u64) -> &'static str {
+    if number == 1 { "joined" } else { "another" }
+}
+
+fn does(service: &mut Service, what: &str) -> Result<&'static str, Fail> {
+    match what {
+        "join" => return Ok(joined_told(join(service)?)),
+        "take" => return Ok(taken_told(take(service))),
+        "ping" => ask(service, 128, Ok(Call::Ping))?,
+        "leave" => leave(service),
+        _ => gone(service),
+    }
+    Ok("")
 }
 
 #[test]
 fn a_connection_that_left_is_closed_once_nothing_waits(rt: HostRuntime) -> Result<(), Fail> {
     let mut service = Service::open(rt.alloc());
-    let conn = ConnId(1);
-    assert!(rt; matches!(service.take(conn), Taken::Missing));
-    match service.event(Incoming::Connect)? {
-        Output::Joined(joined) => assert_eq!(rt; joined, conn),
-        _ => assert!(rt; false),
+    for row in LIFE.lines() {
+        let found = does(&mut service, cell(row, 0))?;
+        same_text(&rt, found, cell(row, 1), row);
     }
-    assert!(rt; matches!(service.take(conn), Taken::Empty));
-    service.event(asks(conn, 128, Call::Ping))?;
-    service.leave(conn);
-    service.leave(conn);
-    assert!(rt; matches!(service.take(conn), Taken::Outs(_)));
-    assert!(rt; matches!(service.take(conn), Taken::Closed));
-    assert!(rt; matches!(service.take(conn), Taken::Missing));
-    service.gone(conn);
     // It joined, asked, left, took and went.
-    assert_eq!(rt; service.events().len(), 5);
+    same_number(&rt, stored(&service), 5, "the events");
     Ok(())
 }

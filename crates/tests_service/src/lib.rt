@@ -3,8 +3,12 @@
 #![tactic(auto)]
 
 #[cfg(test)]
+mod checks;
+#[cfg(test)]
 mod desk;
 #[cfg(test)]
 mod history;
 #[cfg(test)]
 mod machine;
+#[cfg(test)]
+mod words;

@@ -1,163 +1,192 @@
-use kr_base::{ConnId, SessionId, Text};
-use secret_calls::{Body, Call, CallFault, ErrorName, Out, Request};
-use service_machine::{ApplyRefused, Arrival, Incoming, Machine, Output};
+use crate::checks::{cell, holds, number, same_number, same_text};
+use crate::words::{call_of, last_told};
+use kr_base::ConnId;
+use kr_items::Items;
+use secret_calls::{Call, CallFault, Out, Request};
+use service_machine::{ApplyRefused, Arrival, Incoming, Machine, Output, Rows};
 use std::alloc::Global;
+use std::process::Abort;
 use std::test::Fail;
 
 // Two connections, 1 and 2; a connection that is gone isn't there. In a row a connection and what it does:
 // it pings, opens a session with an algorithm, closes one, calls no method or is gone; and what it is
 // answered: a return, the number of a session, an error or nothing.
 const CONVERSATION: &str = "\
-1 ping : done
-1 open dh-ietf1024-sha256-aes128-cbc-pkcs7 : NotSupported
-1 open plain : session 1
-2 close 1 : NoSession
-2 open plain : session 2
-1 close 2 : NoSession
-1 close 1 : done
-1 close 1 : NoSession
-1 open plain : session 3
-1 unknown : UnknownMethod
-1 gone : nothing
-1 ping : nothing
-2 close 3 : NoSession
+1|ping||done
+1|open|dh-ietf1024-sha256-aes128-cbc-pkcs7|NotSupported
+1|open|plain|session 1
+2|close|1|NoSession
+2|open|plain|session 2
+1|close|2|NoSession
+1|close|1|done
+1|close|1|NoSession
+1|open|plain|session 3
+1|unknown||UnknownMethod
+1|gone||nothing
+1|ping||nothing
+2|close|3|NoSession
 ";
 
-// The call that a connection makes.
-fn call(alloc: Global, ask: &str, argument: &str) -> Result<Result<Call, CallFault>, Fail> {
-    match ask {
-        "open" => {
-            let algorithm = Text::from_str(alloc, argument)?.ok_or("text")?;
-            Ok(Ok(Call::OpenSession { algorithm }))
-        }
-        "close" => Ok(Ok(Call::CloseSession {
-            session: SessionId(argument.parse::<u64>().ok().ok_or("session")?),
-        })),
-        "unknown" => Ok(Err(CallFault::UnknownMethod)),
-        _ => Ok(Ok(Call::Ping)),
+// A connection joins; its number.
+fn join(machine: &mut Machine) -> Result<u64, ApplyRefused> {
+    let (output, _) = machine.apply(Incoming::Connect)?;
+    match output {
+        Output::Joined(conn) => Ok(conn.0),
+        _ => Ok(0),
     }
 }
 
-// What a row's connection asks.
-fn request(alloc: Global, does: &str) -> Result<Request, Fail> {
-    let (ask, argument) = does.split_once(' ').unwrap_or((does, ""));
-    Ok(Request {
+fn arrive(
+    machine: &mut Machine,
+    conn: ConnId,
+    call: Result<Call, CallFault>,
+) -> Result<(), ApplyRefused> {
+    let request = Request {
         serial: 7,
         wants_reply: true,
         length: 128,
-        call: call(alloc, ask, argument)?,
-    })
+        call,
+    };
+    let arrival = Arrival {
+        conn,
+        request,
+        now: 0,
+        salt: [0; 8],
+    };
+    let _ = machine.apply(Incoming::Arrive(arrival))?;
+    Ok(())
 }
 
-// What an output says.
-fn words_of(alloc: Global, out: &Out) -> Result<String, Fail> {
-    match out {
-        Out::Return {
-            to: _,
-            body: Body::Empty,
-        } => Ok(String::from_str(alloc, "done")?),
-        Out::Return {
-            to: _,
-            body: Body::Session(session),
-        } => Ok(format!(in alloc; "session {}", session.0)?),
-        Out::Error { to: _, name } => Ok(format!(in alloc; "{name:?}")?),
+fn gone(machine: &mut Machine, conn: ConnId) -> Result<(), ApplyRefused> {
+    let _ = machine.apply(Incoming::Gone(conn))?;
+    Ok(())
+}
+
+// All that waits, taken; nothing where nothing waits.
+fn taken(machine: &mut Machine, conn: ConnId) -> Option<Items<Out>> {
+    let desk = machine.desk(conn)?;
+    if !desk.waits {
+        return None;
+    }
+    let (output, _) = machine.apply(Incoming::Take(conn)).ok()?;
+    match output {
+        Output::Taken(outs) => Some(outs),
+        _ => None,
+    }
+}
+
+fn does(
+    alloc: Global,
+    machine: &mut Machine,
+    conn: ConnId,
+    row: &str,
+) -> Result<Result<(), ApplyRefused>, Fail> {
+    match cell(row, 1) {
+        "gone" => Ok(gone(machine, conn)),
+        _ => Ok(arrive(machine, conn, call_of(alloc, row)?)),
     }
 }
 
 // Takes all that waits, and says what the last of it is.
-fn taken(alloc: Global, machine: &mut Machine, conn: ConnId) -> Result<String, Fail> {
-    match machine.desk(conn) {
-        Some(desk) if desk.waits => {
-            let (output, _) = machine.apply(Incoming::Take(conn))?;
-            match output {
-                Output::Taken(outs) => words_of(alloc, outs.as_slice().last().ok_or("outs")?),
-                _ => Ok(String::from_str(alloc, "nothing")?),
-            }
-        }
-        _ => Ok(String::from_str(alloc, "nothing")?),
+fn answer(alloc: Global, machine: &mut Machine, conn: ConnId) -> Result<String, Fail> {
+    match taken(machine, conn) {
+        Some(outs) => last_told(alloc, outs.as_slice()),
+        None => Ok(String::from_str(alloc, "nothing")?),
     }
+}
+
+// Whether an event was taken, or its connection isn't there.
+fn is_taken_or_of_none(applied: Result<(), ApplyRefused>) -> bool {
+    matches!(applied, Ok(()) | Err(ApplyRefused::NoConnection))
+}
+
+fn is_answered(
+    rt: &impl Abort,
+    alloc: Global,
+    machine: &mut Machine,
+    row: &str,
+) -> Result<(), Fail> {
+    let conn = ConnId(number(cell(row, 0))?);
+    let applied = does(alloc, machine, conn, row)?;
+    holds(rt, is_taken_or_of_none(applied), row);
+    let told = answer(alloc, machine, conn)?;
+    same_text(rt, told.as_str(), cell(row, 3), row);
+    Ok(())
+}
+
+// The second connection is left, with one session.
+fn are_left(rt: &impl Abort, rows: &Rows) {
+    let connections = rows.connections.rows.len() as u64;
+    same_number(rt, connections, 1, "the connections");
+    same_number(rt, rows.connections.next, 3, "the next connection");
+    let sessions = rows.sessions.rows.len() as u64;
+    same_number(rt, sessions, 1, "the sessions");
+    same_number(rt, rows.sessions.next, 4, "the next session");
 }
 
 #[test]
 fn two_connections_talk(rt: HostRuntime) -> Result<(), Fail> {
-    let alloc = rt.alloc();
-    let mut machine = Machine::open(alloc);
-    machine.apply(Incoming::Connect)?;
-    machine.apply(Incoming::Connect)?;
+    let mut machine = Machine::open(rt.alloc());
+    join(&mut machine)?;
+    join(&mut machine)?;
     for row in CONVERSATION.lines() {
-        let (row, want) = row.split_once(" : ").ok_or("answer")?;
-        let (number, does) = row.split_once(' ').ok_or("connection")?;
-        let conn = ConnId(number.parse::<u64>().ok().ok_or("connection")?);
-        let applied = if does == "gone" {
-            machine.apply(Incoming::Gone(conn))
-        } else {
-            let request = request(alloc, does)?;
-            machine.apply(Incoming::Arrive(Arrival {
-                conn,
-                request,
-                now: 0,
-                salt: [0; 8],
-            }))
-        };
-        if let Err(refused) = applied {
-            assert_eq!(rt; refused, ApplyRefused::NoConnection);
-        }
-        let told = taken(alloc, &mut machine, conn)?;
-        assert_eq!(rt; told.as_str(), want, "of {row}");
+        is_answered(&rt, rt.alloc(), &mut machine, row)?;
     }
-    let rows = machine.rows()?;
-    assert_eq!(rt; rows.connections.rows.len(), 1);
-    assert_eq!(rt; rows.sessions.rows.len(), 1);
-    assert_eq!(rt; (rows.connections.next, rows.sessions.next), (3, 4));
+    are_left(&rt, &machine.rows()?);
     Ok(())
+}
+
+fn is_overrun(machine: &Machine, conn: ConnId) -> Result<bool, Fail> {
+    Ok(machine.desk(conn).ok_or("desk")?.overrun)
+}
+
+// Whether outputs wait for a connection that doesn't leave.
+fn waits(machine: &Machine, conn: ConnId) -> Result<bool, Fail> {
+    let desk = machine.desk(conn).ok_or("desk")?;
+    Ok(desk.waits && !desk.leaving)
+}
+
+fn ping(rt: &impl Abort, machine: &mut Machine, conn: ConnId) -> Result<(), Fail> {
+    holds(rt, !is_overrun(machine, conn)?, "a ping before the last");
+    arrive(machine, conn, Ok(Call::Ping))?;
+    Ok(())
+}
+
+fn count_taken(machine: &mut Machine, conn: ConnId) -> Result<u64, Fail> {
+    Ok(taken(machine, conn).ok_or("outs")?.len() as u64)
 }
 
 #[test]
 fn a_connection_that_takes_nothing_is_overrun(rt: HostRuntime) -> Result<(), Fail> {
     let mut machine = Machine::open(rt.alloc());
-    machine.apply(Incoming::Connect)?;
-    let conn = ConnId(1);
+    let conn = ConnId(join(&mut machine)?);
     // 371,370 returns of 24 bytes are 8,912,880 bytes, and the next one is over 8,912,896.
     for _ in 0..371_371u32 {
-        let request = Request {
-            serial: 1,
-            wants_reply: true,
-            length: 128,
-            call: Ok(Call::Ping),
-        };
-        assert!(rt; !machine.desk(conn).ok_or("desk")?.overrun);
-        machine.apply(Incoming::Arrive(Arrival {
-            conn,
-            request,
-            now: 0,
-            salt: [0; 8],
-        }))?;
+        ping(&rt, &mut machine, conn)?;
     }
-    let desk = machine.desk(conn).ok_or("desk")?;
-    assert!(rt; desk.overrun && desk.waits && !desk.leaving);
-    if desk.waits {
-        let (output, _) = machine.apply(Incoming::Take(conn))?;
-        if let Output::Taken(outs) = output {
-            assert_eq!(rt; outs.len(), 371_370);
-        }
-    }
+    holds(&rt, is_overrun(&machine, conn)?, "it is overrun");
+    holds(&rt, waits(&machine, conn)?, "outputs wait");
+    same_number(
+        &rt,
+        count_taken(&mut machine, conn)?,
+        371_370,
+        "the outputs",
+    );
     Ok(())
+}
+
+fn is_crowded(machine: &mut Machine) -> bool {
+    matches!(join(machine), Err(ApplyRefused::TooManyConnections))
 }
 
 #[test]
 fn a_257th_connection_is_refused(rt: HostRuntime) -> Result<(), Fail> {
     let mut machine = Machine::open(rt.alloc());
     for _ in 0..256u32 {
-        machine.apply(Incoming::Connect)?;
+        join(&mut machine)?;
     }
-    if let Err(refused) = machine.apply(Incoming::Connect) {
-        assert_eq!(rt; refused, ApplyRefused::TooManyConnections);
-    }
-    machine.apply(Incoming::Gone(ConnId(9)))?;
-    let (output, _) = machine.apply(Incoming::Connect)?;
-    match output {
-        Output::Joined(conn) => assert_eq!(rt; conn, ConnId(257)),
-        _ => assert!(rt; false),
-    }
+    holds(&rt, is_crowded(&mut machine), "a 257th");
+    gone(&mut machine, ConnId(9))?;
+    same_number(&rt, join(&mut machine)?, 257, "one after it");
     Ok(())
 }
