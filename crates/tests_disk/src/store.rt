@@ -280,21 +280,35 @@ fn each_file_is_settled_and_read_once(rt: HostRuntime) -> Result<(), Fail> {
     Ok(())
 }
 
+// A folder whose file of the aliases has so many bytes, of which a line gives one alias.
+fn long_aliases(alloc: Global, count: usize) -> Result<MemoryFolder, Fail>
+    ensures { IfOk result (λ folder. folder.made ≡ []) }
+{
+    let mut bytes = b"a=x\n".as_slice().to_vec(alloc)?;
+    bytes.resize(count, b'#')?;
+    let mut folder = MemoryFolder::new(alloc, Vec::new(alloc));
+    folder.set(name_of(alloc, "aliases")?, Some(Bytes::new(bytes)))?;
+    Ok(folder)
+}
+
+// How many aliases a file of so many bytes gives, and the calls that were made of its slot.
+fn aliases_of(alloc: Global, count: usize) -> Result<(usize, Vec<u8>), Fail> {
+    let mut folder = long_aliases(alloc, count)?;
+    let loaded = load(alloc, &mut folder)?;
+    let given = loaded.aliases.pairs().len();
+    let calls = calls_of(alloc, &alias_slot(loaded.aliases))?;
+    Ok((given, calls))
+}
+
 // A file of 1,048,576 bytes gives its aliases, and one of a byte more is measured, left alone and not read.
 #[test]
 fn a_longer_file_of_aliases_is_not_read(rt: HostRuntime) -> Result<(), Fail> {
-    let alloc = rt.alloc();
-    for more in [0, 1] {
-        let mut bytes = b"a=x\n".as_slice().to_vec(alloc)?;
-        bytes.resize(1_048_576 + more, b'#')?;
-        let mut folder = MemoryFolder::new(alloc, Vec::new(alloc));
-        folder.set(name_of(alloc, "aliases")?, Some(Bytes::new(bytes)))?;
-        let loaded = load(alloc, &mut folder)?;
-        assert_eq!(rt; loaded.aliases.pairs().len(), 1 - more);
-        let calls = calls_of(alloc, &alias_slot(loaded.aliases))?;
-        let want = if more == 0 { b"ysr".as_slice() } else { b"ys" };
-        assert_eq!(rt; calls.as_slice(), want);
-    }
+    let (given, calls) = aliases_of(rt.alloc(), 1_048_576)?;
+    assert_eq!(rt; given, 1);
+    assert_eq!(rt; calls.as_slice(), b"ysr".as_slice());
+    let (given, calls) = aliases_of(rt.alloc(), 1_048_577)?;
+    assert_eq!(rt; given, 0);
+    assert_eq!(rt; calls.as_slice(), b"ys".as_slice());
     Ok(())
 }
 
