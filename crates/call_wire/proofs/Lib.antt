@@ -1,6 +1,4 @@
 mod CallLemmas
 mod FrontLemmas
-mod MemberLemmas
-mod ValueLemmas
 mod PlainLemmas
 mod AgainLemmas

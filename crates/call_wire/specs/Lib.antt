@@ -1,3 +1,7 @@
+pub mod Arguments
+pub mod Peer
+pub mod Service
+pub mod Session
 pub mod Members
 pub mod Fronts
 pub mod CallOf

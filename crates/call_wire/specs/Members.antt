@@ -1,45 +1,57 @@
--- The interfaces of each object, their methods, and the types that these take: D-Bus Specification, "Standard
--- Interfaces"; Secret Service API draft 0.2, the interfaces Service and Session.
-use Rattle.std.specs.Prelude.{ℕ, Bool, true, false, List, [], ◌∷◌, Option, Some, None, codes}
-use Rattle.std.specs.List.{filter, flat_map, find}
+-- The members that are built, which objects have them, and how their arguments are read: D-Bus Specification, "Standard
+-- Interfaces"; Secret Service API draft 0.2, the interfaces' methods.
+use Rattle.std.specs.Prelude.{ℕ, ◌&&◌, Bool, true, false, List, [], ◌∷◌, Option, Some, None, Result, map, codes}
+use Rattle.std.specs.List.{filter, find}
 use Rattle.std.specs.Str.{bytes_eq}
+use Rattle.dbus_types.specs.Values.{Vals}
 use Rattle.kr_names.specs.declared.object_name.ObjectName.{ObjectName}
 use Rattle.kr_names.specs.declared.object_name.ObjectName.TheVariants as name
+use Rattle.secret_calls.specs.declared.call.Call.{Call}
+use Rattle.secret_calls.specs.declared.call.CallFault.{CallFault}
 use Rattle.call_wire.specs.declared.members.Interface.{Interface}
 use Rattle.call_wire.specs.declared.members.Interface.TheVariants as interface
 use Rattle.call_wire.specs.declared.members.Method.{Method}
 use Rattle.call_wire.specs.declared.members.Method.TheVariants as method
+use Rattle.call_wire.specs.declared.members.Row.{Row}
+use Rattle.call_wire.specs.Peer as peer
+use Rattle.call_wire.specs.Service as service
+use Rattle.call_wire.specs.Session as session
 
--- The interfaces of an object, in the order in which a method is looked for. Ping is answered on every path, so Peer is
--- there also where no object is.
-abbrev pub interfaces_of : Option ObjectName → List Interface
-interfaces_of (Some name.Service) = interface.Service ∷ interface.Peer ∷ []
-interfaces_of (Some (name.Session session)) = interface.Session ∷ interface.Peer ∷ []
-interfaces_of object = interface.Peer ∷ []
+-- a member: its interface, its name, the signature of its arguments, and the method that reads them
+pub record Member : Type 0 where
+  pub interface : Interface
+  pub name : List ℕ
+  pub arguments : List ℕ
+  pub method : Method
 
--- the methods of an interface
-abbrev pub methods_of : Interface → List Method
-methods_of interface.Service = method.OpenSession ∷ []
-methods_of interface.Session = method.CloseSession ∷ []
-methods_of interface.Peer = method.Ping ∷ []
+-- the member that a row of the program's table is
+abbrev pub seen : Row → Member
+seen row = record { interface = row.interface; name = row.name.now; arguments = row.arguments.now; method = row.method }
+
+-- The members, in the order in which they are looked for: those of one interface stand together, and the interfaces that every
+-- object has come last.
+unfoldable pub members : List Member
+members =
+    record { interface = interface.Service; name = codes "OpenSession"; arguments = codes "sv"; method = method.OpenSession } ∷
+    record { interface = interface.Session; name = codes "Close"; arguments = []; method = method.CloseSession } ∷
+    record { interface = interface.Peer; name = codes "Ping"; arguments = []; method = method.Ping } ∷ []
 
 -- the name of an interface
 abbrev pub interface_name : Interface → List ℕ
-interface_name interface.Service = codes "org.freedesktop.Secret.Service"
-interface_name interface.Session = codes "org.freedesktop.Secret.Session"
-interface_name interface.Peer = codes "org.freedesktop.DBus.Peer"
+interface_name interface.Service = service.interface
+interface_name interface.Session = session.interface
+interface_name interface.Peer = peer.interface
 
--- the name of a method
-abbrev pub method_name : Method → List ℕ
-method_name method.OpenSession = codes "OpenSession"
-method_name method.CloseSession = codes "Close"
-method_name method.Ping = codes "Ping"
+-- An object has the interface of its kind. Ping is answered on every path, so Peer is there also where no object is.
+abbrev pub is_on : Interface → Option ObjectName → Bool
+is_on interface.Service (Some name.Service) = true
+is_on interface.Session (Some (name.Session session)) = true
+is_on interface.Peer object = true
+is_on it object = false
 
--- the signature of a method's arguments
-abbrev pub arguments_of : Method → List ℕ
-arguments_of method.OpenSession = codes "sv"
-arguments_of method.CloseSession = []
-arguments_of method.Ping = []
+-- the interfaces of an object, in order: an interface is there once for each member that it has
+abbrev pub interfaces_of : Option ObjectName → List Interface
+interfaces_of object = filter (λ it. is_on it object) (map (λ member. member.interface) members)
 
 -- the header field has this text
 abbrev pub says : Option (List ℕ) → List ℕ → Bool
@@ -51,7 +63,16 @@ abbrev pub means : Option (List ℕ) → Interface → Bool
 means None it = true
 means (Some said) it = bytes_eq said (interface_name it)
 
--- the first method of this name in the interfaces that the call means
-abbrev pub method_in : Option (List ℕ) → Option (List ℕ) → List Interface → Option Method
-method_in interface member interfaces =
-    find (λ it. says member (method_name it)) (flat_map methods_of (filter (means interface) interfaces))
+-- a call on the object that names this interface and this member is a call of the member
+abbrev pub is_called : Option ObjectName → Option (List ℕ) → Option (List ℕ) → Member → Bool
+is_called object interface name member = is_on member.interface object && (means interface member.interface && says name member.name)
+
+-- the first such member
+abbrev pub member_in : Option ObjectName → Option (List ℕ) → Option (List ℕ) → Option Member
+member_in object interface name = find (is_called object interface name) members
+
+-- the call that a method is on this object and with these values, or the fault that they have
+abbrev pub call_with : Method → Option ObjectName → Vals → Result Call CallFault
+call_with method.OpenSession object values = service.open_session values
+call_with method.CloseSession object values = session.close object values
+call_with method.Ping object values = peer.ping values

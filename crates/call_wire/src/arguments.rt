@@ -1,11 +1,17 @@
-// Whether the types of a body are those of a signature.
-ghost use Rattle.std.specs.Prelude.{◌≡◌, [], ◌∷◌, option_copied};
+// How the arguments of calls are read: whether the types of a body are those of a signature, and what its
+// values hold. Each reader returns None if a value isn't of its type.
+ghost use Rattle.std.specs.Prelude.{◌≡◌, [], ◌∷◌, option_copied, option_map};
 ghost use Rattle.std.specs.Str.{bytes_eq};
 ghost use Rattle.dbus_types.specs.Types.{text_of, texts_of};
 ghost use Rattle.dbus_types.specs.Views.{type_of, types_of};
+ghost use Rattle.dbus_types.specs.ValueViews.{value_of, values_of};
+ghost use Rattle.dbus_framing.specs.Headers.{string_in, held_in, two_of};
+ghost use Rattle.call_wire.specs.Arguments.{without_arguments};
 ghost use Rattle.call_wire.specs.Fronts.{behind};
 
-use dbus_types::{BasicType, CompleteType};
+use dbus_types::{BasicType, CompleteType, Value};
+use kr_base::Text;
+use secret_calls::{Call, CallFault};
 
 // What stands behind this code.
 fn behind_code(text: &[u8], code: u8) -> Option<&[u8]>
@@ -62,5 +68,51 @@ pub fn are_listed(types: &[CompleteType], text: &str) -> bool
     match behind_types(text.as_bytes(), types) {
         Some(rest) => rest.is_empty(),
         None => false,
+    }
+}
+
+/// The text that a value of type `s` is.
+pub fn string_in(value: &Value) -> Option<&Text>
+    ensures { option_copied result ≡ string_in (value_of value.now) }
+{
+    match value {
+        Value::String(text) => {
+            let text: &Text = text;
+            Some(text)
+        }
+        _ => None,
+    }
+}
+
+/// The value inside a value of type `v`.
+pub fn held_in(value: &Value) -> Option<&Value>
+    ensures { option_map (λ held. value_of held.now) result ≡ held_in (value_of value.now) }
+{
+    match value {
+        Value::Variant(held) => Some(held),
+        _ => None,
+    }
+}
+
+/// The two values that there are.
+pub fn two_in(values: &[Value]) -> Option<(&Value, &Value)>
+    ensures { option_map (λ two. (value_of two.0.now, value_of two.1.now)) result
+        ≡ two_of (values_of values.now) }
+{
+    let (first, others) = values.split_first()?;
+    let (second, more) = others.split_first()?;
+    match more.split_first() {
+        Some(_) => None,
+        None => Some((first, second)),
+    }
+}
+
+/// The call of a method without arguments.
+pub fn without_arguments(call: Result<Call, CallFault>, values: &[Value]) -> Result<Call, CallFault>
+    ensures { result ≡ without_arguments call (values_of values.now) }
+{
+    match values.split_first() {
+        Some(_) => Err(CallFault::InvalidArgs),
+        None => call,
     }
 }

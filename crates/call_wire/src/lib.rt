@@ -7,7 +7,10 @@
 mod arguments;
 mod laws;
 mod members;
+mod peer;
 mod reading;
+mod service;
+mod session;
 mod writing;
 
 pub use laws::{a_message_is_one_request, what_is_sent_is_read_again};

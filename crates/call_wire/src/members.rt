@@ -1,12 +1,17 @@
-// The interfaces of each object and their methods, as tables (docs/SERVICE.md, "Interfaces").
-ghost use Rattle.std.specs.Prelude.{◌≡◌};
-ghost use Rattle.std.specs.List.{find};
-ghost use Rattle.call_wire.specs.Members.{interfaces_of, methods_of, interface_name, method_name, arguments_of, says, means, method_in};
+// The members that are built, as one table (docs/SERVICE.md, "Interfaces"): a call is looked up here, and read by
+// the method of its row.
+ghost use Rattle.std.specs.Prelude.{◌≡◌, IfOk, List, map, option_map};
+ghost use Rattle.std.specs.List.{filter, find, list_any};
+ghost use Rattle.dbus_types.specs.ValueViews.{values_of};
+ghost use Rattle.call_wire.specs.Members.{seen, members, interface_name, interfaces_of, is_on, says, means, is_called, member_in, call_with};
 
+use crate::{OutOfMemory, peer, service, session};
+use dbus_types::Value;
 use kr_base::Text;
 use kr_names::ObjectName;
+use secret_calls::{Call, CallFault};
 
-/// An interface that a method is built of.
+/// An interface that a member is built of.
 #[derive(Clone, Copy, PartialEq, Eq)]
 pub enum Interface {
     /// `org.freedesktop.Secret.Service`.
@@ -17,7 +22,7 @@ pub enum Interface {
     Peer,
 }
 
-/// A method.
+/// A method, which reads the arguments of its calls.
 #[derive(Clone, Copy, PartialEq, Eq)]
 pub enum Method {
     /// `Service.OpenSession`.
@@ -28,67 +33,75 @@ pub enum Method {
     Ping,
 }
 
+/// A row of the table of members.
+#[derive(Clone, Copy)]
+pub struct Row {
+    /// The interface that has the member.
+    pub interface: Interface,
+    /// The member's name.
+    pub name: &'static str,
+    /// The signature of its arguments.
+    pub arguments: &'static str,
+    /// The method that reads them.
+    pub method: Method,
+}
+
+// The rows of one interface stand together, and the interfaces that every object has come last.
+const MEMBERS: &[Row] = &[
+    Row {
+        interface: Interface::Service,
+        name: "OpenSession",
+        arguments: "sv",
+        method: Method::OpenSession,
+    },
+    Row {
+        interface: Interface::Session,
+        name: "Close",
+        arguments: "",
+        method: Method::CloseSession,
+    },
+    Row {
+        interface: Interface::Peer,
+        name: "Ping",
+        arguments: "",
+        method: Method::Ping,
+    },
+];
+
+#[tactic(auto, unfolding(crate::specs::Members::members))]
+fn members() -> &'static [Row]
+    ensures { map seen result.now ≡ members }
+{
+    MEMBERS
+}
+
 impl Interface {
     /// The name of the interface.
-    pub fn name(self) -> &'static str
+    fn name(self) -> &'static str
         ensures { result.now ≡ interface_name self }
     {
         match self {
-            Interface::Service => "org.freedesktop.Secret.Service",
-            Interface::Session => "org.freedesktop.Secret.Session",
-            Interface::Peer => "org.freedesktop.DBus.Peer",
+            Interface::Service => service::INTERFACE,
+            Interface::Session => session::INTERFACE,
+            Interface::Peer => peer::INTERFACE,
         }
     }
 
-    /// The methods of the interface.
-    pub fn methods(self) -> &'static [Method]
-        ensures { result.now ≡ methods_of self }
+    /// Whether the object has the interface.
+    fn is_on(self, object: &Option<ObjectName>) -> bool
+        ensures { result ≡ is_on self object.now }
     {
-        match self {
-            Interface::Service => &[Method::OpenSession],
-            Interface::Session => &[Method::CloseSession],
-            Interface::Peer => &[Method::Ping],
+        match (self, object) {
+            (Interface::Service, Some(ObjectName::Service)) => true,
+            (Interface::Session, Some(ObjectName::Session(_))) => true,
+            (Interface::Peer, _) => true,
+            _ => false,
         }
     }
 }
 
-impl Method {
-    /// The name of the method.
-    pub fn name(self) -> &'static str
-        ensures { result.now ≡ method_name self }
-    {
-        match self {
-            Method::OpenSession => "OpenSession",
-            Method::CloseSession => "Close",
-            Method::Ping => "Ping",
-        }
-    }
-
-    /// The signature of the method's arguments.
-    pub fn arguments(self) -> &'static str
-        ensures { result.now ≡ arguments_of self }
-    {
-        match self {
-            Method::OpenSession => "sv",
-            Method::CloseSession => "",
-            Method::Ping => "",
-        }
-    }
-}
-
-/// The interfaces of the object, in the order in which a method is looked for.
-pub fn interfaces(object: &Option<ObjectName>) -> &'static [Interface]
-    ensures { result.now ≡ interfaces_of object.now }
-{
-    match object {
-        Some(ObjectName::Service) => &[Interface::Service, Interface::Peer],
-        Some(ObjectName::Session(_)) => &[Interface::Session, Interface::Peer],
-        _ => &[Interface::Peer],
-    }
-}
-
-/// Whether a call that names this interface, or none, means the interface.
-pub fn is_meant(named: &Option<Text>, interface: Interface) -> bool
+// Whether a call that names this interface, or none, means the interface.
+fn is_meant(named: &Option<Text>, interface: Interface) -> bool
     ensures { result ≡ means named.now interface }
 {
     match named {
@@ -97,45 +110,84 @@ pub fn is_meant(named: &Option<Text>, interface: Interface) -> bool
     }
 }
 
-fn is_called(member: &Option<Text>, method: Method) -> bool
-    ensures { result ≡ says member.now (method_name method) }
+fn has_name(member: &Option<Text>, name: &str) -> bool
+    ensures { result ≡ says member.now name.now }
 {
     match member {
-        Some(name) => name.as_str() == method.name(),
+        Some(member) => member.as_str() == name,
         None => false,
     }
 }
 
-// The first of the methods that has this name.
-fn method_of(methods: &[Method], member: &Option<Text>) -> Option<Method>
-    ensures { result ≡ find (λ it. says member.now (method_name it)) methods.now }
+fn is_called(
+    object: &Option<ObjectName>,
+    interface: &Option<Text>,
+    member: &Option<Text>,
+    row: &Row,
+) -> bool
+    ensures { result ≡ is_called object.now interface.now member.now (seen row.now) }
 {
-    let mut left = methods;
-    while let Some((method, others)) = left.split_first() {
-        if is_called(member, *method) {
-            return Some(*method);
+    row.interface.is_on(object) && is_meant(interface, row.interface) && has_name(member, row.name)
+}
+
+fn first_called(
+    rows: &[Row],
+    object: &Option<ObjectName>,
+    interface: &Option<Text>,
+    member: &Option<Text>,
+) -> Option<Row>
+    ensures { option_map seen result
+        ≡ find (is_called object.now interface.now member.now) (map seen rows.now) }
+{
+    for row in rows {
+        if is_called(object, interface, member, row) {
+            return Some(*row);
         }
-        left = others;
     }
     None
 }
 
-/// The first method of this name in the interfaces that the call means.
-pub fn method_called(
-    interfaces: &[Interface],
-    named: &Option<Text>,
+/// The member that a call on the object means, which names this interface, or none, and this member.
+pub fn member_called(
+    object: &Option<ObjectName>,
+    interface: &Option<Text>,
     member: &Option<Text>,
-) -> Option<Method>
-    ensures { result ≡ method_in named.now member.now interfaces.now }
+) -> Option<Row>
+    ensures { option_map seen result ≡ member_in object.now interface.now member.now }
 {
-    let mut left = interfaces;
-    while let Some((interface, others)) = left.split_first() {
-        if is_meant(named, *interface) {
-            if let Some(method) = method_of(interface.methods(), member) {
-                return Some(method);
-            }
+    first_called(members(), object, interface, member)
+}
+
+fn have_meant(rows: &[Row], object: &Option<ObjectName>, named: &Option<Text>) -> bool
+    ensures { result ≡ list_any (means named.now)
+        (filter (λ it. is_on it object.now) (map (λ m. m.interface) (map seen rows.now))) }
+{
+    for row in rows {
+        if row.interface.is_on(object) && is_meant(named, row.interface) {
+            return true;
         }
-        left = others;
     }
-    None
+    false
+}
+
+/// Whether the object has an interface that the call means.
+pub fn has_meant(object: &Option<ObjectName>, named: &Option<Text>) -> bool
+    ensures { result ≡ list_any (means named.now) (interfaces_of object.now) }
+{
+    have_meant(members(), object, named)
+}
+
+/// The call that a method is on the object and with these values, or the fault that they have.
+pub fn call_with(
+    method: Method,
+    object: &Option<ObjectName>,
+    values: &[Value],
+) -> Result<Result<Call, CallFault>, OutOfMemory>
+    ensures { IfOk result (λ call. call ≡ call_with method object.now (values_of values.now)) }
+{
+    match method {
+        Method::OpenSession => service::open_session(values),
+        Method::CloseSession => Ok(session::close(object, values)),
+        Method::Ping => Ok(peer::ping(values)),
+    }
 }
