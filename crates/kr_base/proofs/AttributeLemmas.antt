@@ -31,7 +31,7 @@ unfolding IsStrictlySortedBy
 IsInOrder-nil V = tt
 
 -- inserting pairs in turn leaves at each name the value of the last pair that has it
-either : {V : Type 0} (last : Option V) (b : Bool) (v : V) (before : Option V) → option_or last (cond b (Some v) before) ≡ option_or (option_or last (cond b (Some v) None)) before
+pub either : {V : Type 0} (last : Option V) (b : Bool) (v : V) (before : Option V) → option_or last (cond b (Some v) before) ≡ option_or (option_or last (cond b (Some v) None)) before
 either (Some w) b v before = refl
 either None true v before = refl
 either None false v before = refl
@@ -41,7 +41,7 @@ last_inserted before [] name = refl
 last_inserted before (p ∷ more) name =
     last_inserted (λ q. cond (is_name p.0 q) (Some p.1) (before q)) more name ∙ either (last_value name more) (is_name p.0 name) p.1 (before name)
 
-option_or-none : {V : Type 0} (o : Option V) → option_or o None ≡ o
+pub option_or-none : {V : Type 0} (o : Option V) → option_or o None ≡ o
 option_or-none None = refl
 option_or-none (Some v) = refl
 

@@ -22,7 +22,7 @@ is_less Less e = refl
 is_less Equal e = absurd cc
 is_less Greater e = absurd cc
 
-is_equal : (o : Ordering) → is_eq o ≡ true → o ≡ Equal
+pub is_equal : (o : Ordering) → is_eq o ≡ true → o ≡ Equal
 is_equal Less e = absurd cc
 is_equal Equal e = refl
 is_equal Greater e = absurd cc
@@ -32,7 +32,7 @@ turned Less = refl
 turned Equal = refl
 turned Greater = refl
 
-name-test : (x y : List ℕ) → is_name x y ≡ is_name y x
+pub name-test : (x y : List ℕ) → is_name x y ≡ is_name y x
 name-test x y = ap is_eq (nat_list_cmp_total.antisymm x y) ∙ turned (by_bytes y x)
 
 itself : (x : List ℕ) → is_name x x ≡ true

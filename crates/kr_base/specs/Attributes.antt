@@ -1,7 +1,9 @@
 -- Attributes: names with their values (Secret Service API, "Lookup Attributes"). The list is in byte order of names, and no name
 -- stands twice in it.
 use Rattle.std.specs.Prelude.{◌≡◌, ℕ, Bool, List, [], ◌∷◌, Option, Some, None, if◌then◌else◌}
+use Rattle.std.specs.BTreeMap.{insert_entry}
 use Rattle.std.specs.Cmp.Lexicographic.{slice_cmp}
+use Rattle.std.specs.List.{fold}
 use Rattle.std.specs.List.Sorted.{IsStrictlySortedBy}
 use Rattle.std.specs.Map.{keys_of, lookup}
 use Rattle.std.specs.Option.{option_or}
@@ -28,3 +30,12 @@ last_value name (pair ∷ more) = option_or (last_value name more) (if is_name p
 pub record Gathers {V : Type 0} (pairs attributes : List (List ℕ × V)) : Type 0 where
   pub ordered : IsInOrder attributes
   pub values : (name : List ℕ) → value_at name attributes ≡ last_value name pairs
+
+-- the attributes with one pair more, in its place: an equal name has the new value
+abbrev pub with_pair : {V : Type 0} → List (List ℕ × V) → List ℕ × V → List (List ℕ × V)
+with_pair attributes pair = insert_entry (slice_cmp nat_cmp) attributes pair.0 pair.1
+
+-- The attributes that are gathered of pairs, as a function. The law `pairs_gather_what_is_gathered` says that it is what the
+-- relation says.
+unfoldable pub gathered : {V : Type 0} → List (List ℕ × V) → List (List ℕ × V)
+gathered pairs = fold with_pair [] pairs

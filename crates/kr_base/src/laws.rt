@@ -1,7 +1,7 @@
 // What the definitions of attributes say together. Each law is the contract of a function
 // that does nothing.
 ghost use Rattle.std.specs.Prelude.{◌≡◌, ℕ, ◌↔◌, IsTrue, List};
-ghost use Rattle.kr_base.specs.Attributes.{Gathers};
+ghost use Rattle.kr_base.specs.Attributes.{Gathers, gathered};
 
 use crate::{AttrValue, Attributes};
 
@@ -9,6 +9,12 @@ use crate::{AttrValue, Attributes};
 pub fn pairs_gather_one_list()
     ensures { (pairs one other : List (List ℕ × AttrValue))
         → Gathers pairs one → Gathers pairs other → one ≡ other }
+{}
+
+/// What is gathered of pairs is what `gathered`, as a function, is of them.
+pub fn pairs_gather_what_is_gathered()
+    ensures { (pairs attributes : List (List ℕ × AttrValue))
+        → Gathers pairs attributes ↔ (attributes ≡ gathered pairs) }
 {}
 
 /// Attributes compare as equal where they are the same list.

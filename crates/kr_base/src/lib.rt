@@ -24,7 +24,9 @@ pub use bytes::Bytes;
 pub use hashed::{HashedPair, HashedValue};
 pub use id_list::IdList;
 pub use ids::{ConnId, ItemId, PromptId, SessionId};
-pub use laws::{equal_attributes_are_one_list, pairs_gather_one_list};
+pub use laws::{
+    equal_attributes_are_one_list, pairs_gather_one_list, pairs_gather_what_is_gathered,
+};
 pub use stem::Stem;
 pub use steps::Steps;
 pub use text::Text;
