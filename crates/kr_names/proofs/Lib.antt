@@ -3,3 +3,4 @@ pub mod EscapeLemmas
 pub mod NumberLemmas
 pub mod PathLemmas
 pub mod NameLemmas
+mod NamingLemmas

@@ -1,5 +1,5 @@
 -- Names: a path is that of one name at most.
-use Rattle.std.proofs.Common.{◌≡◌, ◌≢◌, ℕ, ◌^◌, ◌<◌, true, false, cond, eqb, List, [], ◌∷◌, ◌++◌, get_or, drop, Option, Some, None, option_map, nat_lt, refl, sym, ◌∙◌, ap, subst, arith}
+use Rattle.std.proofs.Common.{◌≡◌, ◌≢◌, ℕ, ◌^◌, ◌<◌, true, false, eqb, List, [], ◌∷◌, ◌++◌, get_or, Some, None, nat_lt, refl, sym, ◌∙◌, ap, subst, arith}
 use Rattle.std.specs.Prelude.{decimal}
 use Rattle.std.specs.List.{All, list_all}
 use Rattle.std.specs.Str.Parse.{digits_value}
@@ -11,17 +11,13 @@ use Rattle.std.proofs.lemmas.List.Elements.{All-head, All-tail, All-cons, All-ap
 use Rattle.kr_names.specs.Escape.{escaped, unescaped}
 use Rattle.kr_base.specs.Text.{HasZero}
 use Rattle.kr_base.specs.Stem.{IsStem}
+use Rattle.kr_names.specs.Naming.{halves, stored, name_at}
 use Rattle.kr_names.specs.Path.{service, agent, collections, aliases, sessions, prompts, path_text, IsName, IsPathOf, IsNumbered, IsNoWhole}
 use Rattle.kr_base.specs.declared.ids.ItemId.{ItemId}
 use Rattle.kr_names.specs.declared.object_name.ObjectName.{ObjectName}
 use Rattle.kr_names.specs.declared.object_name.ObjectName.TheVariants.{Nothing, Service, Agent, Collection, Item, Alias, Session, Prompt}
 use Rattle.kr_names.proofs.TextLemmas.{bytes_fit}
 use Rattle.kr_names.proofs.EscapeLemmas.{IsPathByte, unescaped_escaped, escaped_spelled, path_bytes_plain, path_byte_no_slash}
-
--- the parts of a text before and behind its first slash
-abbrev halves : List ℕ → Option (List ℕ × List ℕ)
-halves [] = None
-halves (c ∷ cs) = cond (eqb c 47) (Some ([], cs)) (option_map (λ p. (c ∷ p.0, p.1)) (halves cs))
 
 halves-none : (xs : List ℕ) → All (λ byte. byte ≢ 47) xs → halves xs ≡ None
 halves-none [] none = refl
@@ -37,28 +33,13 @@ halves-append (c ∷ cs) ys none =
     let other : eqb c 47 ≡ false = (let off = All-head (λ byte. byte ≢ 47) c cs none in grind (arith, nat_tests)) in
     rw (other, rest) refl
 
--- the name of a path: the letter at place 26 tells which form it has
-abbrev stored : List ℕ → Option (List ℕ × List ℕ) → ObjectName
-stored rest None = Collection (unescaped rest)
-stored rest (Some parts) = Item (unescaped parts.0) (record { 0 = digits_value 10 parts.1 })
-
-abbrev name_at : List ℕ → ObjectName
-name_at path =
-    let letter = get_or path 26 0 in
-    cond (eqb letter 111) (stored (drop 36 path) (halves (drop 36 path)))
-    (cond (eqb letter 108) (Alias (drop 33 path))
-    (cond (eqb letter 101) (Session (record { 0 = digits_value 10 (drop 34 path) }))
-    (cond (eqb letter 114) (Prompt (record { 0 = digits_value 10 (drop 33 path) }))
-    (cond (eqb letter 103) Agent
-    (cond (eqb (get_or path 1 0) 111) Service Nothing)))))
-
 no_slash : (stem : List ℕ) → IsStem stem → All (λ byte. byte ≢ 47) (escaped stem)
 no_slash stem is = λ k d lt. path_byte_no_slash (get_or (escaped stem) k d) (escaped_spelled stem (bytes_fit stem is.text.utf8) k d lt)
 
 stem_back : (stem : List ℕ) → IsStem stem → unescaped (escaped stem) ≡ stem
 stem_back stem is = unescaped_escaped stem (bytes_fit stem is.text.utf8)
 
-name_back : (name : ObjectName) → IsName name → name_at (path_text name) ≡ name
+pub name_back : (name : ObjectName) → IsName name → name_at (path_text name) ≡ name
 unfolding service agent collections aliases sessions prompts
 name_back Nothing is = refl
 name_back Service is = refl
@@ -95,10 +76,6 @@ no_name path none (Item stem item) is = none.no_item (stem, item) is
 no_name path none (Alias alias) is = none.no_alias alias is
 no_name path none (Session id) is = none.no_session id.0 (record { some = is.named.0; fits = is.named.1; spelled = is.spelled })
 no_name path none (Prompt id) is = none.no_prompt id.0 (record { some = is.named.0; fits = is.named.1; spelled = is.spelled })
-
--- what was read is what any name with the path would be
-pub only : (path : List ℕ) (found : ObjectName) → IsPathOf found path → (name : ObjectName) → IsPathOf name path → Some found ≡ Some name
-only path found is name other = ap Some (one_name found name path is other)
 
 pub session_read : (path : List ℕ) (n : ℕ) → IsNumbered sessions path n → IsPathOf (Session (record { 0 = n })) path
 session_read path n is = record { named = (is.some, is.fits); spelled = is.spelled }

@@ -1,3 +1,4 @@
 pub mod Reading
 pub mod Escape
 pub mod Path
+pub mod Naming

@@ -11,6 +11,6 @@ mod object_name;
 mod path;
 
 pub use escape::{escaped_stem, stem_of_escaped};
-pub use laws::a_path_has_one_name;
+pub use laws::{a_path_has_one_name, a_path_is_that_of_its_name};
 pub use object_name::{ObjectName, is_alias_name};
 pub use path::{parse_path, path_of};

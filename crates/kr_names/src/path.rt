@@ -1,6 +1,7 @@
 // The paths of names, and the way back (docs/SERVICE.md, "Names and paths").
-ghost use Rattle.std.specs.Prelude.{◌≡◌, ◌≢◌, ℕ, ◌++◌, List, All, MatchOption, IfOk, Some, string_bytes};
+ghost use Rattle.std.specs.Prelude.{◌≡◌, ◌≢◌, ℕ, ◌++◌, List, All, MatchOption, IfOk, string_bytes};
 ghost use Rattle.kr_names.specs.Escape.{IsEscapeOf};
+ghost use Rattle.kr_names.specs.Naming.{name_of_path};
 ghost use Rattle.kr_names.specs.Path.{service, agent, collections, aliases, sessions, prompts, HasPath, IsPathOf, IsNumber, IsNumbered, IsCut, IsNoWhole};
 ghost use Rattle.kr_names.specs.Reading.{Reads};
 
@@ -169,8 +170,7 @@ fn item_of(alloc: Global, path: &str) -> Result<Option<(Stem, ItemId)>, OutOfMem
 /// the one way or isn't a stem, or a number has a sign, a leading zero or too many digits.
 pub fn parse_path(alloc: Global, path: &str) -> Result<Option<ObjectName>, OutOfMemory>
     ensures read { IfOk result (Reads (λ name. IsPathOf name path.now)) }
-    ensures finds { (name : ObjectName) → IsPathOf name path.now
-        → IfOk result (λ answer. answer ≡ Some name) }
+    ensures named { IfOk result (λ answer. answer ≡ name_of_path path.now) }
 {
     if let Some(name) = whole(path) {
         return Ok(Some(name));
