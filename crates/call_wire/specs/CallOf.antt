@@ -1,14 +1,13 @@
 -- Which call of the service a message is, or what keeps it from being one: D-Bus Specification, "Message Format" and
 -- "Standard Interfaces"; Secret Service API draft 0.2, the interfaces' methods.
-use Rattle.std.specs.Prelude.{◌≡◌, ℕ, ◌%◌, ◌==◌, Bool, if◌then◌else◌, List, Option, Some, None, Result, Err}
+use Rattle.std.specs.Prelude.{◌≡◌, ℕ, ◌%◌, ◌==◌, Bool, if◌then◌else◌, List, Option, Some, None, Result, Err, option_and_then}
 use Rattle.std.specs.List.{list_any}
 use Rattle.std.specs.Str.{bytes_eq}
 use Rattle.dbus_types.specs.Types.{texts_of}
 use Rattle.dbus_framing.specs.Messages.{Parts}
 use Rattle.kr_names.specs.declared.object_name.ObjectName.{ObjectName}
 use Rattle.kr_names.specs.declared.object_name.ObjectName.TheVariants as name
-use Rattle.kr_names.specs.Path.{IsPathOf}
-use Rattle.kr_names.specs.Reading.{Reads}
+use Rattle.kr_names.specs.Naming.{name_of_path}
 use Rattle.secret_calls.specs.declared.call.Call.{Call}
 use Rattle.secret_calls.specs.declared.call.CallFault.{CallFault}
 use Rattle.secret_calls.specs.declared.call.CallFault.TheVariants as fault
@@ -16,9 +15,8 @@ use Rattle.secret_calls.specs.declared.call.Request.{Request}
 use Rattle.call_wire.specs.Members.{Member, interfaces_of, means, member_in, call_with}
 
 -- the object that the path names, which need not be there; none where it is no path of the service
-abbrev pub Names : Option (List ℕ) → Option ObjectName → Type 0
-Names None object = object ≡ None
-Names (Some path) object = Reads (λ name. IsPathOf name path) object
+abbrev pub object_of : Option (List ℕ) → Option ObjectName
+object_of path = option_and_then name_of_path path
 
 -- a call of this member: the signature of the body is that of its arguments
 abbrev pub call_by : Member → Option ObjectName → Parts → Result Call CallFault
@@ -50,9 +48,7 @@ wants_reply flags = flags % 2 == 0
 
 -- the request that a message is
 pub record CallOf (parts : Parts) (request : Request) : Type 0 where
-  pub object : Option ObjectName
-  pub named : Names parts.path object
-  pub call : request.call ≡ call_on object parts
+  pub call : request.call ≡ call_on (object_of parts.path) parts
   pub serial : request.serial ≡ parts.serial
   pub wants_reply : request.wants_reply ≡ wants_reply parts.flags
   pub length : request.length ≡ parts.size

@@ -1,5 +1,5 @@
 -- The interface of the service: Secret Service API draft 0.2, "org.freedesktop.Secret.Service".
-use Rattle.std.specs.Prelude.{ℕ, List, Option, Some, None, Result, codes, ok_or, option_map, option_and_then}
+use Rattle.std.specs.Prelude.{ℕ, List, Option, Result, codes, ok_or, option_map, option_and_then}
 use Rattle.dbus_types.specs.Values.{Val, Vals}
 use Rattle.dbus_framing.specs.Headers.{string_in, held_in, two_of}
 use Rattle.secret_calls.specs.declared.call.Call.{Call}

@@ -1,5 +1,5 @@
 -- The interface of a session: Secret Service API draft 0.2, "org.freedesktop.Secret.Session".
-use Rattle.std.specs.Prelude.{ℕ, List, Option, Some, None, Result, Ok, Err, codes}
+use Rattle.std.specs.Prelude.{ℕ, List, Option, Some, Result, Ok, Err, codes}
 use Rattle.dbus_types.specs.Values.{Vals}
 use Rattle.kr_names.specs.declared.object_name.ObjectName.{ObjectName}
 use Rattle.kr_names.specs.declared.object_name.ObjectName.TheVariants as name

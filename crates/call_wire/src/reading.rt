@@ -2,7 +2,7 @@
 ghost use Rattle.std.specs.Prelude.{◌≡◌, ◌≢◌, IfOk};
 ghost use Rattle.dbus_framing.specs.Messages.{parts_of};
 ghost use Rattle.call_wire.specs.Members.{seen};
-ghost use Rattle.call_wire.specs.CallOf.{CallOf, Names, call_by, lack_of, call_on};
+ghost use Rattle.call_wire.specs.CallOf.{CallOf, object_of, call_by, lack_of, call_on};
 
 use crate::OutOfMemory;
 use crate::arguments::are_listed;
@@ -15,7 +15,7 @@ use std::alloc::Global;
 
 // The object that the path names.
 fn object_of(alloc: Global, path: &Option<Text>) -> Result<Option<ObjectName>, OutOfMemory>
-    ensures { IfOk result (Names path.now) }
+    ensures { IfOk result (λ object. object ≡ object_of path.now) }
 {
     match path {
         Some(path) => parse_path(alloc, path.as_str()),

@@ -1,7 +1,7 @@
 -- What is meant in the rows that are left is meant in all.
-use Rattle.std.proofs.Common.{◌≡◌, Bool, List, drop, map}
+use Rattle.std.proofs.Common.{◌≡◌, drop, map}
 use Rattle.std.specs.List.{filter, list_any}
-use Rattle.call_wire.specs.Members.{seen, Member, is_on, means}
+use Rattle.call_wire.specs.Members.{seen, is_on, means}
 use Rattle.call_wire.proofs.members.have_meant.Given as goal
 
 abbrev pub invariant-loop-row : goal.invariant-loop-row
