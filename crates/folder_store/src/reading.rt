@@ -73,43 +73,6 @@ pub fn read_sized<S: Slot>(
     }
 }
 
-/// Settles and reads a file of at most so many bytes; None where there is no such file.
-pub fn read_within<S: Slot>(
-    alloc: Global,
-    slot: &mut S,
-    room: usize,
-) -> Result<Option<Vec<u8>>, LoadRefused>
-    ensures read { IsTrue (S.is_honest slot.old)
-        → IfOk result (ReadsWithin room (S.seen slot.new)) }
-    ensures settled { IsTrue (S.is_honest slot.old)
-        → OnOk result (LeavesAnyBytes (S.may_leave slot.old)
-        ⊎ Only (S.seen slot.new) (S.may_leave slot.new)) }
-
-    ensures same { IsTrue (S.is_honest slot.old) → S.seen slot.new ≡ S.seen slot.old }
-    ensures same_temporary { IsTrue (S.is_honest slot.old)
-        → S.temporary slot.new ≡ S.temporary slot.old }
-    ensures crash { IsTrue (S.is_honest slot.old)
-        → LeavesNoMore (S.may_leave slot.old) (S.may_leave slot.new) }
-    ensures any_moment { IsTrue (S.is_honest slot.old)
-        → LeavesOnly S.moment S.left_since slot.old slot.new (S.may_leave slot.old) }
-    ensures honest { S.is_honest slot.new ≡ S.is_honest slot.old }
-    ensures cause { HasLoadCause (S.faults slot.old) (S.faults slot.new) result }
-    ensures look { IsErrOf result LoadRefused.Folder → IsLook (S.failed slot.new) }
-    ensures steady { KeepsSteady (S.is_steady slot.old) (S.is_steady slot.new)
-        (S.faults slot.old) (S.faults slot.new) }
-{
-    match settled_size(slot) {
-        Ok(Some(size)) => {
-            if size > room as u64 {
-                return Ok(None);
-            }
-            read_sized(alloc, slot, size)
-        }
-        Ok(None) => Ok(None),
-        Err(_) => Err(LoadRefused::Folder),
-    }
-}
-
 /// What a look at a file showed.
 #[derive(Drop)]
 pub enum Look {
@@ -150,5 +113,36 @@ pub fn read_settled<S: Slot>(alloc: Global, slot: &mut S, most: usize) -> Result
         }
         Ok(None) => Ok(Look::Whole(None)),
         Err(_) => Err(LoadRefused::Folder),
+    }
+}
+
+/// Settles and reads a file of at most so many bytes; None where there is no such file.
+pub fn read_within<S: Slot>(
+    alloc: Global,
+    slot: &mut S,
+    room: usize,
+) -> Result<Option<Vec<u8>>, LoadRefused>
+    ensures read { IsTrue (S.is_honest slot.old)
+        → IfOk result (ReadsWithin room (S.seen slot.new)) }
+    ensures settled { IsTrue (S.is_honest slot.old)
+        → OnOk result (LeavesAnyBytes (S.may_leave slot.old)
+        ⊎ Only (S.seen slot.new) (S.may_leave slot.new)) }
+
+    ensures same { IsTrue (S.is_honest slot.old) → S.seen slot.new ≡ S.seen slot.old }
+    ensures same_temporary { IsTrue (S.is_honest slot.old)
+        → S.temporary slot.new ≡ S.temporary slot.old }
+    ensures crash { IsTrue (S.is_honest slot.old)
+        → LeavesNoMore (S.may_leave slot.old) (S.may_leave slot.new) }
+    ensures any_moment { IsTrue (S.is_honest slot.old)
+        → LeavesOnly S.moment S.left_since slot.old slot.new (S.may_leave slot.old) }
+    ensures honest { S.is_honest slot.new ≡ S.is_honest slot.old }
+    ensures cause { HasLoadCause (S.faults slot.old) (S.faults slot.new) result }
+    ensures look { IsErrOf result LoadRefused.Folder → IsLook (S.failed slot.new) }
+    ensures steady { KeepsSteady (S.is_steady slot.old) (S.is_steady slot.new)
+        (S.faults slot.old) (S.faults slot.new) }
+{
+    match read_settled(alloc, slot, room)? {
+        Look::Whole(bytes) => Ok(bytes),
+        Look::Longer => Ok(None),
     }
 }
