@@ -1,16 +1,15 @@
 -- What is arranged are the same items by rising numbers, and it is arranged already.
-use Rattle.std.proofs.Common.{◌≡◌, ℕ, ◌<◌, List, [], ◌∷◌, map, refl, sym, ap, subst, ◌∙◌, arith}
+use Rattle.std.proofs.Common.{◌≡◌, ℕ, ◌<◌, List, [], ◌∷◌, map, refl, sym, ap, ◌∙◌, arith}
 use Rattle.std.specs.declared.cmp.Ordering.{Ordering}
 use Rattle.std.specs.declared.cmp.Ordering.TheVariants.{Less, Equal, Greater}
 use Rattle.std.specs.BTreeMap.{insert_entry}
 use Rattle.std.specs.List.{AllByRecursion, zip}
-use Rattle.std.specs.List.Sorted.{IsPermutation, IsStrictlyIncreasing}
+use Rattle.std.specs.List.Sorted.{IsPermutation}
 use Rattle.std.specs.Map.{values_of}
 use Rattle.std.specs.Ordering.{nat_cmp, match_ordering, MatchOrdering}
 use Rattle.std.proofs.lemmas.Cmp.{ranked}
 use Rattle.std.proofs.lemmas.List.Sorted.{IsPermutation-map}
 use Rattle.keyring_file.specs.declared.clear.ClearItem.{ClearItem}
-use Rattle.keyring_file.specs.declared.area.FullItem.{FullItem}
 use Rattle.keyring_seal.specs.declared.content.Content.{Content}
 use Rattle.keyring_seal.specs.Arranged.{Row, IsArrangement, IsSealable, arranged, arranged_rows, hashed_row, of_rows, row_number, rows}
 use Rattle.keyring_seal.specs.Order.{by_number, entered}

@@ -10,7 +10,6 @@ use Rattle.aes_cbc.proofs.CbcLemmas.{decrypted-encrypted, length-encrypted}
 use Rattle.keyring_text.specs.Fields.{IsBytes}
 use Rattle.keyring_file.specs.AreaText.{AreaText}
 use Rattle.keyring_file.specs.Canonical.{area_text, clear_text}
-use Rattle.keyring_file.specs.Clear.{IsPlain}
 use Rattle.keyring_file.specs.ClearText.{ClearText, IsAreaLength}
 use Rattle.keyring_file.specs.Known.{IsKnownClear, IsKnownClearItem, IsKnownItem}
 use Rattle.keyring_file.specs.Short.{IsShortClear, IsShortItem}

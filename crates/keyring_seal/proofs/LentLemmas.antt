@@ -1,6 +1,6 @@
 -- Rows that are lent in the order of rising numbers, as the content that they are.
 use Rattle.std.proofs.Common.{◌≡◌, ℕ, ◌+◌, ◌≤◌, ◌<◌, List, [], ◌∷◌, length, map, nat_eq, false, Option, refl, sym, ap, subst, ◌∙◌, arith}
-use Rattle.std.specs.List.{flat_map, zip, AllByRecursion, IsDistinct}
+use Rattle.std.specs.List.{flat_map, AllByRecursion, IsDistinct}
 use Rattle.std.specs.List.Sorted.{IsStrictlyIncreasing}
 use Rattle.std.proofs.lemmas.Bool.Decides.{nat_tests}
 use Rattle.std.proofs.lemmas.Map.Keys.{IsDistinct-from_apart, below_from_sorted, sorted_from_strictly_increasing}
@@ -10,9 +10,8 @@ use Rattle.keyring_file.specs.Clear.{ClearPart, IsOfVersion}
 use Rattle.keyring_file.specs.ClearText.{most_iterations}
 use Rattle.keyring_file.specs.Short.{IsShortClearItem}
 use Rattle.keyring_file.specs.Known.{IsKnownClear, IsKnownClearItem, IsKnownItem}
-use Rattle.keyring_file.specs.declared.area.FullItem.{FullItem}
 use Rattle.keyring_file.specs.declared.clear.ClearItem.{ClearItem}
-use Rattle.keyring_seal.specs.Arranged.{Row, IsKnown, IsKnownLent, hashed_row, IsSealable, of_lent, row_number, rows}
+use Rattle.keyring_seal.specs.Arranged.{Row, IsKnown, IsKnownLent, arranged, hashed_row, IsSealable, of_lent, of_rows, row_number, rows}
 use Rattle.keyring_seal.specs.Order.{by_number}
 use Rattle.keyring_seal.specs.Room.{AreSizes, AreSizesOf, items_measure, row_text}
 use Rattle.keyring_seal.proofs.ArrangeLemmas.{Lent, map-map, see}
@@ -47,6 +46,13 @@ pub kept_told : (lent : List Lent) → AreKept lent → map (λ (row : Lent). ro
 kept_told [] kept = refl
 kept_told (row ∷ lent) kept = λ j. kept_item row kept.0 j ∷ kept_told lent kept.1 j
 
+kept_row : (row : Lent) → row.0.now.hashed ≡ hashes row.1.now.attributes → hashed_row (see row) ≡ see row
+kept_row row kept = λ j. (record row.0.now { hashed = sym kept j }, row.1.now)
+
+kept_rows : (lent : List Lent) → AreKept lent → map hashed_row (map see lent) ≡ map see lent
+kept_rows [] kept = refl
+kept_rows (row ∷ lent) kept = λ j. kept_row row kept.0 j ∷ kept_rows lent kept.1 j
+
 pub kept_short : (lent : List Lent) → AreKept lent → AllByRecursion (λ (row : Lent). IsShortClearItem (hashed_row (row.0.now, row.1.now)).0) lent → AllByRecursion (λ (row : Lent). IsShortClearItem row.0.now) lent
 kept_short [] kept short = tt
 kept_short (row ∷ lent) kept short = (subst IsShortClearItem (sym (kept_item row kept.0)) short.0, kept_short lent kept.1 short.1)
@@ -68,6 +74,10 @@ module _ (front : ClearPart) (lent : List Lent) where
 
     pub lent_seen : map see lent ≡ by_number row_number (rows (of_lent front lent))
     lent_seen = sym (ap (by_number row_number) (rows_again (map see lent)) ∙ rising_by_number row_number (map see lent) (rising_by_place row_number (map see lent) rising))
+
+    -- what the rows are is arranged already
+    pub lent_arranged : AreKept lent → arranged (of_lent front lent) ≡ of_lent front lent
+    lent_arranged kept = ap (of_rows front) (ap (map hashed_row) (sym lent_seen) ∙ kept_rows lent kept)
 
     pub lent_sealable : (few : front.iterations ≤ most_iterations) → IsSealable (of_lent front lent)
     lent_sealable few = record {

@@ -13,3 +13,4 @@ pub mod RisingLemmas
 pub mod ArrangedLemmas
 pub mod LentLemmas
 pub mod OnlyLemmas
+pub mod SealsLemmas

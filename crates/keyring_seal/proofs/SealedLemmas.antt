@@ -1,9 +1,9 @@
 -- What is written of the items as they are lent, by rising number, is the sealed file.
-use Rattle.std.proofs.Common.{◌≡◌, ℕ, ◌+◌, ◌^◌, ◌≤◌, ◌<◌, List, ◌++◌, length, map, sym, ap, subst, ◌∙◌, arith}
+use Rattle.std.proofs.Common.{◌≡◌, ℕ, ◌+◌, ◌^◌, ◌≤◌, ◌<◌, List, ◌++◌, length, map, ap, ◌∙◌, arith}
 use Rattle.std.specs.List.{flat_map, AllByRecursion}
 use Rattle.aes_cbc.specs.Cbc.{encrypted}
 use Rattle.keyring_file.specs.Canonical.{area_text, checked, clear_text, item_text, padded, padding}
-use Rattle.keyring_file.specs.Short.{IsShortClearItem, IsShortItem}
+use Rattle.keyring_file.specs.Short.{IsShort, IsShortClearItem, IsShortItem}
 use Rattle.keyring_seal.specs.declared.content.Content.{Content}
 use Rattle.keyring_seal.specs.Arranged.{row_number, rows, hashed_row, arranged, IsKnown, IsSealable}
 use Rattle.keyring_seal.specs.Order.{by_number}
@@ -21,6 +21,9 @@ lent_area lent = checked (padded (flat_map (λ (row : Lent). item_text row.1.now
 module _ (content : Content) (key vector : List ℕ) (can : IsSealable content) (known : IsKnown content) (within : measure content ≤ most_bytes) where
   small : length (sealed content key vector) ≤ most_bytes
   small = let long = length-sealed content key vector can in omega (arith, within, long)
+
+  pub lent_name : IsShort content.clear.name
+  lent_name = (arranged_short_clear content can known key vector small).name
 
   module _ (lent : List Lent) (seen : map see lent ≡ by_number row_number (rows content)) where
     pub lent_items : AllByRecursion (λ row. IsShortItem row.1.now) lent

@@ -1,8 +1,11 @@
 -- How many bytes a content takes as a file, and the room for them.
-use Rattle.std.specs.Prelude.{◌≡◌, ℕ, ◌+◌, ◌<◌, ◌≤◌, List, length, Option, Some, None}
+use Rattle.std.specs.Prelude.{◌≡◌, ℕ, ◌+◌, ◌<◌, ◌≤◌, List, length, Option, Some, None, Result, Ok, Err, Vec}
+use Rattle.std.specs.declared.alloc.Global.{Global}
 use Rattle.std.specs.List.{flat_map}
 use Rattle.keyring_file.specs.Canonical.{clear_item_text, front_text, item_text, padding}
 use Rattle.keyring_seal.specs.declared.content.Content.{Content}
+use Rattle.keyring_seal.specs.declared.sealing.SealRefused.{SealRefused}
+use Rattle.keyring_seal.specs.declared.sealing.SealRefused.TheVariants as refused
 use Rattle.keyring_seal.specs.Arranged.{Row, hashed_row, rows}
 
 -- so many bytes leave of the room what is answered, and none is answered where there isn't that much
@@ -17,6 +20,10 @@ row_text minor row = clear_item_text minor (hashed_row row).0
 -- the bytes of the items in the area
 abbrev pub items_measure : Content → ℕ
 items_measure content = length (flat_map item_text content.items)
+
+-- the bytes of the area: the items, its check and its padding
+abbrev pub area_measure : Content → ℕ
+area_measure content = items_measure content + (16 + padding (items_measure content))
 
 -- The bytes of the whole file: the front and two numbers, the items in the clear part, the items in the area, and its check and padding.
 -- They don't depend on the order of the items.
@@ -36,3 +43,10 @@ AreSizesOf clear items room (Some (area, whole)) = (area ≡ items + (16 + paddi
 -- those of a content
 abbrev pub AreSizes : Content → ℕ → Option (ℕ × ℕ) → Type 0
 AreSizes content = AreSizesOf ((length (front_text content.clear) + 8) + length (flat_map (row_text content.clear.minor) (rows content))) (items_measure content)
+
+-- What sealing answers: the text where there is room for it, and `TooLarge` where there isn't. Memory runs out only where there is
+-- room.
+abbrev pub Seals : ℕ → List ℕ → Result (Vec ℕ Global) SealRefused → Type 0
+Seals room text (Ok file) = (file.items ≡ text) × (length text ≤ room)
+Seals room text (Err refused.TooLarge) = room < length text
+Seals room text (Err refused.OutOfMemory) = length text ≤ room

@@ -8,9 +8,9 @@ ghost use Rattle.keyring_file.specs.Canonical.{checked, item_text, padded};
 ghost use Rattle.keyring_file.specs.Short.{IsShortItem};
 ghost use Rattle.keyring_file.specs.Clear.{IsOfVersion};
 ghost use Rattle.keyring_file.specs.ClearText.{most_iterations};
-ghost use Rattle.keyring_seal.specs.Arranged.{IsKnownLent, IsSealable, arranged, of_lent};
+ghost use Rattle.keyring_seal.specs.Arranged.{IsKnown, IsKnownLent, IsSealable, arranged, of_lent};
+ghost use Rattle.keyring_seal.specs.Room.{Seals, area_measure, measure};
 ghost use Rattle.keyring_seal.specs.Whole.{IsFileOf, most_bytes, opened, sealed};
-ghost use Rattle.keyring_seal.specs.declared.sealing.SealRefused.TheVariants.{OutOfMemory};
 
 use crate::content::{Content, known_content};
 use crate::laws::what_is_sealed_opens;
@@ -21,8 +21,8 @@ use aes_cbc::Key;
 use key_derivation::Derived;
 use keyring_file::{Clear, ClearItem, FullItem, known_clear, known_clear_item, known_item};
 use keyring_text::known_bytes;
-use kr_base::OutOfMemory as NoMemory;
-use std::alloc::{AllocError, AllocFailed, Global};
+use kr_base::OutOfMemory;
+use std::alloc::Global;
 
 const MOST_BYTES: usize = 67_108_864;
 
@@ -35,38 +35,68 @@ pub enum SealRefused {
     OutOfMemory,
 }
 
-impl From<AllocError> for SealRefused {
-    ghost from_gives = { λ _ e. e ≡ OutOfMemory };
-
-    fn from(_error: AllocError) -> SealRefused {
-        SealRefused::OutOfMemory
-    }
-}
-
-impl<T: Drop> From<AllocFailed<T>> for SealRefused {
-    ghost from_gives = { λ _ e. e ≡ OutOfMemory };
-
-    fn from(_error: AllocFailed<T>) -> SealRefused {
-        SealRefused::OutOfMemory
-    }
-}
-
-/// The area of the items, encrypted under the key, in room for so many bytes.
+/// The area of the items, encrypted under the key and the vector, in room for so many bytes.
 fn encrypted_area(
     alloc: Global,
     room: usize,
     rows: &[(&ClearItem, &FullItem)],
-    key: &Derived,
-) -> Result<Vec<u8>, NoMemory>
+    key: [u8; 16],
+    vector: [u8; 16],
+) -> Result<Vec<u8>, OutOfMemory>
     requires { AllByRecursion (λ row. IsShortItem row.1.now) rows.now }
-    ensures { IfOk result (λ area. area.items ≡ encrypted (key_of key.now) (vector_of key.now)
+    ensures { IfOk result (λ area. area.items ≡ encrypted key vector
         (checked (padded (flat_map (λ row. item_text row.1.now) rows.now)))) }
 {
     let mut area = Vec::with_capacity(alloc, room)?;
     put_area(&mut area, rows)?;
-    let cipher = Key::new(key.key());
-    cipher.encrypt_in_place(key.vector(), area.as_mut_slice());
+    let cipher = Key::new(key);
+    cipher.encrypt_in_place(vector, area.as_mut_slice());
     Ok(area)
+}
+
+/// The file of a content, given the length of its area and that of the whole file.
+fn content_file(
+    alloc: Global,
+    content: &Content,
+    area_len: usize,
+    len: usize,
+    key: [u8; 16],
+    vector: [u8; 16],
+) -> Result<Vec<u8>, OutOfMemory>
+    requires known { IsKnown content.now }
+    requires sealable { IsSealable content.now }
+    requires within { measure content.now ≤ most_bytes }
+    requires area { area_len ≡ area_measure content.now }
+    ensures { IfOk result (λ file. file.items ≡ sealed content.now key vector) }
+{
+    let clear = &content.clear;
+    let rows = in_order(alloc, clear.items.as_slice(), content.items.as_slice())?;
+    let area = encrypted_area(alloc, area_len, rows.as_slice(), key, vector)?;
+    let mut file = Vec::with_capacity(alloc, len)?;
+    put_clear(&mut file, clear, rows.as_slice(), area_len as u32)?;
+    file.extend_from_slice(area.as_slice())?;
+    Ok(file)
+}
+
+/// The file of a content, unless it would be too large.
+fn content_sealed(
+    alloc: Global,
+    content: &Content,
+    key: [u8; 16],
+    vector: [u8; 16],
+) -> Result<Vec<u8>, SealRefused>
+    requires known { IsKnown content.now }
+    requires sealable { IsSealable content.now }
+    ensures { Seals most_bytes (sealed content.now key vector) result }
+{
+    let (area_len, len) = match sizes(MOST_BYTES, content) {
+        Some(found) => found,
+        None => return Err(SealRefused::TooLarge),
+    };
+    match content_file(alloc, content, area_len, len, key, vector) {
+        Ok(file) => Ok(file),
+        Err(_) => Err(SealRefused::OutOfMemory),
+    }
 }
 
 /// The file of a content under a key. Its items stand by rising number, with the hashes of their own
@@ -95,17 +125,7 @@ pub fn seal(alloc: Global, content: &Content, key: &Derived) -> Result<Vec<u8>, 
     known_content(content);
     known_bytes(&key.vector());
     what_is_sealed_opens();
-    let (area_len, len) = match sizes(MOST_BYTES, content) {
-        Some(found) => found,
-        None => return Err(SealRefused::TooLarge),
-    };
-    let clear = &content.clear;
-    let rows = in_order(alloc, clear.items.as_slice(), content.items.as_slice())?;
-    let area = encrypted_area(alloc, area_len, rows.as_slice(), key)?;
-    let mut file = Vec::with_capacity(alloc, len)?;
-    put_clear(&mut file, clear, rows.as_slice(), area_len as u32)?;
-    file.extend_from_slice(area.as_slice())?;
-    Ok(file)
+    content_sealed(alloc, content, key.key(), key.vector())
 }
 
 /// What the types of rows that are lent keep of their values. The call does nothing but read them.
@@ -118,18 +138,72 @@ fn known_rows(rows: &[(&ClearItem, &FullItem)])
     }
 }
 
-/// The file of a front and of rows that are lent, under a key: the file that `seal` gives of the content
-/// that they are. The rows stand by rising number, and have the hashes of their own attributes, which the
-/// caller keeps; what items the front has doesn't matter.
+/// The file of a front and borrowed rows, given the length of its area and that of the whole file.
+fn rows_file(
+    alloc: Global,
+    front: &Clear,
+    rows: &[(&ClearItem, &FullItem)],
+    area_len: usize,
+    len: usize,
+    key: [u8; 16],
+    vector: [u8; 16],
+) -> Result<Vec<u8>, OutOfMemory>
+    requires known { IsKnown (of_lent front.now rows.now) }
+    requires rising { IsStrictlyIncreasing (map (λ row. row.0.now.id.0) rows.now) }
+    requires kept { AllByRecursion (λ row. row.0.now.hashed ≡ hashes row.1.now.attributes)
+        rows.now }
+    requires iterations { front.now.iterations ≤ most_iterations }
+    requires within { measure (of_lent front.now rows.now) ≤ most_bytes }
+    requires area { area_len ≡ area_measure (of_lent front.now rows.now) }
+    ensures { IfOk result (λ file. file.items ≡ sealed (of_lent front.now rows.now) key vector) }
+{
+    let area = encrypted_area(alloc, area_len, rows, key, vector)?;
+    let mut file = Vec::with_capacity(alloc, len)?;
+    put_kept_clear(&mut file, front, rows, area_len as u32)?;
+    file.extend_from_slice(area.as_slice())?;
+    Ok(file)
+}
+
+/// The file of a front and borrowed rows, unless there isn't room for it.
+fn rows_sealed(
+    alloc: Global,
+    room: usize,
+    front: &Clear,
+    rows: &[(&ClearItem, &FullItem)],
+    key: [u8; 16],
+    vector: [u8; 16],
+) -> Result<Vec<u8>, SealRefused>
+    requires known { IsKnown (of_lent front.now rows.now) }
+    requires rising { IsStrictlyIncreasing (map (λ row. row.0.now.id.0) rows.now) }
+    requires kept { AllByRecursion (λ row. row.0.now.hashed ≡ hashes row.1.now.attributes)
+        rows.now }
+    requires iterations { front.now.iterations ≤ most_iterations }
+    ensures { Seals (min room most_bytes) (sealed (of_lent front.now rows.now) key vector)
+        result }
+{
+    let (area_len, len) = match row_sizes(room.min(MOST_BYTES), front, rows) {
+        Some(found) => found,
+        None => return Err(SealRefused::TooLarge),
+    };
+    match rows_file(alloc, front, rows, area_len, len, key, vector) {
+        Ok(file) => Ok(file),
+        Err(_) => Err(SealRefused::OutOfMemory),
+    }
+}
+
+/// The file of a front and borrowed rows under a key and a vector: the one that `seal` returns for the same
+/// content, and it opens to just this content. The rows are in order of their numbers and have the hashes
+/// of their own attributes, which the caller keeps; the items of the front are ignored.
 ///
 /// Refused with `TooLarge` exactly where the file would have more bytes than there is room, or more than
-/// 67,108,864; that is measured before anything is built. No item is copied but into the file.
+/// 67,108,864; that is measured before anything is built. Items are copied only into the file.
 pub fn seal_rows(
     alloc: Global,
     room: usize,
     front: &Clear,
     rows: &[(&ClearItem, &FullItem)],
-    key: &Derived,
+    key: [u8; 16],
+    vector: [u8; 16],
 ) -> Result<Vec<u8>, SealRefused>
     requires rising { IsStrictlyIncreasing (map (λ row. row.0.now.id.0) rows.now) }
     requires version { IsOfVersion front.now.minor (map (λ row. row.0.now) rows.now) }
@@ -137,26 +211,22 @@ pub fn seal_rows(
         rows.now }
     requires iterations { front.now.iterations ≤ most_iterations }
     ensures sealed { IfOk result (λ file. file.items
-        ≡ sealed (of_lent front.now rows.now) (key_of key.now) (vector_of key.now)) }
+        ≡ sealed (of_lent front.now rows.now) key vector) }
+    ensures opens { IfOk result (λ file.
+        opened file.items key vector ≡ Ok (of_lent front.now rows.now)) }
 
     // It is refused exactly where the file would be too large.
-    ensures fits { OnOk result (length (sealed (of_lent front.now rows.now) (key_of key.now)
-        (vector_of key.now)) ≤ min room most_bytes) }
-    ensures too_large { IsErrOf result SealRefused.TooLarge → min room most_bytes
-        < length (sealed (of_lent front.now rows.now) (key_of key.now) (vector_of key.now)) }
+    ensures fits { OnOk result
+        (length (sealed (of_lent front.now rows.now) key vector) ≤ min room most_bytes) }
+    ensures too_large { IsErrOf result SealRefused.TooLarge
+        → min room most_bytes < length (sealed (of_lent front.now rows.now) key vector) }
     ensures measured { min room most_bytes
-        < length (sealed (of_lent front.now rows.now) (key_of key.now) (vector_of key.now))
+        < length (sealed (of_lent front.now rows.now) key vector)
         → IsErrOf result SealRefused.TooLarge }
 {
     known_clear(front);
     known_rows(rows);
-    let (area_len, len) = match row_sizes(room.min(MOST_BYTES), front, rows) {
-        Some(found) => found,
-        None => return Err(SealRefused::TooLarge),
-    };
-    let area = encrypted_area(alloc, area_len, rows, key)?;
-    let mut file = Vec::with_capacity(alloc, len)?;
-    put_kept_clear(&mut file, front, rows, area_len as u32)?;
-    file.extend_from_slice(area.as_slice())?;
-    Ok(file)
+    known_bytes(&vector);
+    what_is_sealed_opens();
+    rows_sealed(alloc, room, front, rows, key, vector)
 }

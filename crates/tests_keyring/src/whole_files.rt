@@ -1,6 +1,7 @@
 // keyring_seal.
 
-ghost use Rattle.std.specs.Prelude.{◌≡◌, [], IfOk};
+ghost use Rattle.std.specs.Prelude.{◌≡◌, IfOk};
+ghost use Rattle.attribute_hash.specs.Hash.{hashes};
 
 use crate::checks::{cell, number, same_bytes, same_text};
 use crate::files::whole_files_of_others;
@@ -8,11 +9,12 @@ use crate::words::{
     area_fault_told, clear_fault_told, decimal, digits_of, full_item_told, item_numbers_told,
     joined, salt_of, spaced, text_of,
 };
+use attribute_hash::hashed;
 use key_derivation::{Derived, derive};
 use keyring_file::{Clear, ClearItem, FullItem};
 use keyring_seal::{Content, OpenFault, SealRefused, open, seal, seal_rows};
 use keyring_text::ReadRefused;
-use kr_base::{Attributes, Bytes, ItemId};
+use kr_base::{AttrValue, Attributes, Bytes, ItemId};
 use kr_items::Items;
 use md5::{Digest, Md5};
 use std::alloc::Global;
@@ -179,27 +181,38 @@ fn front_of(alloc: Global) -> Result<Clear, Fail>
     })
 }
 
-fn note_told_clearly(alloc: Global) -> Result<ClearItem, Fail>
-    ensures { IfOk result (λ item. item.hashed ≡ []) }
-{
-    Ok(ClearItem {
-        id: ItemId(7),
-        kind: 1,
-        hashed: Items::empty(alloc),
-        content: text_of(alloc, "text/html")?,
-    })
+/// An attribute of each kind.
+fn note_attributes(alloc: Global) -> Result<Attributes, Fail> {
+    let port = text_of(alloc, "port")?;
+    let host = text_of(alloc, "host")?;
+    let abc = text_of(alloc, "abc")?;
+    let mut values = Vec::new(alloc);
+    values.push((port, AttrValue::Number(1)))?;
+    values.push((host, AttrValue::Text(abc)))?;
+    Ok(Attributes::from_values(alloc, values)?)
 }
 
-fn note_told_fully(alloc: Global) -> Result<FullItem, Fail>
-    ensures { IfOk result (λ item. item.attributes ≡ []) }
-{
+fn note_told_fully(alloc: Global) -> Result<FullItem, Fail> {
     Ok(FullItem {
         label: text_of(alloc, "note")?,
         value: Bytes::from_slice(alloc, b"secret")?,
         created: 3,
         modified: 4,
-        attributes: Attributes::new(alloc),
+        attributes: note_attributes(alloc)?,
         access: Items::empty(alloc),
+    })
+}
+
+/// The clear part of an item, with hashes that are computed once and kept.
+fn told_clearly(alloc: Global, item: &FullItem) -> Result<ClearItem, Fail>
+    ensures { IfOk result (λ clear. clear.hashed ≡ hashes item.now.attributes) }
+{
+    let kept = hashed(alloc, &item.attributes)?;
+    Ok(ClearItem {
+        id: ItemId(7),
+        kind: 1,
+        hashed: Items::new(kept),
+        content: text_of(alloc, "text/html")?,
     })
 }
 
@@ -219,13 +232,29 @@ fn sealed_bytes(alloc: Global, sealed: Result<Vec<u8>, SealRefused>) -> Result<V
 
 fn rows_sealed(alloc: Global, room: usize, key: &Derived) -> Result<Vec<u8>, Fail> {
     let front = front_of(alloc)?;
-    let clear = note_told_clearly(alloc)?;
     let item = note_told_fully(alloc)?;
+    let clear = told_clearly(alloc, &item)?;
     let rows = [(&clear, &item)];
-    sealed_bytes(alloc, seal_rows(alloc, room, &front, &rows, key))
+    let sealed = seal_rows(alloc, room, &front, &rows, key.key(), key.vector());
+    sealed_bytes(alloc, sealed)
 }
 
-const NOTE: &str = "rows 1 2 0 0 3 0.1~7 1 'note' 736563726574 3 4 [] [] text/html";
+const NOTE: &str =
+    "rows 1 2 0 0 3 0.1~7 1 'note' 736563726574 3 4 [host=abc;port=#1;] [] text/html";
+
+// The length of the file and its MD5, by a program in Python that writes the format anew.
+const NOTE_FILE: &str = "305 f987f4d4a303a1d0d612e00f90c1e67e";
+
+#[test]
+fn a_row_that_is_lent_is_sealed_to_the_one_file(rt: HostRuntime) -> Result<(), Fail> {
+    let key = password_key(rt.alloc())?;
+    let file = rows_sealed(rt.alloc(), 1_000, &key)?;
+    let found = digest_told(rt.alloc(), file.as_slice())?;
+    same_text(&rt, found.as_str(), NOTE_FILE, "what was sealed");
+    let again = sealed_again(rt.alloc(), file.as_slice(), &key)?;
+    same_bytes(&rt, again.as_slice(), file.as_slice(), "its content sealed");
+    Ok(())
+}
 
 #[test]
 fn rows_that_are_lent_are_sealed_within_the_room(rt: HostRuntime) -> Result<(), Fail> {
@@ -233,8 +262,8 @@ fn rows_that_are_lent_are_sealed_within_the_room(rt: HostRuntime) -> Result<(), 
     let file = rows_sealed(rt.alloc(), 1_000, &key)?;
     let found = opened(rt.alloc(), file.as_slice(), &key)?;
     same_text(&rt, found.as_str(), NOTE, "what was sealed");
-    let again = sealed_again(rt.alloc(), file.as_slice(), &key)?;
-    same_bytes(&rt, again.as_slice(), file.as_slice(), "sealed again");
+    let just = rows_sealed(rt.alloc(), file.len(), &key)?;
+    same_bytes(&rt, just.as_slice(), file.as_slice(), "just as much");
     let none = rows_sealed(rt.alloc(), file.len().saturating_sub(1), &key)?;
     same_bytes(&rt, none.as_slice(), b"", "a byte too little");
     Ok(())
