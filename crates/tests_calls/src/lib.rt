@@ -4,6 +4,10 @@
 #![tactic(auto)]
 
 #[cfg(test)]
+mod checks;
+#[cfg(test)]
 mod outputs;
 #[cfg(test)]
 mod wire;
+#[cfg(test)]
+mod words;

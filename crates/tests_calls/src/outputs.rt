@@ -1,64 +1,67 @@
+use crate::checks::{holds, same_number, same_text};
 use kr_base::SessionId;
 use secret_calls::{Body, CallFault, ErrorName, Out, body_size, size_of_out};
+use std::process::Abort;
 use std::test::Fail;
 
-// How long each reply is on the wire, by the worked examples of the D-Bus Specification's rules.
-#[test]
-fn sizes_are_those_of_messages(rt: HostRuntime) -> Result<(), Fail> {
-    let sessions = [(1, 84), (9, 84), (10, 85), (u64::MAX, 103)];
-    for (number, want) in sessions {
-        let body = Body::Session(SessionId(number));
-        assert_eq!(rt; body_size(&body) + 32, want, "of session {number}");
-        assert_eq!(rt;
-            size_of_out(&Out::Return { to: 7, body }),
-            want,
-            "of session {number}"
-        );
-    }
-    let names = [
-        (ErrorName::NotSupported, 72),
-        (ErrorName::UnknownObject, 80),
-        (ErrorName::UnknownInterface, 80),
-        (ErrorName::UnknownMethod, 80),
-        (ErrorName::InvalidArgs, 72),
-        (ErrorName::LimitsExceeded, 80),
-        (ErrorName::NoSession, 72),
-    ];
-    for (name, want) in names {
-        let out = Out::Error { to: 1, name };
-        assert_eq!(rt; size_of_out(&out), want, "of {name:?}");
-        assert!(rt; out.copy()? == out);
-    }
+// A reply of this session is so long.
+fn session_has(rt: &impl Abort, number: u64, want: u64, at: &str) {
+    let body = Body::Session(SessionId(number));
+    same_number(rt, body_size(&body) + 32, want, at);
+    same_number(rt, size_of_out(&Out::Return { to: 7, body }), want, at);
+}
+
+fn is_copied(out: &Out) -> Result<bool, Fail> {
+    Ok(out.copy()? == *out)
+}
+
+// A reply of this error is so long, and its copy is the same.
+fn error_has(rt: &impl Abort, name: ErrorName, want: u64) -> Result<(), Fail> {
+    let out = Out::Error { to: 1, name };
+    same_number(rt, size_of_out(&out), want, name.as_str());
+    holds(rt, is_copied(&out)?, name.as_str());
+    Ok(())
+}
+
+fn empty_has(rt: &impl Abort, want: u64) -> Result<(), Fail> {
     let pong = Out::Return {
         to: u32::MAX,
         body: Body::Empty,
     };
-    assert_eq!(rt; size_of_out(&pong), 24);
-    assert!(rt; pong.copy()? == pong);
+    same_number(rt, size_of_out(&pong), want, "an empty reply");
+    holds(rt, is_copied(&pong)?, "an empty reply");
     Ok(())
+}
+
+// How long each reply is on the wire, by the worked examples of the D-Bus Specification's rules.
+#[test]
+fn sizes_are_those_of_messages(rt: HostRuntime) -> Result<(), Fail> {
+    session_has(&rt, 1, 84, "session 1");
+    session_has(&rt, 9, 84, "session 9");
+    session_has(&rt, 10, 85, "session 10");
+    session_has(&rt, u64::MAX, 103, "the last session");
+    error_has(&rt, ErrorName::NotSupported, 72)?;
+    error_has(&rt, ErrorName::UnknownObject, 80)?;
+    error_has(&rt, ErrorName::UnknownInterface, 80)?;
+    error_has(&rt, ErrorName::UnknownMethod, 80)?;
+    error_has(&rt, ErrorName::InvalidArgs, 72)?;
+    error_has(&rt, ErrorName::LimitsExceeded, 80)?;
+    error_has(&rt, ErrorName::NoSession, 72)?;
+    empty_has(&rt, 24)
+}
+
+fn is_error(rt: &impl Abort, fault: CallFault, want: &str) {
+    same_text(rt, fault.error().as_str(), want, want);
 }
 
 #[test]
 fn each_fault_has_its_error(rt: HostRuntime) {
-    let faults = [
-        (
-            CallFault::UnknownObject,
-            "org.freedesktop.DBus.Error.UnknownObject",
-        ),
-        (
-            CallFault::UnknownInterface,
-            "org.freedesktop.DBus.Error.UnknownInterface",
-        ),
-        (
-            CallFault::UnknownMethod,
-            "org.freedesktop.DBus.Error.UnknownMethod",
-        ),
-        (
-            CallFault::InvalidArgs,
-            "org.freedesktop.DBus.Error.InvalidArgs",
-        ),
-    ];
-    for (fault, want) in faults {
-        assert_eq!(rt; fault.error().as_str(), want);
-    }
+    let object = "org.freedesktop.DBus.Error.UnknownObject";
+    is_error(&rt, CallFault::UnknownObject, object);
+    let interface = "org.freedesktop.DBus.Error.UnknownInterface";
+    is_error(&rt, CallFault::UnknownInterface, interface);
+    let method = "org.freedesktop.DBus.Error.UnknownMethod";
+    is_error(&rt, CallFault::UnknownMethod, method);
+    let arguments = "org.freedesktop.DBus.Error.InvalidArgs";
+    is_error(&rt, CallFault::InvalidArgs, arguments);
 }

@@ -1,36 +1,58 @@
+use crate::checks::{cell, number, same_number, same_text};
+use crate::words::{bytes_of, decimal, joined};
 use call_wire::{call_of, message_of};
 use dbus_framing::Framer;
 use dbus_marshal::unmarshal;
-use dbus_types::{Endian, Message, Signature};
+use dbus_types::{Endian, Message, Signature, Value};
 use kr_base::{SessionId, Text};
-use secret_calls::{Body, Call, CallFault, ErrorName, Out, size_of_out};
-use std::alloc::Global;
+use secret_calls::{Body, Call, CallFault, ErrorName, Out, Request, size_of_out};
+use std::alloc::{AllocGlobal, Global};
+use std::process::Abort;
 use std::test::Fail;
 
-fn bytes_of(alloc: Global, text: &str) -> Result<Vec<u8>, Fail> {
-    Ok(hex::decode(alloc, text).ok().ok_or("no hex")?)
+// A call that opens a session, with its algorithm, which its Debug doesn't print.
+fn opening_told(alloc: Global, algorithm: &str) -> Result<String, Fail> {
+    joined(
+        alloc,
+        &["Ok(OpenSession { algorithm: \"", algorithm, "\" })"],
+    )
 }
 
-// A call with its algorithm, which its Debug doesn't print, or the fault.
-fn shown(alloc: Global, call: &Result<Call, CallFault>) -> Result<String, Fail> {
+fn debug_told(alloc: Global, call: &Result<Call, CallFault>) -> Result<String, Fail> {
+    Ok(format!(in alloc; "{call:?}")?)
+}
+
+// A call, or the fault.
+fn call_told(alloc: Global, call: &Result<Call, CallFault>) -> Result<String, Fail> {
     match call {
-        Ok(Call::OpenSession { algorithm }) => {
-            let text = algorithm.as_str();
-            Ok(format!(in alloc; "Ok(OpenSession {{ algorithm: {text:?} }})")?)
-        }
-        other => Ok(format!(in alloc; "{other:?}")?),
+        Ok(Call::OpenSession { algorithm }) => opening_told(alloc, algorithm.as_str()),
+        other => debug_told(alloc, other),
     }
 }
 
-// What a call is read as: its serial, whether a reply is wanted, its length, and the call or its fault.
+fn wish_told(wants_reply: bool) -> &'static str {
+    if wants_reply { " true " } else { " false " }
+}
+
+// A request by its serial, whether a reply is wanted, its length, and the call or its fault.
+fn request_told(alloc: Global, request: &Request) -> Result<String, Fail> {
+    let serial = decimal(alloc, u64::from(request.serial))?;
+    let wish = wish_told(request.wants_reply);
+    let length = decimal(alloc, u64::from(request.length))?;
+    let call = call_told(alloc, &request.call)?;
+    joined(
+        alloc,
+        &[serial.as_str(), wish, length.as_str(), " ", call.as_str()],
+    )
+}
+
+// What a message is read as.
 fn told(alloc: Global, message: &Message) -> Result<String, Fail> {
     if message.kind != 1 {
         return Ok(String::from_str(alloc, "no call")?);
     }
     let request = call_of(alloc, message)?;
-    let (serial, wanted, length) = (request.serial, request.wants_reply, request.length);
-    let call = shown(alloc, &request.call)?;
-    Ok(format!(in alloc; "{serial} {wanted} {length} {call}")?)
+    request_told(alloc, &request)
 }
 
 // A message in a row, and what is told of it. Those in little-endian are as libdbus 1.14 marshals them,
@@ -54,15 +76,27 @@ const MESSAGES: &str = "\
 6c01010104000000010000003f00000001016f00180000002f6f72672f667265656465736b746f702f736563726574730000000000000000030173000400000050696e6700000000080167000175000000000000|1 false 84 Err(InvalidArgs)
 ";
 
+fn next_of(framer: &mut Framer) -> Result<Message, Fail> {
+    Ok(framer.next().ok().ok_or("refused")?.ok_or("short")?)
+}
+
+fn message_in(alloc: Global, digits: &str) -> Result<Message, Fail> {
+    let mut framer = Framer::new(alloc, 1_048_576);
+    framer.feed(bytes_of(alloc, digits)?.as_slice())?;
+    next_of(&mut framer)
+}
+
+fn is_read(rt: &(impl AllocGlobal + Abort), row: &str) -> Result<(), Fail> {
+    let message = message_in(rt.alloc(), cell(row, 0))?;
+    let told = told(rt.alloc(), &message)?;
+    same_text(rt, told.as_str(), cell(row, 1), row);
+    Ok(())
+}
+
 #[test]
 fn messages_of_other_programs_are_read(rt: HostRuntime) -> Result<(), Fail> {
     for row in MESSAGES.lines() {
-        let (message, want) = row.split_once('|').ok_or("row")?;
-        let mut framer = Framer::new(rt.alloc(), 1_048_576);
-        framer.feed(bytes_of(rt.alloc(), message)?.as_slice())?;
-        let message = framer.next().ok().ok_or("refused")?.ok_or("short")?;
-        let told = told(rt.alloc(), &message)?;
-        assert_eq!(rt; told.as_str(), want, "of {row}");
+        is_read(&rt, row)?;
     }
     Ok(())
 }
@@ -112,26 +146,44 @@ fn text(alloc: Global, text: &str) -> Result<Option<Text>, Fail> {
     Ok(Text::from_str(alloc, text)?)
 }
 
-fn call_in(alloc: Global, row: &str) -> Result<(Message, &str), Fail> {
-    let (path, row) = row.split_once('|').ok_or("path")?;
-    let (interface, row) = row.split_once('|').ok_or("interface")?;
-    let (member, row) = row.split_once('|').ok_or("member")?;
-    let (types, row) = row.split_once('|').ok_or("signature")?;
-    let (body, want) = row.split_once('|').ok_or("body")?;
-    let signature = Signature::parse(alloc, types.as_bytes())
-        .ok()
-        .ok_or("types")?;
-    let body = bytes_of(alloc, body)?;
-    let body = unmarshal(alloc, &signature, Endian::Little, 0, body.as_slice())
-        .ok()
-        .ok_or("values")?;
-    let message = Message {
+// Whom a call is for.
+#[derive(Drop)]
+struct Names {
+    path: Option<Text>,
+    interface: Option<Text>,
+    member: Option<Text>,
+}
+
+fn names_in(alloc: Global, row: &str) -> Result<Names, Fail> {
+    let path = text(alloc, cell(row, 0))?;
+    let interface = text(alloc, cell(row, 1))?;
+    let member = text(alloc, cell(row, 2))?;
+    Ok(Names {
+        path,
+        interface,
+        member,
+    })
+}
+
+fn signature_in(alloc: Global, row: &str) -> Result<Signature, Fail> {
+    let parsed = Signature::parse(alloc, cell(row, 3).as_bytes());
+    Ok(parsed.ok().ok_or("types")?)
+}
+
+fn body_in(alloc: Global, row: &str, signature: &Signature) -> Result<Vec<Value>, Fail> {
+    let bytes = bytes_of(alloc, cell(row, 4))?;
+    let read = unmarshal(alloc, signature, Endian::Little, 0, bytes.as_slice());
+    Ok(read.ok().ok_or("values")?)
+}
+
+fn call_with(names: Names, signature: Signature, body: Vec<Value>) -> Message {
+    Message {
         kind: 1,
         flags: 0,
         serial: 1,
-        path: text(alloc, path)?,
-        interface: text(alloc, interface)?,
-        member: text(alloc, member)?,
+        path: names.path,
+        interface: names.interface,
+        member: names.member,
         error_name: None,
         reply_serial: None,
         destination: None,
@@ -139,17 +191,27 @@ fn call_in(alloc: Global, row: &str) -> Result<(Message, &str), Fail> {
         signature,
         body,
         length: 100,
-    };
-    Ok((message, want))
+    }
+}
+
+fn call_in(alloc: Global, row: &str) -> Result<Message, Fail> {
+    let signature = signature_in(alloc, row)?;
+    let body = body_in(alloc, row, &signature)?;
+    Ok(call_with(names_in(alloc, row)?, signature, body))
+}
+
+fn is_call(rt: &(impl AllocGlobal + Abort), row: &str) -> Result<(), Fail> {
+    let message = call_in(rt.alloc(), row)?;
+    let told = told(rt.alloc(), &message)?;
+    let want = joined(rt.alloc(), &["1 true 100 ", cell(row, 5)])?;
+    same_text(rt, told.as_str(), want.as_str(), row);
+    Ok(())
 }
 
 #[test]
 fn calls_are_those_of_the_table_or_the_first_fault(rt: HostRuntime) -> Result<(), Fail> {
     for row in CALLS.lines() {
-        let (message, want) = call_in(rt.alloc(), row)?;
-        let told = told(rt.alloc(), &message)?;
-        let want = format!(in rt.alloc(); "1 true 100 {want}")?;
-        assert_eq!(rt; told.as_str(), want.as_str(), "of {row}");
+        is_call(&rt, row)?;
     }
     Ok(())
 }
@@ -210,21 +272,27 @@ fn output_in(text: &str, to: u32) -> Result<Out, Fail> {
     }
 }
 
+// The digits of the output's message.
+fn written(alloc: Global, out: &Out, serial: u32) -> Result<String, Fail> {
+    if serial == 0 {
+        return Err("serial")?;
+    }
+    let bytes = message_of(alloc, out, serial)?;
+    Ok(hex::encode(alloc, bytes.as_slice())?)
+}
+
+fn is_written(rt: &(impl AllocGlobal + Abort), row: &str) -> Result<(), Fail> {
+    let out = output_in(cell(row, 0), number(cell(row, 1))?)?;
+    let text = written(rt.alloc(), &out, number(cell(row, 2))?)?;
+    same_text(rt, text.as_str(), cell(row, 3), row);
+    same_number(rt, size_of_out(&out), (text.len() / 2) as u64, row);
+    Ok(())
+}
+
 #[test]
 fn outputs_are_written_as_other_programs_do(rt: HostRuntime) -> Result<(), Fail> {
     for row in OUTPUTS.lines() {
-        let (what, rest) = row.split_once('|').ok_or("output")?;
-        let (to, rest) = rest.split_once('|').ok_or("to")?;
-        let (serial, want) = rest.split_once('|').ok_or("serial")?;
-        let out = output_in(what, to.parse::<u32>().ok().ok_or("to")?)?;
-        let serial = serial.parse::<u32>().ok().ok_or("serial")?;
-        if serial == 0 {
-            Err("serial")?;
-        }
-        let bytes = message_of(rt.alloc(), &out, serial)?;
-        let text = hex::encode(rt.alloc(), bytes.as_slice())?;
-        assert_eq!(rt; text.as_str(), want, "of {row}");
-        assert_eq!(rt; size_of_out(&out), bytes.len() as u64);
+        is_written(&rt, row)?;
     }
     Ok(())
 }
