@@ -1,18 +1,13 @@
+use crate::checks::{cell, holds, number, part, same_number, same_text};
+use crate::words::{joined, letters, text_of};
 use kr_base::{
     AttrValue, Attributes, Bytes, ConnId, HashedPair, HashedValue, ItemId, PromptId, SessionId,
     Stem, Text,
 };
-use std::alloc::Global;
+use std::alloc::{AllocGlobal, Global};
+use std::fmt::Display;
+use std::process::Abort;
 use std::test::Fail;
-
-// Reads the two cells of a row.
-fn cells(row: &str) -> Result<(&str, &str), Fail> {
-    Ok(row.split_once('|').ok_or("a row")?)
-}
-
-fn text_of(alloc: Global, text: &str) -> Result<Text, Fail> {
-    Ok(Text::from_str(alloc, text)?.ok_or("a zero byte")?)
-}
 
 // Bytes in hexadecimal digits, and whether they are a text: the Unicode Standard, table 3-7
 // (well-formed UTF-8), and D-Bus Specification, "Type System".
@@ -33,19 +28,22 @@ eda080|no text
 f4908080|no text
 ";
 
+// Which text the bytes make.
+fn made_of(alloc: Global, bytes: &[u8]) -> Result<&'static str, Fail> {
+    match Text::from_utf8(bytes.to_vec(alloc)?) {
+        Some(text) if text.as_bytes() == bytes => Ok("text"),
+        Some(_) => Ok("another text"),
+        None => Ok("no text"),
+    }
+}
+
 #[test]
 fn a_text_is_utf8_without_a_zero_byte(rt: HostRuntime) -> Result<(), Fail> {
-    let alloc = rt.alloc();
     for row in TEXTS.lines() {
-        let (digits, want) = cells(row)?;
-        let bytes = hex::decode(alloc, digits).ok().ok_or("hex")?;
-        let made = Text::from_utf8(bytes.as_slice().to_vec(alloc)?);
-        let found = match &made {
-            Some(text) if text.as_bytes() == bytes.as_slice() => "text",
-            Some(_) => "another text",
-            None => "no text",
-        };
-        assert_eq!(rt; found, want, "at {digits}");
+        let digits = cell(row, 0);
+        let want = cell(row, 1);
+        let bytes = hex::decode(rt.alloc(), digits).ok().ok_or("hex")?;
+        same_text(&rt, made_of(rt.alloc(), bytes.as_slice())?, want, digits);
     }
     Ok(())
 }
@@ -57,90 +55,154 @@ plain|5
 \u{e9}t\u{e9}|5
 ";
 
+fn new_text(alloc: Global, text: &str) -> Result<Option<Text>, Fail> {
+    Ok(Text::new(String::from_str(alloc, text)?))
+}
+
+// Whether the made text is this one, and so is its copy.
+fn is_text(made: &Text, text: &str, alloc: Global) -> Result<bool, Fail> {
+    let is_same = made.copy()? == text_of(alloc, text)?;
+    Ok(is_same && made.as_str() == text)
+}
+
+fn is_made_and_read(rt: &(impl AllocGlobal + Abort), row: &str) -> Result<(), Fail> {
+    let text = cell(row, 0);
+    let len = cell(row, 1);
+    let made = new_text(rt.alloc(), text)?.ok_or("a zero byte")?;
+    holds(rt, is_text(&made, text, rt.alloc())?, row);
+    same_number(rt, made.len(), number(len)? as usize, row);
+    Ok(())
+}
+
 #[test]
 fn a_text_is_made_and_read(rt: HostRuntime) -> Result<(), Fail> {
-    let alloc = rt.alloc();
     for row in MADE.lines() {
-        let (text, len) = cells(row)?;
-        let made = Text::new(String::from_str(alloc, text)?).ok_or("a zero byte")?;
-        let is_same = made.copy()? == text_of(alloc, text)? && made.as_str() == text;
-        assert!(rt; is_same, "at {row}");
-        let found = made.len().to_string(alloc)?;
-        assert_eq!(rt; found.as_str(), len, "at {row}");
+        is_made_and_read(&rt, row)?;
     }
-    assert!(rt; Text::new(String::from_str(alloc, "a\0b")?).is_none());
-    assert!(rt; Text::from_str(alloc, "\0")?.is_none());
+    let inside = new_text(rt.alloc(), "a\0b")?;
+    holds(&rt, inside.is_none(), "a zero byte inside");
+    let alone = Text::from_str(rt.alloc(), "\0")?;
+    holds(&rt, alone.is_none(), "a zero byte alone");
     Ok(())
 }
 
 // A text of 24 bytes lies in the value itself, and one of 25 in memory of its own.
 #[test]
 fn a_text_is_the_same_wherever_it_lies(rt: HostRuntime) -> Result<(), Fail> {
-    let alloc = rt.alloc();
-    let short = text_of(alloc, "org.freedesktop.Secrets.")?;
-    assert_eq!(rt; short.copy()?.as_str(), "org.freedesktop.Secrets.");
-    let long = text_of(alloc, "org.freedesktop.Secrets.x")?;
-    assert_eq!(rt; long.copy()?.as_str(), "org.freedesktop.Secrets.x");
-    assert!(rt; short < long);
-    assert!(rt; short != long);
+    let short = text_of(rt.alloc(), "org.freedesktop.Secrets.")?;
+    let copy = short.copy()?;
+    same_text(&rt, copy.as_str(), "org.freedesktop.Secrets.", "24 bytes");
+    let long = text_of(rt.alloc(), "org.freedesktop.Secrets.x")?;
+    let copy = long.copy()?;
+    same_text(&rt, copy.as_str(), "org.freedesktop.Secrets.x", "25 bytes");
+    holds(&rt, short < long, "the order");
+    holds(&rt, short != long, "the difference");
     Ok(())
+}
+
+// The byte, so many times.
+fn repeated(alloc: Global, count: u32, byte: u8) -> Result<Vec<u8>, Fail> {
+    let mut bytes = Vec::new(alloc);
+    for _ in 0..count {
+        bytes.push(byte)?;
+    }
+    Ok(bytes)
+}
+
+// The bytes of a row: how many there are, and which one each is.
+fn bytes_in(alloc: Global, row: &str) -> Result<Vec<u8>, Fail> {
+    let count = number(cell(row, 0))?;
+    let byte = number(cell(row, 1))?;
+    repeated(alloc, count, u8::try_from(byte).ok().ok_or("a byte")?)
+}
+
+// The bytes, copied and taken apart.
+fn copy_of(made: &Bytes) -> Result<Bytes, Fail> {
+    Ok(Bytes::new(made.copy()?.into_vec()?))
+}
+
+// The bytes of a row are above the last ones, and equal to their copy, which is returned.
+fn copy_above(rt: &(impl AllocGlobal + Abort), last: &Bytes, row: &str) -> Result<Bytes, Fail> {
+    let bytes = bytes_in(rt.alloc(), row)?;
+    let made = Bytes::from_slice(rt.alloc(), bytes.as_slice())?;
+    holds(rt, *last < made && *last != made, row);
+    let copy = copy_of(&made)?;
+    let is_long = copy.len() == bytes.len();
+    holds(rt, copy == made && is_long, row);
+    holds(rt, copy.as_slice() == bytes.as_slice(), row);
+    Ok(copy)
 }
 
 // 32 bytes lie in the value itself, and 33 in memory of their own.
 #[test]
 fn bytes_are_the_same_wherever_they_lie(rt: HostRuntime) -> Result<(), Fail> {
-    let alloc = rt.alloc();
-    let mut last = Bytes::from_slice(alloc, &[])?;
+    let mut last = Bytes::from_slice(rt.alloc(), &[])?;
     for row in "1|0\n7|255\n32|255\n33|255\n".lines() {
-        let (len, byte) = cells(row)?;
-        let len = len.parse::<usize>().ok().ok_or("a length")?;
-        let mut bytes = Vec::new(alloc);
-        bytes.resize(len, byte.parse::<u8>().ok().ok_or("a byte")?)?;
-        let made = Bytes::from_slice(alloc, bytes.as_slice())?;
-        let is_above = last < made && last != made;
-        last = Bytes::new(made.copy()?.into_vec()?);
-        let is_same = last == made && last.as_slice() == bytes.as_slice() && last.len() == len;
-        assert!(rt; is_above && is_same, "at {row}");
+        last = copy_above(&rt, &last, row)?;
     }
+    Ok(())
+}
+
+fn is_printed(rt: &(impl AllocGlobal + Abort), it: &impl Display, want: &str) -> Result<(), Fail> {
+    let printed = it.to_string(rt.alloc())?;
+    same_text(rt, printed.as_str(), want, want);
     Ok(())
 }
 
 #[test]
 fn numbers_are_printed(rt: HostRuntime) -> Result<(), Fail> {
-    let alloc = rt.alloc();
-    let (connection, session) = (ConnId(0), SessionId(u64::MAX));
-    let (prompt, item) = (PromptId(10), ItemId(u32::MAX));
-    let printed = format!(in alloc; "{connection} {session} {prompt} {item}")?;
-    assert_eq!(rt; printed.as_str(), "0 18446744073709551615 10 4294967295");
-    Ok(())
+    is_printed(&rt, &ConnId(0), "0")?;
+    is_printed(&rt, &SessionId(u64::MAX), "18446744073709551615")?;
+    is_printed(&rt, &PromptId(10), "10")?;
+    is_printed(&rt, &ItemId(u32::MAX), "4294967295")
+}
+
+fn shown_text(alloc: Global) -> Result<String, Fail> {
+    let text = text_of(alloc, "a \"b\"")?;
+    Ok(format!(in alloc; "{text}|{text:?}|{text:>8}")?)
+}
+
+fn shown_stem(alloc: Global) -> Result<String, Fail> {
+    let stem = Stem::new(alloc, "My keys")?.ok_or("no stem")?;
+    Ok(format!(in alloc; "{stem}|{stem:?}")?)
+}
+
+fn shown_secret(alloc: Global) -> Result<String, Fail> {
+    let secret = Bytes::from_slice(alloc, b"hunter2")?;
+    Ok(format!(in alloc; "{secret:?}")?)
 }
 
 #[test]
 fn texts_are_shown_as_they_are_and_for_debugging_by_their_length(
     rt: HostRuntime,
 ) -> Result<(), Fail> {
-    let alloc = rt.alloc();
-    let text = text_of(alloc, "a \"b\"")?;
-    let stem = Stem::new(alloc, "My keys")?.ok_or("no stem")?;
-    let secret = Bytes::from_slice(alloc, b"hunter2")?;
-    let printed = format!(in alloc; "{text}|{text:?}|{text:>8}|{stem}|{stem:?}|{secret:?}")?;
-    assert_eq!(rt;
-        printed.as_str(),
-        "a \"b\"|5 bytes|   a \"b\"|My keys|7 bytes|7 bytes"
-    );
+    let text = shown_text(rt.alloc())?;
+    same_text(&rt, text.as_str(), "a \"b\"|5 bytes|   a \"b\"", "a text");
+    let stem = shown_stem(rt.alloc())?;
+    same_text(&rt, stem.as_str(), "My keys|7 bytes", "a stem");
+    let secret = shown_secret(rt.alloc())?;
+    same_text(&rt, secret.as_str(), "7 bytes", "a secret");
     Ok(())
+}
+
+fn value_of(alloc: Global, text: &str) -> Result<AttrValue, Fail> {
+    Ok(AttrValue::Text(text_of(alloc, text)?))
+}
+
+// A text is below another, and that below a number.
+fn are_in_order(alloc: Global, row: &str) -> Result<bool, Fail> {
+    let low = cell(row, 0);
+    let high = cell(row, 1);
+    let low = value_of(alloc, low)?;
+    let high = value_of(alloc, high)?;
+    Ok(low < high && high < AttrValue::Number(0))
 }
 
 // By the first byte that differs, and a text before each longer one that begins with it.
 #[test]
 fn texts_are_in_order(rt: HostRuntime) -> Result<(), Fail> {
-    let alloc = rt.alloc();
     for row in "|Z\nZ|a\na|ab\nab|\u{e9}\n".lines() {
-        let (low, high) = cells(row)?;
-        let low = AttrValue::Text(text_of(alloc, low)?);
-        let high = AttrValue::Text(text_of(alloc, high)?);
-        let is_ordered = low < high && high < AttrValue::Number(0);
-        assert!(rt; is_ordered, "at {row}");
+        holds(&rt, are_in_order(rt.alloc(), row)?, row);
     }
     Ok(())
 }
@@ -158,51 +220,72 @@ a\0|no stem
 244|no stem
 ";
 
+// So many letters, or the word itself.
+fn word_of(alloc: Global, word: &str) -> Result<String, Fail> {
+    match word.parse::<u32>() {
+        Ok(count) => letters(alloc, count),
+        Err(_) => Ok(String::from_str(alloc, word)?),
+    }
+}
+
+// Whether the stem is this text, and is copied and given back.
+fn is_stem_of(stem: Stem, text: &str) -> Result<bool, Fail> {
+    let is_same = stem.as_text().as_str() == text && stem.copy()? == stem;
+    Ok(is_same && Stem::from_text(stem.into_text()).is_some())
+}
+
+fn is_stem(alloc: Global, text: &str) -> Result<bool, Fail> {
+    match Stem::new(alloc, text)? {
+        Some(stem) => is_stem_of(stem, text),
+        None => Ok(false),
+    }
+}
+
 #[test]
 fn a_stem_can_be_a_file_name(rt: HostRuntime) -> Result<(), Fail> {
-    let alloc = rt.alloc();
     for row in STEMS.lines() {
-        let (word, want) = cells(row)?;
-        let mut text = String::new(alloc);
-        match word.parse::<u32>() {
-            Ok(letters) => {
-                for _ in 0..letters {
-                    text.push('a')?;
-                }
-            }
-            Err(_) => text.push_str(word)?,
-        }
-        let found = match Stem::new(alloc, text.as_str())? {
-            Some(stem) => {
-                let is_same = stem.as_text().as_str() == text.as_str() && stem.copy()? == stem;
-                is_same && Stem::from_text(stem.into_text()).is_some()
-            }
-            None => false,
-        };
-        assert!(rt; found == (want == "stem"), "at {word}");
+        let word = cell(row, 0);
+        let want = cell(row, 1);
+        let text = word_of(rt.alloc(), word)?;
+        let found = is_stem(rt.alloc(), text.as_str())?;
+        holds(&rt, found == (want == "stem"), word);
     }
     Ok(())
+}
+
+fn pair_of(alloc: Global, pair: &str) -> Result<(Text, Text), Fail> {
+    let name = text_of(alloc, part(pair, '=', 0))?;
+    Ok((name, text_of(alloc, part(pair, '=', 1))?))
 }
 
 // Pairs as `name=value`, each followed by a comma.
 fn pairs_of(alloc: Global, text: &str) -> Result<Vec<(Text, Text)>, Fail> {
     let mut pairs = Vec::new(alloc);
     for pair in text.split_terminator(',') {
-        let (name, value) = pair.split_once('=').ok_or("no pair")?;
-        pairs.push((text_of(alloc, name)?, text_of(alloc, value)?))?;
+        pairs.push(pair_of(alloc, pair)?)?;
     }
     Ok(pairs)
 }
 
-fn printed(alloc: Global, attributes: &Attributes) -> Result<String, Fail> {
-    let mut text = String::new(alloc);
-    for (name, value) in attributes.as_slice() {
-        match value {
-            AttrValue::Text(value) => write!(text, "{name}={value},")?,
-            AttrValue::Number(number) => write!(text, "{name}#{number},")?,
-        }
+fn number_told(alloc: Global, name: &str, number: u32) -> Result<String, Fail> {
+    let number = number.to_string(alloc)?;
+    joined(alloc, &[name, "#", number.as_str(), ","])
+}
+
+fn pair_told(alloc: Global, name: &str, value: &AttrValue) -> Result<String, Fail> {
+    match value {
+        AttrValue::Text(value) => joined(alloc, &[name, "=", value.as_str(), ","]),
+        AttrValue::Number(number) => number_told(alloc, name, *number),
     }
-    Ok(text)
+}
+
+// Attributes as pairs, each followed by a comma.
+fn told(alloc: Global, attributes: &Attributes) -> Result<String, Fail> {
+    let mut told = String::new(alloc);
+    for (name, value) in attributes.as_slice() {
+        told.push_str(pair_told(alloc, name.as_str(), value)?.as_str())?;
+    }
+    Ok(told)
 }
 
 // Pairs, and the attributes that they are.
@@ -215,53 +298,78 @@ a=1,b=2,a=3,b=,|a=3,b=,
 ab=1,a=2,Z=3,=4,\u{e9}=5,|=4,Z=3,a=2,ab=1,\u{e9}=5,
 ";
 
+fn is_gathered(rt: &(impl AllocGlobal + Abort), row: &str) -> Result<(), Fail> {
+    let pairs = cell(row, 0);
+    let want = cell(row, 1);
+    let made = Attributes::from_pairs(rt.alloc(), pairs_of(rt.alloc(), pairs)?)?;
+    holds(rt, made.copy()? == made, pairs);
+    holds(rt, made.len() == made.as_slice().len(), pairs);
+    let text = told(rt.alloc(), &made)?;
+    same_text(rt, text.as_str(), want, pairs);
+    Ok(())
+}
+
 #[test]
 fn of_equal_names_the_later_pair_counts(rt: HostRuntime) -> Result<(), Fail> {
-    let alloc = rt.alloc();
     for row in GATHERED.lines() {
-        let (pairs, want) = cells(row)?;
-        let made = Attributes::from_pairs(alloc, pairs_of(alloc, pairs)?)?;
-        let is_same = made.copy()? == made && made.len() == made.as_slice().len();
-        assert!(rt; is_same, "at {pairs}");
-        assert_eq!(rt; printed(alloc, &made)?.as_str(), want, "at {pairs}");
+        is_gathered(&rt, row)?;
     }
     Ok(())
+}
+
+fn number_pair(alloc: Global, row: &str) -> Result<(Text, AttrValue), Fail> {
+    let name = cell(row, 0);
+    let value = cell(row, 1);
+    let name = text_of(alloc, name)?;
+    Ok((name, AttrValue::Number(number(value)?)))
+}
+
+fn numbered(alloc: Global) -> Result<Attributes, Fail> {
+    let mut pairs = Vec::new(alloc);
+    for row in "b|1\nd|2\na|3\nb|4\n".lines() {
+        pairs.push(number_pair(alloc, row)?)?;
+    }
+    Ok(Attributes::from_values(alloc, pairs)?)
+}
+
+fn value_text(alloc: Global, found: Option<&AttrValue>) -> Result<String, Fail> {
+    match found {
+        Some(AttrValue::Number(number)) => Ok(number.to_string(alloc)?),
+        Some(AttrValue::Text(_)) => Ok(String::from_str(alloc, "text")?),
+        None => Ok(String::from_str(alloc, "none")?),
+    }
 }
 
 #[test]
 fn a_value_is_found_by_its_name(rt: HostRuntime) -> Result<(), Fail> {
-    let alloc = rt.alloc();
-    let mut pairs = Vec::new(alloc);
-    for row in "b|1\nd|2\na|3\nb|4\n".lines() {
-        let (name, number) = cells(row)?;
-        let number = number.parse::<u32>().ok().ok_or("a number")?;
-        pairs.push((text_of(alloc, name)?, AttrValue::Number(number)))?;
-    }
-    let held = Attributes::from_values(alloc, pairs)?;
+    let held = numbered(rt.alloc())?;
     for row in "a|3\nb|4\nd|2\n|none\nc|none\ne|none\n".lines() {
-        let (name, want) = cells(row)?;
-        let found = match held.get(name) {
-            Some(AttrValue::Number(number)) => number.to_string(alloc)?,
-            Some(AttrValue::Text(_)) => String::from_str(alloc, "text")?,
-            None => String::from_str(alloc, "none")?,
-        };
-        assert_eq!(rt; found.as_str(), want, "at {name}");
+        let name = cell(row, 0);
+        let want = cell(row, 1);
+        let found = value_text(rt.alloc(), held.get(name))?;
+        same_text(&rt, found.as_str(), want, name);
     }
-    assert!(rt; Attributes::new(alloc) != held);
+    holds(&rt, Attributes::new(rt.alloc()) != held, "no attributes");
     Ok(())
+}
+
+// Whether a pair of the copy of this value has this value, and is its own copy.
+fn is_copied(alloc: Global, value: HashedValue) -> Result<bool, Fail> {
+    let name = text_of(alloc, "a")?;
+    let value_copy = value.copy()?;
+    let pair = HashedPair {
+        name,
+        value: value_copy,
+    };
+    Ok(pair.value == value && pair.copy()? == pair)
 }
 
 #[test]
 fn a_hashed_pair_is_copied(rt: HostRuntime) -> Result<(), Fail> {
-    let alloc = rt.alloc();
-    let hash = Bytes::from_slice(alloc, b"900150983cd24fb0d6963f7d28e17f72")?;
-    for value in [HashedValue::Text(hash), HashedValue::Number(0x18273645)] {
-        let pair = HashedPair {
-            name: text_of(alloc, "a")?,
-            value: value.copy()?,
-        };
-        let is_same = pair.value == value && pair.copy()? == pair;
-        assert!(rt; is_same, "the copy is another pair");
-    }
+    let hash = Bytes::from_slice(rt.alloc(), b"900150983cd24fb0d6963f7d28e17f72")?;
+    let text = HashedValue::Text(hash);
+    holds(&rt, is_copied(rt.alloc(), text)?, "a text");
+    let number = HashedValue::Number(0x18273645);
+    holds(&rt, is_copied(rt.alloc(), number)?, "a number");
     Ok(())
 }

@@ -6,6 +6,10 @@
 #[cfg(test)]
 mod base;
 #[cfg(test)]
+mod checks;
+#[cfg(test)]
 mod items;
 #[cfg(test)]
 mod names;
+#[cfg(test)]
+mod words;

@@ -1,12 +1,10 @@
-use kr_base::{PromptId, SessionId, Stem, Text};
+use crate::checks::{cell, holds, number, part, same_text};
+use crate::words::{joined, letters, text_of};
+use kr_base::{ItemId, PromptId, SessionId, Stem};
 use kr_names::{ObjectName, escaped_stem, parse_path, path_of, stem_of_escaped};
-use std::alloc::Global;
+use std::alloc::{AllocGlobal, Global};
+use std::process::Abort;
 use std::test::Fail;
-
-// Reads the two cells of a row.
-fn cells(row: &str) -> Result<(&str, &str), Fail> {
-    Ok(row.split_once('|').ok_or("a row")?)
-}
 
 // Each stem, and how it is spelled in a path.
 const STEMS: &str = "\
@@ -31,27 +29,58 @@ a b
 \u{e9}
 ";
 
+fn is_spelled(rt: &(impl AllocGlobal + Abort), row: &str) -> Result<(), Fail> {
+    let stem = cell(row, 0);
+    let want = cell(row, 1);
+    let stem = Stem::new(rt.alloc(), stem)?.ok_or("no stem")?;
+    let spelling = escaped_stem(rt.alloc(), &stem)?;
+    same_text(rt, spelling.as_str(), want, row);
+    Ok(())
+}
+
 #[test]
 fn a_stem_is_spelled_in_one_way(rt: HostRuntime) -> Result<(), Fail> {
-    let alloc = rt.alloc();
     for row in STEMS.lines() {
-        let (stem, want) = cells(row)?;
-        let stem = Stem::new(alloc, stem)?.ok_or("no stem")?;
-        assert_eq!(rt; escaped_stem(alloc, &stem)?.as_str(), want, "at {stem}");
+        is_spelled(&rt, row)?;
     }
     for text in NO_STEMS.lines() {
-        assert!(rt; stem_of_escaped(alloc, text)?.is_none(), "at {text}");
+        let stem = stem_of_escaped(rt.alloc(), text)?;
+        holds(&rt, stem.is_none(), text);
     }
     Ok(())
+}
+
+// Whether the path of the name is this one again.
+fn is_path_of(alloc: Global, name: &ObjectName, path: &str) -> Result<bool, Fail> {
+    let copy = name.copy()?;
+    if !copy.has_path() {
+        return Ok(false);
+    }
+    Ok(path_of(alloc, &copy)?.as_str() == path)
+}
+
+fn item_told(alloc: Global, stem: &Stem, item: ItemId) -> Result<String, Fail> {
+    let item = format!(in alloc; "{item:?}")?;
+    let stem = stem.as_text();
+    joined(
+        alloc,
+        &["Item(\"", stem.as_str(), "\", ", item.as_str(), ")"],
+    )
+}
+
+fn debug_told(alloc: Global, name: &ObjectName) -> Result<String, Fail> {
+    Ok(format!(in alloc; "{name:?}")?)
 }
 
 // A name with its texts, which its Debug doesn't print.
 fn shown(alloc: Global, name: &ObjectName) -> Result<String, Fail> {
     match name {
-        ObjectName::Collection(stem) => Ok(format!(in alloc; "Collection(\"{stem}\")")?),
-        ObjectName::Item(stem, item) => Ok(format!(in alloc; "Item(\"{stem}\", {item:?})")?),
-        ObjectName::Alias(alias) => Ok(format!(in alloc; "Alias(\"{alias}\")")?),
-        other => Ok(format!(in alloc; "{other:?}")?),
+        ObjectName::Collection(stem) => {
+            joined(alloc, &["Collection(\"", stem.as_text().as_str(), "\")"])
+        }
+        ObjectName::Item(stem, item) => item_told(alloc, stem, *item),
+        ObjectName::Alias(alias) => joined(alloc, &["Alias(\"", alias.as_str(), "\")"]),
+        other => debug_told(alloc, other),
     }
 }
 
@@ -60,10 +89,21 @@ fn read(alloc: Global, path: &str) -> Result<String, Fail> {
     let Some(name) = parse_path(alloc, path)? else {
         return Ok(String::from_str(alloc, "no name")?);
     };
-    if !name.has_path() || path_of(alloc, &name.copy()?)?.as_str() != path {
+    if !is_path_of(alloc, &name, path)? {
         return Ok(String::from_str(alloc, "another path")?);
     }
     shown(alloc, &name)
+}
+
+fn is_read(rt: &(impl AllocGlobal + Abort), path: &str, want: &str) -> Result<(), Fail> {
+    let told = read(rt.alloc(), path)?;
+    same_text(rt, told.as_str(), want, path);
+    Ok(())
+}
+
+fn is_read_below(rt: &(impl AllocGlobal + Abort), row: &str) -> Result<(), Fail> {
+    let path = joined(rt.alloc(), &["/org/freedesktop/secrets", cell(row, 0)])?;
+    is_read(rt, path.as_str(), cell(row, 1))
 }
 
 // What follows the root of a path, and the name.
@@ -122,15 +162,13 @@ org/freedesktop/secrets|no name
 
 #[test]
 fn a_path_is_that_of_one_name_or_of_none(rt: HostRuntime) -> Result<(), Fail> {
-    let alloc = rt.alloc();
     for row in NAMES.lines() {
-        let (below, want) = cells(row)?;
-        let path = format!(in alloc; "/org/freedesktop/secrets{below}")?;
-        assert_eq!(rt; read(alloc, path.as_str())?.as_str(), want, "at {below}");
+        is_read_below(&rt, row)?;
     }
     for row in PATHS.lines() {
-        let (path, want) = cells(row)?;
-        assert_eq!(rt; read(alloc, path)?.as_str(), want, "at {path}");
+        let path = cell(row, 0);
+        let want = cell(row, 1);
+        is_read(&rt, path, want)?;
     }
     Ok(())
 }
@@ -143,33 +181,47 @@ aliases/64|true
 aliases/65|false
 ";
 
+// The path of a name of this kind with so many letters.
+fn long_path(alloc: Global, kind: &str, count: u32) -> Result<String, Fail> {
+    let name = letters(alloc, count)?;
+    joined(
+        alloc,
+        &["/org/freedesktop/secrets/", kind, "/", name.as_str()],
+    )
+}
+
+fn is_name(alloc: Global, row: &str) -> Result<bool, Fail> {
+    let count = number(part(cell(row, 0), '/', 1))?;
+    let path = long_path(alloc, part(row, '/', 0), count)?;
+    Ok(parse_path(alloc, path.as_str())?.is_some())
+}
+
 #[test]
 fn a_name_has_its_length(rt: HostRuntime) -> Result<(), Fail> {
-    let alloc = rt.alloc();
     for row in LENGTHS.lines() {
-        let (name, want) = cells(row)?;
-        let (kind, letters) = name.split_once('/').ok_or("a length")?;
-        let mut path = format!(in alloc; "/org/freedesktop/secrets/{kind}/")?;
-        for _ in 0..letters.parse::<u32>().ok().ok_or("a number")? {
-            path.push('a')?;
-        }
-        let is_name = parse_path(alloc, path.as_str())?.is_some();
-        assert_eq!(rt; is_name, want == "true", "at {name}");
+        let found = is_name(rt.alloc(), row)?;
+        holds(&rt, found == (cell(row, 1) == "true"), row);
     }
     Ok(())
 }
 
+fn alias_has_path(alloc: Global, alias: &str) -> Result<bool, Fail> {
+    Ok(ObjectName::Alias(text_of(alloc, alias)?).has_path())
+}
+
 #[test]
 fn a_name_may_have_no_path(rt: HostRuntime) -> Result<(), Fail> {
-    let alloc = rt.alloc();
     for row in "|false\na b|false\na_b|true\n".lines() {
-        let (alias, want) = cells(row)?;
-        let name = Text::from_str(alloc, alias)?.ok_or("a zero byte")?;
-        let has_path = ObjectName::Alias(name).has_path();
-        assert!(rt; has_path == (want == "true"), "at {row}");
+        let alias = cell(row, 0);
+        let want = cell(row, 1);
+        let found = alias_has_path(rt.alloc(), alias)?;
+        holds(&rt, found == (want == "true"), row);
     }
-    assert!(rt; !ObjectName::Session(SessionId(0)).has_path());
-    assert!(rt; !ObjectName::Prompt(PromptId(0)).has_path());
-    assert!(rt; ObjectName::Prompt(PromptId(1)).has_path());
+    let session = ObjectName::Session(SessionId(0));
+    holds(&rt, !session.has_path(), "session 0");
+    let prompt = ObjectName::Prompt(PromptId(0));
+    holds(&rt, !prompt.has_path(), "prompt 0");
+    let prompt = ObjectName::Prompt(PromptId(1));
+    holds(&rt, prompt.has_path(), "prompt 1");
     Ok(())
 }

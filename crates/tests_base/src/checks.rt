@@ -1,0 +1,39 @@
+// What a test asserts, and how it reads its table: one function for each type.
+
+use std::process::Abort;
+use std::test::Fail;
+
+/// Asserts that two texts are the same; `at` says where.
+pub fn same_text(rt: &impl Abort, found: &str, want: &str, at: &str) {
+    assert_eq!(rt; found, want, "at {at}");
+}
+
+/// Asserts that two runs of bytes are the same; `at` says where.
+pub fn same_bytes(rt: &impl Abort, found: &[u8], want: &[u8], at: &str) {
+    assert_eq!(rt; found, want, "at {at}");
+}
+
+/// Asserts that two numbers are the same; `at` says where.
+pub fn same_number(rt: &impl Abort, found: usize, want: usize, at: &str) {
+    assert_eq!(rt; found, want, "at {at}");
+}
+
+/// Asserts a fact; `at` says where.
+pub fn holds(rt: &impl Abort, fact: bool, at: &str) {
+    assert!(rt; fact, "at {at}");
+}
+
+/// The part of a text at this place, where this sign is between the parts.
+pub fn part(text: &str, sign: char, place: usize) -> &str {
+    text.split(sign).nth(place).unwrap_or("no such part")
+}
+
+/// The cell of a row at this place, where bars are between the cells.
+pub fn cell(row: &str, place: usize) -> &str {
+    part(row, '|', place)
+}
+
+/// The number that a text is.
+pub fn number(text: &str) -> Result<u32, Fail> {
+    Ok(text.parse::<u32>().ok().ok_or("a number")?)
+}
