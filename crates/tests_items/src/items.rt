@@ -1,170 +1,191 @@
 ghost use Rattle.std.specs.Prelude.{◌≡◌, ◌∷◌, [], IfOk, map};
 
-use attribute_match::matches;
+use crate::checks::{cell, number, same_text};
+use crate::words::{attributes_of, decimal, ids_told, item_of, joined, text_of};
 use item_store::{ItemFault, ItemStore};
 use keyring_file::FullItem;
-use kr_base::{Attributes, Bytes, ItemId, Text};
-use kr_items::Items;
-use std::alloc::Global;
+use kr_base::{Bytes, ItemId};
+use std::alloc::{AllocGlobal, Global};
+use std::process::Abort;
 use std::test::Fail;
 
-// The text that the string is.
-fn text(alloc: Global, string: &str) -> Result<Text, Fail> {
-    Ok(Text::from_str(alloc, string)?.ok_or("zero")?)
-}
-
-// As many pairs, each with a name of its own.
-fn many(alloc: Global, pairs: &mut Vec<(Text, Text)>, count: u32) -> Result<(), Fail> {
-    for number in 0..count {
-        pairs.push((Text::of_number(number), text(alloc, "v")?))?;
-    }
-    Ok(())
-}
-
-/// The attributes that the words are; *N is N attributes, each with a name of its own.
-pub fn attributes(alloc: Global, words: &str) -> Result<Attributes, Fail> {
-    let mut pairs = Vec::new(alloc);
-    for word in words.split_whitespace() {
-        if let Some(count) = word.strip_prefix('*') {
-            many(alloc, &mut pairs, count.parse::<u32>().unwrap_or(0))?;
-            continue;
-        }
-        let (name, value) = word.split_once('=').ok_or("pair")?;
-        pairs.push((text(alloc, name)?, text(alloc, value)?))?;
-    }
-    Ok(Attributes::from_pairs(alloc, pairs)?)
-}
-
-/// An item with these attributes.
-pub fn item(alloc: Global, words: &str) -> Result<FullItem, Fail> {
-    Ok(FullItem {
-        label: text(alloc, "label")?,
-        value: Bytes::from_slice(alloc, b"secret")?,
-        created: 1,
-        modified: 1,
-        attributes: attributes(alloc, words)?,
-        access: Items::empty(alloc),
-    })
-}
-
-// The ids as a text.
-fn shown(alloc: Global, ids: &[ItemId]) -> Result<String, Fail> {
-    let mut shown = String::new(alloc);
-    for id in ids {
-        shown.push_str(format!(in alloc; "{} ", id)?.as_str())?;
-    }
-    Ok(shown)
+// The number and the kind of a row.
+fn row_told(alloc: Global, number: u32, kind: u32) -> Result<String, Fail> {
+    let number = decimal(alloc, number)?;
+    let kind = decimal(alloc, kind)?;
+    joined(alloc, &[number.as_str(), ":", kind.as_str(), " "])
 }
 
 // The numbers and kinds of the rows, in their order.
-fn kinds(alloc: Global, items: &ItemStore) -> Result<String, Fail> {
-    let mut shown = String::new(alloc);
+fn rows_told(alloc: Global, items: &ItemStore) -> Result<String, Fail> {
+    let mut told = String::new(alloc);
     for (number, row) in items.rows().iter() {
-        shown.push_str(format!(in alloc; "{}:{} ", number, row.kind)?.as_str())?;
+        told.push_str(row_told(alloc, *number, row.kind)?.as_str())?;
     }
-    Ok(shown)
+    Ok(told)
 }
 
-// What is asked of the items in turn, and the answer. Items 3 and 5 have k=v, as in the first rows.
+// What is asked of the items in turn, of which id and with which attributes, and the answer. Items 3 and 5
+// have k=v, as in the first rows.
 const CONVERSATION: &str = "\
-add : 1
-add : 2
-add k=v: 3
-add : 4
-add k=v: 5
-equal k=v: 3
-add k=v: 6
-search k=v: 3 5 6
-remove 3: ok
-search k=v: 5 6
-equal k=v: 5
-remove 3: NoItem
-label 3: NoItem
-secret 3: NoItem
-label 5: ok
-attributes 5 k=w: ok
-attributes 3 k=w: NoItem
-search k=v: 6
-search k=w: 5
-search : 1 2 4 5 6
-equal : 1
-equal k=v j=v: none
-remove 6: ok
-add j=v k=v: 6
-search k=v: 6
-equal k=v: none
-equal k=v j=v: 6
-search j=v: 6
+add|||1
+add|||2
+add||k=v|3
+add|||4
+add||k=v|5
+equal||k=v|3
+add||k=v|6
+search||k=v|3 5 6
+remove|3||ok
+search||k=v|5 6
+equal||k=v|5
+remove|3||NoItem
+label|3||NoItem
+secret|3||NoItem
+label|5||ok
+attributes|5|k=w|ok
+attributes|3|k=w|NoItem
+search||k=v|6
+search||k=w|5
+search|||1 2 4 5 6
+equal|||1
+equal||k=v j=v|none
+remove|6||ok
+add||j=v k=v|6
+search||k=v|6
+equal||k=v|none
+equal||k=v j=v|6
+search||j=v|6
 ";
 
-// What the items answer.
-fn answer(alloc: Global, items: &mut ItemStore, ask: &str, words: &str) -> Result<String, Fail> {
-    let (first, rest) = words.split_once(' ').unwrap_or((words, ""));
-    let id = ItemId(first.parse::<u32>().unwrap_or(0));
-    let done = match ask {
-        "add" => match items.add(item(alloc, words)?, 0) {
-            Ok(id) => return Ok(format!(in alloc; "{}", id)?),
-            Err(fault) => Err(fault),
-        },
-        "rows" => return kinds(alloc, items),
-        "search" => return shown(alloc, items.search(&attributes(alloc, words)?)?.as_slice()),
-        "equal" => match items.by_equal(&attributes(alloc, words)?) {
-            Some(id) => return Ok(format!(in alloc; "{}", id)?),
-            None => return Ok(format!(in alloc; "none")?),
-        },
-        "remove" => match items.remove(id) {
-            Ok(_) => Ok(()),
-            Err(fault) => Err(fault),
-        },
-        "label" => items.set_label(id, text(alloc, "other")?, 2),
-        "secret" => items.set_secret(id, Bytes::from_slice(alloc, b"other")?, 2),
-        _ => items.set_attributes(id, attributes(alloc, rest)?, 2),
-    };
+fn done_told(done: Result<(), ItemFault>) -> &'static str {
     match done {
-        Ok(()) => Ok(format!(in alloc; "ok")?),
-        Err(fault) => Ok(format!(in alloc; "{:?}", fault)?),
+        Ok(()) => "ok",
+        Err(ItemFault::NoItem) => "NoItem",
+        Err(ItemFault::IdsSpent) => "IdsSpent",
+        Err(ItemFault::TooManyAttributes) => "TooManyAttributes",
+        Err(ItemFault::OutOfMemory) => "OutOfMemory",
     }
 }
 
-// The first row whose answer is another, with that answer.
-fn first_wrong(alloc: Global, items: &mut ItemStore, rows: &str) -> Result<String, Fail> {
-    for row in rows.lines() {
-        let (asked, want) = row.split_once(':').ok_or("row")?;
-        let (ask, words) = asked.split_once(' ').ok_or("ask")?;
-        let said = answer(alloc, items, ask, words)?;
-        if said.as_str().trim() != want.trim() {
-            return Ok(format!(in alloc; "{}, and not {}", row, said)?);
-        }
+fn add(items: &mut ItemStore, item: FullItem) -> Result<ItemId, ItemFault> {
+    items.add(item, 0)
+}
+
+fn added_told(alloc: Global, added: Result<ItemId, ItemFault>) -> Result<String, Fail> {
+    match added {
+        Ok(id) => decimal(alloc, id.0),
+        Err(fault) => Ok(String::from_str(alloc, done_told(Err(fault)))?),
     }
-    Ok(String::new(alloc))
+}
+
+fn searched(alloc: Global, items: &ItemStore, words: &str) -> Result<String, Fail> {
+    let wanted = attributes_of(alloc, words)?;
+    ids_told(alloc, items.search(&wanted)?.as_slice())
+}
+
+fn equal_told(alloc: Global, items: &ItemStore, words: &str) -> Result<String, Fail> {
+    let wanted = attributes_of(alloc, words)?;
+    match items.by_equal(&wanted) {
+        Some(id) => decimal(alloc, id.0),
+        None => Ok(String::from_str(alloc, "none")?),
+    }
+}
+
+fn remove(items: &mut ItemStore, id: ItemId) -> Result<(), ItemFault> {
+    let _ = items.remove(id)?;
+    Ok(())
+}
+
+type Done = Result<(), ItemFault>;
+
+fn set_label(alloc: Global, items: &mut ItemStore, id: ItemId) -> Result<Done, Fail> {
+    Ok(items.set_label(id, text_of(alloc, "other")?, 2))
+}
+
+fn set_secret(alloc: Global, items: &mut ItemStore, id: ItemId) -> Result<Done, Fail> {
+    Ok(items.set_secret(id, Bytes::from_slice(alloc, b"other")?, 2))
+}
+
+fn set_attributes(
+    alloc: Global,
+    items: &mut ItemStore,
+    id: ItemId,
+    words: &str,
+) -> Result<Done, Fail> {
+    Ok(items.set_attributes(id, attributes_of(alloc, words)?, 2))
+}
+
+// Changes the item of a row.
+fn change(alloc: Global, items: &mut ItemStore, row: &str) -> Result<Done, Fail> {
+    let id = ItemId(number(cell(row, 1))?);
+    match cell(row, 0) {
+        "remove" => Ok(remove(items, id)),
+        "label" => set_label(alloc, items, id),
+        "secret" => set_secret(alloc, items, id),
+        "attributes" => set_attributes(alloc, items, id, cell(row, 2)),
+        _ => Err("no such change")?,
+    }
+}
+
+fn changed(alloc: Global, items: &mut ItemStore, row: &str) -> Result<String, Fail> {
+    let done = change(alloc, items, row)?;
+    Ok(String::from_str(alloc, done_told(done))?)
+}
+
+fn added(alloc: Global, items: &mut ItemStore, words: &str) -> Result<String, Fail> {
+    let item = item_of(alloc, words)?;
+    added_told(alloc, add(items, item))
+}
+
+// What the items answer.
+fn answer(alloc: Global, items: &mut ItemStore, row: &str) -> Result<String, Fail> {
+    match cell(row, 0) {
+        "add" => added(alloc, items, cell(row, 2)),
+        "rows" => rows_told(alloc, items),
+        "search" => searched(alloc, items, cell(row, 2)),
+        "equal" => equal_told(alloc, items, cell(row, 2)),
+        _ => changed(alloc, items, row),
+    }
+}
+
+// The items answer what the rows say.
+fn answer_rows(
+    rt: &(impl AllocGlobal + Abort),
+    items: &mut ItemStore,
+    rows: &str,
+) -> Result<(), Fail> {
+    for row in rows.lines() {
+        let found = answer(rt.alloc(), items, row)?;
+        same_text(rt, found.as_str().trim(), cell(row, 3), row);
+    }
+    Ok(())
 }
 
 #[test]
 fn items_are_added_found_changed_and_removed(rt: HostRuntime) -> Result<(), Fail> {
     let mut items = ItemStore::new(rt.alloc());
-    let wrong = first_wrong(rt.alloc(), &mut items, CONVERSATION)?;
-    assert_eq!(rt; wrong.as_str(), "");
-    Ok(())
+    answer_rows(&rt, &mut items, CONVERSATION)
 }
 
 // What is asked of items 7, 3 and 5, which were loaded in that order.
 const LOADED: &str = "\
-rows : 3:0 5:2 7:1
-search k=v: 3 7
-search : 3 5 7
-equal k=v: 7
-equal : 5
-remove 4: NoItem
-remove 7: ok
-add k=v: 6
-rows : 3:0 5:2 6:0
+rows|||3:0 5:2 7:1
+search||k=v|3 7
+search|||3 5 7
+equal||k=v|7
+equal|||5
+remove|4||NoItem
+remove|7||ok
+add||k=v|6
+rows|||3:0 5:2 6:0
 ";
 
 // A row to be loaded.
 fn row(alloc: Global, id: u32, kind: u32, words: &str) -> Result<(ItemId, u32, FullItem), Fail>
     ensures { IfOk result (λ row. row.0.0 ≡ id) }
 {
-    Ok((ItemId(id), kind, item(alloc, words)?))
+    Ok((ItemId(id), kind, item_of(alloc, words)?))
 }
 
 // Three rows to be loaded.
@@ -187,22 +208,20 @@ fn three_loaded(alloc: Global) -> Result<ItemStore, Fail> {
 #[test]
 fn given_rows_are_loaded_by_rising_id(rt: HostRuntime) -> Result<(), Fail> {
     let mut items = three_loaded(rt.alloc())?;
-    let wrong = first_wrong(rt.alloc(), &mut items, LOADED)?;
-    assert_eq!(rt; wrong.as_str(), "");
-    Ok(())
+    answer_rows(&rt, &mut items, LOADED)
 }
 
 // What is asked of one item with the greatest id that there can be.
 const REFUSALS: &str = "\
-add *257: IdsSpent
-add : IdsSpent
-attributes 1 *257: NoItem
-attributes 4294967295 *257: TooManyAttributes
-attributes 4294967295 *256: ok
-equal *256: 4294967295
-remove 4294967295: ok
-add *257: TooManyAttributes
-add *256: 1
+add||*257|IdsSpent
+add|||IdsSpent
+attributes|1|*257|NoItem
+attributes|4294967295|*257|TooManyAttributes
+attributes|4294967295|*256|ok
+equal||*256|4294967295
+remove|4294967295||ok
+add||*257|TooManyAttributes
+add||*256|1
 ";
 
 // A row with the greatest id.
@@ -223,7 +242,5 @@ fn last_loaded(alloc: Global) -> Result<ItemStore, Fail> {
 #[test]
 fn refusals_come_in_their_order(rt: HostRuntime) -> Result<(), Fail> {
     let mut items = last_loaded(rt.alloc())?;
-    let wrong = first_wrong(rt.alloc(), &mut items, REFUSALS)?;
-    assert_eq!(rt; wrong.as_str(), "");
-    Ok(())
+    answer_rows(&rt, &mut items, REFUSALS)
 }

@@ -3,8 +3,12 @@
 #![tactic(auto)]
 
 #[cfg(test)]
+mod checks;
+#[cfg(test)]
 mod finding;
 #[cfg(test)]
 mod items;
 #[cfg(test)]
 mod matching;
+#[cfg(test)]
+mod words;

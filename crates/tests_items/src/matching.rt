@@ -1,3 +1,5 @@
+use crate::checks::{cell, holds, number, same_text};
+use crate::words::text_of;
 use attribute_hash::{number_hash, text_hash};
 use attribute_match::{hashed_matches, is_equal, matches};
 use kr_base::{AttrValue, Attributes, Bytes, HashedPair, HashedValue, Text};
@@ -28,31 +30,32 @@ a= | a= | yes
 =x | =y | no
 ";
 
-// The text that the string is.
-fn text(alloc: Global, string: &str) -> Result<Text, Fail> {
-    Ok(Text::from_str(alloc, string)?.ok_or("zero")?)
-}
-
 // The value that a word is: a number behind #, else a text.
-fn value(alloc: Global, word: &str) -> Result<AttrValue, Fail> {
+fn value_of(alloc: Global, word: &str) -> Result<AttrValue, Fail> {
     match word.strip_prefix('#') {
-        Some(digits) => Ok(AttrValue::Number(digits.parse::<u32>().ok().ok_or("number")?)),
-        None => Ok(AttrValue::Text(text(alloc, word)?)),
+        Some(digits) => Ok(AttrValue::Number(number(digits)?)),
+        None => Ok(AttrValue::Text(text_of(alloc, word)?)),
     }
 }
 
+// The pair that a word is.
+fn pair_of(alloc: Global, word: &str) -> Result<(Text, AttrValue), Fail> {
+    let (name, shown) = word.split_once('=').ok_or("pair")?;
+    let name = text_of(alloc, name)?;
+    Ok((name, value_of(alloc, shown)?))
+}
+
 // The attributes that the words are.
-fn attributes(alloc: Global, words: &str) -> Result<Attributes, Fail> {
+fn attributes_of(alloc: Global, words: &str) -> Result<Attributes, Fail> {
     let mut pairs = Vec::new(alloc);
     for word in words.split_whitespace() {
-        let (name, shown) = word.split_once('=').ok_or("pair")?;
-        pairs.push((text(alloc, name)?, value(alloc, shown)?))?;
+        pairs.push(pair_of(alloc, word)?)?;
     }
     Ok(Attributes::from_values(alloc, pairs)?)
 }
 
 // The hash of a value.
-fn hash(alloc: Global, value: &AttrValue) -> Result<HashedValue, Fail> {
+fn hash_of(alloc: Global, value: &AttrValue) -> Result<HashedValue, Fail> {
     match value {
         AttrValue::Text(text) => {
             let digits = text_hash(text.as_str());
@@ -62,56 +65,61 @@ fn hash(alloc: Global, value: &AttrValue) -> Result<HashedValue, Fail> {
     }
 }
 
+fn hashed_pair(alloc: Global, name: &Text, value: &AttrValue) -> Result<HashedPair, Fail> {
+    let name = name.copy()?;
+    let value = hash_of(alloc, value)?;
+    Ok(HashedPair { name, value })
+}
+
+// The attributes by their hashes.
+fn hashed_of(alloc: Global, attributes: &Attributes) -> Result<Vec<HashedPair>, Fail> {
+    let mut pairs = Vec::new(alloc);
+    for (name, value) in attributes.as_slice() {
+        pairs.push(hashed_pair(alloc, name, value)?)?;
+    }
+    Ok(pairs)
+}
+
+fn said(fact: bool) -> &'static str {
+    if fact { "yes" } else { "no" }
+}
+
+// Whether an item matches what is wanted, by its texts and by their hashes.
+fn matched(alloc: Global, row: &str) -> Result<&'static str, Fail> {
+    let item = attributes_of(alloc, cell(row, 0))?;
+    let wanted = attributes_of(alloc, cell(row, 1))?;
+    let hashed = hashed_of(alloc, &item)?;
+    let by_hashes = hashed_matches(&wanted, hashed.as_slice());
+    Ok(match (matches(&wanted, &item), by_hashes) {
+        (true, true) => "yes",
+        (true, false) => "by its texts alone",
+        (false, true) => "by its hashes alone",
+        (false, false) => "no",
+    })
+}
+
 #[test]
 fn an_item_matches_by_its_texts_and_by_their_hashes(rt: HostRuntime) -> Result<(), Fail> {
-    let alloc = rt.alloc();
     for row in ROWS.lines() {
-        let (item, rest) = row.split_once('|').ok_or("item")?;
-        let (wanted, want) = rest.split_once('|').ok_or("wanted")?;
-        let item = attributes(alloc, item)?;
-        let wanted = attributes(alloc, wanted)?;
-        let mut hashed = Vec::new(alloc);
-        for (name, value) in item.as_slice() {
-            hashed.push(HashedPair {
-                name: name.copy()?,
-                value: hash(alloc, value)?,
-            })?;
-        }
-        let yes = want.trim() == "yes";
-        assert_eq!(rt; matches(&wanted, &item), yes, "of {row}");
-        assert_eq!(rt;
-            hashed_matches(&wanted, hashed.as_slice()),
-            yes,
-            "of the hashes of {row}"
-        );
+        same_text(&rt, matched(rt.alloc(), row)?, cell(row, 2), row);
     }
     Ok(())
 }
 
+// Whether a=abc is wanted of an item that has `a` with this hash, and it matches.
+fn matches_hash(alloc: Global, digits: &[u8]) -> Result<bool, Fail> {
+    let wanted = attributes_of(alloc, "a=abc")?;
+    let name = text_of(alloc, "a")?;
+    let value = HashedValue::Text(Bytes::from_slice(alloc, digits)?);
+    Ok(hashed_matches(&wanted, &[HashedPair { name, value }]))
+}
+
 #[test]
 fn a_hash_of_the_same_length_is_another(rt: HostRuntime) -> Result<(), Fail> {
-    let alloc = rt.alloc();
-    let wanted = attributes(alloc, "a=abc")?;
-    let one = vec![in alloc;
-        HashedPair {
-            name: text(alloc, "a")?,
-            value: HashedValue::Text(Bytes::from_slice(
-                alloc,
-                b"900150983cd24fb0d6963f7d28e17f72"
-            )?),
-        },
-    ]?;
-    let other = vec![in alloc;
-        HashedPair {
-            name: text(alloc, "a")?,
-            value: HashedValue::Text(Bytes::from_slice(
-                alloc,
-                b"900150983cd24fb0d6963f7d28e17f73"
-            )?),
-        },
-    ]?;
-    assert!(rt; hashed_matches(&wanted, one.as_slice()));
-    assert!(rt; !hashed_matches(&wanted, other.as_slice()));
+    let one = matches_hash(rt.alloc(), b"900150983cd24fb0d6963f7d28e17f72")?;
+    holds(&rt, one, "the hash of abc");
+    let other = matches_hash(rt.alloc(), b"900150983cd24fb0d6963f7d28e17f73")?;
+    holds(&rt, !other, "another hash");
     Ok(())
 }
 
@@ -131,15 +139,17 @@ a=7 | a=07 | no
 a=#7 | a=#8 | no
 ";
 
+fn are_equal(alloc: Global, row: &str) -> Result<bool, Fail> {
+    let one = attributes_of(alloc, cell(row, 0))?;
+    let other = attributes_of(alloc, cell(row, 1))?;
+    Ok(is_equal(&one, &other))
+}
+
 #[test]
 fn attributes_are_equal_by_their_names_and_texts(rt: HostRuntime) -> Result<(), Fail> {
-    let alloc = rt.alloc();
     for row in EQUALS.lines() {
-        let (one, rest) = row.split_once('|').ok_or("one")?;
-        let (other, want) = rest.split_once('|').ok_or("other")?;
-        let one = attributes(alloc, one)?;
-        let other = attributes(alloc, other)?;
-        assert_eq!(rt; is_equal(&one, &other), want.trim() == "yes", "of {row}");
+        let found = said(are_equal(rt.alloc(), row)?);
+        same_text(&rt, found, cell(row, 2), row);
     }
     Ok(())
 }

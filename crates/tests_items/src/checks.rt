@@ -1,0 +1,34 @@
+// What a test asserts, and how it reads its table: one function for each type.
+
+use std::process::Abort;
+use std::test::Fail;
+
+/// Asserts that two texts are the same; `at` says where.
+pub fn same_text(rt: &impl Abort, found: &str, want: &str, at: &str) {
+    assert_eq!(rt; found, want, "at {at}");
+}
+
+/// Asserts that two numbers are the same; `at` says where.
+pub fn same_number(rt: &impl Abort, found: usize, want: usize, at: &str) {
+    assert_eq!(rt; found, want, "at {at}");
+}
+
+/// Asserts a fact; `at` says where.
+pub fn holds(rt: &impl Abort, fact: bool, at: &str) {
+    assert!(rt; fact, "at {at}");
+}
+
+/// The cell of a row at this place, where bars are between the cells, without spaces around it.
+pub fn cell(row: &str, place: usize) -> &str {
+    row.split('|').nth(place).unwrap_or("no such cell").trim()
+}
+
+/// The number that a text is.
+pub fn number(text: &str) -> Result<u32, Fail> {
+    Ok(text.parse::<u32>().ok().ok_or("a number")?)
+}
+
+/// The count that a text is.
+pub fn count(text: &str) -> Result<usize, Fail> {
+    Ok(text.parse::<usize>().ok().ok_or("a count")?)
+}
