@@ -1,17 +1,24 @@
+use crate::checks::{cell, same_text};
+use crate::words::joined;
 use alias_text::read_aliases;
 use std::alloc::Global;
 use std::test::Fail;
 
-// The bytes that a row means: `;` is a line ending, `^` a carriage return, `~` a byte that no UTF-8 has.
+// The byte that a sign means: `;` is a line ending, `^` a carriage return, `~` a byte that no UTF-8 has.
+fn byte_of(sign: u8) -> u8 {
+    match sign {
+        b';' => b'\n',
+        b'^' => b'\r',
+        b'~' => 0xff,
+        other => other,
+    }
+}
+
+// The bytes that a row means.
 fn bytes_of(alloc: Global, row: &str) -> Result<Vec<u8>, Fail> {
     let mut bytes = Vec::new(alloc);
-    for byte in row.as_bytes() {
-        bytes.push(match byte {
-            b';' => b'\n',
-            b'^' => b'\r',
-            b'~' => 0xff,
-            other => *other,
-        })?;
+    for sign in row.as_bytes() {
+        bytes.push(byte_of(*sign))?;
     }
     Ok(bytes)
 }
@@ -20,10 +27,8 @@ fn bytes_of(alloc: Global, row: &str) -> Result<Vec<u8>, Fail> {
 fn read(alloc: Global, bytes: &[u8]) -> Result<String, Fail> {
     let mut told = String::new(alloc);
     for (name, stem) in &read_aliases(alloc, bytes)? {
-        told.push_str(name.as_str())?;
-        told.push('=')?;
-        told.push_str(stem.as_str())?;
-        told.push(';')?;
+        let pair = joined(alloc, &[name.as_str(), "=", stem.as_str(), ";"])?;
+        told.push_str(pair.as_str())?;
     }
     Ok(told)
 }
@@ -45,24 +50,31 @@ a123456789b123456789c123456789d123456789e123456789f1234567890123=x;
 a123456789b123456789c123456789d123456789e123456789f12345678901234=x;|
 ";
 
+fn row_read(alloc: Global, row: &str) -> Result<String, Fail> {
+    read(alloc, bytes_of(alloc, cell(row, '|', 0))?.as_slice())
+}
+
 #[test]
 fn a_line_gives_an_alias_or_is_skipped(rt: HostRuntime) -> Result<(), Fail> {
-    let alloc = rt.alloc();
     for row in TEXTS.lines() {
-        let (text, want) = row.split_once('|').ok_or("a row")?;
-        let bytes = bytes_of(alloc, text)?;
-        assert_eq!(rt; read(alloc, &bytes)?.as_str(), want, "at {text}");
+        let found = row_read(rt.alloc(), row)?;
+        same_text(&rt, found.as_str(), cell(row, '|', 1), row);
     }
     Ok(())
 }
 
+// What a file with one alias and so many bytes gives.
+fn long_read(alloc: Global, len: usize) -> Result<String, Fail> {
+    let mut bytes = b"a=x\n".as_slice().to_vec(alloc)?;
+    bytes.resize(len, b'\n')?;
+    read(alloc, bytes.as_slice())
+}
+
 #[test]
 fn a_longer_file_gives_no_aliases(rt: HostRuntime) -> Result<(), Fail> {
-    let alloc = rt.alloc();
-    let mut bytes = b"a=x\n".as_slice().to_vec(alloc)?;
-    bytes.resize(1_048_576, b'\n')?;
-    assert_eq!(rt; read(alloc, &bytes)?.as_str(), "a=x;");
-    bytes.push(b'\n')?;
-    assert_eq!(rt; read(alloc, &bytes)?.as_str(), "");
+    let longest = long_read(rt.alloc(), 1_048_576)?;
+    same_text(&rt, longest.as_str(), "a=x;", "1,048,576 bytes");
+    let longer = long_read(rt.alloc(), 1_048_577)?;
+    same_text(&rt, longer.as_str(), "", "1,048,577 bytes");
     Ok(())
 }

@@ -6,6 +6,10 @@
 #[cfg(test)]
 mod aliases;
 #[cfg(test)]
+mod checks;
+#[cfg(test)]
 mod replace;
 #[cfg(test)]
 mod store;
+#[cfg(test)]
+mod words;

@@ -1,70 +1,69 @@
 ghost use Rattle.std.specs.Prelude.{◌≡◌, IfOk};
 ghost use Rattle.replace_slot.specs.Cell.{HasFile};
 
+use crate::checks::{cell, numbers, same_bytes};
 use kr_base::Bytes;
 use kr_memory_disk::MemorySlot;
 use replace_slot::{FaultRead, FileCell, Found, RemoveFault, ReplaceFault};
 use std::alloc::Global;
 use std::test::Fail;
 
-// Reads the numbers of a cell.
-fn numbers(alloc: Global, cell: &str) -> Result<Vec<u64>, Fail> {
-    let mut numbers = Vec::new(alloc);
-    for word in cell.split_whitespace() {
-        numbers.push(word.parse::<u64>().ok().ok_or("a number")?)?;
-    }
-    Ok(numbers)
-}
-
-// Reads the three cells of a row.
-fn cells(row: &str) -> Result<(&str, &str, &str), Fail> {
-    let (first, rest) = row.split_once(';').ok_or("a row")?;
-    let (second, third) = rest.split_once(';').ok_or("a row")?;
-    Ok((first, second, third))
-}
-
-// The cell of a file `old`, over a slot that fails these calls; those of `done` the disk does all
-// the same.
-fn cell_of_old(alloc: Global, failing: &str, done: &str) -> Result<FileCell<MemorySlot>, Fail>
+// The cell of a file `old`, over a slot that fails the calls of a row; those that the row names again
+// the disk does all the same.
+fn cell_of_old(alloc: Global, row: &str) -> Result<FileCell<MemorySlot>, Fail>
     ensures { IfOk result (λ cell. HasFile cell.file) }
 {
     let image = Bytes::from_slice(alloc, b"old")?;
-    let (failing, done) = (numbers(alloc, failing)?, numbers(alloc, done)?);
+    let failing = numbers(alloc, cell(row, ';', 0))?;
+    let done = numbers(alloc, cell(row, ';', 1))?;
     let slot = MemorySlot::new(alloc, Some(image), failing, done);
     Ok(FileCell::known(slot, Some(b"old".as_slice().to_vec(alloc)?)))
 }
 
-// Replaces the file by `newer`, or removes it. What was answered: k for Ok, b for FaultBefore, u for
-// FaultUnsure of a replacement, r for that of a removal.
-fn changed(alloc: Global, cell: &mut FileCell<MemorySlot>, is_replaced: bool) -> Result<u8, Fail>
+// Removes the file: k for Ok, r for FaultUnsure.
+fn removed(cell: &mut FileCell<MemorySlot>) -> u8
     requires { HasFile cell.old.file }
 {
-    if !is_replaced {
-        return Ok(match cell.remove() {
-            Ok(()) => b'k',
-            Err(RemoveFault::FaultUnsure) => b'r',
-        });
+    match cell.remove() {
+        Ok(()) => b'k',
+        Err(RemoveFault::FaultUnsure) => b'r',
     }
-    Ok(match cell.replace(b"newer".as_slice().to_vec(alloc)?) {
+}
+
+// Replaces the file by `newer`: k for Ok, b for FaultBefore, u for FaultUnsure.
+fn replaced(alloc: Global, cell: &mut FileCell<MemorySlot>) -> Result<u8, Fail>
+    requires { HasFile cell.old.file }
+{
+    let newer = b"newer".as_slice().to_vec(alloc)?;
+    Ok(match cell.replace(newer) {
         Ok(()) => b'k',
         Err(ReplaceFault::FaultBefore) => b'b',
         Err(ReplaceFault::FaultUnsure) => b'u',
     })
 }
 
-// Resolves what is in doubt, and appends o, n, x for Old, New, Other, or ! for FaultRead.
-fn resolved(cell: &mut FileCell<MemorySlot>, told: &mut Vec<u8>) -> Result<(), Fail> {
+// Replaces the file, or removes it, and gives what was answered.
+fn changed(alloc: Global, cell: &mut FileCell<MemorySlot>, is_replaced: bool) -> Result<u8, Fail>
+    requires { HasFile cell.old.file }
+{
+    if is_replaced {
+        return replaced(alloc, cell);
+    }
+    Ok(removed(cell))
+}
+
+// Resolves what is in doubt: o, n, x for Old, New, Other, ! for FaultRead, or None where nothing is.
+fn resolved(cell: &mut FileCell<MemorySlot>) -> Option<u8> {
     let mut buffer = [0; 8];
     if cell.is_known() || cell.longest() >= buffer.len() {
-        return Ok(());
+        return None;
     }
-    told.push(match cell.resolve(&mut buffer) {
+    Some(match cell.resolve(&mut buffer) {
         Ok(Found::Old) => b'o',
         Ok(Found::New) => b'n',
         Ok(Found::Other) => b'x',
         Err(FaultRead) => b'!',
-    })?;
-    Ok(())
+    })
 }
 
 // The calls that fail, those of them done all the same, and what a replacement answers, then what
@@ -92,29 +91,36 @@ const REMOVALS: &str = "\
 0 1 2;;r!!?
 ";
 
-fn answered(alloc: Global, row: &str, is_replaced: bool) -> Result<Vec<u8>, Fail> {
-    let (failing, done, _) = cells(row)?;
-    let mut cell = cell_of_old(alloc, failing, done)?;
-    let mut told = Vec::new(alloc);
-    told.push(changed(alloc, &mut cell, is_replaced)?)?;
+// Appends what resolving answers, twice at most, and ? where a doubt is left.
+fn resolve(cell: &mut FileCell<MemorySlot>, told: &mut Vec<u8>) -> Result<(), Fail> {
     for _ in 0..2 {
-        resolved(&mut cell, &mut told)?;
+        if let Some(letter) = resolved(cell) {
+            told.push(letter)?;
+        }
     }
     if !cell.is_known() {
         told.push(b'?')?;
     }
+    Ok(())
+}
+
+fn answered(alloc: Global, row: &str, is_replaced: bool) -> Result<Vec<u8>, Fail> {
+    let mut cell = cell_of_old(alloc, row)?;
+    let mut told = Vec::new(alloc);
+    told.push(changed(alloc, &mut cell, is_replaced)?)?;
+    resolve(&mut cell, &mut told)?;
     Ok(told)
 }
 
 #[test]
 fn a_change_is_known_or_in_doubt(rt: HostRuntime) -> Result<(), Fail> {
-    let alloc = rt.alloc();
-    for (table, is_replaced) in [(REPLACEMENTS, true), (REMOVALS, false)] {
-        for row in table.lines() {
-            let (_, _, want) = cells(row)?;
-            let told = answered(alloc, row, is_replaced)?;
-            assert_eq!(rt; told.as_slice(), want.as_bytes(), "at {row}");
-        }
+    for row in REPLACEMENTS.lines() {
+        let told = answered(rt.alloc(), row, true)?;
+        same_bytes(&rt, told.as_slice(), cell(row, ';', 2).as_bytes(), row);
+    }
+    for row in REMOVALS.lines() {
+        let told = answered(rt.alloc(), row, false)?;
+        same_bytes(&rt, told.as_slice(), cell(row, ';', 2).as_bytes(), row);
     }
     Ok(())
 }
@@ -130,16 +136,20 @@ fn letter_of(image: &Option<Bytes>) -> u8 {
     }
 }
 
+fn add_letter(letter: u8, letters: &mut Vec<u8>) -> Result<(), Fail> {
+    if !letters.contains(&letter) {
+        letters.push(letter)?;
+    }
+    Ok(())
+}
+
 // What a crash leaves of the slot where the machine stopped after so many of its calls: o for the old
 // image, n for the new one, . for no file, x for another.
 fn left_at(alloc: Global, slot: &mut MemorySlot, calls: usize) -> Result<Vec<u8>, Fail> {
     slot.cut(calls);
     let mut left = Vec::new(alloc);
     for choice in 0..6 {
-        let letter = letter_of(&slot.left(choice)?);
-        if !left.contains(&letter) {
-            left.push(letter)?;
-        }
+        add_letter(letter_of(&slot.left(choice)?), &mut left)?;
     }
     Ok(left)
 }
@@ -165,22 +175,33 @@ const LEFT_OF_REMOVALS: &str = "\
 1;;o.|o.|o|
 ";
 
+// The slot after a change.
+fn changed_slot(alloc: Global, row: &str, is_replaced: bool) -> Result<MemorySlot, Fail> {
+    let mut cell = cell_of_old(alloc, row)?;
+    let _ = changed(alloc, &mut cell, is_replaced)?;
+    Ok(cell.into_slot())
+}
+
+// What a crash leaves after all calls, then after one fewer, down to none.
+fn left_of(alloc: Global, row: &str, is_replaced: bool) -> Result<Vec<u8>, Fail> {
+    let mut slot = changed_slot(alloc, row, is_replaced)?;
+    let mut left = Vec::new(alloc);
+    for calls in (0..slot.calls().len().saturating_add(1)).rev() {
+        left.extend_from_slice(left_at(alloc, &mut slot, calls)?.as_slice())?;
+        left.push(b'|')?;
+    }
+    Ok(left)
+}
+
 #[test]
 fn a_crash_leaves_the_old_image_then_either_then_the_new(rt: HostRuntime) -> Result<(), Fail> {
-    let alloc = rt.alloc();
-    for (table, is_replaced) in [(LEFT_OF_REPLACEMENTS, true), (LEFT_OF_REMOVALS, false)] {
-        for row in table.lines() {
-            let (failing, done, want) = cells(row)?;
-            let mut cell = cell_of_old(alloc, failing, done)?;
-            let _ = changed(alloc, &mut cell, is_replaced)?;
-            let mut slot = cell.into_slot();
-            let mut left = Vec::new(alloc);
-            for calls in (0..slot.calls().len().saturating_add(1)).rev() {
-                left.extend_from_slice(&left_at(alloc, &mut slot, calls)?)?;
-                left.push(b'|')?;
-            }
-            assert_eq!(rt; left.as_slice(), want.as_bytes(), "at {row}");
-        }
+    for row in LEFT_OF_REPLACEMENTS.lines() {
+        let left = left_of(rt.alloc(), row, true)?;
+        same_bytes(&rt, left.as_slice(), cell(row, ';', 2).as_bytes(), row);
+    }
+    for row in LEFT_OF_REMOVALS.lines() {
+        let left = left_of(rt.alloc(), row, false)?;
+        same_bytes(&rt, left.as_slice(), cell(row, ';', 2).as_bytes(), row);
     }
     Ok(())
 }

@@ -2,7 +2,9 @@ ghost use Rattle.std.specs.Prelude.{◌≡◌, [], IfOk, OnOk, true, false};
 ghost use Rattle.std.proofs.Common.{rules};
 ghost use Rattle.kr_memory_disk.specs.Files.{image_in};
 
-use folder_store::{FoundAliases, Limits, LoadRefused, Loaded, load, load_within};
+use crate::checks::{cell, numbers, same_text};
+use crate::words::{decimal, joined, text_of};
+use folder_store::{FoundAliases, LeftAlone, Limits, LoadRefused, Loaded, Ring, load, load_within};
 use kr_base::{Bytes, OutOfMemory, Text};
 use kr_memory_disk::{
     Files, MemoryFolder, MemorySlot, SlotCall, SlotPlan, SteadyFolder, SteadySlot,
@@ -11,35 +13,35 @@ use kr_outside::{Failed, Folder, OutsideRefused, Slot};
 use std::alloc::Global;
 use std::test::Fail;
 
-fn text_of(alloc: Global, text: &str) -> Result<Text, Fail> {
-    Ok(Text::from_str(alloc, text)?.ok_or("a zero byte")?)
-}
-
-// A keyring file with this name and so many items, of 100 bytes, those of the name, and 12 for each item.
-fn keyring(alloc: Global, name: &str, items: u8) -> Result<Vec<u8>, Fail> {
+// The front of a keyring file up to its name.
+fn front_of(alloc: Global, name: &str) -> Result<Vec<u8>, Fail> {
     let mut file = b"GnomeKeyring\n\r\0\n\0\0\0\0".as_slice().to_vec(alloc)?;
     let len = u32::try_from(name.len()).ok().ok_or("a long name")?;
     file.extend_from_slice(&len.to_be_bytes())?;
     file.extend_from_slice(name.as_bytes())?;
-    file.resize(file.len().saturating_add(52), 0)?;
+    Ok(file)
+}
+
+fn add_items(file: &mut Vec<u8>, items: u8) -> Result<(), Fail> {
     file.extend_from_slice(&[0, 0, 0, items])?;
     for item in 0..items {
         file.extend_from_slice(&[0, 0, 0, item, 0, 0, 0, 0, 0, 0, 0, 0])?;
     }
+    Ok(())
+}
+
+// A keyring file with this name and so many items, of 100 bytes, those of the name, and 12 for each item.
+fn keyring(alloc: Global, name: &str, items: u8) -> Result<Vec<u8>, Fail> {
+    let mut file = front_of(alloc, name)?;
+    file.resize(file.len().saturating_add(52), 0)?;
+    add_items(&mut file, items)?;
     file.extend_from_slice(&[0, 0, 0, 16])?;
     file.resize(file.len().saturating_add(16), 7)?;
     Ok(file)
 }
 
-// The file that a word means: `k:NAME` is a keyring file with that name, `k2:NAME` one with two items; of
-// other words the file is the bytes, in which `;` is a line ending.
-fn file_of(alloc: Global, word: &str) -> Result<Vec<u8>, Fail> {
-    if let Some(name) = word.strip_prefix("k:") {
-        return keyring(alloc, name, 0);
-    }
-    if let Some(name) = word.strip_prefix("k2:") {
-        return keyring(alloc, name, 2);
-    }
+// The bytes of a word, in which `;` is a line ending.
+fn lines_of(alloc: Global, word: &str) -> Result<Vec<u8>, Fail> {
     let mut file = Vec::new(alloc);
     for byte in word.as_bytes() {
         file.push(if *byte == b';' { b'\n' } else { *byte })?;
@@ -47,16 +49,36 @@ fn file_of(alloc: Global, word: &str) -> Result<Vec<u8>, Fail> {
     Ok(file)
 }
 
+// The file that a word means: `k:NAME` is a keyring file with that name, `k2:NAME` one with two items; of
+// other words the file is the bytes.
+fn file_of(alloc: Global, word: &str) -> Result<Vec<u8>, Fail> {
+    if let Some(name) = word.strip_prefix("k:") {
+        return keyring(alloc, name, 0);
+    }
+    if let Some(name) = word.strip_prefix("k2:") {
+        return keyring(alloc, name, 2);
+    }
+    lines_of(alloc, word)
+}
+
+fn temporary_name(alloc: Global, front: &str) -> Result<Text, Fail> {
+    let name = joined(alloc, &[front, ".tmp"])?;
+    text_of(alloc, name.as_str())
+}
+
 // The name that a word means: where it ends in `+`, that of a temporary file.
 fn name_of(alloc: Global, word: &str) -> Result<Text, Fail> {
     match word.strip_suffix('+') {
-        Some(front) => {
-            let mut name = String::from_str(alloc, front)?;
-            name.push_str(".tmp")?;
-            text_of(alloc, &name)
-        }
+        Some(front) => temporary_name(alloc, front),
         None => text_of(alloc, word),
     }
+}
+
+// The name and the bytes of a file `NAME=WORD`.
+fn named_file(alloc: Global, file: &str) -> Result<(Text, Bytes), Fail> {
+    let name = name_of(alloc, cell(file, '=', 0))?;
+    let (_, word) = file.split_once('=').ok_or("a file")?;
+    Ok((name, Bytes::new(file_of(alloc, word)?)))
 }
 
 // A folder with these files, each `NAME=WORD` and a space, whose calls of these numbers fail.
@@ -65,29 +87,53 @@ fn folder_of(alloc: Global, files: &str, failing: Vec<u64>) -> Result<MemoryFold
 {
     let mut folder = MemoryFolder::new(alloc, failing);
     for file in files.split_whitespace() {
-        let (name, word) = file.split_once('=').ok_or("a file")?;
-        let bytes = Bytes::new(file_of(alloc, word)?);
-        folder.set(name_of(alloc, name)?, Some(bytes))?;
+        let (name, bytes) = named_file(alloc, file)?;
+        folder.set(name, Some(bytes))?;
     }
     Ok(folder)
 }
 
-// What was loaded: of each ring its stem, name and length, then the used stems, then the aliases.
-fn told<S: Slot>(alloc: Global, loaded: &Loaded<S>) -> Result<String, Fail> {
+// Each ring's stem, name and length.
+fn rings_told<S: Slot>(alloc: Global, rings: &[Ring<S>]) -> Result<String, Fail> {
     let mut told = String::new(alloc);
-    for ring in &loaded.rings {
-        let stem = ring.stem();
-        write!(told, "{stem}:{}:{} ", ring.clear().name, ring.image().len())?;
-    }
-    told.push('/')?;
-    for stem in &loaded.used {
-        write!(told, " {stem}")?;
-    }
-    told.push_str(" /")?;
-    for (name, stem) in loaded.aliases.pairs() {
-        write!(told, " {name}={stem}")?;
+    for ring in rings {
+        told.push_str(ring_told(alloc, ring)?.as_str())?;
     }
     Ok(told)
+}
+
+fn ring_told<S: Slot>(alloc: Global, ring: &Ring<S>) -> Result<String, Fail> {
+    let (stem, name) = (ring.stem(), &ring.clear().name);
+    let len = decimal(alloc, ring.image().len())?;
+    let parts = [stem.as_str(), ":", name.as_str(), ":", len.as_str(), " "];
+    joined(alloc, &parts)
+}
+
+fn used_told<S: Slot>(alloc: Global, loaded: &Loaded<S>) -> Result<String, Fail> {
+    let mut told = String::new(alloc);
+    for stem in &loaded.used {
+        told.push(' ')?;
+        told.push_str(stem.as_str())?;
+    }
+    Ok(told)
+}
+
+fn aliases_told<S: Slot>(alloc: Global, loaded: &Loaded<S>) -> Result<String, Fail> {
+    let mut told = String::new(alloc);
+    for (name, stem) in loaded.aliases.pairs() {
+        let pair = joined(alloc, &[" ", name.as_str(), "=", stem.as_str()])?;
+        told.push_str(pair.as_str())?;
+    }
+    Ok(told)
+}
+
+// What was loaded: of each ring its stem, name and length, then the used stems, then the aliases.
+fn told<S: Slot>(alloc: Global, loaded: &Loaded<S>) -> Result<String, Fail> {
+    let rings = rings_told(alloc, loaded.rings.as_slice())?;
+    let used = used_told(alloc, loaded)?;
+    let aliases = aliases_told(alloc, loaded)?;
+    let parts = [rings.as_str(), "/", used.as_str(), " /", aliases.as_str()];
+    joined(alloc, &parts)
 }
 
 // The files, and what is loaded of them.
@@ -105,34 +151,46 @@ a.b.keyring=k:A .x.keyring=k:X .keyring.keyring=k:K|\
 a.keyring=k:A b.keyring= c.keyring=k2:C|a:A:101 c:C:125 / a b c /
 ";
 
+fn folder_told(alloc: Global, files: &str) -> Result<String, Fail> {
+    let mut folder = folder_of(alloc, files, Vec::new(alloc))?;
+    let loaded = load(alloc, &mut folder)?;
+    told(alloc, &loaded)
+}
+
 #[test]
 fn a_folder_is_listed_in_order(rt: HostRuntime) -> Result<(), Fail> {
-    let alloc = rt.alloc();
     for row in FOLDERS.lines() {
-        let (files, want) = row.split_once('|').ok_or("a row")?;
-        let mut folder = folder_of(alloc, files, Vec::new(alloc))?;
-        let loaded = load(alloc, &mut folder)?;
-        assert_eq!(rt; told(alloc, &loaded)?.as_str(), want, "at {files}");
+        let found = folder_told(rt.alloc(), cell(row, '|', 0))?;
+        same_text(&rt, found.as_str(), cell(row, '|', 1), row);
     }
     Ok(())
 }
 
-// How many stems are used of a folder with one keyring file, whose stem has so many letters.
-fn used_of(alloc: Global, letters: u32) -> Result<usize, Fail> {
+// How many collections of a folder are listed, and how many stems are used.
+fn counts_told(alloc: Global, files: &str) -> Result<String, Fail> {
+    let mut folder = folder_of(alloc, files, Vec::new(alloc))?;
+    let loaded = load(alloc, &mut folder)?;
+    let listed = decimal(alloc, loaded.rings.len())?;
+    let used = decimal(alloc, loaded.used.len())?;
+    joined(alloc, &[listed.as_str(), " ", used.as_str()])
+}
+
+// The counts of a folder with one keyring file, whose stem has so many letters.
+fn long_stem_told(alloc: Global, letters: u32) -> Result<String, Fail> {
     let mut name = String::new(alloc);
     for _ in 0..letters {
         name.push('a')?;
     }
     name.push_str(".keyring=k:A")?;
-    let mut folder = folder_of(alloc, &name, Vec::new(alloc))?;
-    Ok(load(alloc, &mut folder)?.used.len())
+    counts_told(alloc, name.as_str())
 }
 
 #[test]
 fn a_stem_that_is_too_long_is_ignored(rt: HostRuntime) -> Result<(), Fail> {
-    for (letters, want) in [(243, 1), (244, 0)] {
-        assert_eq!(rt; used_of(rt.alloc(), letters)?, want, "at {letters}");
-    }
+    let longest = long_stem_told(rt.alloc(), 243)?;
+    same_text(&rt, longest.as_str(), "1 1", "243 letters");
+    let longer = long_stem_told(rt.alloc(), 244)?;
+    same_text(&rt, longer.as_str(), "0 0", "244 letters");
     Ok(())
 }
 
@@ -148,39 +206,45 @@ const LIMITED: &str = "\
 ";
 
 fn limits_of(row: &str) -> Option<Limits> {
-    let mut words = row.split_whitespace();
     Some(Limits {
-        one_file: words.next()?.parse::<usize>().ok()?,
-        collections: words.next()?.parse::<usize>().ok()?,
-        items: words.next()?.parse::<usize>().ok()?,
-        all_files: words.next()?.parse::<usize>().ok()?,
+        one_file: cell(row, ' ', 0).parse::<usize>().ok()?,
+        collections: cell(row, ' ', 1).parse::<usize>().ok()?,
+        items: cell(row, ' ', 2).parse::<usize>().ok()?,
+        all_files: cell(row, ' ', 3).parse::<usize>().ok()?,
     })
+}
+
+fn limited_told(alloc: Global, row: &str) -> Result<String, Fail> {
+    let limits = limits_of(cell(row, '|', 0)).ok_or("limits")?;
+    let mut folder = folder_of(alloc, cell(row, '|', 1), Vec::new(alloc))?;
+    let loaded = load_within(alloc, &mut folder, &limits)?;
+    told(alloc, &loaded)
 }
 
 #[test]
 fn a_file_that_passes_a_limit_is_left_alone(rt: HostRuntime) -> Result<(), Fail> {
-    let alloc = rt.alloc();
     for row in LIMITED.lines() {
-        let (limits, rest) = row.split_once('|').ok_or("a row")?;
-        let (files, want) = rest.split_once('|').ok_or("a row")?;
-        let limits = limits_of(limits).ok_or("limits")?;
-        let mut folder = folder_of(alloc, files, Vec::new(alloc))?;
-        let loaded = load_within(alloc, &mut folder, &limits)?;
-        assert_eq!(rt; told(alloc, &loaded)?.as_str(), want, "at {files}");
+        let found = limited_told(rt.alloc(), row)?;
+        same_text(&rt, found.as_str(), cell(row, '|', 2), row);
     }
     Ok(())
 }
 
-#[test]
-fn a_file_after_1024_collections_is_left_alone(rt: HostRuntime) -> Result<(), Fail> {
-    let alloc = rt.alloc();
+// 1,025 keyring files.
+fn many_files(alloc: Global) -> Result<String, Fail> {
     let mut files = String::new(alloc);
     for number in 1000..2025 {
-        write!(files, "{number}.keyring=k: ")?;
+        files.push_str(decimal(alloc, number)?.as_str())?;
+        files.push_str(".keyring=k: ")?;
     }
-    let mut folder = folder_of(alloc, &files, Vec::new(alloc))?;
-    let loaded = load(alloc, &mut folder)?;
-    assert_eq!(rt; (loaded.rings.len(), loaded.used.len()), (1024, 1025));
+    Ok(files)
+}
+
+#[test]
+fn a_file_after_1024_collections_is_left_alone(rt: HostRuntime) -> Result<(), Fail> {
+    let files = many_files(rt.alloc())?;
+    let found = counts_told(rt.alloc(), files.as_str())?;
+    same_text(&rt, found.as_str(), "1024 1025", "1,025 files");
     Ok(())
 }
 
@@ -201,50 +265,62 @@ aliases 2|
 b 0|
 ";
 
+const TWO_FILES: &str = "a.keyring=k:A b.keyring=k:B";
+
+fn plan_of(alloc: Global, name: &str, call: &str) -> Result<SlotPlan, Fail> {
+    Ok(SlotPlan {
+        name: text_of(alloc, name)?,
+        failing: numbers(alloc, call)?,
+        done: Vec::new(alloc),
+    })
+}
+
 // A folder that fails in this one call.
 fn failing_folder(alloc: Global, fault: &str) -> Result<MemoryFolder, Fail>
     ensures { IfOk result (λ folder. folder.made ≡ []) }
 {
-    let files = "a.keyring=k:A b.keyring=k:B";
     let Some((name, call)) = fault.split_once(' ') else {
-        let mut failing = Vec::new(alloc);
-        failing.push(fault.parse::<u64>().ok().ok_or("a number")?)?;
-        return folder_of(alloc, files, failing);
+        return folder_of(alloc, TWO_FILES, numbers(alloc, fault)?);
     };
-    let mut failing = Vec::new(alloc);
-    failing.push(call.parse::<u64>().ok().ok_or("a number")?)?;
-    let mut folder = folder_of(alloc, files, Vec::new(alloc))?;
-    folder.plan(SlotPlan {
-        name: text_of(alloc, name)?,
-        failing,
-        done: Vec::new(alloc),
-    })?;
+    let mut folder = folder_of(alloc, TWO_FILES, Vec::new(alloc))?;
+    folder.plan(plan_of(alloc, name, call)?)?;
     Ok(folder)
+}
+
+fn fault_told(alloc: Global, fault: &str) -> Result<&'static str, Fail> {
+    let mut folder = failing_folder(alloc, fault)?;
+    Ok(match load(alloc, &mut folder) {
+        Err(LoadRefused::Folder) => "fault",
+        _ => "",
+    })
 }
 
 #[test]
 fn each_call_that_fails_is_a_fault(rt: HostRuntime) -> Result<(), Fail> {
-    let alloc = rt.alloc();
     for row in FAULTS.lines() {
-        let (fault, want) = row.split_once('|').ok_or("a row")?;
-        let mut folder = failing_folder(alloc, fault)?;
-        let failed = matches!(load(alloc, &mut folder), Err(LoadRefused::Folder));
-        assert_eq!(rt; failed, want == "fault", "at {fault}");
+        let found = fault_told(rt.alloc(), cell(row, '|', 0))?;
+        same_text(&rt, found, cell(row, '|', 1), row);
     }
     Ok(())
 }
 
-// The calls that were made of a slot: y for a sync of the folder, s for a size, r for a read, ! for another.
-fn calls_of(alloc: Global, slot: &MemorySlot) -> Result<Vec<u8>, Fail> {
-    let mut told = Vec::new(alloc);
-    for record in slot.calls() {
-        told.push(match &record.call {
-            SlotCall::SyncFolder => b'y',
-            SlotCall::Size => b's',
-            SlotCall::Read => b'r',
-            _ => b'!',
-        })?;
+// A call of a slot: y for a sync of the folder, s for a size, r for a read, ! for another.
+fn letter_of(call: &SlotCall) -> char {
+    match call {
+        SlotCall::SyncFolder => 'y',
+        SlotCall::Size => 's',
+        SlotCall::Read => 'r',
+        _ => '!',
     }
+}
+
+// The calls that were made of a slot, and a space.
+fn calls_of(alloc: Global, slot: &MemorySlot) -> Result<String, Fail> {
+    let mut told = String::new(alloc);
+    for record in slot.calls() {
+        told.push(letter_of(&record.call))?;
+    }
+    told.push(' ')?;
     Ok(told)
 }
 
@@ -259,24 +335,48 @@ fn alias_slot(aliases: FoundAliases<MemorySlot>) -> MemorySlot {
     }
 }
 
-#[test]
-fn each_file_is_settled_and_read_once(rt: HostRuntime) -> Result<(), Fail> {
-    let alloc = rt.alloc();
-    let files = "a.keyring=k:A b.keyring=k:B c.keyring=abc";
+fn alias_calls(alloc: Global, aliases: FoundAliases<MemorySlot>) -> Result<String, Fail> {
+    calls_of(alloc, &alias_slot(aliases))
+}
+
+fn ring_calls(alloc: Global, ring: Ring<MemorySlot>) -> Result<String, Fail> {
+    let (_, cell, _) = ring.into_parts();
+    calls_of(alloc, &cell.into_slot())
+}
+
+fn rings_calls(alloc: Global, rings: Vec<Ring<MemorySlot>>) -> Result<String, Fail> {
+    let mut told = String::new(alloc);
+    for ring in rings {
+        told.push_str(ring_calls(alloc, ring)?.as_str())?;
+    }
+    Ok(told)
+}
+
+// The stem and the calls of each file that was left alone.
+fn left_alone_calls(alloc: Global, files: Vec<LeftAlone<MemorySlot>>) -> Result<String, Fail> {
+    let mut told = String::new(alloc);
+    for file in files {
+        told.push_str(file.stem.as_str())?;
+        told.push_str(calls_of(alloc, &file.slot)?.as_str())?;
+    }
+    Ok(told)
+}
+
+// The calls that were made of the slots of a folder: of the files that are left alone, of those that are
+// listed, and of the aliases.
+fn all_calls(alloc: Global, files: &str) -> Result<String, Fail> {
     let mut folder = folder_of(alloc, files, Vec::new(alloc))?;
     let loaded = load(alloc, &mut folder)?;
-    for file in loaded.left_alone {
-        assert_eq!(rt; file.stem.as_str(), "c");
-        let calls = calls_of(alloc, &file.slot)?;
-        assert_eq!(rt; calls.as_slice(), b"ysr".as_slice());
-    }
-    for ring in loaded.rings {
-        let (_, cell, _) = ring.into_parts();
-        let calls = calls_of(alloc, &cell.into_slot())?;
-        assert_eq!(rt; calls.as_slice(), b"ysr".as_slice());
-    }
-    let calls = calls_of(alloc, &alias_slot(loaded.aliases))?;
-    assert_eq!(rt; calls.as_slice(), b"ys".as_slice());
+    let left = left_alone_calls(alloc, loaded.left_alone)?;
+    let listed = rings_calls(alloc, loaded.rings)?;
+    let aliases = alias_calls(alloc, loaded.aliases)?;
+    joined(alloc, &[left.as_str(), listed.as_str(), aliases.as_str()])
+}
+
+#[test]
+fn each_file_is_settled_and_read_once(rt: HostRuntime) -> Result<(), Fail> {
+    let calls = all_calls(rt.alloc(), "a.keyring=k:A b.keyring=k:B c.keyring=abc")?;
+    same_text(&rt, calls.as_str(), "cysr ysr ysr ys ", "each file");
     Ok(())
 }
 
@@ -287,28 +387,26 @@ fn long_aliases(alloc: Global, count: usize) -> Result<MemoryFolder, Fail>
     let mut bytes = b"a=x\n".as_slice().to_vec(alloc)?;
     bytes.resize(count, b'#')?;
     let mut folder = MemoryFolder::new(alloc, Vec::new(alloc));
-    folder.set(name_of(alloc, "aliases")?, Some(Bytes::new(bytes)))?;
+    folder.set(text_of(alloc, "aliases")?, Some(Bytes::new(bytes)))?;
     Ok(folder)
 }
 
 // How many aliases a file of so many bytes gives, and the calls that were made of its slot.
-fn aliases_of(alloc: Global, count: usize) -> Result<(usize, Vec<u8>), Fail> {
+fn aliases_told_of(alloc: Global, count: usize) -> Result<String, Fail> {
     let mut folder = long_aliases(alloc, count)?;
     let loaded = load(alloc, &mut folder)?;
-    let given = loaded.aliases.pairs().len();
-    let calls = calls_of(alloc, &alias_slot(loaded.aliases))?;
-    Ok((given, calls))
+    let given = decimal(alloc, loaded.aliases.pairs().len())?;
+    let calls = alias_calls(alloc, loaded.aliases)?;
+    joined(alloc, &[given.as_str(), " ", calls.as_str()])
 }
 
 // A file of 1,048,576 bytes gives its aliases, and one of a byte more is measured, left alone and not read.
 #[test]
 fn a_longer_file_of_aliases_is_not_read(rt: HostRuntime) -> Result<(), Fail> {
-    let (given, calls) = aliases_of(rt.alloc(), 1_048_576)?;
-    assert_eq!(rt; given, 1);
-    assert_eq!(rt; calls.as_slice(), b"ysr".as_slice());
-    let (given, calls) = aliases_of(rt.alloc(), 1_048_577)?;
-    assert_eq!(rt; given, 0);
-    assert_eq!(rt; calls.as_slice(), b"ys".as_slice());
+    let read = aliases_told_of(rt.alloc(), 1_048_576)?;
+    same_text(&rt, read.as_str(), "1 ysr ", "1,048,576 bytes");
+    let measured = aliases_told_of(rt.alloc(), 1_048_577)?;
+    same_text(&rt, measured.as_str(), "0 ys ", "1,048,577 bytes");
     Ok(())
 }
 
@@ -355,19 +453,27 @@ impl Folder for LateFolder {
     }
 }
 
-#[test]
-fn the_names_are_read_after_the_sync(rt: HostRuntime) -> Result<(), Fail> {
-    let alloc = rt.alloc();
+fn one_file(alloc: Global) -> Result<Files, Fail> {
     let mut files = Files::new(alloc);
     let bytes = Bytes::new(keyring(alloc, "A", 0)?);
     files.set(text_of(alloc, "a.keyring")?, Some(bytes))?;
-    let folder = SteadyFolder::new(alloc, files, 0);
+    Ok(files)
+}
+
+fn late_told(alloc: Global) -> Result<String, Fail> {
+    let folder = SteadyFolder::new(alloc, one_file(alloc)?, 0);
     let mut folder = LateFolder {
         alloc,
         folder,
         is_synced: false,
     };
     let loaded = load(alloc, &mut folder)?;
-    assert_eq!(rt; told(alloc, &loaded)?.as_str(), "a:A:101 / a /");
+    told(alloc, &loaded)
+}
+
+#[test]
+fn the_names_are_read_after_the_sync(rt: HostRuntime) -> Result<(), Fail> {
+    let told = late_told(rt.alloc())?;
+    same_text(&rt, told.as_str(), "a:A:101 / a /", "a late folder");
     Ok(())
 }
