@@ -5,6 +5,8 @@
 #[cfg(test)]
 mod checks;
 #[cfg(test)]
+mod counting;
+#[cfg(test)]
 mod finding;
 #[cfg(test)]
 mod items;
