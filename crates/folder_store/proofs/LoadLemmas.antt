@@ -1,30 +1,32 @@
 -- The whole call: the names, the way over them, and the file of the aliases.
-use Rattle.std.proofs.Common.{◌≡◌, ⊎_elim, inl, inr, ◌↔◌, ℕ, List, [], ◌∷◌, Bool, IsTrue, IsSome, None, Some, suc, arith, sym, ◌∙◌, ap, subst}
+use Rattle.std.proofs.Common.{◌≡◌, ◌⊎◌, ⊎_elim, inl, inr, ◌↔◌, ℕ, List, [], ◌∷◌, Bool, IsTrue, IsSome, None, Some, suc, arith, sym, ◌∙◌, ap, subst}
 use Rattle.std.specs.List.{Contains}
-use Rattle.std.specs.List.Sorted.{IsStrictlySortedBy}
+use Rattle.std.specs.List.Sorted.{IsPermutation, IsSortedByKey, IsStrictlySortedBy}
 use Rattle.std.specs.Ordering.{nat_cmp}
 use Rattle.std.specs.Cmp.Lexicographic.{slice_cmp}
 use Rattle.kr_base.specs.Attributes.{IsInOrder}
 use Rattle.kr_outside.specs.Folder.{Stays}
 use Rattle.kr_outside.specs.RenameDisk.{Image, Only}
 use Rattle.alias_text.specs.Pairs.{longest, too_long}
-use Rattle.replace_slot.specs.Cell.{Known}
+use Rattle.folder_store.specs.Opened.{GivesAliases}
+use Rattle.replace_slot.specs.Cell.{Known, IsKnownImage}
 use Rattle.folder_store.specs.declared.found_aliases.FoundAliases.{FoundAliases}
 use Rattle.folder_store.specs.declared.found_aliases.FoundAliases.TheVariants as found
 use Rattle.folder_store.specs.declared.limits.Limits.{Limits}
 use Rattle.folder_store.specs.declared.loading.Loaded.{Loaded}
-use Rattle.folder_store.specs.Names.{aliases}
-use Rattle.folder_store.specs.Opened.{Opens, GivesAliases}
+use Rattle.folder_store.specs.Names.{aliases, IsRingName}
+use Rattle.folder_store.specs.Opened.{Opens, Starts}
 use Rattle.folder_store.specs.Loads.{Loads, opening_of}
 use Rattle.folder_store.specs.Aliases.{AreFound, alias_slot, pairs_in}
-use Rattle.folder_store.specs.Ring.{HandsBack, ShowsAliases, IsLonger, rows_of}
+use Rattle.folder_store.specs.Ring.{RingState, HandsBack, IsLonger, rows_of}
 use Rattle.folder_store.specs.Walk.{OpeningState, plain, Walk}
 use Rattle.folder_store.proofs.NameLemmas.{aliases_no_ring}
-use Rattle.folder_store.proofs.OpenedLemmas.{AreTold, all_found, cons_cases}
+use Rattle.folder_store.proofs.OpenedLemmas.{AreTold, all_found, cons_cases, no_file}
+use Rattle.folder_store.proofs.StemLemmas.{one_stem, used_stem, cells_by_stem, rows_by_stem}
 
 -- the aliases that were found are those that the image gives
 pub gives_found : {S : Type 0} (honest : Bool) (image : Image) (aliases : FoundAliases S) → AreFound honest image aliases → IsTrue honest → GivesAliases image (pairs_in aliases)
-gives_found honest image (found.Read file) are is = subst (λ f. ShowsAliases f file.pairs) (are.1 is).0 are.0
+gives_found honest image (found.Read file) are is = subst (λ f. IsKnownImage (λ known. GivesAliases known file.pairs) f) (are.1 is).0 are.0
 gives_found honest None (found.LeftAlone slot) are is = absurd (are is)
 gives_found honest (Some bytes) (found.LeftAlone slot) are is = too_long bytes (are is)
 
@@ -51,7 +53,8 @@ module _ {F S : Type 0} (limits : Limits) (found : Image → S → Type 0) (hone
       (off, subst (λ (i : Image). Only i (may_leave two aliases)) (sym (walk.same is aliases off)) (walk.settled is aliases off))
 
   pub Loads-made : (zero one two three : F) (names : List (List ℕ)) (opening : OpeningState S) (loaded : Loaded S)
-      → loaded.rings.items ≡ opening.rings → loaded.used.items ≡ opening.used → loaded.left_alone.items ≡ opening.left
+      → IsPermutation opening.rings loaded.rings.items → IsSortedByKey (λ (r : RingState S). r.stem) (slice_cmp nat_cmp) loaded.rings.items
+      → loaded.used.items ≡ opening.used → loaded.left_alone.items ≡ opening.left
       → IsStrictlySortedBy (slice_cmp nat_cmp) names
       → (IsTrue honest → (name : List ℕ) → Contains names name ↔ IsSome (images one name))
       → (IsTrue honest → (name : List ℕ) → images one name ≡ images zero name)
@@ -62,33 +65,44 @@ module _ {F S : Type 0} (limits : Limits) (found : Image → S → Type 0) (hone
       → made three ≡ aliases ∷ made two
       → (IsTrue honest → Stays images may_leave (made three) two three)
       → Loads limits found honest images may_leave made zero three loaded
-  Loads-made zero one two three names opening loaded rings used left sorted listed before walk handed known slot made_one stays =
-      let plain_is : plain opening ≡ opening_of loaded = λ i. record { rings = rows_of (sym rings i); used = sym used i } in
-      let opens : Opens limits walk.files (opening_of loaded) = subst (λ o. Opens limits walk.files o) plain_is walk.opens in
-      let ordered : IsInOrder walk.files = subst (λ l. IsStrictlySortedBy (slice_cmp nat_cmp) l) (sym walk.keys) sorted in
+  Loads-made zero one two three names opening loaded same sorted used left in_order listed before walk handed known slot made_one stays =
+      let plain_is : plain opening ≡ (record { rings = rows_of opening.rings; used = loaded.used.items }) = λ i. record { rings = rows_of opening.rings; used = sym used i } in
+      let opens : Opens limits walk.files (record { rings = rows_of opening.rings; used = loaded.used.items }) = subst (λ o. Opens limits walk.files o) plain_is walk.opens in
+      let ordered : IsInOrder walk.files = subst (λ l. IsStrictlySortedBy (slice_cmp nat_cmp) l) (sym walk.keys) in_order in
+      let starts : Starts limits walk.files (opening_of loaded) = record {
+        ordered = ordered;
+        taken = rows_of opening.rings;
+        opens = opens;
+        by_stem = rows_by_stem limits walk.files opening.rings loaded.rings.items loaded.used.items opens ordered same sorted;
+      } in
       record {
         opened = λ is. record {
           files = walk.files;
-          ordered = ordered;
           all = all_found (images zero) walk.files names walk.keys (told_same (images one) (images zero) (before is) walk.files (walk.told is))
               (λ name. subst (λ (i : Image). Contains names name ↔ IsSome i) (before is name) (listed is name));
-          opens = opens;
+          starts = starts;
           aliases = gives_found honest (images zero aliases) loaded.aliases are is;
         };
-        some = record { files = walk.files; ordered = ordered; opens = opens };
+        some = record { files = walk.files; starts = starts };
         found_aliases = are;
         rest = made two;
         made_all = made_one;
-        handed = subst (λ l. HandsBack found (images zero) (made two) loaded.rings.items l) (sym left)
-            (subst (λ r. HandsBack found (images zero) (made two) r opening.left) (sym rings) handed);
+        taken = opening.rings;
+        by_stem = cells_by_stem limits walk.files opening.rings loaded.rings.items loaded.used.items opens ordered same sorted;
+        handed = subst (λ l. HandsBack found (images zero) (made two) opening.rings l) (sym left) handed;
         alias_found = slot;
-        made_of = λ name has. ⊎_elim
-            (λ same. inl same)
-            (λ earlier. let by = (walk.slots name earlier).1 in inr (by.0, by.1, subst (λ l. Contains l by.0) (sym used) by.2))
-            (cons_cases aliases (made two) name (subst (λ l. Contains l name) made_one has));
-        same = λ is name off. (stays is).same name off ∙ walk.same is name (earlier name off) ∙ before is name;
-        settled = λ is name off. subst (λ (i : Image). Only i (may_leave three name)) (sym ((stays is).same name off ∙ walk.same is name (earlier name off)))
-            (λ left may. walk.settled is name (earlier name off) left ((stays is).crash name off left may));
+        made_of = made_of;
+        same = same_image;
+        settled = settled;
+        unused = λ name stem is unused.
+            let off : ¬ (Contains (made three) name) = λ has. ⊎_elim
+            (λ alias. aliases_no_ring stem (subst (λ n. IsRingName n stem) alias is))
+            (λ by. unused (subst (λ s. Contains loaded.used.items s) (one_stem name by.0 stem by.1 is) by.2))
+            (made_of name has) in
+            let none : IsTrue honest → images three name ≡ None = λ yes. same_image yes name off ∙ sym (before yes name) ∙ no_file (images one name)
+            (λ some. unused (used_stem limits walk.files (record { rings = rows_of opening.rings; used = loaded.used.items }) opens name stem
+            (subst (λ l. Contains l name) (sym walk.keys) ((listed yes name).1 some)) is)) in
+            record { slotless = off; absent = none; crash = λ yes. subst (λ (i : Image). Only i (may_leave three name)) (none yes) (settled yes name off) };
       }
     where
       earlier : (name : List ℕ) → ¬ (Contains (made three) name) → ¬ (Contains (made two) name)
@@ -96,3 +110,16 @@ module _ {F S : Type 0} (limits : Limits) (found : Image → S → Type 0) (hone
 
       are : AreFound honest (images zero aliases) loaded.aliases
       are = found_same_aliases honest (images two aliases) (images zero aliases) loaded.aliases (λ is. walk.same is aliases (off_way one two names opening walk) ∙ before is aliases) known
+
+      made_of : (name : List ℕ) → Contains (made three) name → (name ≡ aliases) ⊎ ((stem : List ℕ) × IsRingName name stem × Contains loaded.used.items stem)
+      made_of name has = ⊎_elim
+          (λ alias. inl alias)
+          (λ earlier_one. let by = (walk.slots name earlier_one).1 in inr (by.0, by.1, subst (λ l. Contains l by.0) (sym used) by.2))
+          (cons_cases aliases (made two) name (subst (λ l. Contains l name) made_one has))
+
+      same_image : IsTrue honest → (name : List ℕ) → ¬ (Contains (made three) name) → images three name ≡ images zero name
+      same_image is name off = (stays is).same name off ∙ walk.same is name (earlier name off) ∙ before is name
+
+      settled : IsTrue honest → (name : List ℕ) → ¬ (Contains (made three) name) → Only (images three name) (may_leave three name)
+      settled is name off = subst (λ (i : Image). Only i (may_leave three name)) (sym ((stays is).same name off ∙ walk.same is name (earlier name off)))
+          (λ left may. walk.settled is name (earlier name off) left ((stays is).crash name off left may))

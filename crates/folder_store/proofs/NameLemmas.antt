@@ -12,7 +12,7 @@ use Rattle.kr_base.specs.Stem.{IsStem, IsNoStem}
 use Rattle.folder_store.specs.Names.{ending, aliases, IsRingName}
 
 -- what stands before one ending is one text
-one_front : (a b e : List ℕ) → a ++ e ≡ b ++ e → a ≡ b
+pub one_front : (a b e : List ℕ) → a ++ e ≡ b ++ e → a ≡ b
 one_front [] [] e same = refl
 one_front [] (y ∷ b) e same =
     let long : length e ≡ length (y ∷ b) + length e = ap length same ∙ length-append (y ∷ b) e in

@@ -12,6 +12,10 @@ use Rattle.std.proofs.lemmas.Map.Entries.{lookup_head, lookup_tail}
 use Rattle.std.proofs.lemmas.Map.Lookups.{exact_bytes}
 use Rattle.kr_base.specs.Attributes.{is_name, value_at}
 use Rattle.kr_outside.specs.RenameDisk.{Image}
+use Rattle.folder_store.specs.Opened.{GivesAliases}
+use Rattle.folder_store.specs.declared.limits.Limits.{Limits}
+use Rattle.folder_store.specs.Names.{aliases}
+use Rattle.folder_store.specs.Opened.{Opening, Opened}
 
 -- the files of which an image stands at each name
 abbrev pub AreTold : (List ℕ → Image) → List (List ℕ × List ℕ) → Type 0
@@ -58,7 +62,7 @@ found images (file ∷ files) name (here, told) = ⊎_elim
     (found images files name told))
     (cases_Bool (is_name name file.0))
 
-no_file : (image : Image) → ¬ (IsSome image) → image ≡ None
+pub no_file : (image : Image) → ¬ (IsSome image) → image ≡ None
 no_file None off = refl
 no_file (Some bytes) off = absurd (off refl)
 
@@ -69,3 +73,13 @@ all_found images files names keys told listed name = ⊎_elim
     (λ is. sym is)
     (λ absent. no_file (images name) (λ some. absent.1 (subst (λ l. Contains l name) (sym keys) ((listed name).1 some))) ∙ sym absent.0)
     (found images files name told)
+
+-- of equal images a start makes the same
+pub opened_same : (limits : Limits) (images other : List ℕ → Image) (opening : Opening) (pairs : List (List ℕ × List ℕ)) → ((name : List ℕ) → images name ≡ other name)
+    → Opened limits images opening pairs → Opened limits other opening pairs
+opened_same limits images other opening pairs same is = record {
+  files = is.files;
+  all = λ name. sym (same name) ∙ is.all name;
+  starts = is.starts;
+  aliases = subst (λ (i : Image). GivesAliases i pairs) (same aliases) is.aliases;
+}

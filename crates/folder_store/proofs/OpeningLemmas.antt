@@ -2,10 +2,11 @@
 use Rattle.std.proofs.Common.{◌≡◌, ℕ, ◌+◌, List, [], ◌∷◌, ◌++◌, length, refl, sym, ◌∙◌, ap, subst, arith, Result, Ok, Err, OnOk, Some}
 use Rattle.keyring_file.specs.Clear.{ClearPart}
 use Rattle.keyring_file.specs.ClearText.{ClearText}
+use Rattle.folder_store.specs.Opened.{HasClear}
 use Rattle.keyring_file.specs.declared.fault.ClearFault.{ClearFault}
 use Rattle.replace_slot.specs.Cell.{CellState, Known}
 use Rattle.folder_store.specs.declared.limits.Limits.{Limits}
-use Rattle.folder_store.specs.Opened.{RingRow, items_in, bytes_in, ReadsAs, Fits, lists}
+use Rattle.folder_store.specs.Opened.{RingRow, items_in, bytes_in, Fits, lists}
 use Rattle.folder_store.specs.Walk.{OpeningState, plain}
 use Rattle.folder_store.specs.Ring.{RingState, row_of, rows_of}
 
@@ -32,10 +33,15 @@ pub both : {T E P Q R : Type 0} (r : Result T E) → (P → Q → R) → OnOk r 
 both (Ok x) joins p q = joins p q
 both (Err e) joins p q = tt
 
--- a collection of a known file, without its slot
-pub row_known : {S : Type 0} (ring : RingState S) (cell : CellState S) (slot : S) (stem bytes : List ℕ) (clear : ClearPart) → ring ≡ record { stem = stem; cell = cell; clear = clear }
-    → cell ≡ record { slot = slot; file = Known (Some bytes) } → row_of ring ≡ record { stem = stem; clear = clear; image = bytes }
-row_known {S = S} ring cell slot stem bytes clear is known = ap row_of is ∙ ap (λ (c : CellState S). row_of (record { stem = stem; cell = c; clear = clear })) known
+-- a row of these parts
+abbrev row_with : List ℕ → ClearPart → List ℕ → RingRow
+row_with stem clear image = record { stem = stem; clear = clear; image = image }
+
+-- a collection of a known file, whose image is made of these bytes, without its slot
+pub row_known : {S : Type 0} (ring : RingState S) (cell : CellState S) (slot : S) (stem image bytes : List ℕ) (clear : ClearPart) → ring ≡ record { stem = stem; cell = cell; clear = clear }
+    → cell ≡ record { slot = slot; file = Known (Some image) } → image ≡ bytes → row_of ring ≡ record { stem = stem; clear = clear; image = bytes }
+row_known {S = S} ring cell slot stem image bytes clear is known same =
+    ap row_of is ∙ ap (λ (c : CellState S). row_of (record { stem = stem; cell = c; clear = clear })) known ∙ ap (row_with stem clear) same
 
 -- one collection more is listed
 pub plain_lists : {S : Type 0} (old new : OpeningState S) (ring : RingState S) (stem image : List ℕ) (clear : ClearPart) → new.rings ≡ old.rings ++ ring ∷ []
@@ -58,5 +64,5 @@ no_both x f same = let never : ⊥ = cc in never
 
 -- a file that reads as this clear part can't be listed by another one
 pub left_out : (limits : Limits) (rows : List RingRow) (image : List ℕ) (clear : ClearPart) → ((other : ClearPart) (area : List ℕ) → ClearText image other area → other ≡ clear)
-    → ¬ (Fits limits rows clear image) → (other : ClearPart) → ReadsAs image other → ¬ (Fits limits rows other image)
+    → ¬ (Fits limits rows clear image) → (other : ClearPart) → HasClear image other → ¬ (Fits limits rows other image)
 left_out limits rows image clear alone off other (area, is) fits = off (subst (λ k. Fits limits rows k image) (alone other area is) fits)

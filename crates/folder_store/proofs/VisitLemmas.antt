@@ -8,14 +8,15 @@ use Rattle.kr_outside.specs.declared.slot.DeviceCall.{DeviceCall}
 use Rattle.kr_outside.specs.Moments.{LeavesOnly}
 use Rattle.kr_outside.specs.RenameDisk.{Image, Temporary, Unknown, Only, LeavesAnyBytes, LeavesNoMore}
 use Rattle.keyring_file.specs.Clear.{ClearPart}
+use Rattle.folder_store.specs.Opened.{HasClear}
 use Rattle.folder_store.specs.declared.limits.Limits.{Limits}
 use Rattle.folder_store.specs.Names.{IsRingName}
-use Rattle.folder_store.specs.Opened.{Takes, other, left_alone, ReadsAs, Fits, leaves_alone}
+use Rattle.folder_store.specs.Opened.{Takes, other, left_alone, Fits, leaves_alone}
 use Rattle.folder_store.specs.Ring.{rows_of, IsAsFound, HandsBack, with_ring, alone, IsLook, HasFailedSlot}
 use Rattle.folder_store.specs.Walk.{OpeningState, plain, MakesAtMost, none, one, Visits, Keeps, in_ring, by_itself}
 
 -- an empty file is no keyring file
-no_keyring : (clear : ClearPart) → ReadsAs [] clear → ⊥
+no_keyring : (clear : ClearPart) → HasClear [] clear → ⊥
 no_keyring clear (area, is) =
     let whole : 0 ≡ length is.text.front + length is.text.back = ap length is.text.parts ∙ length-append is.text.front is.text.back in
     let head = is.text.is_first in
@@ -25,7 +26,7 @@ no_keyring clear (area, is) =
 
 module _ {S : Type 0} (limits : Limits) (name stem : List ℕ) (made_old made_new : List (List ℕ)) (old new : OpeningState S) (named : IsRingName name stem) (left : plain new ≡ leaves_alone stem (plain old)) where
   with_image : (honest : Bool) (seen : Image) (image : List ℕ) → MakesAtMost name new.used made_old made_new
-      → ((clear : ClearPart) → ReadsAs image clear → ¬ (Fits limits (rows_of old.rings) clear image))
+      → ((clear : ClearPart) → HasClear image clear → ¬ (Fits limits (rows_of old.rings) clear image))
       → (IsTrue honest → IsSome seen → seen ≡ Some image) → Visits limits honest seen name made_old made_new old new
   with_image honest seen image made off told = record {
     image = image;

@@ -19,7 +19,7 @@ use Rattle.folder_store.specs.Walk.{none as made_none}
 use Rattle.folder_store.proofs.OpenedLemmas.{told_push, keys_push, cons_cases}
 
 -- a used stem stays used
-still_used : (limits : Limits) (name image : List ℕ) (opening next : Opening) → Takes limits name image opening next → (stem : List ℕ) → Contains opening.used stem → Contains next.used stem
+pub still_used : (limits : Limits) (name image : List ℕ) (opening next : Opening) → Takes limits name image opening next → (stem : List ℕ) → Contains opening.used stem → Contains next.used stem
 still_used limits name image opening _ (other off) stem used = used
 still_used limits name image opening _ (left_alone s is off) stem used = Contains-append_left opening.used (s ∷ []) stem used
 still_used limits name image opening _ (listed s clear is reads fits) stem used = Contains-append_left opening.used (s ∷ []) stem used

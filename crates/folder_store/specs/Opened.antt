@@ -1,5 +1,8 @@
 -- What a start finds in a folder (docs/KEYRING_FILES.md, "A folder").
-use Rattle.std.specs.Prelude.{◌≡◌, ℕ, ◌+◌, ◌<◌, ◌≤◌, List, [], ◌∷◌, ◌++◌, length, None, Some}
+use Rattle.std.specs.Prelude.{◌≡◌, ℕ, ◌+◌, ◌<◌, ◌≤◌, List, [], ◌∷◌, ◌++◌, length, map, None, Some}
+use Rattle.std.specs.Cmp.Lexicographic.{slice_cmp}
+use Rattle.std.specs.List.Sorted.{IsPermutation, IsStrictlySortedBy}
+use Rattle.std.specs.Ordering.{nat_cmp}
 use Rattle.kr_base.specs.Attributes.{IsInOrder, value_at}
 use Rattle.kr_outside.specs.RenameDisk.{Image}
 use Rattle.keyring_file.specs.Clear.{ClearPart}
@@ -24,14 +27,14 @@ abbrev pub bytes_in : List RingRow → ℕ
 bytes_in [] = 0
 bytes_in (ring ∷ rings) = length ring.image + bytes_in rings
 
+-- the file is a keyring file with this clear part, whatever its encrypted area is
+abbrev pub HasClear : List ℕ → ClearPart → Type 0
+HasClear file clear = (area : List ℕ) × ClearText file clear area
+
 -- what stands open after some files: the collections that are listed, and the stems that are used
 pub record Opening : Type 0 where
   pub rings : List RingRow
   pub used : List (List ℕ)
-
--- the file is a keyring file with this clear part, whatever its encrypted area is
-abbrev pub ReadsAs : List ℕ → ClearPart → Type 0
-ReadsAs image clear = (area : List ℕ) × ClearText image clear area
 
 -- the limits let this file be listed behind these
 pub record Fits (limits : Limits) (rings : List RingRow) (clear : ClearPart) (image : List ℕ) : Type 0 where
@@ -56,9 +59,9 @@ lists stem clear image opening = record {
 pub data Takes (limits : Limits) (name image : List ℕ) (opening : Opening) : Opening → Type 0 where
   other : ((stem : List ℕ) → ¬ (IsRingName name stem)) → Takes limits name image opening opening
   left_alone : (stem : List ℕ) → IsRingName name stem
-      → ((clear : ClearPart) → ReadsAs image clear → ¬ (Fits limits opening.rings clear image))
+      → ((clear : ClearPart) → HasClear image clear → ¬ (Fits limits opening.rings clear image))
       → Takes limits name image opening (leaves_alone stem opening)
-  listed : (stem : List ℕ) (clear : ClearPart) → IsRingName name stem → ReadsAs image clear
+  listed : (stem : List ℕ) (clear : ClearPart) → IsRingName name stem → HasClear image clear
       → Fits limits opening.rings clear image → Takes limits name image opening (lists stem clear image opening)
 
 -- what stands open after these files, each a name and its bytes
@@ -72,10 +75,22 @@ abbrev pub GivesAliases : Image → List (List ℕ × List ℕ) → Type 0
 GivesAliases None pairs = pairs ≡ []
 GivesAliases (Some bytes) pairs = AliasesOf bytes pairs
 
--- what a start makes of the images by name: it takes the files in byte order of their names
+-- the same rows in byte order of their stems, of which no two are the same
+pub record IsByStem {R : Type 0} (stem : R → List ℕ) (rows ordered : List R) : Type 0 where
+  pub same : IsPermutation rows ordered
+  pub rising : IsStrictlySortedBy (slice_cmp nat_cmp) (map stem ordered)
+
+-- what a start makes of these files: it takes them in byte order of their names, and puts the collections that
+-- are listed in byte order of their stems
+pub record Starts (limits : Limits) (files : List (List ℕ × List ℕ)) (opening : Opening) : Type 0 where
+  pub ordered : IsInOrder files
+  pub taken : List RingRow
+  pub opens : Opens limits files (record { rings = taken; used = opening.used })
+  pub by_stem : IsByStem (λ ring. ring.stem) taken opening.rings
+
+-- what a start makes of the images by name
 pub record Opened (limits : Limits) (images : List ℕ → Image) (opening : Opening) (pairs : List (List ℕ × List ℕ)) : Type 0 where
   pub files : List (List ℕ × List ℕ)
-  pub ordered : IsInOrder files
   pub all : (name : List ℕ) → images name ≡ value_at name files
-  pub opens : Opens limits files opening
+  pub starts : Starts limits files opening
   pub aliases : GivesAliases (images aliases) pairs

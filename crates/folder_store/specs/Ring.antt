@@ -6,7 +6,7 @@ use Rattle.kr_outside.specs.declared.slot.DeviceCall.{DeviceCall}
 use Rattle.kr_outside.specs.declared.slot.DeviceCall.TheVariants.{Size, Read, SyncFolder}
 use Rattle.keyring_file.specs.Clear.{ClearPart}
 use Rattle.replace_slot.specs.Cell.{CellState, File, Known, Doubt}
-use Rattle.folder_store.specs.Opened.{RingRow, ReadsAs, GivesAliases}
+use Rattle.folder_store.specs.Opened.{RingRow}
 use Rattle.folder_store.specs.Names.{IsRingName}
 use Rattle.folder_store.specs.declared.opening.LeftAlone.{LeftAlone}
 use Rattle.folder_store.specs.declared.refused.LoadRefused.{LoadRefused}
@@ -22,17 +22,6 @@ pub record RingState (S : Type 0) : Type 0 where
 pub record AliasState (S : Type 0) : Type 0 where
   pub cell : CellState S
   pub pairs : List (List ℕ × List ℕ)
-
--- the file is known to have an image with this clear part
-abbrev pub ShowsClear : File → ClearPart → Type 0
-ShowsClear (Known None) clear = ⊥
-ShowsClear (Known (Some bytes)) clear = ReadsAs bytes clear
-ShowsClear (Doubt old new) clear = ⊥
-
--- the file is known to have an image that gives these aliases, or to be none
-abbrev pub ShowsAliases : File → List (List ℕ × List ℕ) → Type 0
-ShowsAliases (Known image) pairs = GivesAliases image pairs
-ShowsAliases (Doubt old new) pairs = ⊥
 
 -- the image is a file of more bytes
 abbrev pub IsLonger : ℕ → Image → Type 0

@@ -2,9 +2,9 @@
 use Rattle.std.specs.Prelude.{◌≡◌, ℕ, ◌<◌, Bool, IsTrue, List, [], ◌∷◌, ◌++◌, length, Contains, Option, None, Some, IsSome, Vec}
 use Rattle.std.specs.List.{AllByRecursion}
 use Rattle.std.specs.Map.{keys_of}
+use Rattle.std.specs.Option.{option_map}
 use Rattle.std.specs.declared.alloc.Global.{Global}
 use Rattle.kr_outside.specs.RenameDisk.{Image, Only}
-use Rattle.replace_slot.specs.Cell.{image_of}
 use Rattle.folder_store.specs.declared.limits.Limits.{Limits}
 use Rattle.folder_store.specs.declared.reading.Look.{Look}
 use Rattle.folder_store.specs.declared.reading.Look.TheVariants as look
@@ -12,6 +12,10 @@ use Rattle.folder_store.specs.Names.{IsRingName}
 use Rattle.folder_store.specs.Opened.{Opening, Opens, Takes}
 use Rattle.folder_store.specs.Ring.{RingState, IsLonger, rows_of}
 use Rattle.folder_store.specs.declared.opening.LeftAlone.{LeftAlone}
+
+-- the image that a vector is, and no file for none
+abbrev pub image_of : Option (Vec ℕ Global) → Image
+image_of image = option_map (λ bytes. bytes.items) image
 
 -- a read of what a slot gives, of at most so many bytes: it gave the file, or there is none of so few
 abbrev pub ReadsWithin : ℕ → Image → Option (Vec ℕ Global) → Type 0

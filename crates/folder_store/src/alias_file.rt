@@ -1,12 +1,13 @@
 ghost use Rattle.std.specs.Prelude.{◌≡◌, IsTrue, IfOk};
 ghost use Rattle.kr_outside.specs.RenameDisk.{Only};
-ghost use Rattle.replace_slot.specs.Cell.{Known, image_of};
-ghost use Rattle.folder_store.specs.Ring.{ShowsAliases};
+ghost use Rattle.folder_store.specs.Opened.{GivesAliases};
+ghost use Rattle.replace_slot.specs.Cell.{Known, IsKnownImage};
+ghost use Rattle.folder_store.specs.Walk.{image_of};
 
 use alias_text::read_aliases;
 use kr_base::{OutOfMemory, Stem, Text};
 use kr_outside::Slot;
-use replace_slot::FileCell;
+use replace_slot::{FileCell, Image};
 use std::alloc::Global;
 use std::marker::Model;
 
@@ -20,13 +21,15 @@ pub struct AliasFile<S: Slot> {
 }
 
 impl<S: Slot> Model for AliasFile<S> {
-    ghost use Rattle.folder_store.specs.Ring.{AliasState, ShowsAliases};
+    ghost use Rattle.folder_store.specs.Opened.{GivesAliases};
+    ghost use Rattle.replace_slot.specs.Cell.{IsKnownImage};
+    ghost use Rattle.folder_store.specs.Ring.{AliasState};
 
     ghost Value = { AliasState S };
 
     ghost view = { λ a. record { cell = a.cell; pairs = a.pairs.items } };
 
-    ghost invariant = { λ a. ShowsAliases a.cell.file a.pairs.items };
+    ghost invariant = { λ a. IsKnownImage (λ image. GivesAliases image a.pairs.items) a.cell.file };
 }
 
 impl<S: Slot> AliasFile<S> {
@@ -37,6 +40,7 @@ impl<S: Slot> AliasFile<S> {
             file.cell ≡ record { slot = slot; file = Known (image_of image) }) }
     {
         let pairs = pairs_of(alloc, &image)?;
+        let image = shared(alloc, image)?;
         Ok(AliasFile {
             cell: FileCell::known(slot, image),
             pairs,
@@ -46,7 +50,8 @@ impl<S: Slot> AliasFile<S> {
     /// The aliases, lent in order.
     pub fn pairs(&self) -> &[(Text, Stem)]
         ensures value { result.now ≡ self.now.pairs }
-        ensures shown { ShowsAliases self.now.cell.file self.now.pairs }
+        ensures shown { IsKnownImage (λ image. GivesAliases image self.now.pairs)
+            self.now.cell.file }
     {
         &self.pairs
     }
@@ -55,7 +60,7 @@ impl<S: Slot> AliasFile<S> {
     pub fn into_parts(self) -> (FileCell<S>, Vec<(Text, Stem)>)
         ensures cell { result.0 ≡ self.cell }
         ensures pairs { result.1.items ≡ self.pairs }
-        ensures shown { ShowsAliases self.cell.file self.pairs }
+        ensures shown { IsKnownImage (λ image. GivesAliases image self.pairs) self.cell.file }
     {
         (self.cell, self.pairs)
     }
@@ -63,10 +68,20 @@ impl<S: Slot> AliasFile<S> {
 
 // The aliases that an image gives.
 fn pairs_of(alloc: Global, image: &Option<Vec<u8>>) -> Result<Vec<(Text, Stem)>, OutOfMemory>
-    ensures { IfOk result (λ pairs. ShowsAliases (Known (image_of image.now)) pairs.items) }
+    ensures { IfOk result (λ pairs. GivesAliases (image_of image.now) pairs.items) }
 {
     match image {
         Some(bytes) => read_aliases(alloc, bytes),
         None => Ok(Vec::new(alloc)),
+    }
+}
+
+// The image of these bytes, and no file for none.
+fn shared(alloc: Global, bytes: Option<Vec<u8>>) -> Result<Option<Image>, OutOfMemory>
+    ensures { IfOk result (λ image. image ≡ image_of bytes) }
+{
+    match bytes {
+        Some(bytes) => Ok(Some(Image::new(alloc, bytes)?)),
+        None => Ok(None),
     }
 }

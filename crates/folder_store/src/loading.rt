@@ -27,11 +27,12 @@ use std::alloc::Global;
 /// What a start finds in a folder.
 #[derive(Drop)]
 pub struct Loaded<S: Slot> {
-    /// The collections that are listed, in byte order of the names of their files.
+    /// The collections that are listed, in byte order of their stems.
     pub rings: Vec<Ring<S>>,
-    /// The stems of all keyring files' names, in that order, also of those that were left alone.
+    /// The stems of all keyring files' names, also of those that were left alone, in byte order of these
+    /// names. A name with any other stem stands for no file.
     pub used: Vec<Stem>,
-    /// The keyring files that were looked at and left alone, in that order.
+    /// The keyring files that were looked at and left alone, in byte order of their names.
     pub left_alone: Vec<LeftAlone<S>>,
     /// The aliases.
     pub aliases: FoundAliases<S>,

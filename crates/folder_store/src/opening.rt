@@ -1,5 +1,8 @@
 // What stands open on the way over the names of a folder.
 ghost use Rattle.std.specs.Prelude.{◌≡◌, ◌<◌, ◌≤◌, ◌↔◌, ◌+◌, ◌^◌, ◌++◌, ◌∷◌, [], IsTrue, Some, IfOk, IfErr, IfSome, IsNone, OnOk, length, List, ℕ};
+ghost use Rattle.std.specs.Cmp.Lexicographic.{slice_cmp};
+ghost use Rattle.std.specs.List.Sorted.{IsPermutation, IsSortedByKey};
+ghost use Rattle.std.specs.Ordering.{nat_cmp};
 ghost use Rattle.kr_outside.specs.RenameDisk.{Only};
 ghost use Rattle.keyring_file.specs.Clear.{ClearPart};
 ghost use Rattle.folder_store.specs.Names.{IsRingName};
@@ -9,12 +12,12 @@ ghost use Rattle.folder_store.specs.Walk.{plain, Keeps};
 
 use crate::limits::Limits;
 use crate::refused::LoadRefused;
-use crate::ring::Ring;
+use crate::ring::{Ring, sort_by_stem};
 use keyring_file::{Clear, read_clear};
 use keyring_text::ReadRefused;
 use kr_base::Stem;
 use kr_outside::Slot;
-use replace_slot::FileCell;
+use replace_slot::{FileCell, Image};
 use std::alloc::Global;
 use std::marker::Model;
 
@@ -70,13 +73,16 @@ impl<S: Slot> Opening<S> {
         }
     }
 
-    /// The collections, the used stems, and the files that were left alone.
+    /// The collections in byte order of their stems, the used stems, and the files that were left alone.
     pub fn into_parts(self) -> (Vec<Ring<S>>, Vec<Stem>, Vec<LeftAlone<S>>)
-        ensures rings { result.0.items ≡ self.rings }
+        ensures same { IsPermutation self.rings result.0.items }
+        ensures sorted { IsSortedByKey (λ ring. ring.stem) (slice_cmp nat_cmp) result.0.items }
         ensures used { result.1.items ≡ self.used }
         ensures left { result.2.items ≡ self.left }
     {
-        (self.rings, self.used, self.left)
+        let mut rings = self.rings;
+        sort_by_stem(&mut rings);
+        (rings, self.used, self.left)
     }
 
     /// The most bytes that a further file may have; None where no further file can be listed.
@@ -145,7 +151,7 @@ impl<S: Slot> Opening<S> {
         ensures memory { IfErr result (λ refused. refused ≡ LoadRefused.OutOfMemory) }
     {
         let clear = ring.clear().items.len();
-        let bytes = ring.image().len();
+        let bytes = ring.image().bytes().len();
         self.used.push(stem)?;
         self.rings.push(ring)?;
         self.items += clear;
@@ -176,6 +182,7 @@ impl<S: Slot> Opening<S> {
                     return self.leave_slot(stem, slot);
                 }
                 let used = stem.copy()?;
+                let image = Image::new(alloc, image)?;
                 let cell = FileCell::known(slot, Some(image));
                 self.list(used, Ring::new(stem, cell, clear))
             }

@@ -3,9 +3,8 @@ ghost use Rattle.std.specs.Prelude.{◌≡◌, ◌⊎◌, IsTrue, Some, IfOk, On
 ghost use Rattle.kr_outside.specs.Faults.{HasCause, KeepsSteady};
 ghost use Rattle.kr_outside.specs.Moments.{LeavesOnly};
 ghost use Rattle.kr_outside.specs.RenameDisk.{Only, LeavesAnyBytes, LeavesNoMore, size_of};
-ghost use Rattle.replace_slot.specs.Cell.{image_of};
 ghost use Rattle.folder_store.specs.Ring.{HasLoadCause, IsLook};
-ghost use Rattle.folder_store.specs.Walk.{Looks, ReadsWithin};
+ghost use Rattle.folder_store.specs.Walk.{Looks, ReadsWithin, image_of};
 
 use crate::refused::LoadRefused;
 use kr_outside::{Failed, Seen, Slot};

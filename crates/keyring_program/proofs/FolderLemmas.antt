@@ -1,10 +1,10 @@
 -- What was loaded of a folder is what a start makes of the images that the host told.
-use Rattle.std.proofs.Common.{◌≡◌, ℕ, List, Option, Some, None, sym, ◌∙◌, ap, subst}
+use Rattle.std.proofs.Common.{◌≡◌, ℕ, List, Option, Some, None, ◌∙◌, ap}
 use Rattle.kr_outside.specs.Folder.{AreTold}
 use Rattle.kr_outside.specs.RenameDisk.{Image}
 use Rattle.folder_store.specs.Limits.{the_limits}
-use Rattle.folder_store.specs.Names.{aliases}
-use Rattle.folder_store.specs.Opened.{Opening, Opened, GivesAliases}
+use Rattle.folder_store.specs.Opened.{Opening, Opened}
+use Rattle.folder_store.proofs.OpenedLemmas.{opened_same}
 use Rattle.keyring_program.specs.Folder.{IsOpened}
 
 -- images that were told are these
@@ -14,16 +14,8 @@ told-of (Some other) images found e are = λ name. let same : other ≡ images =
 
 pub is-opened : (told : Option (List ℕ → Image)) (images found : List ℕ → Image) (opening : Opening) (pairs : List (List ℕ × List ℕ)) → told ≡ Some images → AreTold told found
     → Opened the_limits found opening pairs → IsOpened images
-is-opened told images found opening pairs e are so =
-    let same = told-of told images found e are in
-    record {
-      opening = opening;
-      pairs = pairs;
-      opened = record {
-        files = so.files;
-        ordered = so.ordered;
-        all = λ name. sym (same name) ∙ so.all name;
-        opens = so.opens;
-        aliases = subst (λ i. GivesAliases i pairs) (same aliases) so.aliases;
-      };
-    }
+is-opened told images found opening pairs e are so = record {
+  opening = opening;
+  pairs = pairs;
+  opened = opened_same the_limits found images opening pairs (told-of told images found e are) so;
+}

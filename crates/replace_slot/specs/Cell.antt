@@ -1,14 +1,9 @@
 -- A file that is replaced whole (docs/DECISIONS.md, "What a crash claim rests on").
-use Rattle.std.specs.Prelude.{◌≡◌, ℕ, ◌⊎◌, max, length, Option, None, Some, Vec}
-use Rattle.std.specs.Option.{option_map, option_map_or}
-use Rattle.std.specs.declared.alloc.Global.{Global}
+use Rattle.std.specs.Prelude.{◌≡◌, ℕ, ◌⊎◌, max, length, List, Option, None, Some}
+use Rattle.std.specs.Option.{option_map_or}
 use Rattle.kr_outside.specs.RenameDisk.{Image}
 use Rattle.kr_outside.specs.declared.slot.DeviceCall.{DeviceCall}
 use Rattle.kr_outside.specs.declared.slot.DeviceCall.TheVariants.{PutTemp, SyncTemp, SyncFolder, Read}
-
--- the image that a vector is, and no file for none
-abbrev pub image_of : Option (Vec ℕ Global) → Image
-image_of image = option_map (λ bytes. bytes.items) image
 
 -- what is known of a file: its image, or the two of which it has one
 pub data File : Type 0 where
@@ -30,6 +25,22 @@ HasFile (Doubt old new) = ⊥
 abbrev pub old_image : File → Image
 old_image (Known image) = image
 old_image (Doubt old new) = old
+
+-- the image that is known, or the newer one of the two
+abbrev pub new_image : File → Image
+new_image (Known image) = image
+new_image (Doubt old new) = new
+
+-- the image is known, and this holds of it
+abbrev pub IsKnownImage : (Image → Type 0) → File → Type 0
+IsKnownImage Holds (Known image) = Holds image
+IsKnownImage Holds (Doubt old new) = ⊥
+
+-- the image is known, and is a file of whose bytes this holds
+abbrev pub IsKnownFile : (List ℕ → Type 0) → File → Type 0
+IsKnownFile Holds (Known None) = ⊥
+IsKnownFile Holds (Known (Some bytes)) = Holds bytes
+IsKnownFile Holds (Doubt old new) = ⊥
 
 -- these images, and no others
 abbrev pub IsOneOf : File → Image → Type 0
@@ -55,9 +66,9 @@ pub record CellState (S : Type 0) : Type 0 where
   pub file : File
 
 -- the file of a cell with this image, and perhaps a newer one that it may have in its place
-abbrev pub file_of : Option (Vec ℕ Global) → Option (Option (Vec ℕ Global)) → File
-file_of image None = Known (image_of image)
-file_of image (Some newer) = Doubt (image_of image) (image_of newer)
+abbrev pub file_of : Image → Option Image → File
+file_of image None = Known image
+file_of image (Some newer) = Doubt image newer
 
 -- the new file couldn't be prepared: one of the two calls failed that write the temporary file
 abbrev pub FailedBefore : Option DeviceCall → Type 0

@@ -3,9 +3,10 @@ ghost use Rattle.std.specs.Option.{option_map};
 ghost use Rattle.kr_outside.specs.Faults.{HasCause, KeepsSteady};
 ghost use Rattle.kr_outside.specs.Moments.{LeavesOnly};
 ghost use Rattle.kr_outside.specs.RenameDisk.{Only, FitsIn};
-ghost use Rattle.replace_slot.specs.Cell.{Known, Doubt, IsKnown, HasFile, image_of, old_image, IsOneOf, LeavesFile, length_of, longest_of, FailedBefore, FailedAfter, FailedRead};
+ghost use Rattle.replace_slot.specs.Cell.{Known, Doubt, IsKnown, HasFile, old_image, new_image, IsOneOf, LeavesFile, length_of, longest_of, FailedBefore, FailedAfter, FailedRead};
 ghost use Rattle.replace_slot.specs.Found.{Gave, found_file, Shows, IsFoundBy};
 
+use crate::image::Image;
 use crate::images::{Found, Images};
 use crate::steps::{prepare, publish, retire, settle};
 use kr_outside::{DeviceCall, Slot};
@@ -57,9 +58,9 @@ impl<S: Slot> Model for FileCell<S> {
 
 impl<S: Slot> FileCell<S> {
     /// A cell whose file is known to have this image, or to be none.
-    pub fn known(slot: S, image: Option<Vec<u8>>) -> FileCell<S>
-        requires { IsTrue (S.is_honest slot) → Only (image_of image) (S.may_leave slot) }
-        ensures { result ≡ record { slot = slot; file = Known (image_of image) } }
+    pub fn known(slot: S, image: Option<Image>) -> FileCell<S>
+        requires { IsTrue (S.is_honest slot) → Only image (S.may_leave slot) }
+        ensures { result ≡ record { slot = slot; file = Known image } }
     {
         FileCell {
             slot,
@@ -83,11 +84,29 @@ impl<S: Slot> FileCell<S> {
         self.file.longest()
     }
 
-    /// The bytes of the known image, or of the older of the two; None for no file.
-    pub fn image(&self) -> Option<&[u8]>
-        ensures { option_map (λ bytes. bytes.now) result ≡ old_image self.now.file }
+    /// The known image, or the older of the two; None for no file.
+    pub fn image(&self) -> Option<&Image>
+        ensures { option_map (λ image. image.now) result ≡ old_image self.now.file }
     {
         self.file.image()
+    }
+
+    /// The known image, or the newer of the two; None for no file.
+    pub fn newer(&self) -> Option<&Image>
+        ensures { option_map (λ image. image.now) result ≡ new_image self.now.file }
+    {
+        self.file.newer()
+    }
+
+    /// A law: while nothing is done with the cell, a crash leaves one of the file's images at each
+    /// moment, and of a known file just its image. It does nothing.
+    pub fn untouched(&self)
+        ensures any_moment { IsTrue (S.is_honest self.now.slot)
+            → LeavesOnly S.moment S.left_since self.now.slot self.now.slot
+            (IsOneOf self.now.file) }
+    {
+        // Shows what the type keeps of the cell.
+        let _known = self.is_known();
     }
 
     /// The slot alone. What is known of its file is lost.
@@ -104,13 +123,13 @@ impl<S: Slot> FileCell<S> {
     ///
     /// Refused with `FaultBefore` where the temporary file couldn't be written or synced, and with
     /// `FaultUnsure` where it couldn't take the name or the folder couldn't be synced.
-    pub fn replace(&mut self, image: Vec<u8>) -> Result<(), ReplaceFault>
+    pub fn replace(&mut self, image: Image) -> Result<(), ReplaceFault>
         requires { IsKnown self.old.file }
 
-        ensures stored { OnOk result (self.new.file ≡ Known (Some image.items)) }
+        ensures stored { OnOk result (self.new.file ≡ Known (Some image)) }
         ensures before { IsErrOf result ReplaceFault.FaultBefore → self.new.file ≡ self.old.file }
         ensures unsure { IsErrOf result ReplaceFault.FaultUnsure
-            → self.new.file ≡ Doubt (old_image self.old.file) (Some image.items) }
+            → self.new.file ≡ Doubt (old_image self.old.file) (Some image) }
 
         // A crash leaves one of the file's images afterwards, and the old one or the new one at each
         // moment of the call: none but the old one up to `FaultBefore`.
@@ -118,7 +137,7 @@ impl<S: Slot> FileCell<S> {
             → LeavesFile self.new.file (S.may_leave self.new.slot) }
         ensures any_moment { IsTrue (S.is_honest self.old.slot)
             → LeavesOnly S.moment S.left_since self.old.slot self.new.slot
-            (IsOneOf (Doubt (old_image self.old.file) (Some image.items))) }
+            (IsOneOf (Doubt (old_image self.old.file) (Some image))) }
         ensures old_alone { IsTrue (S.is_honest self.old.slot)
             → IsErrOf result ReplaceFault.FaultBefore
             → LeavesOnly S.moment S.left_since self.old.slot self.new.slot
@@ -131,7 +150,7 @@ impl<S: Slot> FileCell<S> {
             → FailedBefore (S.failed self.new.slot) }
         ensures unsure_call { IsErrOf result ReplaceFault.FaultUnsure
             → FailedAfter DeviceCall.Rename (IsTrue (S.is_honest self.old.slot)
-            → S.seen self.new.slot ≡ Some image.items) (S.failed self.new.slot) }
+            → S.seen self.new.slot ≡ Some image) (S.failed self.new.slot) }
         ensures staged { IsTrue (S.is_honest self.old.slot)
             → IsErrOf result ReplaceFault.FaultUnsure
             → S.moment self.old.slot + 2 ≤ S.moment self.new.slot }
@@ -139,7 +158,7 @@ impl<S: Slot> FileCell<S> {
         ensures steady { KeepsSteady (S.is_steady self.old.slot) (S.is_steady self.new.slot)
             (S.faults self.old.slot) (S.faults self.new.slot) }
     {
-        if let Err(_) = prepare(&mut self.slot, &image) {
+        if let Err(_) = prepare(&mut self.slot, image.bytes()) {
             return Err(ReplaceFault::FaultBefore);
         }
         match publish(&mut self.slot) {

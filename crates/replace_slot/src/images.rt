@@ -1,9 +1,10 @@
 ghost use Rattle.std.specs.Prelude.{◌≡◌, ◌<◌, ◌↔◌, IsTrue, length};
 ghost use Rattle.std.specs.Option.{option_map};
 ghost use Rattle.kr_outside.specs.RenameDisk.{FitsIn};
-ghost use Rattle.replace_slot.specs.Cell.{Known, Doubt, IsKnown, image_of, old_image, length_of, longest_of};
+ghost use Rattle.replace_slot.specs.Cell.{Known, Doubt, IsKnown, old_image, new_image, length_of, longest_of};
 ghost use Rattle.replace_slot.specs.Found.{Gave, found_file, IsFound, Shows};
 
+use crate::image::Image;
 use kr_outside::Seen;
 use std::marker::Model;
 
@@ -21,8 +22,8 @@ pub enum Found {
 /// What is known of a file: its image, or the older and the newer of which it has one.
 #[derive(Drop)]
 pub struct Images {
-    image: Option<Vec<u8>>,
-    newer: Option<Option<Vec<u8>>>,
+    image: Option<Image>,
+    newer: Option<Option<Image>>,
 }
 
 impl Model for Images {
@@ -35,8 +36,8 @@ impl Model for Images {
 
 impl Images {
     /// The image is known.
-    pub fn known(image: Option<Vec<u8>>) -> Images
-        ensures { result ≡ Known (image_of image) }
+    pub fn known(image: Option<Image>) -> Images
+        ensures { result ≡ Known image }
     {
         Images { image, newer: None }
     }
@@ -58,27 +59,34 @@ impl Images {
         }
     }
 
-    /// The bytes of the known image, or of the older of the two; None for no file.
-    pub fn image(&self) -> Option<&[u8]>
-        ensures { option_map (λ bytes. bytes.now) result ≡ old_image self.now }
+    /// The known image, or the older of the two; None for no file.
+    pub fn image(&self) -> Option<&Image>
+        ensures { option_map (λ image. image.now) result ≡ old_image self.now }
     {
-        match &self.image {
-            Some(bytes) => Some(bytes.as_slice()),
-            None => None,
+        self.image.as_ref()
+    }
+
+    /// The known image, or the newer of the two; None for no file.
+    pub fn newer(&self) -> Option<&Image>
+        ensures { option_map (λ image. image.now) result ≡ new_image self.now }
+    {
+        match &self.newer {
+            None => self.image.as_ref(),
+            Some(newer) => newer.as_ref(),
         }
     }
 
     /// From now on the file has this image.
-    pub fn set(&mut self, image: Option<Vec<u8>>)
-        ensures { self.new ≡ Known (image_of image) }
+    pub fn set(&mut self, image: Option<Image>)
+        ensures { self.new ≡ Known image }
     {
         *self = Images::known(image);
     }
 
     /// From now on it has the known image or this newer one.
-    pub fn doubt(&mut self, newer: Option<Vec<u8>>)
+    pub fn doubt(&mut self, newer: Option<Image>)
         requires { IsKnown self.old }
-        ensures { self.new ≡ Doubt (old_image self.old) (image_of newer) }
+        ensures { self.new ≡ Doubt (old_image self.old) newer }
     {
         self.newer = Some(newer);
     }
@@ -104,23 +112,23 @@ impl Images {
 }
 
 // Whether the read with this answer, into this buffer, gave the image.
-fn gave(seen: Seen, buffer: &[u8], image: &Option<Vec<u8>>) -> bool
+fn gave(seen: Seen, buffer: &[u8], image: &Option<Image>) -> bool
     requires { FitsIn (length buffer.now) seen }
-    ensures { IsTrue result ↔ Gave seen buffer.now (image_of image.now) }
+    ensures { IsTrue result ↔ Gave seen buffer.now image.now }
 {
     match (seen, image) {
         (Seen::Missing, None) => true,
-        (Seen::Whole(count), Some(bytes)) => buffer[..count] == bytes[..],
+        (Seen::Whole(count), Some(image)) => &buffer[..count] == image.bytes(),
         _ => false,
     }
 }
 
 // How many bytes an image has.
-fn length(image: &Option<Vec<u8>>) -> usize
-    ensures { result ≡ length_of (image_of image.now) }
+fn length(image: &Option<Image>) -> usize
+    ensures { result ≡ length_of image.now }
 {
     match image {
         None => 0,
-        Some(bytes) => bytes.len(),
+        Some(image) => image.bytes().len(),
     }
 }

@@ -4,7 +4,7 @@ ghost use Rattle.replace_slot.specs.Cell.{HasFile};
 use crate::checks::{cell, numbers, same_bytes};
 use kr_base::Bytes;
 use kr_memory_disk::MemorySlot;
-use replace_slot::{FaultRead, FileCell, Found, RemoveFault, ReplaceFault};
+use replace_slot::{FaultRead, FileCell, Found, Image, RemoveFault, ReplaceFault};
 use std::alloc::Global;
 use std::test::Fail;
 
@@ -17,7 +17,8 @@ fn cell_of_old(alloc: Global, row: &str) -> Result<FileCell<MemorySlot>, Fail>
     let failing = numbers(alloc, cell(row, ';', 0))?;
     let done = numbers(alloc, cell(row, ';', 1))?;
     let slot = MemorySlot::new(alloc, Some(image), failing, done);
-    Ok(FileCell::known(slot, Some(b"old".as_slice().to_vec(alloc)?)))
+    let old = Image::new(alloc, b"old".as_slice().to_vec(alloc)?)?;
+    Ok(FileCell::known(slot, Some(old)))
 }
 
 // Removes the file: k for Ok, r for FaultUnsure.
@@ -34,7 +35,7 @@ fn removed(cell: &mut FileCell<MemorySlot>) -> u8
 fn replaced(alloc: Global, cell: &mut FileCell<MemorySlot>) -> Result<u8, Fail>
     requires { HasFile cell.old.file }
 {
-    let newer = b"newer".as_slice().to_vec(alloc)?;
+    let newer = Image::new(alloc, b"newer".as_slice().to_vec(alloc)?)?;
     Ok(match cell.replace(newer) {
         Ok(()) => b'k',
         Err(ReplaceFault::FaultBefore) => b'b',

@@ -104,7 +104,7 @@ fn rings_told<S: Slot>(alloc: Global, rings: &[Ring<S>]) -> Result<String, Fail>
 
 fn ring_told<S: Slot>(alloc: Global, ring: &Ring<S>) -> Result<String, Fail> {
     let (stem, name) = (ring.stem(), &ring.clear().name);
-    let len = decimal(alloc, ring.image().len())?;
+    let len = decimal(alloc, ring.image().bytes().len())?;
     let parts = [stem.as_str(), ":", name.as_str(), ":", len.as_str(), " "];
     joined(alloc, &parts)
 }
@@ -143,7 +143,7 @@ x.keyring=abc|/ x /
 x.keyring=k:Mine|x:Mine:104 / x /
 login.keyring=k:Login aliases=default=login;b=gone; login.keyring+=k:Other|\
 login:Login:105 / login / b=gone default=login
-a.keyring=k: a-b.keyring=k: a_b.keyring=k:|a-b::100 a::100 a_b::100 / a-b a a_b /
+a.keyring=k: a-b.keyring=k: a_b.keyring=k:|a::100 a-b::100 a_b::100 / a-b a a_b /
 .keyring=k:None keyring=k:None x.Keyring=k:None x.keyring+=k:None x.keyring~=k:None default=login|\
 / /
 a.b.keyring=k:A .x.keyring=k:X .keyring.keyring=k:K|\

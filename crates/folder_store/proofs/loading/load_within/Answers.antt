@@ -43,7 +43,7 @@ returns-clause-loaded g c =
     let off = off_way c.args.limits.now now (folder.is_honest zero) folder.images folder.may_leave folder.made one two c.deref.result.now opening walked in
     Loads-made c.args.limits.now now (folder.is_honest zero) folder.images folder.may_leave folder.made
     zero one two c.load_aliases.new.folder c.deref.result.now opening _
-    c.into_parts-rings.ensures.rings c.into_parts-rings.ensures.used c.into_parts-rings.ensures.left
+    c.into_parts-rings.ensures.same c.into_parts-rings.ensures.sorted c.into_parts-rings.ensures.used c.into_parts-rings.ensures.left
     (subst (λ l. IsStrictlySortedBy (slice_cmp nat_cmp) l) (sym names) c.in_ok-names.ensures.sorted)
     (λ is. subst (λ l. (name : List ℕ) → Contains l name ↔ IsSome (folder.images one name)) (sym names) (c.in_ok-names.ensures.listed is))
     first

@@ -1,4 +1,4 @@
-use Rattle.std.proofs.Common.{◌≡◌, ◌++◌, ◌∷◌, [], length, ap, arith, rules}
+use Rattle.std.proofs.Common.{◌≡◌, ◌++◌, ◌∷◌, [], length, ap, ◌∙◌, arith, rules}
 use Rattle.folder_store.specs.Opened.{items_in, bytes_in}
 use Rattle.folder_store.specs.Ring.{rows_of, bytes_of}
 use Rattle.folder_store.proofs.OpeningLemmas.{items_rows, bytes_rows}
@@ -13,5 +13,5 @@ invariant_of-self-2 g c =
     let items_now = ap (λ l. items_in (rows_of l)) pushed in
     let bytes_now = ap (λ l. bytes_in (rows_of l)) pushed in
     let counted : c.len-clear.result ≡ length c.args.ring.clear.items = search rules in
-    let long : length c.image-bytes.result.now ≡ length (bytes_of c.args.ring.cell.file) = ap length c.image-bytes.ensures in
+    let long : length c.bytes-bytes.result.now ≡ length (bytes_of c.args.ring.cell.file) = ap length (c.bytes-bytes.ensures ∙ c.image.ensures) in
     (omega (arith, items, items_now, counted, c.self.invariant.0), omega (arith, bytes, bytes_now, long, c.self.invariant.1))
