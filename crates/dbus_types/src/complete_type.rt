@@ -103,7 +103,7 @@ impl CompleteType {
 fn copy_types(alloc: Global, types: &[CompleteType]) -> Result<Vec<CompleteType>, OutOfMemory>
     ensures { IfOk result (λ copied. types_of copied.items ≡ types_of types.now) }
 {
-    let mut copied = Vec::new(alloc);
+    let mut copied = Vec::with_capacity(alloc, types.len())?;
     for each in types {
         copied.push(each.copy(alloc)?)?;
     }

@@ -184,6 +184,7 @@ fn read_fields(
             return Err(SignatureFault::BadType);
         };
         if *code == b')' {
+            fields.shrink_to_fit();
             return Ok((fields, rest));
         }
         let (field, rest) = read_type(alloc, arrays, structs, left)?;
@@ -197,7 +198,8 @@ fn read_types(alloc: Global, codes: &[u8]) -> Result<Vec<CompleteType>, Signatur
     ensures { Reads (λ x. types_of x.items) result
         (types_by (type_at 32 32) (length codes.now) codes.now) }
 {
-    let mut types = Vec::new(alloc);
+    // Most signatures list one type, as a variant's does.
+    let mut types = Vec::with_capacity(alloc, 1)?;
     let mut left = codes;
     for _ in 0..codes.len() {
         if left.is_empty() {
@@ -220,5 +222,7 @@ pub fn read_signature(alloc: Global, text: &[u8]) -> Result<Vec<CompleteType>, S
     if text.len() > 255 {
         return Err(SignatureFault::TooLong);
     }
-    read_types(alloc, text)
+    let mut types = read_types(alloc, text)?;
+    types.shrink_to_fit();
+    Ok(types)
 }

@@ -14,7 +14,8 @@ read_fields-returns-in_default-clause-reads t c =
 
 pub read_fields-returns-then-code-eq41-clause-reads : goal.read_fields-returns-then-code-eq41-clause-reads
 read_fields-returns-then-code-eq41-clause-reads t c =
-    fields_closed (type_at c.args.arrays c.args.structs) _ _ _ _ _ _ _ c.loop-test.true c.in-Some.ensures.cases.0 c.if-code-eq41.true c.loop.invariant.0
+    rw c.shrink_to_fit.ensures.items
+    (fields_closed (type_at c.args.arrays c.args.structs) (types_of c.loop.fields.items) _ _ _ _ _ _ c.loop-test.true c.in-Some.ensures.cases.0 c.if-code-eq41.true c.loop.invariant.0)
 
 pub read_fields-returns-in_err-field-clause-reads : goal.read_fields-returns-in_err-field-clause-reads
 read_fields-returns-in_err-field-clause-reads t c =

@@ -12,14 +12,14 @@ use Rattle.dbus_types.proofs.signature_reading.read_types.Goals as goal
 pub loop-init : goal.loop-init
 loop-init c =
     let whole : length c.args.codes.now - 0 ≡ length c.args.codes.now = omega arith in
-    (rw (c.new-types.ensures.items, whole) (types_behind-end (types_by (type_at 32 32) (length c.args.codes.now) c.args.codes.now)), omega arith)
+    (rw (c.in_ok-types.ensures.items, whole) (types_behind-end (types_by (type_at 32 32) (length c.args.codes.now) c.args.codes.now)), omega arith)
 
 pub returns-then-is_empty : goal.returns-then-is_empty
 returns-then-is_empty c = types_none (type_at 32 32) _ _ c.loop.left.now _ (eqb-true _ _ (sym c.is_empty.ensures ∙ c.if-is_empty.true)) c.loop.invariant.0
 
 pub returns-in_err-next : goal.returns-in_err-next
 returns-in_err-next c =
-    let p = err_from_is_err_and c.from_residual.result c.from_residual.ensures.1 in rw (p.1, p.2)
+    let p = err_from_is_err_and c.from_residual-in_err-next.result c.from_residual-in_err-next.ensures.1 in rw (p.1, p.2)
     (types_fault c.in_err-next.field-0.0 (type_at 32 32) _ _ _ c.loop.left.now _ c.loop-test.true (eqb-false _ _ (sym c.is_empty.ensures ∙ c.if-is_empty.false)) c.in_err-next.ensures.reads c.loop.invariant.0)
 
 pub loop-preserved : goal.loop-preserved
