@@ -158,9 +158,10 @@ fn read_struct(
     ensures shorter { IfOk result (λ x. length x.1.now < length codes.now) }
 {
     let (first, rest) = read_type(alloc, arrays, structs, codes)?;
-    let mut fields = Vec::new(alloc);
-    fields.push(first)?;
-    let (fields, rest) = read_fields(alloc, arrays, structs, fields, rest)?;
+    // Room for one: what is given back of a larger piece stays unused between the pieces of others.
+    let mut front = Vec::with_capacity(alloc, 1)?;
+    front.push(first)?;
+    let (fields, rest) = read_fields(alloc, arrays, structs, front, rest)?;
     Ok((CompleteType::Struct(fields), rest))
 }
 

@@ -35,7 +35,7 @@ read_fields-returns-clause-reads t c =
     fields_over (type_at c.args.arrays c.args.structs) _ _ _ _ _ c.loop-test.false c.loop.invariant.0
 
 pub read_struct-returns-clause-reads : goal.read_struct-returns-clause-reads
-read_struct-returns-clause-reads t c = struct_read (type_at c.args.arrays c.args.structs) _ _ _ _ _ _ c.in_ok-first.ensures.reads c.in_ok-fields.ensures.reads (ap types_of c.in_ok-push.ensures.items ∙ ap (λ (ts : List CompleteType). types_of (ts ++ c.in_ok-first.first ∷ [])) c.new-fields.ensures.items)
+read_struct-returns-clause-reads t c = struct_read (type_at c.args.arrays c.args.structs) _ _ _ _ _ _ c.in_ok-first.ensures.reads c.in_ok-fields.ensures.reads (ap types_of c.in_ok-push.ensures.items ∙ ap (λ (ts : List CompleteType). types_of (ts ++ c.in_ok-first.first ∷ [])) c.in_ok-front.ensures.items)
 
 pub read_type-returns-in_default-clause-reads : goal.read_type-returns-in_default-clause-reads
 read_type-returns-in_default-clause-reads t c = type_at-none _ _ _ c.in_default.ensures.cases
