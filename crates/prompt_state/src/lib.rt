@@ -1,0 +1,19 @@
+//! The prompts of all connections, and the agent that answers them (Secret Service API draft 0.2, interface
+//! Prompt; docs/SERVICE.md). A prompt is looked up among its owner's, by the agent among all. Callers may
+//! rely on these: a connection has at most 64 prompts, no number and no round is given twice, a prompt that
+//! ended is gone with its number, and only `begin` and `rows` take memory. A call takes time by the logarithm
+//! of how many prompts there are, and by how many its connection has; `unregister`, and `gone` of the agent,
+//! go through all prompts, as does a caller that asks each again after `register`.
+#![tactic(auto)]
+
+mod laws;
+mod owned;
+mod row;
+mod rows;
+mod table;
+mod targets;
+
+pub use laws::a_prompt_completes_once;
+pub use row::{Ask, Ended, PromptKind, PromptRow, Prompts, Stage};
+pub use table::{PromptRefused, PromptState};
+pub use targets::{Target, Targets};
