@@ -1,8 +1,6 @@
 -- One method call, from its message to what is written for it.
-use Rattle.std.proofs.Common.{◌≡◌, ℕ, ◌+◌, ◌≤◌, List, [], ◌∷◌, ◌++◌, length, Result, Ok, Err, refl, sym, ◌∙◌, ap, arith}
-use Rattle.kr_outside.specs.Faults.{Rose}
+use Rattle.std.proofs.Common.{◌≡◌, ℕ, List, [], ◌∷◌, Result, Ok, Err, refl, sym, ◌∙◌, ap, arith}
 use Rattle.secret_calls.specs.declared.call.Request.{Request}
-use Rattle.secret_calls.specs.declared.out.Out.{Out}
 use Rattle.service_machine.specs.declared.rows.Rows.{Rows}
 use Rattle.service_machine.specs.Connections.{waiting_for}
 use Rattle.service_desk.specs.Places.{Told, Place}
@@ -10,14 +8,13 @@ use Rattle.dbus_framing.specs.Messages.{Parts}
 use Rattle.call_wire.specs.CallOf.{CallOf}
 use Rattle.connection_worker.specs.declared.ending.End.{End}
 use Rattle.connection_worker.specs.declared.ending.End.TheVariants as end
-use Rattle.connection_worker.specs.Streams.{Output, Gave, GaveFront}
-use Rattle.connection_worker.specs.Sending.{AreBehind}
-use Rattle.connection_worker.specs.Single.{Asked, turns}
-use Rattle.connection_worker.specs.Written.{given_by, spelled_behind}
-use Rattle.connection_worker.specs.Serving.{World, place_of, IsOwed, owed, Asks, HasArrived, HasGiven, Gives, Recorded, EndsEarly}
-use Rattle.connection_worker.specs.Answering.{IsOne, Answered, Broke, AnswersCall}
+use Rattle.connection_worker.specs.Streams.{Output, GaveFront}
+use Rattle.service_machine.specs.Single.{Asked, turns}
+use Rattle.connection_worker.specs.Written.{given_by}
+use Rattle.connection_worker.specs.Serving.{World, place_of, IsOwed, owed, Asks, HasArrived, Gives}
+use Rattle.connection_worker.specs.Answering.{AnswersCall}
 use Rattle.connection_worker.proofs.StreamLemmas.{Gave-none, GaveFront-whole, GaveFront-more}
-use Rattle.connection_worker.proofs.AnswerLemmas.{arrived-owed, given-idle}
+use Rattle.connection_worker.proofs.AnswerLemmas.{row_with, given-idle}
 use Rattle.connection_worker.proofs.RecordLemmas.{recorded-none, recorded-one, recorded-refused, given-turn}
 
 -- nothing was written, which is a front of anything
@@ -28,19 +25,26 @@ front-none o text = GaveFront-more o o [] text (GaveFront-whole o o [] (Gave-non
 pub unread : (parts : Parts) (w : World) (serials : ℕ) (o : Output) → IsOwed w.told [] → AnswersCall parts w w serials serials o o (Err end.Memory)
 unread parts w serials o idle = ([], record { early = tt; refused = []; few = omega arith; recorded = recorded-none w; idle = idle; wrote = λ taken behind. front-none o [] }, tt)
 
+-- nothing is owed where nothing changed
+idle-still : (old new : Told) → new.conn ≡ old.conn → new.state ≡ old.state → IsOwed old [] → IsOwed new []
+idle-still old new conn state idle = record {
+  taken = idle.taken;
+  only = ap (λ (s : Rows). s.connections.rows) state ∙ idle.only ∙ ap (λ c. row_with c [] idle.taken ∷ []) (sym conn);
+}
+
 -- the request wasn't recorded
 pub unasked : (parts : Parts) (request : Request) (old new : World) (serials : ℕ) (o : Output) (why : End) → CallOf parts request → IsOwed old.told []
     → Asks request old new (Err why) → AnswersCall parts old new serials serials o o (Err why)
 unasked parts request old new serials o end.EventsSpent call idle asks =
-    let told = asks.2.told in (
+    let calls = asks.2.calls in (
       [],
       record {
         early = tt;
         refused = asks.0 ∷ [];
         few = omega arith;
         recorded = recorded-refused old new asks.0 asks.2;
-        idle = rw told idle;
-        wrote = λ taken behind. (omega (arith, asks.3, ap (λ (t : Told). t.count) told), Gave-none o);
+        idle = idle-still old.told new.told calls.same.conn calls.state idle;
+        wrote = λ taken behind. (omega (arith, asks.3, calls.count), Gave-none o);
       },
       rw asks.1 call,
     )
@@ -51,7 +55,7 @@ unasked parts request old new serials o end.Memory call idle asks = (
     refused = asks.0 ∷ [];
     few = omega arith;
     recorded = recorded-refused old new asks.0 asks.2;
-    idle = rw asks.2.told idle;
+    idle = idle-still old.told new.told asks.2.calls.same.conn asks.2.calls.state idle;
     wrote = λ taken behind. front-none o [];
   },
   rw asks.1 call,
@@ -62,7 +66,7 @@ unasked parts request old new serials o _ call idle asks = absurd asks
 given-owed : (old mid : World) (a : Asked) → HasArrived old mid a → given_by old.told.conn old.told.state (turns old.told.conn old.told.state (a ∷ [])) ≡ owed mid.told
 given-owed old mid a so =
     given-turn old.told.conn old.told.state a
-    ∙ ap (λ (s : Rows). waiting_for old.told.conn s.connections.rows) (sym so.state) ∙ ap (λ c. waiting_for c mid.told.state.connections.rows) (sym so.same.conn)
+    ∙ ap (λ (s : Rows). waiting_for old.told.conn s.connections.rows) (sym so.calls.state) ∙ ap (λ c. waiting_for c mid.told.state.connections.rows) (sym so.calls.same.conn)
 
 -- what was owed for it was given, and written or not
 pub answers : (parts : Parts) (request : Request) (old mid : World) (new : Place) (serials behind : ℕ) (from to : Output) (result : Result Unit End) → CallOf parts request

@@ -10,3 +10,4 @@ mod ServeLemmas
 mod ServingLemmas
 mod SingleLemmas
 mod StreamLemmas
+mod TakenLemmas

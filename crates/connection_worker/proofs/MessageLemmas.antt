@@ -1,27 +1,22 @@
 -- The calls among the messages of a framer, one after the other.
-use Rattle.std.proofs.Common.{◌≡◌, ℕ, ◌+◌, ◌≤◌, ◌==◌, Bool, true, false, cond, List, [], ◌∷◌, ◌++◌, length, map, filter, Result, Ok, Err, refl, sym, ◌∙◌, ap, arith, subst, append_assoc, append-nil, length-append}
+use Rattle.std.proofs.Common.{◌≡◌, ℕ, ◌+◌, ◌==◌, true, false, List, [], ◌∷◌, ◌++◌, length, Result, Ok, Err, refl, sym, ◌∙◌, ap, arith, subst, append_assoc, append-nil, length-append}
 use Rattle.std.proofs.lemmas.Bool.Decides.{nat_tests}
 use Rattle.std.proofs.lemmas.List.{map-append}
 use Rattle.std.proofs.lemmas.List.Elements.{filter-append}
-use Rattle.kr_outside.specs.Faults.{Rose}
 use Rattle.secret_calls.specs.declared.call.Request.{Request}
-use Rattle.secret_calls.specs.declared.out.Out.{Out}
-use Rattle.service_machine.specs.declared.rows.Rows.{Rows}
 use Rattle.service_machine.specs.Replay.{replay}
-use Rattle.dbus_framing.specs.declared.violation.Violation.{Violation}
 use Rattle.dbus_framing.specs.Framers.{Framing}
 use Rattle.dbus_framing.specs.Messages.{Parts}
-use Rattle.dbus_framing.specs.Streams.{Cut, Stream, Breaks}
+use Rattle.dbus_framing.specs.Streams.{Cut, Stream}
 use Rattle.dbus_framing.proofs.Cuts.{cut_none, cut_then, stream_then}
-use Rattle.call_wire.specs.CallOf.{CallOf}
 use Rattle.connection_worker.specs.declared.ending.End.{End}
 use Rattle.connection_worker.specs.declared.ending.End.TheVariants as end
 use Rattle.connection_worker.specs.Arrivals.{calls_in, AreRequests, FirstRequests}
-use Rattle.connection_worker.specs.Streams.{Output, Gave, GaveFront}
-use Rattle.connection_worker.specs.Sending.{AreBehind}
-use Rattle.connection_worker.specs.Single.{Asked, requests_of, turns}
+use Rattle.connection_worker.specs.Streams.{Output, Gave}
+use Rattle.service_machine.specs.Single.{Asked, requests_of, turns}
 use Rattle.connection_worker.specs.Written.{given_by, spelled_behind, written_after}
-use Rattle.connection_worker.specs.Serving.{World, IsOwed, Recorded, EndsEarly}
+use Rattle.service_desk.proofs.RecordLemmas.{own-state}
+use Rattle.connection_worker.specs.Serving.{World, place_of, IsOwed, Recorded, EndsEarly}
 use Rattle.connection_worker.specs.Answering.{IsOne, Answered, Broke, AnswersCall, AnswersMessage, Going, AnswersEarly, AnswersAll}
 use Rattle.connection_worker.proofs.HandshakeLemmas.{rose-later}
 use Rattle.connection_worker.proofs.RecordLemmas.{recorded-none, recorded-more, turns-append, given_by-append}
@@ -38,8 +33,8 @@ given-more old mid asked more so =
     let conn = old.told.conn in
     let first = turns conn old.told.state asked in
     ap (given_by conn old.told.state) (turns-append conn old.told.state asked more) ∙ given_by-append conn old.told.state first (turns conn (replay old.told.state first) more)
-    ∙ ap (λ s. given_by conn old.told.state first ++ given_by conn s (turns conn s more)) (sym so.state)
-    ∙ ap (λ c. given_by conn old.told.state first ++ given_by c mid.told.state (turns c mid.told.state more)) (sym so.same.conn)
+    ∙ ap (λ s. given_by conn old.told.state first ++ given_by conn s (turns conn s more)) (sym (own-state (place_of old) (place_of mid) first so.calls))
+    ∙ ap (λ c. given_by conn old.told.state first ++ given_by c mid.told.state (turns c mid.told.state more)) (sym so.calls.same.conn)
 
 pub answered-none : (w : World) (serials : ℕ) (o : Output) → IsOwed w.told [] → Answered w w serials serials o o []
 answered-none w serials o idle = record {

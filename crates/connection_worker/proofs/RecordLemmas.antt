@@ -1,22 +1,20 @@
 -- Requests that were recorded one after the other.
-use Rattle.std.proofs.Common.{◌≡◌, ℕ, ◌+◌, ◌<◌, ◌≤◌, Bool, true, false, nat_lt, cond, List, [], ◌∷◌, ◌++◌, length, map, Option, Some, None, refl, sym, ◌∙◌, ap, arith, subst, append_assoc, append-nil, length-append}
+use Rattle.std.proofs.Common.{◌≡◌, ℕ, true, false, nat_lt, List, [], ◌∷◌, ◌++◌, length, map, Option, refl, sym, ◌∙◌, ap, arith, subst, append_assoc, append-nil}
 use Rattle.std.proofs.lemmas.Bool.{lt-ltb}
 use Rattle.std.proofs.lemmas.List.{map-append}
 use Rattle.kr_base.specs.declared.ids.ConnId.{ConnId}
-use Rattle.kr_outside.specs.Clock.{GivesFirst}
 use Rattle.secret_calls.specs.declared.out.Out.{Out}
 use Rattle.service_machine.specs.declared.rows.Rows.{Rows}
 use Rattle.service_machine.specs.declared.event.Event.{Event}
-use Rattle.service_machine.specs.declared.event.Event.TheVariants as event
 use Rattle.service_machine.specs.Connections.{waiting_for}
-use Rattle.service_machine.specs.Step.{step, Fits}
-use Rattle.service_machine.specs.Replay.{replay, Legal}
-use Rattle.service_machine.proofs.ReplayLemmas.{replay-append, Legal-append}
-use Rattle.service_desk.specs.Places.{Told, Place, IsSame}
-use Rattle.service_desk.specs.Views.{View, with_own, with_all_own}
-use Rattle.service_desk.proofs.ViewLemmas.{with-all-append}
-use Rattle.connection_worker.specs.Salts.{Salting, words_at}
-use Rattle.connection_worker.specs.Single.{Asked, arrival, is_owed, taking, turn, turns}
+use Rattle.service_machine.specs.Step.{step}
+use Rattle.service_machine.specs.Replay.{replay}
+use Rattle.service_machine.proofs.ReplayLemmas.{replay-append}
+use Rattle.service_desk.specs.Places.{Place}
+use Rattle.service_desk.specs.Records.{Records, of_own}
+use Rattle.service_desk.proofs.RecordLemmas.{own-append, own-state, records-none, records-more}
+use Rattle.connection_worker.specs.Salts.{Salting}
+use Rattle.service_machine.specs.Single.{Asked, arrival, is_owed, taking, turn, turns}
 use Rattle.connection_worker.specs.Serving.{World, place_of, GivesMoments, GivesSalts, behind_salt, Recorded, HasArrived, HasAsked, HasGiven}
 use Rattle.connection_worker.specs.Written.{given, given_by}
 use Rattle.connection_worker.proofs.ServingLemmas.{same}
@@ -43,38 +41,24 @@ pub GivesSalts-append : (a b c : Salting) (one more : List (List ℕ)) → Gives
 GivesSalts-append a b c [] more p q = let e : b ≡ a = p in subst (λ s. GivesSalts s more c) e q
 GivesSalts-append a b c (salt ∷ one) more p q = (p.0, GivesSalts-append (behind_salt a) b c one more p.1 q)
 
-IsSame-refl : (told : Told) → IsSame told told
-IsSame-refl told = record { conn = refl; alone = refl; steady = refl; waiting = refl }
-
-pub IsSame-trans : (a b c : Told) → IsSame a b → IsSame b c → IsSame a c
-IsSame-trans a b c p q = record { conn = q.conn ∙ p.conn; alone = q.alone ∙ p.alone; steady = q.steady ∙ p.steady; waiting = q.waiting ∙ p.waiting }
-
 pub recorded-none : (w : World) → Recorded w w [] []
-recorded-none w = record {
-  same = IsSame-refl w.told;
-  legal = tt;
-  state = refl;
-  count = omega arith;
-  views = λ view seen. seen;
-  moments = refl;
-  salts = refl;
-}
+recorded-none w = record { calls = records-none (place_of w); moments = refl; salts = refl }
 
 -- more requests behind some
 pub recorded-more : (old mid new : World) (asked more refused : List Asked) → Recorded old mid asked [] → Recorded mid new more refused → Recorded old new (asked ++ more) refused
 recorded-more old mid new asked more refused p q =
     let conn = old.told.conn in
     let first = turns conn old.told.state asked in
-    let on : turns mid.told.conn mid.told.state more ≡ turns conn (replay old.told.state first) more =
-    ap (λ c. turns c mid.told.state more) p.same.conn ∙ ap (λ s. turns conn s more) p.state in
-    let all : turns conn old.told.state (asked ++ more) ≡ first ++ turns mid.told.conn mid.told.state more =
-    turns-append conn old.told.state asked more ∙ ap (λ l. first ++ l) (sym on) in
+    let behind = replay old.told.state first in
+    let here : mid.told.state ≡ behind = own-state (place_of old) (place_of mid) first p.calls in
+    let on : of_own mid.told.state (turns mid.told.conn mid.told.state more) ≡ of_own behind (turns conn behind more) =
+    ap (λ c. of_own mid.told.state (turns c mid.told.state more)) p.calls.same.conn ∙ ap (λ s. of_own s (turns conn s more)) here in
+    let all : of_own old.told.state first ++ of_own mid.told.state (turns mid.told.conn mid.told.state more) ≡ of_own old.told.state (turns conn old.told.state (asked ++ more)) =
+    ap (λ l. of_own old.told.state first ++ l) on ∙ sym (own-append old.told.state first (turns conn behind more)) ∙ ap (of_own old.told.state) (sym (turns-append conn old.told.state asked more)) in
     record {
-      same = IsSame-trans old.told mid.told new.told p.same q.same;
-      legal = rw all (Legal-append old.told.state first (turns mid.told.conn mid.told.state more) p.legal (rw (sym p.state) q.legal));
-      state = rw all (q.state ∙ ap (λ s. replay s (turns mid.told.conn mid.told.state more)) p.state ∙ sym (replay-append old.told.state first (turns mid.told.conn mid.told.state more)));
-      count = rw all (omega (arith, q.count, p.count, length-append first (turns mid.told.conn mid.told.state more)));
-      views = λ view seen. rw (all, with-all-append first (turns mid.told.conn mid.told.state more) view) (q.views (with_all_own first view) (p.views view seen));
+      calls =
+          subst (λ seen. Records (place_of old) (place_of new) seen) all
+          (records-more (place_of old) (place_of mid) (place_of new) (of_own old.told.state first) (of_own mid.told.state (turns mid.told.conn mid.told.state more)) p.calls q.calls);
       moments =
           let e : map (λ (a : Asked). a.now) ((asked ++ more) ++ refused) ≡ map (λ (a : Asked). a.now) (asked ++ []) ++ map (λ (a : Asked). a.now) (more ++ refused) =
           ap (map (λ (a : Asked). a.now)) (append_assoc asked more refused ∙ ap (λ l. l ++ (more ++ refused)) (sym (append-nil asked))) ∙ map-append (λ (a : Asked). a.now) (asked ++ []) (more ++ refused) in
@@ -90,33 +74,23 @@ pub recorded-one : (old mid : World) (new : Place) (a : Asked) → HasArrived ol
     → Recorded old (record { told = new.told; has_seen = new.has_seen; coming = mid.coming; salting = mid.salting }) (a ∷ []) []
 recorded-one old mid new a p q =
     let conn = old.told.conn in
-    let behind = step old.told.state (arrival conn a) in
-    let take : taking mid.told.conn mid.told.state ≡ taking conn behind = ap (λ c. taking c mid.told.state) p.same.conn ∙ ap (λ s. taking conn s) p.state in
-    let all : turns conn old.told.state (a ∷ []) ≡ arrival conn a ∷ taking mid.told.conn mid.told.state =
-    append-nil (turn conn old.told.state a) ∙ ap (λ l. arrival conn a ∷ l) (sym take) in
+    let arrives = arrival conn a in
+    let behind = step old.told.state arrives in
+    let on : of_own mid.told.state (taking mid.told.conn mid.told.state) ≡ of_own behind (taking conn behind) =
+    ap (λ c. of_own mid.told.state (taking c mid.told.state)) p.calls.same.conn ∙ ap (λ s. of_own s (taking conn s)) p.calls.state in
+    let all : of_own old.told.state (arrives ∷ []) ++ of_own mid.told.state (taking mid.told.conn mid.told.state) ≡ of_own old.told.state (turns conn old.told.state (a ∷ [])) =
+    ap (λ l. of_own old.told.state (arrives ∷ []) ++ l) on ∙ ap (of_own old.told.state) (sym (append-nil (turn conn old.told.state a))) in
     record {
-      same = IsSame-trans old.told mid.told new.told p.same q.same;
-      legal = let P : List Event → Type 0 = λ l. Legal old.told.state l in subst P (sym all) (p.fits, rw (sym p.state) q.legal);
-      state = q.state ∙ ap (λ s. replay s (taking mid.told.conn mid.told.state)) p.state ∙ ap (replay old.told.state) (sym all);
-      count = omega (arith, q.count, p.count, ap length all);
-      views = λ view seen.
-          let P : List Event → Type 0 = λ l. new.has_seen (with_all_own l view) in
-          subst P (sym all) (q.views (with_own (arrival conn a) view) (p.views view seen));
+      calls =
+          subst (λ seen. Records (place_of old) new seen) all
+          (records-more (place_of old) (place_of mid) new (of_own old.told.state (arrives ∷ [])) (of_own mid.told.state (taking mid.told.conn mid.told.state)) p.calls q);
       moments = (mid.coming, p.moment, refl);
       salts = (p.salt, p.salting);
     }
 
 -- one that was refused
 pub recorded-refused : (old new : World) (a : Asked) → HasAsked old new a → Recorded old new [] (a ∷ [])
-recorded-refused old new a p = record {
-  same = rw p.told (IsSame-refl old.told);
-  legal = tt;
-  state = ap (λ (t : Told). t.state) p.told;
-  count = omega (arith, ap (λ (t : Told). t.count) p.told);
-  views = p.views;
-  moments = (new.coming, p.moment, refl);
-  salts = (p.salt, p.salting);
-}
+recorded-refused old new a p = record { calls = p.calls; moments = (new.coming, p.moment, refl); salts = (p.salt, p.salting) }
 
 -- what one request gives is what is owed behind it
 pub given-turn : (conn : ConnId) (state : Rows) (a : Asked) → given_by conn state (turns conn state (a ∷ [])) ≡ waiting_for conn (step state (arrival conn a)).connections.rows

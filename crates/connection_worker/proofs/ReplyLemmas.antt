@@ -1,20 +1,20 @@
 -- What requests give is what they put out: the reply to each that wants one, and nothing else.
-use Rattle.std.proofs.Common.{◌≡◌, ℕ, ◌+◌, Bool, true, false, nat_lt, cond, List, [], ◌∷◌, ◌++◌, length, map, refl, sym, ◌∙◌, ap, arith, append-nil}
+use Rattle.std.proofs.Common.{◌≡◌, ◌+◌, Bool, true, false, cond, List, [], ◌∷◌, ◌++◌, length, refl, sym, ◌∙◌, ap, arith, append-nil}
 use Rattle.std.proofs.lemmas.Bool.{lt-ltb}
 use Rattle.kr_base.specs.declared.ids.ConnId.{ConnId}
 use Rattle.secret_calls.specs.declared.out.Out.{Out}
-use Rattle.service_machine.specs.declared.rows.Rows.{Rows}
-use Rattle.service_machine.specs.declared.event.Event.{Event}
 use Rattle.service_machine.specs.declared.event.Event.TheVariants as event
-use Rattle.service_machine.specs.Connections.{waiting_for, Sent}
-use Rattle.service_machine.specs.Step.{planned, message_of, step}
+use Rattle.service_machine.specs.Connections.{waiting_for, sent_to}
+use Rattle.service_machine.specs.Step.{served, message_of, step}
+use Rattle.service_machine.proofs.RunLemmas.{put_out-served}
 use Rattle.service_machine.specs.Replay.{replay, Legal}
 use Rattle.service_desk.specs.Places.{Told, Place}
+use Rattle.service_desk.proofs.RecordLemmas.{own-own, own-answered, own-events, own-length}
 use Rattle.connection_worker.specs.Replies.{reply_to, replies_to}
 use Rattle.connection_worker.specs.Serving.{IsOwed, HasGiven}
-use Rattle.connection_worker.specs.Single.{Asked, arrival, taking, turn, turns, single}
+use Rattle.service_machine.specs.Single.{Asked, arrival, taking, turn, turns, single}
 use Rattle.connection_worker.specs.Written.{given_by}
-use Rattle.connection_worker.proofs.AnswerLemmas.{row_with, waiting_behind, arrived-rows, arrived-owed, given-idle}
+use Rattle.connection_worker.proofs.AnswerLemmas.{waiting_behind, arrived-rows, arrived-owed, given-idle}
 use Rattle.connection_worker.proofs.RecordLemmas.{given_by-append, given-turn}
 use Rattle.connection_worker.proofs.ServingLemmas.{same, only-desk}
 
@@ -33,32 +33,35 @@ idle-turn : (told : Told) (a : Asked) → IsOwed told [] → IsOwed (record told
 idle-turn told a idle =
     let mid : Told = record told { state = step told.state (arrival told.conn a) } in
     let owes = arrived-owed told mid a idle refl refl in
-    let new : Told = record mid { state = replay mid.state (taking mid.conn mid.state); count = mid.count + length (taking mid.conn mid.state) } in
+    let takes = taking mid.conn mid.state in
+    let new : Told = record mid { state = replay mid.state takes; count = mid.count + length takes } in
     let before : Place = record { told = mid; has_seen = λ view. Unit {0} } in
     let after : Place = record { told = new; has_seen = λ view. Unit {0} } in
     let gives : HasGiven before after = record {
-      legal = taking-legal mid (waiting_for mid.conn mid.state.connections.rows) owes;
-      state = refl;
-      count = refl;
+      alone = λ alone. own-own mid.state takes;
+      answered = own-answered mid.state takes (taking-legal mid (waiting_for mid.conn mid.state.connections.rows) owes);
+      state = ap (replay mid.state) (sym (own-events mid.state takes));
+      count = omega (arith, own-length mid.state takes);
       same = record { conn = refl; alone = refl; steady = refl; waiting = refl };
       views = λ view seen. tt;
     } in
     let behind = given-idle before after owes gives in
     record { taken = behind.taken; only = behind.only }
 
--- the outputs of what is sent to one connection
-outs-of : (wanted : Bool) (conn : ConnId) (out : Out) → map (λ (sent : Sent). sent.out) (cond wanted (record { to = conn; out = out } ∷ []) []) ≡ waiting_behind wanted out
-outs-of true conn out = refl
+-- a reply is for the connection that asked
+outs-of : (wanted : Bool) (conn : ConnId) (out : Out) → sent_to conn (cond wanted (record { to = conn; out = out } ∷ []) []) ≡ waiting_behind wanted out
+outs-of true conn out = rw (same conn.0) refl
 outs-of false conn out = refl
 
 -- one request
 reply-one : (told : Told) (a : Asked) → IsOwed told [] → given_by told.conn told.state (turn told.conn told.state a) ≡ reply_to told.conn told.state a
 reply-one told a idle =
-    let out = message_of a.request.serial (planned told.conn a.request told.state).answer in
+    let out = message_of a.request.serial (served told.conn a.request told.state).answer in
     let rows = arrived-rows told.conn told.state a idle.taken idle.only in
     let waits : waiting_for told.conn (step told.state (arrival told.conn a)).connections.rows ≡ waiting_behind a.request.wants_reply out =
     ap (waiting_for told.conn) rows ∙ rw (same told.conn.0) refl in
-    ap (given_by told.conn told.state) (sym (append-nil (turn told.conn told.state a))) ∙ given-turn told.conn told.state a ∙ waits ∙ sym (outs-of a.request.wants_reply told.conn out)
+    ap (given_by told.conn told.state) (sym (append-nil (turn told.conn told.state a))) ∙ given-turn told.conn told.state a ∙ waits
+    ∙ sym (ap (sent_to told.conn) (put_out-served told.conn a.request told.state) ∙ outs-of a.request.wants_reply told.conn out)
 
 replies : (asked : List Asked) (told : Told) → IsOwed told [] → given_by told.conn told.state (turns told.conn told.state asked) ≡ replies_to told.conn told.state asked
 replies [] told idle = refl

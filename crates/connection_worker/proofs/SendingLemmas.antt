@@ -1,10 +1,8 @@
 -- Outputs as messages, with their serials in order.
-use Rattle.std.proofs.Common.{◌≡◌, ℕ, ◌+◌, ◌%◌, ◌<◌, ◌≤◌, List, [], ◌∷◌, ◌++◌, length, take, drop, refl, sym, ◌∙◌, ap, arith, append_assoc, append-nil, Result, Ok, Err}
+use Rattle.std.proofs.Common.{◌≡◌, ℕ, ◌+◌, ◌%◌, List, [], ◌∷◌, ◌++◌, length, sym, ◌∙◌, ap, arith, append_assoc, append-nil}
 use Rattle.std.proofs.lemmas.List.{length_push}
-use Rattle.kr_outside.specs.Faults.{Rose}
 use Rattle.secret_calls.specs.declared.out.Out.{Out}
 use Rattle.secret_calls.specs.Outs.{spelled}
-use Rattle.connection_worker.specs.Streams.{Output, Gave, GaveFront}
 use Rattle.connection_worker.specs.Written.{serial_behind, spelled_behind}
 use Rattle.connection_worker.specs.Sending.{AreBehind, Spells}
 

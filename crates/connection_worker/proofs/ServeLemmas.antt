@@ -1,32 +1,29 @@
 -- Calls are served, and more bytes come, turn after turn.
-use Rattle.std.proofs.Common.{◌≡◌, ℕ, ◌+◌, ◌≤◌, ◌⊎◌, inl, inr, List, [], ◌∷◌, ◌++◌, length, map, filter, Result, Ok, Err, refl, sym, ◌∙◌, ap, arith, subst, append_assoc, append-nil, ◌==◌}
+use Rattle.std.proofs.Common.{◌≡◌, ℕ, inr, List, [], ◌++◌, Ok, Err, refl, sym, ◌∙◌, arith, subst, append_assoc, append-nil, ◌==◌}
 use Rattle.std.proofs.lemmas.List.{map-append}
 use Rattle.std.proofs.lemmas.List.Elements.{filter-append}
-use Rattle.kr_outside.specs.Faults.{Rose}
 use Rattle.dbus_framing.specs.declared.violation.Violation.{Violation}
 use Rattle.dbus_framing.specs.declared.violation.Violation.TheVariants as violation
 use Rattle.dbus_framing.specs.Framers.{Framing}
 use Rattle.dbus_framing.specs.Messages.{Parts}
-use Rattle.dbus_framing.specs.Streams.{Cut, Stream, Breaks}
+use Rattle.dbus_framing.specs.Streams.{Stream, Breaks}
 use Rattle.dbus_auth.specs.Handshake.{Run, silent, opened}
 use Rattle.dbus_framing.proofs.Ends.{never_ends}
 use Rattle.dbus_framing.proofs.Cuts.{cut_then, cut_more, stream_then}
 use Rattle.connection_worker.specs.declared.ending.End.{End}
 use Rattle.connection_worker.specs.declared.ending.End.TheVariants as end
-use Rattle.connection_worker.specs.Arrivals.{calls_in, AreRequests, AllRequests, FirstRequests}
-use Rattle.connection_worker.specs.Streams.{Input, Output, Took, IsStill, Gave, GaveFront}
-use Rattle.connection_worker.specs.Sending.{AreBehind}
-use Rattle.connection_worker.specs.Single.{Asked, requests_of, turns}
+use Rattle.connection_worker.specs.Arrivals.{calls_in, AllRequests, FirstRequests}
+use Rattle.connection_worker.specs.Streams.{Input, Output, Took, IsStill, Gave}
+use Rattle.service_machine.specs.Single.{Asked, requests_of, turns}
 use Rattle.connection_worker.specs.Written.{written_after}
 use Rattle.connection_worker.specs.Serving.{World, IsOwed, EndsEarly}
-use Rattle.connection_worker.specs.Answering.{Answered, IsEarly, MayRefuse, Broke, Going, AnswersEarly, AnswersAll}
+use Rattle.connection_worker.specs.Answering.{IsEarly, MayRefuse, Going, AnswersEarly, AnswersAll}
 use Rattle.connection_worker.specs.ServingOn.{FeedsMore, ServesOn, IsAmid, IsThrough}
 use Rattle.connection_worker.specs.Causes.{AllServed, FirstServed, IsViolated, HasCause, HasWritten, HasRefused}
 use Rattle.connection_worker.specs.Handshakes.{most_bytes}
 use Rattle.connection_worker.proofs.HandshakeLemmas.{rose-later}
 use Rattle.connection_worker.proofs.MessageLemmas.{answered-more, broke-more, are-append, first-so, first-fewer, going-none}
-use Rattle.connection_worker.proofs.RecordLemmas.{recorded-none}
-use Rattle.connection_worker.proofs.StreamLemmas.{Took-none, Took-trans, Gave-none, GaveFront-whole, GaveFront-more}
+use Rattle.connection_worker.proofs.StreamLemmas.{Took-none, Took-trans, GaveFront-whole}
 
 -- two stretches of messages, one behind the other
 going-then : (most : ℕ) (bytes rest left : List ℕ) (old mid new : World) (serials next behind : ℕ) (from o to : Output) → Going most bytes rest old mid serials next from o

@@ -1,7 +1,6 @@
 -- One connection from its handshake to its end.
-use Rattle.std.proofs.Common.{◌≡◌, ℕ, ◌+◌, ◌≤◌, ◌⊎◌, inl, inr, List, [], ◌∷◌, ◌++◌, length, map, Result, Ok, Err, IsTrue, true, false, refl, sym, ◌∙◌, ap, arith, subst, append_assoc, append-nil, length-append}
+use Rattle.std.proofs.Common.{◌≡◌, ℕ, ◌+◌, ◌≤◌, inl, inr, List, [], ◌∷◌, ◌++◌, length, Ok, Err, IsTrue, true, false, refl, sym, ◌∙◌, ap, arith, subst, append-nil}
 use Rattle.std.specs.List.{concat}
-use Rattle.kr_base.specs.declared.ids.ConnId.{ConnId}
 use Rattle.dbus_auth.specs.Handshake as shaking
 use Rattle.dbus_auth.specs.Conversation.{continued}
 use Rattle.dbus_auth.proofs.HandshakeLemmas.{handshake-nothing, handshake-append}
@@ -10,37 +9,35 @@ use Rattle.service_machine.specs.declared.rows.Rows.{Rows}
 use Rattle.service_machine.specs.declared.event.Event.TheVariants as event
 use Rattle.service_machine.specs.declared.event.Output.TheVariants as output
 use Rattle.service_machine.specs.Connections.{has}
-use Rattle.service_machine.specs.Step.{step, IsMissing, Fits}
-use Rattle.service_machine.specs.Replay.{replay, Legal}
-use Rattle.service_machine.proofs.ReplayLemmas.{replay-append, Legal-append}
-use Rattle.service_desk.specs.Places.{Told, Place, Looks, Extends, Records}
-use Rattle.service_desk.specs.Views.{View, with_own, with_all_own}
+use Rattle.service_machine.specs.Replay.{replay}
+use Rattle.service_desk.specs.Places.{Told, Place}
+use Rattle.service_desk.specs.Records.{Records, of_own}
 use Rattle.service_desk.specs.Calls.{Goes}
-use Rattle.service_desk.proofs.ViewLemmas.{with-all-append}
+use Rattle.service_desk.proofs.RecordLemmas.{own-append, own-state, own-count, records-more, alone-looks, alone-extends}
 use Rattle.connection_worker.specs.declared.ending.End.{End}
 use Rattle.connection_worker.specs.declared.ending.End.TheVariants as end
 use Rattle.connection_worker.specs.Causes.{AllServed, FirstServed, HasCause, HasWritten, HasRefused}
-use Rattle.connection_worker.specs.Handshakes.{Both, Awaits, IsRefusedFor, EndsFor, Shakes}
-use Rattle.connection_worker.specs.Streams.{Input, Output, Took, IsStill, Gave, GaveFront}
-use Rattle.connection_worker.specs.Single.{Asked, turns, single}
+use Rattle.connection_worker.specs.Handshakes.{IsRefusedFor, EndsFor, Shakes}
+use Rattle.connection_worker.specs.Streams.{Input, Output, IsStill, Gave}
+use Rattle.service_machine.specs.Single.{Asked, turns, single}
 use Rattle.connection_worker.specs.Written.{given_by, spelled_behind, written_after, taken_by, written}
 use Rattle.connection_worker.specs.Serving.{World, place_of, HasJoined, IsOwed, Recorded}
 use Rattle.connection_worker.specs.ServingOn.{ServesOn}
 use Rattle.connection_worker.specs.OneThread.{IsServed}
 use Rattle.connection_worker.proofs.HandshakeLemmas.{rose-later}
-use Rattle.connection_worker.proofs.RecordLemmas.{IsSame-trans, recorded-none, given_by-append}
-use Rattle.connection_worker.proofs.ServingLemmas.{same, Alone, alone-extends, alone-looks, only-there}
+use Rattle.connection_worker.proofs.RecordLemmas.{recorded-none, given_by-append}
+use Rattle.connection_worker.proofs.ServingLemmas.{same, only-there}
 use Rattle.connection_worker.proofs.StreamLemmas.{Took-trans, Gave-trans, GaveFront-behind}
 
 -- ---- the desk's last call
 
 -- a connection that is there goes
-pub goes-alone : (old new : Place) → IsTrue old.told.is_alone → IsOwed old.told [] → Goes old new → Alone old new (event.Gone old.told.conn) output.Gone
+pub goes-alone : (old new : Place) → IsTrue old.told.is_alone → IsOwed old.told [] → Goes old new → Records old new (of_own old.told.state (event.Gone old.told.conn ∷ []))
 goes-alone old new alone idle (inl gone) = alone-extends old new (event.Gone old.told.conn) output.Gone alone gone
 goes-alone old new alone idle (inr (looks, missing)) =
-    let it = alone-looks old new alone looks in
+    let state : new.told.state ≡ old.told.state = (alone-looks old new alone looks).state in
     let there : has new.told.conn new.told.state.connections.rows ≡ true =
-    ap (λ c. has c new.told.state.connections.rows) looks.same.conn ∙ ap (λ (s : Rows). has old.told.conn s.connections.rows) it.0 ∙ only-there old.told [] idle in
+    ap (λ c. has c new.told.state.connections.rows) looks.same.conn ∙ ap (λ (s : Rows). has old.told.conn s.connections.rows) state ∙ only-there old.told [] idle in
     let e : true ≡ false = sym there ∙ missing in cc
 
 -- a connection that has just joined is owed nothing, and has taken nothing
@@ -51,27 +48,18 @@ taken-none : (told : Told) → HasJoined told → taken_by told.conn told.state.
 taken-none told joined = rw joined (rw (same told.conn.0) refl)
 
 -- the events of the whole
-single-records : (old mid : World) (asked refused : List Asked) (new : Place) → Recorded old mid asked refused → Alone (place_of mid) new (event.Gone mid.told.conn) output.Gone
-    → Records (place_of old) new (single old.told.conn old.told.state asked)
+single-records : (old mid : World) (asked refused : List Asked) (new : Place) → Recorded old mid asked refused → Records (place_of mid) new (of_own mid.told.state (event.Gone mid.told.conn ∷ []))
+    → Records (place_of old) new (of_own old.told.state (single old.told.conn old.told.state asked))
 single-records old mid asked refused new so gone =
     let conn = old.told.conn in
     let first = turns conn old.told.state asked in
-    let last = event.Gone conn ∷ [] in
-    let fits : Fits (replay old.told.state first) (event.Gone conn) =
-    let P : Rows → Type 0 = λ s. Fits s (event.Gone conn) in
-    let Q : ConnId → Type 0 = λ c. Fits mid.told.state (event.Gone c) in
-    subst P so.state (subst Q so.same.conn gone.fits) in
-    record {
-      legal = Legal-append old.told.state first last so.legal (fits, tt);
-      state =
-          gone.state ∙ ap (λ c. step mid.told.state (event.Gone c)) so.same.conn ∙ ap (λ s. step s (event.Gone conn)) so.state
-          ∙ sym (replay-append old.told.state first last);
-      count = omega (arith, gone.count, so.count, length-append first last);
-      same = IsSame-trans old.told mid.told new.told so.same gone.same;
-      views = λ view seen.
-          let on = gone.views (with_all_own first view) (so.views view seen) in
-          rw (with-all-append first last view) (subst (λ c. new.has_seen (with_own (event.Gone c) (with_all_own first view))) so.same.conn on);
-    }
+    let behind = replay old.told.state first in
+    let on : of_own mid.told.state (event.Gone mid.told.conn ∷ []) ≡ of_own behind (event.Gone conn ∷ []) =
+    ap (λ c. of_own mid.told.state (event.Gone c ∷ [])) so.calls.same.conn ∙ ap (λ s. of_own s (event.Gone conn ∷ [])) (own-state (place_of old) (place_of mid) first so.calls) in
+    let all : of_own old.told.state first ++ of_own mid.told.state (event.Gone mid.told.conn ∷ []) ≡ of_own old.told.state (single conn old.told.state asked) =
+    ap (λ l. of_own old.told.state first ++ l) on ∙ sym (own-append old.told.state first (event.Gone conn ∷ [])) in
+    subst (λ seen. Records (place_of old) new seen) all
+    (records-more (place_of old) (place_of mid) new (of_own old.told.state first) (of_own mid.told.state (event.Gone mid.told.conn ∷ [])) so.calls gone)
 
 -- going gives nothing, so the text is that of the requests
 single-text : (old : World) (asked : List Asked) → HasJoined old.told → written old.told.conn old.told.state (single old.told.conn old.told.state asked)
@@ -147,7 +135,7 @@ shaking-ends _ run count from to sink out ends = absurd ends
 
 pub served-behind : (uid : ℕ) (guid : List ℕ) (from mid to : Input) (sink o out : Output) (old served : World) (new : Place) (framing : Framing) (how : End)
     → Shakes uid guid (record { input = from; output = sink }) (record { input = mid; output = o }) (Ok framing) → HasJoined old.told → ServesOn framing mid to old served o out how
-    → Alone (place_of served) new (event.Gone served.told.conn) output.Gone
+    → Records (place_of served) new (of_own served.told.state (event.Gone served.told.conn ∷ []))
     → IsServed uid guid from to sink out old (record { told = new.told; has_seen = new.has_seen; coming = served.coming; salting = served.salting }) how
 served-behind uid guid from mid to sink o out old served new framing how shakes joined serves gone =
     let run = shaking.handshake uid guid shakes.read in
@@ -155,7 +143,7 @@ served-behind uid guid from mid to sink o out old served new framing how shakes 
     let whole : shaking.handshake uid guid (shakes.read ++ serves.read) ≡ record { answers = run.answers; end = shaking.opened bytes } =
     opened-more uid guid shakes.read serves.read framing.rest shakes.ends.0 in
     let all : shaking.Run = record { answers = run.answers; end = shaking.opened bytes } in
-    let count : served.told.count ≡ old.told.count + length (turns old.told.conn old.told.state serves.asked) = serves.recorded.count in
+    let count : served.told.count ≡ old.told.count + length (turns old.told.conn old.told.state serves.asked) = own-count (place_of old) (place_of served) (turns old.told.conn old.told.state serves.asked) serves.recorded.calls in
     record {
       read = shakes.read ++ serves.read;
       took = Took-trans from mid to shakes.read serves.read shakes.took serves.took;
@@ -173,7 +161,7 @@ served-behind uid guid from mid to sink o out old served new framing how shakes 
 
 pub served-not : (uid : ℕ) (guid : List ℕ) (from to : Input) (sink out : Output) (old : World) (new : Place) (how : End)
     → Shakes uid guid (record { input = from; output = sink }) (record { input = to; output = out }) (Err how)
-    → Alone (place_of old) new (event.Gone old.told.conn) output.Gone
+    → Records (place_of old) new (of_own old.told.state (event.Gone old.told.conn ∷ []))
     → IsServed uid guid from to sink out old (record { told = new.told; has_seen = new.has_seen; coming = old.coming; salting = old.salting }) how
 served-not uid guid from to sink out old new how shakes gone =
     let ends = shaking-ends how (shaking.handshake uid guid shakes.read) (old.told.count + 0) from to sink out shakes.ends in

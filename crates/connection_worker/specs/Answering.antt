@@ -9,7 +9,7 @@ use Rattle.connection_worker.specs.declared.ending.End.TheVariants as end
 use Rattle.connection_worker.specs.Arrivals.{calls_in, AreRequests, FirstRequests}
 use Rattle.connection_worker.specs.Sending.{AreBehind}
 use Rattle.connection_worker.specs.Serving.{World, IsOwed, Recorded, EndsEarly}
-use Rattle.connection_worker.specs.Single.{Asked, requests_of, turns}
+use Rattle.service_machine.specs.Single.{Asked, requests_of, turns}
 use Rattle.connection_worker.specs.Streams.{Output, Gave}
 use Rattle.connection_worker.specs.Written.{given_by, written_after}
 

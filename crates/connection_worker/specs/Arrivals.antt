@@ -1,10 +1,9 @@
 -- The requests that come in the bytes of a connection.
-use Rattle.std.specs.Prelude.{◌≡◌, ℕ, ◌==◌, List, [], ◌∷◌, ◌++◌, filter}
+use Rattle.std.specs.Prelude.{ℕ, ◌==◌, List, [], ◌∷◌, ◌++◌, filter}
 use Rattle.secret_calls.specs.declared.call.Request.{Request}
 use Rattle.call_wire.specs.CallOf.{CallOf}
-use Rattle.dbus_framing.specs.declared.violation.Violation.{Violation}
 use Rattle.dbus_framing.specs.Messages.{Parts}
-use Rattle.dbus_framing.specs.Streams.{Cut, Stream, Breaks}
+use Rattle.dbus_framing.specs.Streams.{Cut, Stream}
 
 -- the messages that are method calls
 abbrev pub calls_in : List Parts → List Parts

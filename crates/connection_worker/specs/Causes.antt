@@ -11,7 +11,7 @@ use Rattle.connection_worker.specs.declared.ending.End.{End}
 use Rattle.connection_worker.specs.declared.ending.End.TheVariants as end
 use Rattle.connection_worker.specs.Arrivals.{AllRequests, FirstRequests}
 use Rattle.connection_worker.specs.Handshakes.{most_bytes, Awaits, IsRefusedFor}
-use Rattle.connection_worker.specs.Single.{Asked, requests_of}
+use Rattle.service_machine.specs.Single.{Asked, requests_of}
 use Rattle.connection_worker.specs.Streams.{Input, Output, IsStill, Gave, GaveFront}
 
 -- all requests that stand whole after the handshake were recorded, and the rest is this one

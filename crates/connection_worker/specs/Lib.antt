@@ -9,6 +9,5 @@ pub mod Salts
 pub mod Sending
 pub mod Serving
 pub mod ServingOn
-pub mod Single
 pub mod Streams
 pub mod Written

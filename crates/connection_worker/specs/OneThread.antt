@@ -2,11 +2,11 @@
 use Rattle.std.specs.Prelude.{ℕ, ◌+◌, List, ◌++◌, length, map}
 use Rattle.std.specs.List.{concat}
 use Rattle.dbus_auth.specs.Handshake.{handshake}
-use Rattle.service_desk.specs.Places.{Records}
+use Rattle.service_desk.specs.Records.{Records, of_own}
 use Rattle.connection_worker.specs.declared.ending.End.{End}
 use Rattle.connection_worker.specs.Causes.{HasCause, HasWritten, HasRefused}
 use Rattle.connection_worker.specs.Serving.{World, place_of, GivesMoments, GivesSalts}
-use Rattle.connection_worker.specs.Single.{Asked, turns, single}
+use Rattle.service_machine.specs.Single.{Asked, turns, single}
 use Rattle.connection_worker.specs.Streams.{Input, Output, Took}
 use Rattle.connection_worker.specs.Written.{written}
 
@@ -16,7 +16,7 @@ pub record IsServed (uid : ℕ) (guid : List ℕ) (from to : Input) (sink after 
   pub took : Took from to read
   pub asked : List Asked
   -- the desk recorded the events of these requests and that the connection is gone, and none else
-  pub recorded : Records (place_of old) (place_of new) (single old.told.conn old.told.state asked)
+  pub recorded : Records (place_of old) (place_of new) (of_own old.told.state (single old.told.conn old.told.state asked))
   -- for these too a moment and a salt were taken
   pub refused : List Asked
   pub few : HasRefused how (handshake uid guid read) asked refused

@@ -1,16 +1,16 @@
 -- The replies to the requests of one connection whose requests are served on one thread.
-use Rattle.std.specs.Prelude.{List, [], ◌∷◌, ◌++◌, map}
+use Rattle.std.specs.Prelude.{List, [], ◌∷◌, ◌++◌}
 use Rattle.kr_base.specs.declared.ids.ConnId.{ConnId}
 use Rattle.secret_calls.specs.declared.out.Out.{Out}
 use Rattle.service_machine.specs.declared.rows.Rows.{Rows}
-use Rattle.service_machine.specs.Connections.{Sent}
+use Rattle.service_machine.specs.Connections.{sent_to}
 use Rattle.service_machine.specs.Step.{puts_out}
 use Rattle.service_machine.specs.Replay.{replay}
-use Rattle.connection_worker.specs.Single.{Asked, arrival, turn}
+use Rattle.service_machine.specs.Single.{Asked, arrival, turn}
 
--- what a request puts out: its reply, where one is wanted
+-- what a request puts out for its connection: its reply, where one is wanted
 abbrev pub reply_to : ConnId → Rows → Asked → List Out
-reply_to conn state asked = map (λ (sent : Sent). sent.out) (puts_out state (arrival conn asked))
+reply_to conn state asked = sent_to conn (puts_out state (arrival conn asked))
 
 -- what requests put out one after the other, each in the state behind those before it
 abbrev pub replies_to : ConnId → Rows → List Asked → List Out

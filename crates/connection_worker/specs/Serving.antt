@@ -1,24 +1,19 @@
 -- Requests that are served over a desk, a clock, a generator of salts and a sink: what changes with each of them.
-use Rattle.std.specs.Prelude.{◌≡◌, ℕ, ◌+◌, ◌*◌, ◌%◌, ◌^◌, ◌≤◌, Bool, IsTrue, true, false, List, [], ◌∷◌, ◌++◌, length, map, Option, Result, Ok, Err, if◌then◌else◌}
-use Rattle.kr_base.specs.declared.ids.ConnId.{ConnId}
+use Rattle.std.specs.Prelude.{◌≡◌, ℕ, ◌+◌, ◌%◌, ◌^◌, false, List, [], ◌∷◌, ◌++◌, length, map, Option, Result, Ok, Err}
 use Rattle.kr_outside.specs.Clock.{GivesFirst}
 use Rattle.kr_outside.specs.Faults.{Rose}
-use Rattle.service_machine.specs.declared.rows.Rows.{Rows}
-use Rattle.service_machine.specs.declared.event.Event.{Event}
-use Rattle.service_machine.specs.declared.event.Event.TheVariants as event
 use Rattle.service_machine.specs.Connections.{new_row, waiting_for}
 use Rattle.service_machine.specs.Limits.{IsSpent}
-use Rattle.service_machine.specs.Step.{step, Fits}
-use Rattle.service_machine.specs.Replay.{replay, Legal}
 use Rattle.secret_calls.specs.declared.call.Request.{Request}
 use Rattle.secret_calls.specs.declared.out.Out.{Out}
-use Rattle.service_desk.specs.Places.{Told, Place, IsSame, Records}
-use Rattle.service_desk.specs.Views.{View, with_own, with_all_own}
+use Rattle.service_desk.specs.Places.{Told, Place}
+use Rattle.service_desk.specs.Records.{Records, of_own}
+use Rattle.service_desk.specs.Views.{View}
 use Rattle.connection_worker.specs.declared.ending.End.{End}
 use Rattle.connection_worker.specs.declared.ending.End.TheVariants as end
 use Rattle.connection_worker.specs.Salts.{Salting, words_at}
 use Rattle.connection_worker.specs.Sending.{AreBehind}
-use Rattle.connection_worker.specs.Single.{Asked, arrival, taking, turns}
+use Rattle.service_machine.specs.Single.{Asked, arrival, taking, turns}
 use Rattle.connection_worker.specs.Written.{spelled_behind}
 use Rattle.connection_worker.specs.Streams.{Output, Gave, GaveFront}
 
@@ -67,11 +62,7 @@ GivesSalts old (salt ∷ salts) new = (salt ≡ words_at old.key old.stream old.
 -- The desk recorded these requests, each with a moment of the clock and a salt; and for these further ones, which weren't
 -- recorded, a moment and a salt were taken.
 pub record Recorded (old new : World) (asked refused : List Asked) : Type 0 where
-  pub same : IsSame old.told new.told
-  pub legal : Legal old.told.state (turns old.told.conn old.told.state asked)
-  pub state : new.told.state ≡ replay old.told.state (turns old.told.conn old.told.state asked)
-  pub count : new.told.count ≡ old.told.count + length (turns old.told.conn old.told.state asked)
-  pub views : (view : View) → old.has_seen view → new.has_seen (with_all_own (turns old.told.conn old.told.state asked) view)
+  pub calls : Records (place_of old) (place_of new) (of_own old.told.state (turns old.told.conn old.told.state asked))
   pub moments : GivesMoments old.coming (map (λ (a : Asked). a.now) (asked ++ refused)) new.coming
   pub salts : GivesSalts old.salting (map (λ (a : Asked). a.salt) (asked ++ refused)) new.salting
 
@@ -85,19 +76,14 @@ EndsEarly _ count from to text = ⊥
 
 -- Behind one request that was recorded, before what is owed for it is taken.
 pub record HasArrived (old new : World) (asked : Asked) : Type 0 where
-  pub same : IsSame old.told new.told
-  pub fits : Fits old.told.state (arrival old.told.conn asked)
-  pub state : new.told.state ≡ step old.told.state (arrival old.told.conn asked)
-  pub count : new.told.count ≡ old.told.count + 1
-  pub views : (view : View) → old.has_seen view → new.has_seen (with_own (arrival old.told.conn asked) view)
+  pub calls : Records (place_of old) (place_of new) (of_own old.told.state (arrival old.told.conn asked ∷ []))
   pub moment : GivesFirst old.coming asked.now new.coming
   pub salt : asked.salt ≡ words_at old.salting.key old.salting.stream old.salting.place
   pub salting : new.salting ≡ behind_salt old.salting
 
 -- A moment and a salt were taken for a request that wasn't recorded.
 pub record HasAsked (old new : World) (asked : Asked) : Type 0 where
-  pub told : new.told ≡ old.told
-  pub views : (view : View) → old.has_seen view → new.has_seen view
+  pub calls : Records (place_of old) (place_of new) []
   pub moment : GivesFirst old.coming asked.now new.coming
   pub salt : asked.salt ≡ words_at old.salting.key old.salting.stream old.salting.place
   pub salting : new.salting ≡ behind_salt old.salting
@@ -111,7 +97,7 @@ Asks request old new (Err _) = ⊥
 
 -- the desk gave what was owed: a Take was recorded where anything was
 abbrev pub HasGiven : Place → Place → Type 0
-HasGiven old new = Records old new (taking old.told.conn old.told.state)
+HasGiven old new = Records old new (of_own old.told.state (taking old.told.conn old.told.state))
 
 -- what was owed was given and written; or it was given, and a front of it was written
 abbrev pub Gives : Place → Place → ℕ → ℕ → Output → Output → Result Unit End → Type 0

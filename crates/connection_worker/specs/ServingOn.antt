@@ -11,7 +11,7 @@ use Rattle.connection_worker.specs.declared.ending.End.TheVariants as end
 use Rattle.connection_worker.specs.Answering.{Going}
 use Rattle.connection_worker.specs.Causes.{HasCause, HasWritten, HasRefused}
 use Rattle.connection_worker.specs.Serving.{World, IsOwed, Recorded}
-use Rattle.connection_worker.specs.Single.{Asked, turns}
+use Rattle.service_machine.specs.Single.{Asked, turns}
 use Rattle.connection_worker.specs.Streams.{Input, Output, Took, IsStill}
 use Rattle.connection_worker.specs.Written.{written_after}
 

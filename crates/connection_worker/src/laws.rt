@@ -1,10 +1,13 @@
 // What the definitions of one thread say together. Each law is the contract of a function that does
 // nothing.
 ghost use Rattle.std.specs.Prelude.{◌≡◌, List, []};
+ghost use Rattle.kr_base.specs.declared.ids.ConnId.{ConnId};
+ghost use Rattle.service_machine.specs.declared.rows.Rows.{Rows};
 ghost use Rattle.service_desk.specs.Places.{Told};
+ghost use Rattle.service_desk.specs.Records as records;
 ghost use Rattle.connection_worker.specs.Replies.{replies_to};
 ghost use Rattle.connection_worker.specs.Serving.{IsOwed};
-ghost use Rattle.connection_worker.specs.Single.{Asked, single};
+ghost use Rattle.service_machine.specs.Single.{Asked, single};
 ghost use Rattle.connection_worker.specs.Written.{given_by};
 
 /// What the only connection is given is the reply to each request that wants one, in the order of the
@@ -14,4 +17,12 @@ pub fn each_request_is_answered_at_once()
     ensures { (told : Told) (asked : List Asked) → IsOwed told []
         → given_by told.conn told.state (single told.conn told.state asked)
         ≡ replies_to told.conn told.state asked }
+{}
+
+/// What the events of the only connection give to it is what its desk's calls were answered: the outputs
+/// of its takes, in order.
+pub fn what_is_given_was_taken()
+    ensures { (conn : ConnId) (state : Rows) (asked : List Asked)
+        → given_by conn state (single conn state asked)
+        ≡ records.given (records.of_own state (single conn state asked)) }
 {}

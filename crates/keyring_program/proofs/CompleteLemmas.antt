@@ -17,7 +17,7 @@ use Rattle.connection_worker.specs.Handshakes.{most_bytes, Awaits, IsRefusedFor}
 use Rattle.connection_worker.specs.declared.ending.End as ending
 use Rattle.connection_worker.specs.declared.ending.End.TheVariants as end
 use Rattle.connection_worker.specs.Causes.{AllServed, FirstServed, IsViolated, HasCause}
-use Rattle.connection_worker.specs.Single.{Asked, requests_of}
+use Rattle.service_machine.specs.Single.{Asked, requests_of}
 use Rattle.connection_worker.specs.Streams.{Input, Output}
 use Rattle.keyring_program.specs.Events.{events_until, events_of, the_connection}
 use Rattle.keyring_program.specs.ServerNumber.{guid}

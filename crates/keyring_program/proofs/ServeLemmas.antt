@@ -12,12 +12,13 @@ use Rattle.service_machine.specs.Connections.{has, new_row}
 use Rattle.service_machine.specs.Step.{opened_rows, Fits}
 use Rattle.service_machine.specs.Replay.{Legal}
 use Rattle.service_desk.specs.Places.{Told}
+use Rattle.service_desk.proofs.RecordLemmas.{own-legal}
 use Rattle.connection_worker.specs.declared.ending.End.{End}
 use Rattle.connection_worker.specs.declared.ending.End.TheVariants as end
 use Rattle.connection_worker.specs.Causes.{HasCause, HasWritten}
 use Rattle.connection_worker.specs.OneThread.{IsServed}
 use Rattle.connection_worker.specs.Serving.{World, HasJoined, GivesSalts}
-use Rattle.connection_worker.specs.Single.{Asked, turns, single}
+use Rattle.service_machine.specs.Single.{Asked, turns, single}
 use Rattle.connection_worker.specs.Streams.{Input, Output}
 use Rattle.connection_worker.specs.Written.{written}
 use Rattle.keyring_program.specs.Events.{the_connection, joined, events_until, text_of, HaveMoments}
@@ -80,7 +81,7 @@ serves uid seed from to sink behind old new how conn state count salting so =
       read = so.read;
       took = so.took;
       asked = so.asked;
-      legal = (joins, at-start old.told.conn old.told.state conn state (λ c s. Legal s (single c s so.asked)) so.recorded.legal);
+      legal = (joins, at-start old.told.conn old.told.state conn state (λ c s. Legal s (single c s so.asked)) (own-legal old.told.state (single old.told.conn old.told.state so.asked) so.recorded.answered));
       moments = have-moments old.coming new.coming so.asked so.refused so.moments;
       salts = have-salts seed new.salting so.asked so.refused (subst (λ s. GivesSalts s (map (λ (a : Asked). a.salt) (so.asked ++ so.refused)) new.salting) salting so.salts);
       how = how;

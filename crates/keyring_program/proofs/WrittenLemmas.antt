@@ -10,12 +10,13 @@ use Rattle.call_wire.specs.CallOf.{CallOf}
 use Rattle.service_machine.specs.declared.rows.Rows.{Rows}
 use Rattle.service_machine.specs.declared.event.Event.{Event}
 use Rattle.service_machine.specs.declared.event.Event.TheVariants as event
-use Rattle.service_machine.specs.Step.{opened_rows, asked, plan_of, message_of, performed_all, with_delivered, step}
+use Rattle.service_machine.specs.Run.{ran}
+use Rattle.service_machine.specs.Step.{opened_rows, plan_of, message_of, with_delivered, step}
 use Rattle.service_machine.specs.Replay.{replay}
 use Rattle.connection_worker.specs.Arrivals.{calls_in, AreRequests}
 use Rattle.connection_worker.specs.Handshakes.{most_bytes}
 use Rattle.connection_worker.specs.Causes.{AllServed}
-use Rattle.connection_worker.specs.Single.{Asked, requests_of, arrival, taking, turns}
+use Rattle.service_machine.specs.Single.{Asked, requests_of, arrival, taking, turns}
 use Rattle.connection_worker.specs.Written.{given, given_by, spelled_behind}
 use Rattle.keyring_program.specs.Events.{the_connection, joined, events_of, text_of}
 
@@ -53,8 +54,8 @@ alike-of same (parts ∷ calls) (a ∷ one) (b ∷ other) p q = (
 -- they lead to one state
 step-alike : (state : Rows) (a b : Asked) → Alike a b → step state (arrival the_connection a) ≡ step state (arrival the_connection b)
 step-alike state a b p = λ i.
-    let plan = plan_of (p.call i) (asked the_connection state) in
-    with_delivered (if p.wants_reply i then record { to = the_connection; out = message_of (p.serial i) plan.answer } ∷ [] else []) (performed_all the_connection plan.changes state)
+    let after = ran the_connection (plan_of (p.call i)) state in
+    with_delivered ((if p.wants_reply i then record { to = the_connection; out = message_of (p.serial i) after.answer } ∷ [] else []) ++ after.sends) after.state
 
 given_by-append : (state : Rows) (events more : List Event) → given_by the_connection state (events ++ more) ≡ given_by the_connection state events ++ given_by the_connection (replay state events) more
 given_by-append state [] more = refl

@@ -8,7 +8,7 @@ use Rattle.service_machine.specs.declared.event.Event.{Event}
 use Rattle.service_machine.specs.declared.event.Event.TheVariants as event
 use Rattle.service_machine.specs.Step.{opened_rows, step}
 use Rattle.connection_worker.specs.Salts.{salt_of}
-use Rattle.connection_worker.specs.Single.{Asked, turns}
+use Rattle.service_machine.specs.Single.{Asked, turns}
 use Rattle.connection_worker.specs.Written.{written}
 
 -- the connection of the standard streams

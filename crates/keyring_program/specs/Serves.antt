@@ -5,7 +5,7 @@ use Rattle.service_machine.specs.Step.{opened_rows}
 use Rattle.service_machine.specs.Replay.{Legal}
 use Rattle.connection_worker.specs.declared.ending.End.{End}
 use Rattle.connection_worker.specs.Causes.{HasCause, HasWritten}
-use Rattle.connection_worker.specs.Single.{Asked}
+use Rattle.service_machine.specs.Single.{Asked}
 use Rattle.connection_worker.specs.Streams.{Input, Output, Took}
 use Rattle.keyring_program.specs.Events.{events_until, events_of, text_of, HaveMoments, HaveSalts}
 use Rattle.keyring_program.specs.ServerNumber.{guid}

@@ -6,7 +6,7 @@ use Rattle.dbus_framing.specs.Streams.{Stream}
 use Rattle.service_machine.specs.Limits.{most_events}
 use Rattle.connection_worker.specs.Arrivals.{FirstRequests}
 use Rattle.connection_worker.specs.Handshakes.{most_bytes}
-use Rattle.connection_worker.specs.Single.{Asked, requests_of}
+use Rattle.service_machine.specs.Single.{Asked, requests_of}
 use Rattle.keyring_program.specs.Events.{events_of}
 use Rattle.keyring_program.specs.Serves.{shaken}
 

@@ -5,7 +5,7 @@ ghost use Rattle.std.specs.List.{concat};
 ghost use Rattle.dbus_auth.specs.Handshake.{Run};
 ghost use Rattle.connection_worker.specs.Causes.{AllServed};
 ghost use Rattle.connection_worker.specs.Replies.{replies_to};
-ghost use Rattle.connection_worker.specs.Single.{Asked};
+ghost use Rattle.service_machine.specs.Single.{Asked};
 ghost use Rattle.connection_worker.specs.Written.{spelled_behind};
 ghost use Rattle.keyring_program.specs.Events.{the_connection, joined, text_of};
 ghost use Rattle.keyring_program.specs.Serves.{shaken};

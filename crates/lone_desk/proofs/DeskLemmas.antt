@@ -1,5 +1,5 @@
 -- What a service records, as a desk over it tells it.
-use Rattle.std.proofs.Common.{◌≡◌, ◌+◌, ◌<◌, ◌≤◌, Bool, true, false, [], Option, Some, None, Result, Ok, Err, IfOk, refl, ap, ◌∙◌, sym, subst, arith, inl, inr}
+use Rattle.std.proofs.Common.{◌≡◌, ◌+◌, ◌<◌, ◌≤◌, Bool, true, false, [], Option, Some, None, Result, Ok, Err, OnOk, refl, ap, ◌∙◌, sym, subst, arith, inl, inr}
 use Rattle.std.proofs.lemmas.List.{length_push}
 use Rattle.kr_base.specs.declared.ids.ConnId.{ConnId}
 use Rattle.service_machine.specs.declared.rows.DeskRow.{DeskRow}
@@ -7,16 +7,14 @@ use Rattle.service_machine.specs.declared.event.Event.{Event}
 use Rattle.service_machine.specs.declared.event.Event.TheVariants as event
 use Rattle.service_machine.specs.declared.event.Output.{Output}
 use Rattle.service_machine.specs.declared.event.Output.TheVariants as output
-use Rattle.service_machine.specs.declared.event.Incoming.TheVariants as incoming
 use Rattle.service_machine.specs.Connections.{desk_of}
 use Rattle.service_machine.specs.Limits.{most_events}
 use Rattle.service_machine.proofs.FitLemmas.{has-told, has-none}
 use Rattle.service_machine.specs.Step.{step, output_of, Fits}
 use Rattle.service_machine.specs.declared.event.Arrival.{Arrival}
-use Rattle.service_machine.specs.Machine.{Records}
-use Rattle.service_history.specs.declared.refused.EventRefused.{EventRefused}
-use Rattle.service_history.specs.declared.refused.EventRefused.TheVariants as refused
-use Rattle.service_history.specs.History.{History, cut_where_due, with_event, IsRecorded, given_for, taken_by, left_by, gone_by}
+use Rattle.secret_calls.specs.declared.taken.Refused.{Refused}
+use Rattle.secret_calls.specs.declared.taken.Refused.TheVariants as refused
+use Rattle.service_history.specs.History.{History, cut_where_due, with_event, Stores, given_for, taken_by, left_by, gone_by}
 use Rattle.service_history.specs.Windows.{total, is_due}
 use Rattle.service_desk.specs.Places.{Place, Looks, Extends}
 use Rattle.service_desk.specs.Views.{View, IsView, with_others, with_own}
@@ -88,14 +86,14 @@ total-cut old =
     elim [ true ↦ λ is. rw is (omega arith) | false ↦ λ is. rw is refl ] in
     pass (is_due old.window) refl
 
-pub arrives : (conn : ConnId) (old new : History) (came : Event) (event : Event) (answer : Output) → event ≡ came
-    → Fits old.state event → answer ≡ output_of old.state event → new ≡ with_event event (cut_where_due old) → output_of old.state came ≡ output.Arrived (record {})
-    → total old.window < most_events → Arrives (spot conn old) (spot conn new) came
-arrives conn old new came event answer is fits answers appends arrived left =
-    let counted : total new.window ≡ total old.window + 1 = ap (λ (h : History). total h.window) appends ∙ total-with event (cut_where_due old) ∙ ap (λ n. n + 1) (total-cut old) in
+pub arrives : (conn : ConnId) (old new : History) (arrival : Arrival) → Stores old (event.Arrive arrival) new → total old.window < most_events
+    → Arrives (spot conn old) (spot conn new) (event.Arrive arrival)
+arrives conn old new arrival stores left =
+    let came = event.Arrive arrival in
+    let counted : total new.window ≡ total old.window + 1 = ap (λ (h : History). total h.window) stores.appends ∙ total-with came (cut_where_due old) ∙ ap (λ n. n + 1) (total-cut old) in
     record {
-      recorded = extends conn old new came (output.Arrived (record {})) (rw (← is) fits) (sym arrived)
-          (ap (λ (h : History). h.state) appends ∙ ap (λ s. step s event) (state-cut old) ∙ ap (step old.state) is) counted;
+      recorded = extends conn old new came (output.Arrived (record {})) stores.fits refl
+          (ap (λ (h : History). h.state) stores.appends ∙ ap (λ s. step s came) (state-cut old)) counted;
       counted = omega (arith, counted, left);
     }
 
@@ -129,18 +127,10 @@ pub goes : (conn : ConnId) (old : History) (desk : Option DeskRow) → desk ≡ 
 goes conn old None told = inr (looks conn old, has-none conn old.state.connections.rows told)
 goes conn old (Some desk) told = inl (extends-with conn old (event.Gone conn) (has-told conn old.state.connections.rows desk told))
 
--- a request is recorded as itself
-pub request-is : (arrival : Arrival) (recorded : Event) → Records (incoming.Arrive arrival) recorded → recorded ≡ event.Arrive arrival
-request-is arrival (event.Arrive came) records = ap (λ a. event.Arrive a) records
-request-is arrival _ records = absurd records
-
--- what the service says of a request that it answered
-pub arrives-recorded : (conn : ConnId) (old new : History) (arrival : Arrival) (result : Result Output EventRefused) (answer : Output)
-    → result ≡ Ok answer → IfOk result (λ answer. IsRecorded old (incoming.Arrive arrival) answer new)
-    → ((result ≡ Err refused.EventsSpent → ⊥) → most_events ≤ total old.window → ⊥)
-    → Arrives (spot conn old) (spot conn new) (event.Arrive arrival)
-arrives-recorded conn old new arrival result answer is recorded left =
-    let r : IsRecorded old (incoming.Arrive arrival) answer new = rw is at recorded in
-    let not_spent : most_events ≤ total old.window → ⊥ = left (λ (spent : result ≡ Err refused.EventsSpent). let h : Ok answer ≡ Err refused.EventsSpent = sym is ∙ spent in cc) in
-    arrives conn old new (event.Arrive arrival) r.event answer (request-is arrival r.event r.records) r.fits r.answers r.appends refl
-    (omega (arith, not_spent))
+-- what the service says of a request that it recorded
+pub arrives-stored : (conn : ConnId) (old new : History) (arrival : Arrival) (result : Result Unit Refused) → OnOk result (Stores old (event.Arrive arrival) new)
+    → ((result ≡ Err refused.EventsSpent → ⊥) → most_events ≤ total old.window → ⊥) → OnOk result (Arrives (spot conn old) (spot conn new) (event.Arrive arrival))
+arrives-stored conn old new arrival (Ok done) stores left =
+    let not_spent : most_events ≤ total old.window → ⊥ = left (λ (spent : Ok done ≡ Err refused.EventsSpent). cc) in
+    arrives conn old new arrival stores (omega (arith, not_spent))
+arrives-stored conn old new arrival (Err why) stores left = tt

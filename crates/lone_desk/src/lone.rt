@@ -9,8 +9,8 @@ ghost use Rattle.service_desk.specs.Calls.{Arrives, IsRefusal, Leaves, Takes, Go
 use kr_base::ConnId;
 use secret_calls::{Refused, Request, Taken};
 use service_desk::{Desk, JoinRefused, ReadDesk, WriteDesk};
-use service_history::{EventRefused, Service};
-use service_machine::{Arrival, Event, Incoming, Output};
+use service_history::Service;
+use service_machine::{Arrival, Event};
 
 /// A connection's desk over a service that is its own.
 #[derive(Drop)]
@@ -36,14 +36,8 @@ impl LoneDesk {
             → IsCrowded service.state }
     {
         let mut service = service;
-        match service.event(Incoming::Connect) {
-            Ok(Output::Joined(conn)) => Ok(LoneDesk { service, conn }),
-            Ok(_) => unreachable!(),
-            Err(EventRefused::EventsSpent) => Err(JoinRefused::EventsSpent),
-            Err(EventRefused::NoConnection) => unreachable!(),
-            Err(EventRefused::TooManyConnections) => Err(JoinRefused::TooManyConnections),
-            Err(EventRefused::OutOfMemory) => Err(JoinRefused::OutOfMemory),
-        }
+        let conn = service.join()?;
+        Ok(LoneDesk { service, conn })
     }
 
     /// The service, as it stands. It takes no memory.
@@ -79,13 +73,7 @@ impl ReadDesk for LoneDesk {
             now,
             salt,
         };
-        match self.service.event(Incoming::Arrive(arrival)) {
-            Ok(_) => Ok(()),
-            Err(EventRefused::EventsSpent) => Err(Refused::EventsSpent),
-            Err(EventRefused::NoConnection) => Err(Refused::Gone),
-            Err(EventRefused::TooManyConnections) => unreachable!(),
-            Err(EventRefused::OutOfMemory) => Err(Refused::OutOfMemory),
-        }
+        self.service.arrive(arrival)
     }
 
     fn leave(&mut self) {

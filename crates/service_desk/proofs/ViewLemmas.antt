@@ -6,7 +6,7 @@ use Rattle.service_machine.specs.declared.event.Event.{Event}
 use Rattle.service_machine.specs.Step.{step, output_of, Fits}
 use Rattle.service_machine.specs.Replay.{replay, Legal, outputs}
 use Rattle.service_machine.proofs.ReplayLemmas.{replay-append, Legal-append, outputs-append}
-use Rattle.service_desk.specs.Views.{View, ArePlaces, IsView, with_others, with_own, with_all_own}
+use Rattle.service_desk.specs.Views.{View, ArePlaces, IsView, with_others, with_own}
 
 -- places stay such where there is room for more
 pub places-below : (from below more : ℕ) (places : List ℕ) → ArePlaces from below places → below ≤ more → ArePlaces from more places
@@ -52,8 +52,3 @@ answer-behind state count view between event is =
 -- nothing of others was seen
 pub with-no-others : (view : View) → with_others [] view ≡ view
 with-no-others view = λ i. record view { seen = append-nil view.seen i }
-
--- some of its own, and then more
-pub with-all-append : (events more : List Event) (view : View) → with_all_own (events ++ more) view ≡ with_all_own more (with_all_own events view)
-with-all-append [] more view = refl
-with-all-append (event ∷ events) more view = with-all-append events more (with_own event view)

@@ -6,7 +6,7 @@ use Rattle.service_machine.specs.declared.event.Event.{Event}
 use Rattle.service_machine.specs.declared.event.Output.{Output}
 use Rattle.service_machine.specs.Step.{step, output_of, Fits}
 use Rattle.service_machine.specs.Replay.{replay, Legal}
-use Rattle.service_desk.specs.Views.{View, with_others, with_own, with_all_own}
+use Rattle.service_desk.specs.Views.{View, with_others, with_own}
 
 -- what a desk tells of itself, and of the service as far as it has seen it
 pub record Told : Type 0 where
@@ -63,11 +63,3 @@ pub record Extends (old new : Place) (event : Event) (answer : Output) : Type 0 
   pub count : new.told.count ≡ old.told.count + length between + 1
   pub same : IsSame old.told new.told
   pub views : (view : View) → old.has_seen view → new.has_seen (with_own event (with_others between view))
-
--- The desk recorded these events of its own, one after the other, and saw none of others.
-pub record Records (old new : Place) (events : List Event) : Type 0 where
-  pub legal : Legal old.told.state events
-  pub state : new.told.state ≡ replay old.told.state events
-  pub count : new.told.count ≡ old.told.count + length events
-  pub same : IsSame old.told new.told
-  pub views : (view : View) → old.has_seen view → new.has_seen (with_all_own events view)

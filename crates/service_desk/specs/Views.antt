@@ -32,8 +32,3 @@ with_others events view = record view { seen = view.seen ++ events }
 -- the view after an event of its own
 abbrev pub with_own : Event → View → View
 with_own event view = record view { seen = view.seen ++ event ∷ []; own = view.own ++ length view.seen ∷ [] }
-
--- the view after events of its own, one after the other
-abbrev pub with_all_own : List Event → View → View
-with_all_own [] view = view
-with_all_own (event ∷ events) view = with_all_own events (with_own event view)

@@ -5,7 +5,12 @@ ghost use Rattle.service_machine.specs.declared.rows.Rows.{Rows};
 ghost use Rattle.service_machine.specs.declared.event.Event.{Event};
 ghost use Rattle.service_machine.specs.Step.{step, output_of, Fits};
 ghost use Rattle.service_machine.specs.Replay.{replay, Legal, outputs};
+ghost use Rattle.service_machine.specs.declared.event.Output.{Output};
+ghost use Rattle.service_desk.specs.Places.{place, Looks, Extends};
+ghost use Rattle.service_desk.specs.Records.{Seen, Own, Records, of_others};
 ghost use Rattle.service_desk.specs.Views.{View, IsView, with_others, with_own};
+
+use crate::Desk;
 
 /// A view stays one after events of others, and after one of its own.
 pub fn views_go_on()
@@ -25,4 +30,25 @@ pub fn an_answer_stands_at_its_place()
         → outputs view.start (with_own event (with_others between view)).seen
         ≡ outputs view.start (with_others between view).seen
         ++ output_of (replay state between) event ∷ [] }
+{}
+
+/// Calls compose: what calls of a desk record one after another is what each of them records, one list
+/// after the other. No call records nothing, a call that only looks adds the events of others that it
+/// saw, and one that records an event adds these and its own event with its answer.
+pub fn calls_compose<D: Desk>()
+    ensures none { (desk : D) → Records (place D.told D.has_seen desk)
+        (place D.told D.has_seen desk) [] }
+    ensures more { (old mid new : D) (seen more : List Seen)
+        → Records (place D.told D.has_seen old) (place D.told D.has_seen mid) seen
+        → Records (place D.told D.has_seen mid) (place D.told D.has_seen new) more
+        → Records (place D.told D.has_seen old) (place D.told D.has_seen new) (seen ++ more) }
+    ensures looks { (old new : D)
+        → (looks : Looks (place D.told D.has_seen old) (place D.told D.has_seen new))
+        → Records (place D.told D.has_seen old) (place D.told D.has_seen new)
+        (of_others looks.between) }
+    ensures extends { (old new : D) (event : Event) (answer : Output)
+        → (extends : Extends (place D.told D.has_seen old) (place D.told D.has_seen new)
+        event answer)
+        → Records (place D.told D.has_seen old) (place D.told D.has_seen new)
+        (of_others extends.between ++ Own event answer ∷ []) }
 {}

@@ -7,10 +7,9 @@
 
 mod desk;
 mod laws;
-mod refused;
 mod sides;
 
 pub use desk::Desk;
-pub use laws::{an_answer_stands_at_its_place, views_go_on};
-pub use refused::JoinRefused;
+pub use laws::{an_answer_stands_at_its_place, calls_compose, views_go_on};
+pub use service_machine::JoinRefused;
 pub use sides::{ReadDesk, WriteDesk};

@@ -48,6 +48,11 @@ cut_where_due history = if is_due history.window then cut history else history
 abbrev pub with_event : Event → History → History
 with_event event history = record { state = step history.state event; window = stored event history.window }
 
+-- This event is recorded, behind a cut where one is due.
+pub record Stores (old : History) (event : Event) (new : History) : Type 0 where
+  pub fits : Fits old.state event
+  pub appends : new ≡ with_event event (cut_where_due old)
+
 -- The event that came is recorded, behind a cut where one is due, and answered as the step answers it.
 pub record IsRecorded (old : History) (came : Incoming) (answer : Output) (new : History) : Type 0 where
   pub event : Event

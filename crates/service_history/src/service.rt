@@ -1,15 +1,15 @@
-ghost use Rattle.std.specs.Prelude.{◌≡◌, ◌≢◌, IfOk, OnErr, IsErrOf, Err};
+ghost use Rattle.std.specs.Prelude.{◌≡◌, ◌≢◌, IfOk, OnOk, OnErr, IsErrOf, Err};
 ghost use Rattle.service_machine.specs.Limits.{IsSpent};
 ghost use Rattle.service_machine.specs.Machine.{IsOfNone, IsConnect};
-ghost use Rattle.service_machine.specs.Step.{IsCrowded};
+ghost use Rattle.service_machine.specs.Step.{IsMissing, IsCrowded};
 ghost use Rattle.service_history.specs.Windows.{total};
-ghost use Rattle.service_history.specs.History.{opened_history, IsHistory, IsRecorded, IsAsked, given_for, taken_by, left_by, gone_by, told};
+ghost use Rattle.service_history.specs.History.{opened_history, IsHistory, Stores, IsRecorded, IsAsked, given_for, taken_by, left_by, gone_by, told};
 
 use crate::EventRefused;
 use crate::window::Window;
 use kr_base::ConnId;
-use secret_calls::Taken;
-use service_machine::{Event, Incoming, Machine, Output, Rows};
+use secret_calls::{Refused, Taken};
+use service_machine::{Arrival, Event, Incoming, JoinRefused, Machine, Output, Rows};
 use std::alloc::Global;
 use std::marker::Model;
 
@@ -48,8 +48,67 @@ impl Service {
         }
     }
 
-    /// Records an event, a connection that joins or asks, and gives its answer. Where a cut is due it is
-    /// made first: the state becomes the base, and the stored events are let go.
+    /// Records that a connection joins, and gives it the next number. Where a cut is due it is made
+    /// first: the state becomes the base, and the stored events are let go.
+    ///
+    /// Refused with `EventsSpent` where all events that can be counted are recorded, then with
+    /// `TooManyConnections` where 256 connections are there or no number is left.
+    pub fn join(&mut self) -> Result<ConnId, JoinRefused>
+        ensures stores { IfOk result (λ conn. Stores self.old (Event.Connect conn) self.new) }
+        ensures history { IsHistory self.new }
+
+        // Each refusal has its cause, and the first in order is answered; nothing has changed then.
+        ensures spent { IsErrOf result JoinRefused.EventsSpent → IsSpent (total self.old.window) }
+        ensures not_spent { result ≢ Err JoinRefused.EventsSpent
+            → ¬ IsSpent (total self.old.window) }
+        ensures crowded { IsErrOf result JoinRefused.TooManyConnections
+            → IsCrowded self.old.state }
+        ensures unchanged { OnErr result (self.new ≡ self.old) }
+    {
+        if self.window.total() >= LIMIT {
+            return Err(JoinRefused::EventsSpent);
+        }
+        if self.machine.is_crowded() {
+            return Err(JoinRefused::TooManyConnections);
+        }
+        let next = self.window.prepare(&self.machine)?;
+        let conn = self.machine.join()?;
+        self.window.commit(next, Event::Connect(conn));
+        Ok(conn)
+    }
+
+    /// Records that a connection asks for something. A cut that is due is made first, as in `join`.
+    ///
+    /// Refused with `EventsSpent` where all events that can be counted are recorded, then with `Gone`
+    /// where the connection isn't there.
+    pub fn arrive(&mut self, arrival: Arrival) -> Result<(), Refused>
+        ensures stores { OnOk result (Stores self.old (Event.Arrive arrival) self.new) }
+        ensures history { IsHistory self.new }
+
+        // Each refusal has its cause, and the first in order is answered; nothing has changed then.
+        ensures spent { IsErrOf result Refused.EventsSpent → IsSpent (total self.old.window) }
+        ensures not_spent { result ≢ Err Refused.EventsSpent → ¬ IsSpent (total self.old.window) }
+        ensures gone { IsErrOf result Refused.Gone → IsMissing arrival.conn self.old.state }
+        ensures unchanged { OnErr result (self.new ≡ self.old) }
+    {
+        if self.window.total() >= LIMIT {
+            return Err(Refused::EventsSpent);
+        }
+        if !self.machine.has(arrival.conn) {
+            return Err(Refused::Gone);
+        }
+        let Ok(next) = self.window.prepare(&self.machine) else {
+            return Err(Refused::OutOfMemory);
+        };
+        let Ok(()) = self.machine.arrive(arrival.conn, &arrival.request) else {
+            return Err(Refused::OutOfMemory);
+        };
+        self.window.commit(next, Event::Arrive(arrival));
+        Ok(())
+    }
+
+    /// Records an event, a connection that joins or asks, and gives its answer: `join` and `arrive` for
+    /// one who has the event as a value.
     ///
     /// Refused with `EventsSpent` where all events that can be counted are recorded,
     /// then with `NoConnection` where the connection isn't there, and `TooManyConnections` where 256

@@ -2,3 +2,4 @@ mod DeskLemmas
 pub mod FitLemmas
 pub mod ReplayLemmas
 pub mod SoundLemmas
+pub mod RunLemmas

@@ -1,5 +1,5 @@
 -- Each event keeps a sound state sound.
-use Rattle.std.proofs.Common.{◌≡◌, ℕ, ◌+◌, ◌^◌, ◌<◌, ◌≤◌, ◌==◌, Bool, true, false, ◌||◌, not, nat_le, nat_lt, cond, List, Result, Ok, Err, [], ◌∷◌, ◌++◌, if◌then◌else◌, length, filter, refl, ap, sym, subst, ◌∙◌, arith, length-append, inl, inr}
+use Rattle.std.proofs.Common.{◌≡◌, ℕ, ◌+◌, ◌<◌, ◌≤◌, ◌==◌, Bool, true, false, ◌||◌, not, nat_le, nat_lt, cond, List, Result, Ok, Err, [], ◌∷◌, ◌++◌, if◌then◌else◌, length, filter, refl, ap, sym, subst, ◌∙◌, arith, length-append, inl, inr}
 use Rattle.std.specs.List.{AllByRecursion}
 use Rattle.std.proofs.lemmas.Bool.{or_left, or_right, or_cases, leb-false, leb-true}
 use Rattle.std.proofs.lemmas.Bool.Decides.{nat_tests}
@@ -18,8 +18,9 @@ use Rattle.secret_calls.specs.declared.out.Body.{Body}
 use Rattle.secret_calls.specs.declared.out.Body.TheVariants as body
 use Rattle.secret_calls.specs.declared.out.ErrorName.{ErrorName}
 use Rattle.secret_calls.specs.declared.out.ErrorName.TheVariants as name
-use Rattle.secret_calls.specs.Calls.{error_of}
-use Rattle.secret_calls.specs.Outs.{FitsBody, HasSpelling, most_waiting}
+use Rattle.secret_calls.proofs.SizeLemmas.{out-short}
+use Rattle.secret_calls.specs.declared.out.Out.TheVariants as out
+use Rattle.secret_calls.specs.Outs.{spelled_body, FitsBody, HasSpelling, most_waiting}
 use Rattle.session_table.specs.declared.row.Sessions.{Sessions}
 use Rattle.session_table.specs.Sessions.{is_of, rows_of, is_full, opened, abandoned, most_sessions, last_session}
 use Rattle.service_machine.specs.declared.rows.Rows.{Rows}
@@ -27,13 +28,15 @@ use Rattle.service_machine.specs.declared.rows.ConnRow.{ConnRow}
 use Rattle.service_machine.specs.declared.rows.ConnRows.{ConnRows}
 use Rattle.service_machine.specs.declared.event.Event.{Event}
 use Rattle.service_machine.specs.declared.event.Event.TheVariants as event
-use Rattle.service_machine.specs.Connections.{new_row, joined, is_row, has, changed, without, left, emptied, size_of, size_waiting, with_out, Sent, delivered}
-use Rattle.service_machine.specs.Limits.{most_connections}
-use Rattle.service_machine.specs.Plan.{Plan, Change, Open_session, Close_session, refused, answered}
+use Rattle.service_machine.specs.Connections.{new_row, joined, is_row, has, changed, without, left, emptied, size_of, size_waiting, with_out, Sent}
+use Rattle.service_machine.specs.Limits.{most_connections, most_body}
+use Rattle.service_machine.specs.Plan.{Change, Open_session, Close_session, Plan, Ends, After, refused, answered}
+use Rattle.service_machine.specs.Run.{asked, performed, performed_all, filled, Ran, run, bounded, limited}
 use Rattle.service_machine.specs.SessionCalls.{is_plain}
-use Rattle.service_machine.specs.Step.{opened_rows, with_rows, with_delivered, asked, plan_of, performed, performed_all, planned, message_of, replies, step, Fits}
+use Rattle.service_machine.specs.Step.{opened_rows, with_rows, with_delivered, plan_of, message_of, served, put_out, puts_out, step, Fits}
 use Rattle.service_machine.specs.Replay.{replay, Legal}
-use Rattle.service_machine.specs.Sound.{AreJoined, AreApart, WaitsWell, AreWaiting, AreOpened, AreOnce, AreFew, AreSoundConnections, AreSoundSessions, IsSound}
+use Rattle.service_machine.specs.Sound.{CanWait, AreJoined, AreApart, WaitsWell, AreWaiting, AreOpened, AreOnce, AreFew, AreSoundConnections, AreSoundSessions, IsSound}
+use Rattle.service_machine.proofs.RunLemmas.{connections-performed, connections-all, state-limited, put_out-served}
 
 -- what isn't true is false
 not_true : (b : Bool) → not b ≡ true → b ≡ false
@@ -381,82 +384,134 @@ sessions-without conn rows sessions sound =
       numbered = left.numbered;
     }
 
-pub sound-opened : (caller : ConnId) (state : Rows) → has caller state.connections.rows ≡ true → length (rows_of caller state.sessions.rows) < most_sessions → state.sessions.next < last_session
-    → IsSound state → IsSound (performed caller Open_session state)
-sound-opened caller state there left number sound = record {
-  connections = sound.connections;
-  sessions = sessions-opened caller state.connections.rows state.sessions there left number sound.sessions;
-}
+-- ---- a plan
 
-pub sound-closed : (caller : ConnId) (session : SessionId) (state : Rows) → IsSound state → IsSound (performed caller (Close_session session) state)
-sound-closed caller session state sound = record {
-  connections = sound.connections;
-  sessions = sessions-fewer state.connections.rows (λ row. not (is_of caller session row)) state.sessions sound.sessions;
-}
+-- a change keeps a sound state sound if this holds: a session is opened only by a caller that can open one
+abbrev pub IsAllowed : ConnId → Change → Rows → Type 0
+IsAllowed caller Open_session state = is_full caller state.sessions ≡ false
+IsAllowed caller (Close_session session) state = Unit {0}
 
--- ---- a call's plan
+-- the same for each of several changes
+abbrev pub AreAllowed : ConnId → List Change → Rows → Type 0
+AreAllowed caller [] state = Unit {0}
+AreAllowed caller (change ∷ changes) state = IsAllowed caller change state × AreAllowed caller changes (performed caller change state)
+
+-- the values of an answer are of their types
+abbrev pub FitsAnswer : Result Body ErrorName → Type 0
+FitsAnswer (Ok body) = FitsBody body
+FitsAnswer (Err name) = Unit {0}
+
+-- each change of a plan is allowed, and the values of its answer are of their types
+abbrev pub MayRun : ConnId → Plan → Rows → Type 0
+MayRun caller (Ends answer changes) state = AreAllowed caller changes state × FitsAnswer (filled answer)
+MayRun caller (After changes next) state =
+    AreAllowed caller changes state × MayRun caller (next (asked caller (performed_all caller changes state))) (performed_all caller changes state)
 
 -- the caller can open a session: it has fewer than it may have, and a number is left
 pub not-full : (few spent : Bool) → (few || spent) ≡ false → (few ≡ false) × (spent ≡ false)
 not-full true spent is = let no : ⊥ = cc in absurd no
 not-full false spent is = (refl, is)
 
-opened-plan : (caller : ConnId) (state : Rows) (plain : Bool) → has caller state.connections.rows ≡ true → IsSound state
-    → IsSound (performed_all caller (cond plain (cond (is_full caller state.sessions) (refused name.LimitsExceeded) (answered (body.Session (record { 0 = state.sessions.next })) (Open_session ∷ []))) (refused name.NotSupported)).changes state)
-opened-plan caller state false there sound = sound
-opened-plan caller state true there sound =
+sound-performed : (caller : ConnId) (change : Change) (state : Rows) → has caller state.connections.rows ≡ true → IsAllowed caller change state → IsSound state
+    → IsSound (performed caller change state)
+sound-performed caller Open_session state there allowed sound =
+    let room = not-full (nat_le most_sessions (length (rows_of caller state.sessions.rows))) (nat_le last_session state.sessions.next) allowed in
+    record {
+      connections = sound.connections;
+      sessions = sessions-opened caller state.connections.rows state.sessions there (leb-false most_sessions (length (rows_of caller state.sessions.rows)) room.0)
+          (leb-false last_session state.sessions.next room.1) sound.sessions;
+    }
+sound-performed caller (Close_session session) state there allowed sound = record {
+  connections = sound.connections;
+  sessions = sessions-fewer state.connections.rows (λ row. not (is_of caller session row)) state.sessions sound.sessions;
+}
+
+sound-all : (caller : ConnId) (changes : List Change) (state : Rows) → has caller state.connections.rows ≡ true → AreAllowed caller changes state → IsSound state
+    → IsSound (performed_all caller changes state)
+sound-all caller [] state there allowed sound = sound
+sound-all caller (change ∷ changes) state there allowed sound =
+    sound-all caller changes (performed caller change state) (ap (λ (c : ConnRows). has caller c.rows) (connections-performed caller change state) ∙ there) allowed.1
+    (sound-performed caller change state there allowed.0 sound)
+
+sound-run : (caller : ConnId) (plan : Plan) (state : Rows) → has caller state.connections.rows ≡ true → MayRun caller plan state → IsSound state → IsSound (run caller plan state).state
+sound-run caller (Ends answer changes) state there may sound = sound-all caller changes state there may.0 sound
+sound-run caller (After changes next) state there may sound =
+    let mid = performed_all caller changes state in
+    sound-run caller (next (asked caller mid)) mid (ap (λ (c : ConnRows). has caller c.rows) (connections-all caller changes state) ∙ there) may.1 (sound-all caller changes state there may.0 sound)
+
+fits-run : (caller : ConnId) (plan : Plan) (state : Rows) → MayRun caller plan state → FitsAnswer (run caller plan state).answer
+fits-run caller (Ends answer changes) state may = may.1
+fits-run caller (After changes next) state may = fits-run caller (next (asked caller (performed_all caller changes state))) (performed_all caller changes state) may.1
+
+fits-bounded : (answer : Result Body ErrorName) → FitsAnswer answer → FitsAnswer (bounded answer)
+fits-bounded (Ok body) fits =
+    let pass : (b : Bool) → FitsAnswer (cond b (Ok body) (Err name.LimitsExceeded)) = elim [ true ↦ fits | false ↦ tt ] in
+    pass (nat_le (length (spelled_body body)) most_body)
+fits-bounded (Err name) fits = tt
+
+fits-limited : (plan : Plan) (ran : Ran) → FitsAnswer ran.answer → FitsAnswer (limited plan ran).answer
+fits-limited (Ends answer []) ran fits = fits-bounded ran.answer fits
+fits-limited (Ends answer (change ∷ changes)) ran fits = fits
+fits-limited (After changes next) ran fits = fits
+
+-- ---- the table of calls
+
+opened-may : (caller : ConnId) (state : Rows) (plain : Bool)
+    → MayRun caller (cond plain (cond (is_full caller state.sessions) (refused name.LimitsExceeded) (answered (body.Session (record { 0 = state.sessions.next })) (Open_session ∷ []))) (refused name.NotSupported)) state
+opened-may caller state false = (tt, tt)
+opened-may caller state true =
     let pass : (full : Bool) → is_full caller state.sessions ≡ full
-    → IsSound (performed_all caller (cond full (refused name.LimitsExceeded) (answered (body.Session (record { 0 = state.sessions.next })) (Open_session ∷ []))).changes state) =
+    → MayRun caller (cond full (refused name.LimitsExceeded) (answered (body.Session (record { 0 = state.sessions.next })) (Open_session ∷ []))) state =
     elim [
-      | true ↦ λ is. sound
+      | true ↦ λ is. (tt, tt)
       | false ↦ λ is.
           let room = not-full (nat_le most_sessions (length (rows_of caller state.sessions.rows))) (nat_le last_session state.sessions.next) is in
-          sound-opened caller state there (leb-false most_sessions (length (rows_of caller state.sessions.rows)) room.0) (leb-false last_session state.sessions.next room.1) sound
+          ((is, tt), omega (arith, leb-false last_session state.sessions.next room.1))
     ] in
     pass (is_full caller state.sessions) refl
 
-closed-plan : (caller : ConnId) (session : SessionId) (state : Rows) (owns : Bool) → IsSound state
-    → IsSound (performed_all caller (cond owns (answered body.Empty (Close_session session ∷ [])) (refused name.NoSession)).changes state)
-closed-plan caller session state true sound = sound-closed caller session state sound
-closed-plan caller session state false sound = sound
+closed-may : (caller : ConnId) (session : SessionId) (state : Rows) (owns : Bool) → MayRun caller (cond owns (answered body.Empty (Close_session session ∷ [])) (refused name.NoSession)) state
+closed-may caller session state true = ((tt, tt), tt)
+closed-may caller session state false = (tt, tt)
 
--- the changes of any call keep a sound state sound
-pub sound-planned : (caller : ConnId) (state : Rows) (call : Result Call CallFault) → has caller state.connections.rows ≡ true → IsSound state
-    → IsSound (performed_all caller (plan_of call (asked caller state)).changes state)
-sound-planned caller state (Err fault) there sound = sound
-sound-planned caller state (Ok call.Ping) there sound = sound
-sound-planned caller state (Ok (call.OpenSession algorithm)) there sound = opened-plan caller state (is_plain algorithm) there sound
-sound-planned caller state (Ok (call.CloseSession session)) there sound = closed-plan caller session state ((asked caller state).owns session) sound
+-- each row's plan may be run
+pub may-run : (caller : ConnId) (state : Rows) (call : Result Call CallFault) → MayRun caller (plan_of call (asked caller state)) state
+may-run caller state (Err fault) = (tt, tt)
+may-run caller state (Ok call.Ping) = (tt, tt)
+may-run caller state (Ok (call.OpenSession algorithm)) = opened-may caller state (is_plain algorithm)
+may-run caller state (Ok (call.CloseSession session)) = closed-may caller session state ((asked caller state).sessions.owns session)
 
--- the values of what answers any call are of their types
-abbrev pub FitsAnswer : Result Body ErrorName → Type 0
-FitsAnswer (Ok body) = FitsBody body
-FitsAnswer (Err name) = Unit {0}
+-- ---- what a request puts out
 
-opened-answer : (full plain : Bool) (next : ℕ) → next ≤ last_session
-    → FitsAnswer (cond plain (cond full (refused name.LimitsExceeded) (answered (body.Session (record { 0 = next })) (Open_session ∷ []))) (refused name.NotSupported)).answer
-opened-answer full false next small = tt
-opened-answer true true next small = tt
-opened-answer false true next small = omega (arith, small)
+-- the message of an answer whose values are of their types
+message-waits : (caller : ConnId) (request : Request) (answer : Result Body ErrorName) → FitsAnswer answer → CanWait (record { to = caller; out = message_of request.serial answer })
+unfolding size_of
+message-waits caller request (Ok body) fits = record {
+  spelled = record { answers = request.has_serial; answered_fits = request.fits; fits = fits };
+  small = out-short (out.Return request.serial body) 1 fits;
+}
+message-waits caller request (Err name) fits = record {
+  spelled = record { answers = request.has_serial; answered_fits = request.fits; fits = tt };
+  small = out-short (out.Error request.serial name) 1 tt;
+}
 
-closed-answer : (owns : Bool) (session : SessionId) → FitsAnswer (cond owns (answered body.Empty (Close_session session ∷ [])) (refused name.NoSession)).answer
-closed-answer true session = tt
-closed-answer false session = tt
+replies-wait : (wanted : Bool) (sent : Sent) → CanWait sent → AllByRecursion CanWait (cond wanted (sent ∷ []) [])
+replies-wait true sent waits = (waits, tt)
+replies-wait false sent waits = tt
 
-pub answer-fits : (caller : ConnId) (state : Rows) (call : Result Call CallFault) → state.sessions.next ≤ last_session → FitsAnswer (plan_of call (asked caller state)).answer
-answer-fits caller state (Err fault) small = tt
-answer-fits caller state (Ok call.Ping) small = tt
-answer-fits caller state (Ok (call.OpenSession algorithm)) small = opened-answer (is_full caller state.sessions) (is_plain algorithm) state.sessions.next small
-answer-fits caller state (Ok (call.CloseSession session)) small = closed-answer ((asked caller state).owns session) session
+-- the reply to a request, and all that it puts out
+pub reply-waits : (caller : ConnId) (request : Request) (state : Rows) → CanWait (record { to = caller; out = message_of request.serial (served caller request state).answer })
+reply-waits caller request state =
+    let plan = plan_of request.call (asked caller state) in
+    message-waits caller request (served caller request state).answer (fits-limited plan (run caller plan state) (fits-run caller plan state (may-run caller state request.call)))
 
--- and so it has a spelling
-message-spelled : (request : Request) (answer : Result Body ErrorName) → FitsAnswer answer → HasSpelling (message_of request.serial answer)
-message-spelled request (Ok body) fits = record { answers = request.has_serial; answered_fits = request.fits; fits = fits }
-message-spelled request (Err name) fits = record { answers = request.has_serial; answered_fits = request.fits; fits = tt }
+served-waits : (caller : ConnId) (request : Request) (state : Rows) → AllByRecursion CanWait (put_out caller request (served caller request state))
+served-waits caller request state = rw (put_out-served caller request state) (replies-wait request.wants_reply _ (reply-waits caller request state))
 
-replies-spelled : (wanted : Bool) (caller : ConnId) (out : Out) → HasSpelling out → AreSpelled (cond wanted (record { to = caller; out = out } ∷ []) [])
-replies-spelled true caller out spelled = (spelled, tt)
-replies-spelled false caller out spelled = tt
+sound-served : (caller : ConnId) (request : Request) (state : Rows) → has caller state.connections.rows ≡ true → IsSound state → IsSound (served caller request state).state
+sound-served caller request state there sound =
+    let plan = plan_of request.call (asked caller state) in
+    rw (state-limited plan (run caller plan state)) (sound-run caller plan state there (may-run caller state request.call) sound)
 
 -- ---- an event, a list of events
 
@@ -472,11 +527,10 @@ sound-step state (event.Connect conn) sound fits = record {
   sessions = sessions-among state.connections.rows (joined conn state.connections).rows (λ owner there. has-push owner state.connections.rows (new_row conn) there) state.sessions sound.sessions;
 }
 sound-step state (event.Arrive arrival) sound fits =
-    let plan = planned arrival.conn arrival.request state in
-    sound-delivered (replies arrival.conn arrival.request plan)
-    (replies-spelled arrival.request.wants_reply arrival.conn (message_of arrival.request.serial plan.answer) (message-spelled arrival.request plan.answer (answer-fits arrival.conn state arrival.request.call sound.sessions.numbered)))
-    (performed_all arrival.conn plan.changes state)
-    (sound-planned arrival.conn state arrival.request.call fits sound)
+    let ran = served arrival.conn arrival.request state in
+    sound-delivered (put_out arrival.conn arrival.request ran)
+    (each-weaker CanWait (λ sent. HasSpelling sent.out) (λ sent waits. waits.spelled) (put_out arrival.conn arrival.request ran) (served-waits arrival.conn arrival.request state))
+    ran.state (sound-served arrival.conn arrival.request state fits sound)
 sound-step state (event.Leave conn) sound fits = sound-changed conn left (λ row. refl) (λ row well. record { within = well.within; spelled = well.spelled }) state sound
 sound-step state (event.Take conn) sound fits = sound-changed conn emptied (λ row. refl) (λ row well. record { within = omega arith; spelled = tt }) state sound
 sound-step state (event.Gone conn) sound fits = record {
@@ -487,3 +541,11 @@ sound-step state (event.Gone conn) sound fits = record {
 pub sound-replay : (state : Rows) (events : List Event) → IsSound state → Legal state events → IsSound (replay state events)
 sound-replay state [] sound legal = sound
 sound-replay state (event ∷ events) sound legal = sound-replay (step state event) events (sound-step state event sound legal.0) legal.1
+
+-- what an event puts out can wait
+pub waits-step : (state : Rows) (event : Event) → IsSound state → Fits state event → AllByRecursion CanWait (puts_out state event)
+waits-step state (event.Connect conn) sound fits = tt
+waits-step state (event.Arrive arrival) sound fits = served-waits arrival.conn arrival.request state
+waits-step state (event.Leave conn) sound fits = tt
+waits-step state (event.Take conn) sound fits = tt
+waits-step state (event.Gone conn) sound fits = tt

@@ -86,3 +86,8 @@ pub record Sent : Type 0 where
 abbrev pub delivered : List Sent → List ConnRow → List ConnRow
 delivered [] rows = rows
 delivered (sent ∷ more) rows = delivered more (changed sent.to (with_out sent.out) rows)
+
+-- the outputs among these that are on their way to this connection
+abbrev pub sent_to : ConnId → List Sent → List Out
+sent_to conn [] = []
+sent_to conn (sent ∷ more) = if sent.to.0 == conn.0 then sent.out ∷ sent_to conn more else sent_to conn more

@@ -5,6 +5,8 @@ pub mod Machine
 pub mod Plan
 pub mod Replay
 pub mod Rows
+pub mod Run
 pub mod SessionCalls
+pub mod Single
 pub mod Sound
 pub mod Step

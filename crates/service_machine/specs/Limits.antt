@@ -14,6 +14,10 @@ last_connection = 18446744073709551615
 abbrev pub most_taken : ℕ
 most_taken = 18446744073709551615
 
+-- the most bytes that the body of a return may have on a call that changes nothing
+abbrev pub most_body : ℕ
+most_body = 8388608
+
 -- once so many events of a run are recorded, no connection joins or asks any more
 abbrev pub most_events : ℕ
 most_events = 18446744073709000000

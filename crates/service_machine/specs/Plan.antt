@@ -1,19 +1,23 @@
--- A row of the table of calls is a plan: what it may ask of the state, what it may change, and what it answers. A
+-- A row of the table of calls is a plan: what it may ask of the state, what it answers, and what it may change. A
 -- row sees nothing but its questions, and changes nothing but by these changes, so what holds of every question and
 -- of every kind of change holds of all rows.
-use Rattle.std.specs.Prelude.{ℕ, Bool, List, [], Result, Ok, Err}
+use Rattle.std.specs.Prelude.{ℕ, Bool, List, []}
 use Rattle.kr_base.specs.declared.ids.SessionId.{SessionId}
 use Rattle.secret_calls.specs.declared.out.Body.{Body}
 use Rattle.secret_calls.specs.declared.out.ErrorName.{ErrorName}
 
--- what a row may ask, about its caller
-pub record Questions : Type 0 where
+-- what a row may ask of the sessions, about its caller
+pub record SessionQuestions : Type 0 where
   -- whether the caller owns the session
   pub owns : SessionId → Bool
   -- whether the caller can open no further session
   pub is_full : Bool
   -- the number that the next session gets
-  pub next_session : ℕ
+  pub next : ℕ
+
+-- what a row may ask: a record for each table
+pub record Questions : Type 0 where
+  pub sessions : SessionQuestions
 
 -- what a row may change
 pub data Change : Type 0 where
@@ -22,15 +26,22 @@ pub data Change : Type 0 where
   -- the caller's session ends
   Close_session : (session : SessionId) → Change
 
--- what a row answers, and changes
-pub record Plan : Type 0 where
-  pub answer : Result Body ErrorName
-  pub changes : List Change
+-- what a row answers
+pub data Answer : Type 0 where
+  -- a return with these values
+  Returns : (body : Body) → Answer
+  -- an error
+  Refuses : (name : ErrorName) → Answer
+
+-- A plan answers and changes something; or it changes something, and goes on by what it asks of the state in between.
+pub data Plan : Type 0 where
+  Ends : (answer : Answer) → (changes : List Change) → Plan
+  After : (changes : List Change) → (next : Questions → Plan) → Plan
 
 -- an error, with nothing changed
 abbrev pub refused : ErrorName → Plan
-refused name = record { answer = Err name; changes = [] }
+refused name = Ends (Refuses name) []
 
 -- a return
 abbrev pub answered : Body → List Change → Plan
-answered body changes = record { answer = Ok body; changes = changes }
+answered body changes = Ends (Returns body) changes

@@ -12,21 +12,21 @@ abbrev pub is_plain : List ℕ → Bool
 is_plain algorithm = pointwise nat_eq algorithm (codes "plain")
 
 -- Ping: an empty return, and no change
-abbrev pub ping : Plan
-ping = answered body.Empty []
+abbrev pub ping : Questions → Plan
+ping asked = answered body.Empty []
 
 -- OpenSession: the caller's next session
 abbrev pub open_session : List ℕ → Questions → Plan
 open_session algorithm asked =
     if is_plain algorithm
-    then (if asked.is_full
+    then (if asked.sessions.is_full
     then refused name.LimitsExceeded
-    else answered (body.Session (record { 0 = asked.next_session })) (Open_session ∷ []))
+    else answered (body.Session (record { 0 = asked.sessions.next })) (Open_session ∷ []))
     else refused name.NotSupported
 
 -- Close: the caller's session ends
 abbrev pub close_session : SessionId → Questions → Plan
 close_session session asked =
-    if asked.owns session
+    if asked.sessions.owns session
     then answered body.Empty (Close_session session ∷ [])
     else refused name.NoSession

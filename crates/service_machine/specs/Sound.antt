@@ -12,7 +12,7 @@ use Rattle.session_table.specs.Sessions.{rows_of, most_sessions, last_session}
 use Rattle.service_machine.specs.declared.rows.Rows.{Rows}
 use Rattle.service_machine.specs.declared.rows.ConnRow.{ConnRow}
 use Rattle.service_machine.specs.declared.rows.ConnRows.{ConnRows}
-use Rattle.service_machine.specs.Connections.{has, size_waiting}
+use Rattle.service_machine.specs.Connections.{has, size_of, size_waiting, Sent}
 use Rattle.service_machine.specs.Limits.{most_connections}
 
 -- each connection's number is below the next one
@@ -23,6 +23,11 @@ AreJoined next rows = AllByRecursion (λ row. row.conn.0 < next) rows
 abbrev pub AreApart : List ConnRow → Type 0
 AreApart [] = Unit {0}
 AreApart (row ∷ rows) = AllByRecursion (λ other. row.conn.0 < other.conn.0) rows × AreApart rows
+
+-- an output that can wait for a connection for which nothing waits: it has a spelling, which isn't too long
+pub record CanWait (sent : Sent) : Type 0 where
+  pub spelled : HasSpelling sent.out
+  pub small : size_of sent.out ≤ most_waiting
 
 -- no more bytes wait than may, and each output that waits has a spelling
 pub record WaitsWell (row : ConnRow) : Type 0 where

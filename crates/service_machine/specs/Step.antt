@@ -1,6 +1,6 @@
 -- One event of the service, as a step from rows to rows. What an event puts out stands beside what becomes of it,
 -- so that laws can speak of the outputs before the limit on what waits.
-use Rattle.std.specs.Prelude.{◌≡◌, ℕ, ◌<◌, ◌≤◌, ◌⊎◌, true, false, if◌then◌else◌, IsTrue, IsSomeAnd, List, [], ◌∷◌, length, Result, Ok, Err}
+use Rattle.std.specs.Prelude.{◌≡◌, ℕ, ◌<◌, ◌≤◌, ◌⊎◌, true, false, if◌then◌else◌, IsTrue, IsSomeAnd, List, [], ◌∷◌, ◌++◌, length, Result, Ok, Err}
 use Rattle.kr_base.specs.declared.ids.ConnId.{ConnId}
 use Rattle.secret_calls.specs.declared.call.Call.{Call}
 use Rattle.secret_calls.specs.declared.call.Call.TheVariants as call
@@ -11,7 +11,7 @@ use Rattle.secret_calls.specs.declared.out.ErrorName.{ErrorName}
 use Rattle.secret_calls.specs.declared.out.Out.{Out}
 use Rattle.secret_calls.specs.declared.out.Out.TheVariants as out
 use Rattle.secret_calls.specs.Calls.{error_of}
-use Rattle.session_table.specs.Sessions.{no_sessions, owns, is_full, opened, closed, abandoned}
+use Rattle.session_table.specs.Sessions.{no_sessions, abandoned}
 use Rattle.service_machine.specs.declared.rows.ConnRow.{ConnRow}
 use Rattle.service_machine.specs.declared.rows.Rows.{Rows}
 use Rattle.service_machine.specs.declared.event.Event.{Event}
@@ -20,7 +20,8 @@ use Rattle.service_machine.specs.declared.event.Output.{Output}
 use Rattle.service_machine.specs.declared.event.Output.TheVariants as output
 use Rattle.service_machine.specs.Connections.{joined, has, changed, without, left, emptied, waiting_for, desk_of, Sent, delivered}
 use Rattle.service_machine.specs.Limits.{most_connections, last_connection}
-use Rattle.service_machine.specs.Plan.{Questions, Plan, Change, Open_session, Close_session, refused}
+use Rattle.service_machine.specs.Plan.{Questions, Plan, refused}
+use Rattle.service_machine.specs.Run.{Ran, ran}
 use Rattle.service_machine.specs.SessionCalls.{ping, open_session, close_session}
 
 -- the service as it starts
@@ -31,17 +32,9 @@ opened_rows = record { connections = record { rows = []; next = 1 }; sessions = 
 abbrev pub with_rows : List ConnRow → Rows → Rows
 with_rows rows state = record state { connections = record state.connections { rows = rows } }
 
--- the answers to a caller's questions
-abbrev pub asked : ConnId → Rows → Questions
-asked caller state = record {
-  owns = λ session. owns caller session state.sessions;
-  is_full = is_full caller state.sessions;
-  next_session = state.sessions.next;
-}
-
 -- the table of calls: one row for each
 abbrev pub row_of : Call → Questions → Plan
-row_of call.Ping asked = ping
+row_of call.Ping asked = ping asked
 row_of (call.OpenSession algorithm) asked = open_session algorithm asked
 row_of (call.CloseSession session) asked = close_session session asked
 
@@ -50,36 +43,30 @@ abbrev pub plan_of : Result Call CallFault → Questions → Plan
 plan_of (Ok call) asked = row_of call asked
 plan_of (Err fault) asked = refused (error_of fault)
 
--- a change of the state
-abbrev pub performed : ConnId → Change → Rows → Rows
-performed caller Open_session state = record state { sessions = opened caller state.sessions }
-performed caller (Close_session session) state = record state { sessions = closed caller session state.sessions }
-
--- changes in order
-abbrev pub performed_all : ConnId → List Change → Rows → Rows
-performed_all caller [] state = state
-performed_all caller (change ∷ changes) state = performed_all caller changes (performed caller change state)
-
 -- the message that answers a call
 abbrev pub message_of : ℕ → Result Body ErrorName → Out
 message_of serial (Ok body) = out.Return serial body
 message_of serial (Err name) = out.Error serial name
 
 -- what answers a request: nothing where no reply is wanted
-abbrev pub replies : ConnId → Request → Plan → List Sent
-replies caller request plan =
+abbrev pub replies : ConnId → Request → Result Body ErrorName → List Sent
+replies caller request answer =
     if request.wants_reply
-    then record { to = caller; out = message_of request.serial plan.answer } ∷ []
+    then record { to = caller; out = message_of request.serial answer } ∷ []
     else []
 
--- the plan of a request, in a state
-abbrev pub planned : ConnId → Request → Rows → Plan
-planned caller request state = plan_of request.call (asked caller state)
+-- what a request leads to, in a state
+abbrev pub served : ConnId → Request → Rows → Ran
+served caller request state = ran caller (plan_of request.call) state
+
+-- what a request puts out: its reply, and then what its changes send
+abbrev pub put_out : ConnId → Request → Ran → List Sent
+put_out caller request ran = replies caller request ran.answer ++ ran.sends
 
 -- what an event puts out
 abbrev pub puts_out : Rows → Event → List Sent
 puts_out state (event.Connect conn) = []
-puts_out state (event.Arrive arrival) = replies arrival.conn arrival.request (planned arrival.conn arrival.request state)
+puts_out state (event.Arrive arrival) = put_out arrival.conn arrival.request (served arrival.conn arrival.request state)
 puts_out state (event.Leave conn) = []
 puts_out state (event.Take conn) = []
 puts_out state (event.Gone conn) = []
@@ -90,9 +77,7 @@ with_delivered sent state = with_rows (delivered sent state.connections.rows) st
 
 -- the state after a request
 abbrev pub arrived : ConnId → Request → Rows → Rows
-arrived conn request state =
-    with_delivered (replies conn request (planned conn request state))
-    (performed_all conn (planned conn request state).changes state)
+arrived conn request state = with_delivered (put_out conn request (served conn request state)) (served conn request state).state
 
 -- the state after an event
 abbrev pub step : Rows → Event → Rows
@@ -117,6 +102,10 @@ IsMissing conn state = has conn state.connections.rows ≡ false
 -- no further connection can join: as many are there as may be, or no number is left
 abbrev pub IsCrowded : Rows → Type 0
 IsCrowded state = (most_connections ≤ length state.connections.rows) ⊎ (last_connection ≤ state.connections.next)
+
+-- a further connection can join
+abbrev pub CanJoin : Rows → Type 0
+CanJoin state = (length state.connections.rows < most_connections) × (state.connections.next < last_connection)
 
 -- the event can happen in the state
 abbrev pub Fits : Rows → Event → Type 0

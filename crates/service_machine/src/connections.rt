@@ -1,10 +1,10 @@
 // The connections, by their numbers. Finding one takes steps by the logarithm of how many there are.
-ghost use Rattle.std.specs.Prelude.{◌≡◌, ◌≢◌, ℕ, ◌+◌, ◌<◌, ◌≤◌, ◌⊎◌, [], ◌∷◌, ◌++◌, length, Some, None, false, true, IsTrue, IsErrOf, IfOk, OnOk, OnErr, IfSome, IfNone, IsNone};
+ghost use Rattle.std.specs.Prelude.{◌≡◌, ℕ, ◌+◌, ◌<◌, ◌≤◌, ◌⊎◌, [], ◌∷◌, ◌++◌, length, Some, None, false, true, IfOk, OnOk, OnErr};
 ghost use Rattle.service_machine.specs.Limits.{most_connections, last_connection};
 ghost use Rattle.service_machine.specs.Connections.{new_row, has, changed, without, with_out, left, emptied, waiting_for, desk_of};
 
 use crate::desk::Desk;
-use crate::{ApplyRefused, ConnRows, DeskRow, desks};
+use crate::{ConnRows, DeskRow, desks};
 use kr_base::{ConnId, OutOfMemory};
 use kr_items::Items;
 use secret_calls::Out;
@@ -50,27 +50,26 @@ impl Connections {
         }
     }
 
+    /// Whether no further connection can join: 256 are there, or no number is left.
+    pub fn is_crowded(&self) -> bool
+        ensures crowded { result ≡ true → (most_connections ≤ length self.now.rows)
+            ⊎ (last_connection ≤ self.now.next) }
+        ensures room { result ≡ false → (length self.now.rows < most_connections)
+            × (self.now.next < last_connection) }
+    {
+        self.desks.len() >= MOST || self.next == u64::MAX
+    }
+
     /// Adds a connection, and gives it the next number.
-    ///
-    /// Refused with `TooManyConnections` where 256 are there or no number is left.
-    pub fn join(&mut self) -> Result<ConnId, ApplyRefused>
+    pub fn join(&mut self) -> Result<ConnId, OutOfMemory>
+        requires { self.old.next < last_connection }
         ensures number { IfOk result (λ conn. conn.0 ≡ self.old.next) }
         ensures joined { IfOk result (λ conn. self.new.rows ≡ self.old.rows ++ new_row conn ∷ []) }
         ensures next { OnOk result (self.new.next ≡ self.old.next + 1) }
-        ensures room { OnOk result ((length self.old.rows < most_connections)
-            × (self.old.next < last_connection)) }
-
-        // After a refusal the rows are as before.
-        ensures too_many { IsErrOf result ApplyRefused.TooManyConnections
-            → (most_connections ≤ length self.old.rows) ⊎ (last_connection ≤ self.old.next) }
-        ensures no_other { result ≢ Err ApplyRefused.NoConnection }
         ensures unchanged { OnErr result ((self.new.rows ≡ self.old.rows)
             × (self.new.next ≡ self.old.next)) }
     {
         let number = self.next;
-        if self.desks.len() >= MOST || number == u64::MAX {
-            return Err(ApplyRefused::TooManyConnections);
-        }
         self.ready = None;
         desks::add(&mut self.desks, number, Desk::new(self.alloc))?;
         self.next = number + 1;

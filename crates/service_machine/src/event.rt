@@ -1,5 +1,6 @@
 ghost use Rattle.std.specs.Prelude.{◌≡◌};
-ghost use Rattle.service_machine.specs.declared.event.ApplyRefused.TheVariants.{OutOfMemory};
+ghost use Rattle.service_machine.specs.declared.event.ApplyRefused.TheVariants as ApplyRefused;
+ghost use Rattle.service_machine.specs.declared.event.JoinRefused.TheVariants as JoinRefused;
 
 use kr_base::ConnId;
 use kr_items::Items;
@@ -83,10 +84,32 @@ pub enum ApplyRefused {
     OutOfMemory,
 }
 
+/// Why a connection couldn't join.
+#[derive(Clone, Copy, Debug, PartialEq, Eq, Error)]
+pub enum JoinRefused {
+    /// The service has recorded all the events that it can count.
+    #[error("no further event can be counted")]
+    EventsSpent,
+    /// 256 connections are there, or no number is left.
+    #[error("no further connection can join")]
+    TooManyConnections,
+    /// No memory was left.
+    #[error("no memory was left")]
+    OutOfMemory,
+}
+
 impl From<AllocError> for ApplyRefused {
-    ghost from_gives = { λ _ e. e ≡ OutOfMemory };
+    ghost from_gives = { λ _ e. e ≡ ApplyRefused.OutOfMemory };
 
     fn from(_error: AllocError) -> Self {
         ApplyRefused::OutOfMemory
+    }
+}
+
+impl From<AllocError> for JoinRefused {
+    ghost from_gives = { λ _ e. e ≡ JoinRefused.OutOfMemory };
+
+    fn from(_error: AllocError) -> Self {
+        JoinRefused::OutOfMemory
     }
 }

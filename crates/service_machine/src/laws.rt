@@ -1,11 +1,12 @@
 // What the definitions of a step and of lists of events say together. Each law is the contract of a
 // function that does nothing.
 ghost use Rattle.std.specs.Prelude.{◌≡◌, ◌++◌, ◌∷◌, [], List};
+ghost use Rattle.std.specs.List.{AllByRecursion};
 ghost use Rattle.service_machine.specs.declared.rows.Rows.{Rows};
 ghost use Rattle.service_machine.specs.declared.event.Event.{Event};
-ghost use Rattle.service_machine.specs.Step.{opened_rows, step, output_of, Fits};
+ghost use Rattle.service_machine.specs.Step.{opened_rows, step, puts_out, output_of, Fits};
 ghost use Rattle.service_machine.specs.Replay.{replay, Legal, outputs};
-ghost use Rattle.service_machine.specs.Sound.{IsSound};
+ghost use Rattle.service_machine.specs.Sound.{CanWait, IsSound};
 
 /// The start is sound, and each event that fits keeps a sound state sound.
 pub fn steps_keep_the_rows_sound()
@@ -14,6 +15,13 @@ pub fn steps_keep_the_rows_sound()
         → IsSound (step state event) }
     ensures replay { (state : Rows) (events : List Event) → IsSound state → Legal state events
         → IsSound (replay state events) }
+{}
+
+/// What an event puts out has a spelling, and is small enough to wait for a connection for which nothing
+/// waits: so a reply is lost only where others wait before it.
+pub fn outputs_can_wait()
+    ensures { (state : Rows) (event : Event) → IsSound state → Fits state event
+        → AllByRecursion CanWait (puts_out state event) }
 {}
 
 /// One list behind another leads on from where the first one led, is legal where both are, and answers

@@ -14,7 +14,7 @@ mod laws;
 mod machine;
 mod rows;
 
-pub use event::{ApplyRefused, Arrival, Arrived, Event, Incoming, Output};
-pub use laws::{lists_of_events_go_on, steps_keep_the_rows_sound};
+pub use event::{ApplyRefused, Arrival, Arrived, Event, Incoming, JoinRefused, Output};
+pub use laws::{lists_of_events_go_on, outputs_can_wait, steps_keep_the_rows_sound};
 pub use machine::Machine;
 pub use rows::{ConnRow, ConnRows, DeskRow, Rows};

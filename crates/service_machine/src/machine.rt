@@ -1,16 +1,20 @@
-ghost use Rattle.std.specs.Prelude.{◌≡◌, ◌≢◌, true, false, IfOk, OnOk, OnErr, IsErrOf};
+ghost use Rattle.std.specs.Prelude.{◌≡◌, true, false, IfOk, OnOk, OnErr, IsErrOf};
 ghost use Rattle.service_machine.specs.Connections.{has, waiting_for, desk_of};
 ghost use Rattle.service_machine.specs.Machine.{Records, IsDue, IsOfNone, IsConnect, TakesMemory};
 ghost use Rattle.service_machine.specs.SessionCalls.{is_plain, open_session, close_session};
-ghost use Rattle.service_machine.specs.Step.{opened_rows, step, output_of, arrived, asked, plan_of, performed_all, message_of, IsMissing, IsCrowded, Fits};
+ghost use Rattle.service_machine.specs.Run.{bounded, ran};
+ghost use Rattle.service_machine.specs.Step.{opened_rows, step, output_of, arrived, plan_of, message_of, IsMissing, IsCrowded, CanJoin, Fits};
 
 use crate::connections::Connections;
 use crate::{ApplyRefused, Arrived, DeskRow, Event, Incoming, Output, Rows};
 use kr_base::{ConnId, OutOfMemory, SessionId, Text};
 use kr_items::Items;
-use secret_calls::{Body, Call, CallFault, ErrorName, Out, Request};
+use secret_calls::{Body, Call, CallFault, ErrorName, Out, Request, body_size};
 use session_table::{SessionRefused, SessionTable};
 use std::alloc::{AllocError, Global};
+
+/// How many bytes the body of a return may have on a call that changes nothing.
+const MOST_BODY: u64 = 8_388_608;
 
 /// The service: its connections and sessions, and what waits.
 #[derive(Drop)]
@@ -61,10 +65,14 @@ impl Machine {
     {
         match event {
             Incoming::Connect => {
-                let conn = self.connections.join()?;
+                if self.is_crowded() {
+                    return Err(ApplyRefused::TooManyConnections);
+                }
+                let conn = self.join()?;
                 Ok((Output::Joined(conn), Event::Connect(conn)))
             }
             Incoming::Arrive(arrival) => {
+                self.there(arrival.conn)?;
                 self.arrive(arrival.conn, &arrival.request)?;
                 Ok((Output::Arrived(Arrived {}), Event::Arrive(arrival)))
             }
@@ -92,23 +100,45 @@ impl Machine {
         ensures missing { OnErr result (IsMissing conn (rows_of self.now)) }
         ensures cause { OnErr result (IsErrOf result ApplyRefused.NoConnection) }
     {
-        if !self.connections.has(conn) {
+        if !self.has(conn) {
             return Err(ApplyRefused::NoConnection);
         }
         Ok(())
     }
 
-    // A request of a connection that is there: its call is answered, and the reply waits.
-    fn arrive(&mut self, conn: ConnId, request: &Request) -> Result<(), ApplyRefused>
-        ensures arrived { OnOk result
-            (rows_of self.new ≡ arrived conn request.now (rows_of self.old)) }
-        ensures there { OnOk result (has conn (rows_of self.old).connections.rows ≡ true) }
-        ensures missing { IsErrOf result ApplyRefused.NoConnection
-            → IsMissing conn (rows_of self.old) }
-        ensures no_other { result ≢ Err ApplyRefused.TooManyConnections }
+    /// Whether the connection is there. It takes no memory.
+    pub fn has(&self, conn: ConnId) -> bool
+        ensures { result ≡ has conn (rows_of self.now).connections.rows }
+    {
+        self.connections.has(conn)
+    }
+
+    /// Whether no further connection can join: 256 are there, or no number is left. It takes no memory.
+    pub fn is_crowded(&self) -> bool
+        ensures crowded { result ≡ true → IsCrowded (rows_of self.now) }
+        ensures room { result ≡ false → CanJoin (rows_of self.now) }
+    {
+        self.connections.is_crowded()
+    }
+
+    /// A connection joins, and gets the next number.
+    pub fn join(&mut self) -> Result<ConnId, OutOfMemory>
+        requires { CanJoin (rows_of self.old) }
+        ensures fits { IfOk result (λ conn. Fits (rows_of self.old) (Event.Connect conn)) }
+        ensures stepped { IfOk result (λ conn.
+            rows_of self.new ≡ step (rows_of self.old) (Event.Connect conn)) }
         ensures unchanged { OnErr result (rows_of self.new ≡ rows_of self.old) }
     {
-        self.there(conn)?;
+        self.connections.join()
+    }
+
+    /// A request of a connection that is there: its call is answered, and the reply waits.
+    pub fn arrive(&mut self, conn: ConnId, request: &Request) -> Result<(), OutOfMemory>
+        requires { has conn (rows_of self.old).connections.rows ≡ true }
+        ensures arrived { OnOk result
+            (rows_of self.new ≡ arrived conn request.now (rows_of self.old)) }
+        ensures unchanged { OnErr result (rows_of self.new ≡ rows_of self.old) }
+    {
         self.connections.reserve(conn)?;
         let answer = self.call(conn, &request.call)?;
         if request.wants_reply {
@@ -120,15 +150,15 @@ impl Machine {
     // The row of a call. The connection's room stays.
     fn call(&mut self, conn: ConnId, call: &Result<Call, CallFault>) -> Result<Answer, OutOfMemory>
         ensures answer { IfOk result (λ answer.
-            answer ≡ (plan_of call.now (asked conn (rows_of self.old))).answer) }
-        ensures changes { OnOk result (rows_of self.new ≡ performed_all conn
-            (plan_of call.now (asked conn (rows_of self.old))).changes (rows_of self.old)) }
+            answer ≡ (ran conn (plan_of call.now) (rows_of self.old)).answer) }
+        ensures state { OnOk result (rows_of self.new
+            ≡ (ran conn (plan_of call.now) (rows_of self.old)).state) }
         ensures room { self.new.connections ≡ self.old.connections }
         ensures unchanged { OnErr result (rows_of self.new ≡ rows_of self.old) }
     {
         match call {
             Err(fault) => Ok(Err(fault.error())),
-            Ok(Call::Ping) => Ok(Ok(Body::Empty)),
+            Ok(Call::Ping) => Ok(bounded(Ok(Body::Empty))),
             Ok(Call::OpenSession { algorithm }) => self.open_session(conn, algorithm),
             Ok(Call::CloseSession { session }) => Ok(self.close_session(conn, *session)),
         }
@@ -137,10 +167,9 @@ impl Machine {
     // The row of OpenSession.
     fn open_session(&mut self, conn: ConnId, algorithm: &Text) -> Result<Answer, OutOfMemory>
         ensures answer { IfOk result (λ answer.
-            answer ≡ (open_session algorithm.now (asked conn (rows_of self.old))).answer) }
-        ensures changes { OnOk result (rows_of self.new ≡ performed_all conn
-            (open_session algorithm.now (asked conn (rows_of self.old))).changes
-            (rows_of self.old)) }
+            answer ≡ (ran conn (open_session algorithm.now) (rows_of self.old)).answer) }
+        ensures state { OnOk result (rows_of self.new
+            ≡ (ran conn (open_session algorithm.now) (rows_of self.old)).state) }
         ensures room { self.new.connections ≡ self.old.connections }
         ensures unchanged { OnErr result (rows_of self.new ≡ rows_of self.old) }
     {
@@ -156,9 +185,9 @@ impl Machine {
 
     // The row of Close.
     fn close_session(&mut self, conn: ConnId, session: SessionId) -> Answer
-        ensures answer { result ≡ (close_session session (asked conn (rows_of self.old))).answer }
-        ensures changes { rows_of self.new ≡ performed_all conn
-            (close_session session (asked conn (rows_of self.old))).changes (rows_of self.old) }
+        ensures answer { result ≡ (ran conn (close_session session) (rows_of self.old)).answer }
+        ensures state { rows_of self.new
+            ≡ (ran conn (close_session session) (rows_of self.old)).state }
         ensures room { self.new.connections ≡ self.old.connections }
     {
         match self.sessions.close(session, conn) {
@@ -216,6 +245,21 @@ fn is_plain(algorithm: &Text) -> bool
     ensures { result ≡ is_plain algorithm.now }
 {
     algorithm.as_bytes() == b"plain".as_slice()
+}
+
+// The answer of a call that changes nothing: LimitsExceeded in place of a return that is too large.
+fn bounded(answer: Answer) -> Answer
+    ensures { result ≡ bounded answer }
+{
+    match answer {
+        Ok(body) => {
+            if body_size(&body) > MOST_BODY {
+                return Err(ErrorName::LimitsExceeded);
+            }
+            Ok(body)
+        }
+        Err(name) => Err(name),
+    }
 }
 
 // The message that answers the call with this serial.

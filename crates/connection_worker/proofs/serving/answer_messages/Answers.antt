@@ -1,4 +1,4 @@
-use Rattle.std.proofs.Common.{◌∙◌, Ok, Err, sym, refl}
+use Rattle.std.proofs.Common.{◌∙◌, refl}
 use Rattle.dbus_framing.specs.Messages.{parts_of}
 use Rattle.connection_worker.specs.Streams.{output_of}
 use Rattle.connection_worker.specs.Serving.{world}
@@ -10,7 +10,7 @@ loop-init g c = (refl, going-none c.args.framer.now.most c.args.framer.now.rest 
 
 -- the desk stays alone, and nothing is owed between two messages
 pub answer_message-requires-clause-alone : goal.answer_message-requires-clause-alone
-answer_message-requires-clause-alone g c = c.loop.invariant.1.answered.recorded.same.alone ∙ c.requires.alone
+answer_message-requires-clause-alone g c = c.loop.invariant.1.answered.recorded.calls.same.alone ∙ c.requires.alone
 
 pub answer_message-requires-clause-idle : goal.answer_message-requires-clause-idle
 answer_message-requires-clause-idle g c = c.loop.invariant.1.answered.idle

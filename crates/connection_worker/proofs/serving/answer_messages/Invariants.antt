@@ -1,4 +1,4 @@
-use Rattle.std.proofs.Common.{◌≡◌, IsTrue}
+use Rattle.std.proofs.Common.{◌≡◌}
 use Rattle.connection_worker.specs.Streams.{output_of}
 use Rattle.connection_worker.specs.Serving.{world}
 use Rattle.connection_worker.specs.Answering.{Going}

@@ -1,1 +1,0 @@
-use Rattle.connection_worker.proofs.serving.give.Goals as goal

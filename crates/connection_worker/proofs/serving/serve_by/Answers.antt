@@ -9,7 +9,7 @@ loop-init g c = rw c.new-serials.ensures (amid-none c.args.framer _ _ _ c.requir
 
 -- the desk stays alone, and nothing is owed between two messages
 pub answer_messages-answered-requires-clause-alone : goal.answer_messages-answered-requires-clause-alone
-answer_messages-answered-requires-clause-alone g c = c.loop.invariant.going.answered.recorded.same.alone ∙ c.requires.alone
+answer_messages-answered-requires-clause-alone g c = c.loop.invariant.going.answered.recorded.calls.same.alone ∙ c.requires.alone
 
 pub answer_messages-answered-requires-clause-idle : goal.answer_messages-answered-requires-clause-idle
 answer_messages-answered-requires-clause-idle g c = c.loop.invariant.going.answered.idle

@@ -36,4 +36,4 @@ returns g c =
     (world desk.told desk.has_seen g.C.Clock.coming c.args.desk.now c.args.clock.now c.args.salts.now)
     (world desk.told desk.has_seen g.C.Clock.coming c.serve-end.new.desk c.serve-end.new.clock c.serve-end.new.salts)
     (place desk.told desk.has_seen c.gone-2.new.self) c.in-Ok.framer c.serve-end.result c.in-Ok.ensures c.requires.joined serves
-    (goes-alone (place desk.told desk.has_seen c.serve-end.new.desk) (place desk.told desk.has_seen c.gone-2.new.self) (serves.recorded.same.alone ∙ c.requires.alone) serves.idle c.gone-2.ensures)
+    (goes-alone (place desk.told desk.has_seen c.serve-end.new.desk) (place desk.told desk.has_seen c.gone-2.new.self) (serves.recorded.calls.same.alone ∙ c.requires.alone) serves.idle c.gone-2.ensures)
