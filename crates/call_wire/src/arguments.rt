@@ -5,12 +5,12 @@ ghost use Rattle.std.specs.Str.{bytes_eq};
 ghost use Rattle.dbus_types.specs.Types.{text_of, texts_of};
 ghost use Rattle.dbus_types.specs.Views.{type_of, types_of};
 ghost use Rattle.dbus_types.specs.ValueViews.{value_of, values_of};
-ghost use Rattle.dbus_framing.specs.Headers.{string_in, path_in, number_in, held_in, two_of};
-ghost use Rattle.call_wire.specs.Arguments.{boolean_in, long_number_in, bytes_in, without_arguments};
+ghost use Rattle.dbus_framing.specs.Headers.{string_in, held_in, two_of};
+ghost use Rattle.call_wire.specs.Arguments.{without_arguments};
 ghost use Rattle.call_wire.specs.Fronts.{behind};
 
-use dbus_types::{BasicType, CompleteType, ObjectPath, Value};
-use kr_base::{Bytes, Text};
+use dbus_types::{BasicType, CompleteType, Value};
+use kr_base::Text;
 use secret_calls::{Call, CallFault};
 
 // What stands behind this code.
@@ -79,63 +79,6 @@ pub fn string_in(value: &Value) -> Option<&Text>
         Value::String(text) => {
             let text: &Text = text;
             Some(text)
-        }
-        _ => None,
-    }
-}
-
-/// The path that a value of type `o` is.
-pub fn path_in(value: &Value) -> Option<&ObjectPath>
-    ensures { option_copied result ≡ path_in (value_of value.now) }
-{
-    match value {
-        Value::ObjectPath(path) => {
-            let path: &ObjectPath = path;
-            Some(path)
-        }
-        _ => None,
-    }
-}
-
-/// Whether a value of type `b` is true.
-pub fn boolean_in(value: &Value) -> Option<bool>
-    ensures { result ≡ boolean_in (value_of value.now) }
-{
-    match value {
-        Value::Boolean(true) => Some(true),
-        Value::Boolean(false) => Some(false),
-        _ => None,
-    }
-}
-
-/// The number that a value of type `u` is.
-pub fn number_in(value: &Value) -> Option<u32>
-    ensures { result ≡ number_in (value_of value.now) }
-{
-    match value {
-        Value::Uint32(number) => Some(*number),
-        _ => None,
-    }
-}
-
-/// The number that a value of type `t` is.
-pub fn long_number_in(value: &Value) -> Option<u64>
-    ensures { result ≡ long_number_in (value_of value.now) }
-{
-    match value {
-        Value::Uint64(number) => Some(*number),
-        _ => None,
-    }
-}
-
-/// The bytes that a value of type `ay` is.
-pub fn bytes_in(value: &Value) -> Option<&Bytes>
-    ensures { option_copied result ≡ bytes_in (value_of value.now) }
-{
-    match value {
-        Value::Bytes(bytes) => {
-            let bytes: &Bytes = bytes;
-            Some(bytes)
         }
         _ => None,
     }

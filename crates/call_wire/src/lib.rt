@@ -13,10 +13,7 @@ mod service;
 mod session;
 mod writing;
 
-pub use arguments::{
-    are_listed, boolean_in, bytes_in, held_in, long_number_in, number_in, path_in, string_in,
-    two_in,
-};
+pub use arguments::{are_listed, held_in, string_in, two_in};
 pub use laws::{a_message_is_one_request, what_is_sent_is_read_again};
 pub use reading::call_of;
 pub use writing::message_of;
