@@ -1,6 +1,6 @@
 """The most memory at once that messages of about a megabyte take, for each of their bytes: arrays of empty arrays of a
-long struct, arrays 32 deep, variants, a dict, bytes, signatures, and structs 32 deep; read by unmarshal alone, and as the
-body of a call to `keyringd stdio`, the process included."""
+long struct, arrays 32 deep, variants, a dict, bytes, signatures of several kinds, and structs 32 deep; read by unmarshal
+alone, and as the body of a call to `keyringd stdio`, the process included."""
 from benchmarks.shared import ROOT, c_program, lines_of, rattle_program, run
 
 MEMORY_PROGRAM = """//! Reads the body of one array, whose elements are some bytes over and over, and prints how many values it is.
@@ -83,8 +83,15 @@ SHAPES = {
     "bytes": ("ay", 0, bytes(1), 0),
     "numbers of 16 bits": ("aq", 0, bytes(2), 0),
     "empty signatures": ("ag", 0, bytes(2), 0),
+    "signatures of one letter": ("ag", 0, b"\x01y\0", 0),
+    "signatures of 32 arrays": ("ag", 0, b"\xe7" + (b"a" * 32 + b"y") * 7 + b"\0", 0),
+    "signatures of 32 structs of a byte": ("ag", 0, b"\x41" + b"(" * 32 + b"y" + b")" * 32 + b"\0", 0),
+    "variants of an empty array of 32 structs of a byte": ("a(v)", 4, b"\x42a" + b"(" * 32 + b"y" + b")" * 32 + bytes(5), 0),
+    "empty arrays of bytes": ("aay", 0, bytes(4), 0),
+    "structs of a byte": ("a(y)", 4, bytes(8), 7),
     "32 structs of a byte": ("a" + "(" * 32 + "y" + ")" * 32, 4, bytes(8), 7),
     "32 structs of a struct and a byte": ("a" + "(" * 32 + "y" + "y)" * 32, 4, bytes(40), 7),
+    "32 structs of a struct and two bytes": ("a" + "(" * 32 + "y" + "yy)" * 32, 4, bytes(72), 7),
 }
 
 

@@ -1,12 +1,45 @@
--- Which type a header field has.
-use Rattle.std.proofs.Common.{◌≡◌, ◌&&◌, Bool, true, false, List, Option, Some, None, refl, sym, ap, ◌∙◌}
+-- Which value a header field has, and which type.
+use Rattle.std.proofs.Common.{◌≡◌, ℕ, ◌&&◌, Bool, true, false, List, Option, Some, None, Box, Global, refl, sym, ap, ◌∙◌}
+use Rattle.kr_base.specs.declared.text.Text.{Text}
 use Rattle.dbus_types.specs.declared.complete_type.BasicType.TheVariants as basics
-use Rattle.dbus_types.specs.declared.value.Value.{Value}
+use Rattle.dbus_types.specs.declared.object_path.ObjectPath.{ObjectPath as Path}
+use Rattle.dbus_types.specs.declared.signature.Signature.{Signature as Types}
+use Rattle.dbus_types.specs.declared.value.Value.{Value, Byte, Uint32, String, ObjectPath, Signature, Variant, Variant'}
 use Rattle.dbus_types.specs.Types.{Ty, Tys}
-use Rattle.dbus_types.specs.ValueViews.{each_as, lone_in}
+use Rattle.dbus_types.specs.ValueViews.{value_as, value_of, each_as, lone_in}
 use Rattle.dbus_types.specs.Known.{is_variant, fields_in}
 use Rattle.dbus_marshal.specs.Wire.{is_byte}
-use Rattle.dbus_framing.specs.Headers.{where_is, field_type, is_field_type}
+use Rattle.dbus_framing.specs.Headers.{where_is, path_in, string_in, number_in, code_in, held_in, types_in_value, field_type, is_field_type}
+
+-- no other value is a path
+pub no_path : (value : Value) → ((path : Box Path Global) → value ≡ ObjectPath path → ⊥) → None ≡ path_in (value_of value)
+no_path (ObjectPath path) other = absurd (other path refl)
+no_path _ other = refl
+
+-- nor a string
+pub no_string : (value : Value) → ((text : Box Text Global) → value ≡ String text → ⊥) → None ≡ string_in (value_of value)
+no_string (String text) other = absurd (other text refl)
+no_string _ other = refl
+
+-- nor a signature
+pub no_signature : (value : Value) → ((types : Box Types Global) → value ≡ Signature types → ⊥) → None ≡ types_in_value (value_of value)
+no_signature (Signature types) other = absurd (other types refl)
+no_signature _ other = refl
+
+-- nor a number of type `u`
+pub no_number : (value : Value) → ((number : ℕ) → value ≡ Uint32 number → ⊥) → None ≡ number_in (value_of value)
+no_number (Uint32 number) other = absurd (other number refl)
+no_number _ other = refl
+
+-- nor the code of a header field
+pub no_code : (value : Value) → ((code : ℕ) → value ≡ Byte code → ⊥) → None ≡ code_in (value_as (Ty.basic basics.Byte) value)
+no_code (Byte code) other = absurd (other code refl)
+no_code _ other = refl
+
+-- nor has a value inside
+pub no_held : (value : Value) → ((held : Box Value Global) → value ≡ Variant held → ⊥) → None ≡ held_in (value_of value)
+no_held (Variant' place held) other = absurd (other _ refl)
+no_held _ other = refl
 
 not_byte : (t : Ty) (ts : Tys) → is_byte t ≡ false → is_field_type (Ty.struct (Tys.more t ts)) ≡ false
 not_byte (Ty.basic basics.Byte) ts e = absurd cc

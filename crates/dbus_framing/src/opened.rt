@@ -4,8 +4,8 @@ ghost use Rattle.dbus_types.specs.SignatureViews.{types_in};
 ghost use Rattle.dbus_types.specs.Types.{Ty};
 ghost use Rattle.dbus_types.specs.declared.complete_type.BasicType.TheVariants.{Byte};
 ghost use Rattle.dbus_types.specs.Views.{type_of, types_of};
-ghost use Rattle.dbus_types.specs.ValueViews.{value_of, values_of, value_as, all_as, each_as};
-ghost use Rattle.dbus_framing.specs.Headers.{path_in, string_in, number_in, types_in_value, interface_in, member_in, serial_in, code_in, held_in, two_of, pair_in, field_in, one_of, field_type, field_parts, is_field_type, structs_in};
+ghost use Rattle.dbus_types.specs.ValueViews.{value_of, values_of, value_as, each_as};
+ghost use Rattle.dbus_framing.specs.Headers.{path_in, string_in, number_in, types_in_value, interface_in, member_in, serial_in, code_in, held_in, pair_in, field_in, one_of, field_type, is_field_type, structs_in};
 
 use crate::names::{is_interface_name, is_member_name};
 use dbus_marshal::is_byte;
@@ -17,7 +17,7 @@ pub fn path_in(value: Value) -> Option<Text>
     ensures { result ≡ path_in (value_of value) }
 {
     match value {
-        Value::ObjectPath(path) => Some(path.into_text()),
+        Value::ObjectPath(path) => Some(Box::into_inner(path).into_text()),
         _ => None,
     }
 }
@@ -27,7 +27,7 @@ pub fn string_in(value: Value) -> Option<Text>
     ensures { result ≡ string_in (value_of value) }
 {
     match value {
-        Value::String(text) => Some(text),
+        Value::String(text) => Some(Box::into_inner(text)),
         _ => None,
     }
 }
@@ -47,7 +47,7 @@ pub fn signature_in(value: Value) -> Option<Signature>
     ensures { option_map types_in result ≡ types_in_value (value_of value) }
 {
     match value {
-        Value::Signature(signature) => Some(signature),
+        Value::Signature(signature) => Some(Box::into_inner(signature)),
         _ => None,
     }
 }
@@ -103,27 +103,11 @@ fn held_in(value: Value) -> Option<Value>
     }
 }
 
-fn two_of(values: Vec<Value>) -> Option<(Value, Value)>
-    ensures { option_map (λ two. (value_as (Ty.basic Byte) two.0, value_of two.1)) result
-        ≡ two_of (all_as field_parts values.items) }
-{
-    let mut values = values;
-    if values.len() != 2 {
-        return None;
-    }
-    let second = values.pop()?;
-    let first = values.pop()?;
-    Some((first, second))
-}
-
 fn pair_in(value: Value) -> Option<(Value, Value)>
     ensures { option_map (λ two. (value_as (Ty.basic Byte) two.0, value_of two.1)) result
         ≡ pair_in (value_as field_type value) }
 {
-    match value {
-        Value::Struct(parts) => two_of(parts),
-        _ => None,
-    }
+    value.into_two()
 }
 
 /// The code and the value of a header field, which is a struct `(yv)`.
@@ -181,6 +165,24 @@ pub fn structs_in(array: Value) -> Option<Vec<Value>>
             }
             Some(array.values)
         }
-        _ => None,
+        Value::Byte(_)
+        | Value::Boolean(_)
+        | Value::Int16(_)
+        | Value::Uint16(_)
+        | Value::Int32(_)
+        | Value::Uint32(_)
+        | Value::Int64(_)
+        | Value::Uint64(_)
+        | Value::Double(_)
+        | Value::UnixFd(_)
+        | Value::String(_)
+        | Value::ObjectPath(_)
+        | Value::Signature(_)
+        | Value::Variant(_)
+        | Value::InnerArray(_)
+        | Value::Bytes(_)
+        | Value::Struct(_)
+        | Value::Pair(_)
+        | Value::DictEntry(_) => None,
     }
 }

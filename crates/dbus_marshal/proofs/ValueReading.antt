@@ -9,11 +9,11 @@ use Rattle.dbus_types.specs.Views.{type_of, types_of}
 use Rattle.dbus_marshal.specs.Wire.{is_byte}
 use Rattle.dbus_types.specs.declared.complete_type.BasicType.{BasicType}
 use Rattle.dbus_types.specs.declared.endian.Endian.{Endian}
-use Rattle.dbus_types.specs.declared.value.Value.{Value, Array, InnerArray, Bytes, Struct, DictEntry}
+use Rattle.dbus_types.specs.declared.value.Value.{Value, Array, InnerArray, Bytes, DictEntry}
 use Rattle.dbus_types.specs.declared.value.DictEntry.{DictEntry as KeyAndValue}
 use Rattle.dbus_types.specs.Types.{Ty, Tys}
 use Rattle.dbus_types.specs.Values.{Val, Vals}
-use Rattle.dbus_types.specs.ValueViews.{core_as, value_of, values_of, value_as, each_as, fields_as, known_as, lone_in}
+use Rattle.dbus_types.specs.ValueViews.{core_as, value_of, values_of, value_as, each_as, fields_as, known_as, lone_in, HasFields}
 use Rattle.dbus_types.specs.Signatures.{◌>>=◌}
 use Rattle.dbus_marshal.specs.declared.refused.ValueFault.{ValueFault}
 use Rattle.dbus_marshal.specs.declared.refused.ValueFault.TheVariants.{Short, Padding, BadBool, BadText, BadPath, BadSignature, ArrayTooLong, TooDeep, Rest, OutOfMemory}
@@ -217,11 +217,11 @@ fields_end read front types spot total is so_far =
 
 -- ---- what a container has
 
-bytes_as : (inner : Bool) (t : Ty) (bytes : List ℕ) → value_as (known_as inner (Ty.array t)) (Bytes bytes) ≡ Val.bytes bytes
+bytes_as : (inner : Bool) (t : Ty) (bytes : Box (List ℕ) Global) → value_as (known_as inner (Ty.array t)) (Bytes bytes) ≡ Val.bytes bytes.value
 bytes_as true t bytes = refl
 bytes_as false t bytes = refl
 
-pub bytes_are : (inner : Bool) (read : Reader Val) (t : Ty) (spot : Spot) (bytes : List ℕ) → is_byte t ≡ true → bytes ≡ spot.left → elements_of read t spot ≡ Ok (value_as (known_as inner (Ty.array t)) (Bytes bytes))
+pub bytes_are : (inner : Bool) (read : Reader Val) (t : Ty) (spot : Spot) (bytes : Box (List ℕ) Global) → is_byte t ≡ true → bytes.value ≡ spot.left → elements_of read t spot ≡ Ok (value_as (known_as inner (Ty.array t)) (Bytes bytes))
 unfolding elements_of
 bytes_are inner read t spot bytes is same = rw is (ap (λ (bs : List ℕ). Ok (Val.bytes bs)) (sym same) ∙ ap (λ (v : Val). Ok v) (sym (bytes_as inner t bytes)))
 
@@ -230,8 +230,8 @@ unfolding elements_of
 elements_are read t spot vs other found = rw (other, found) refl
 
 -- an array inside another one
-pub inner_are : (inner : Bool) (read : Reader Val) (t : Ty) (spot : Spot) (values : Vec Value Global) (vs : List Value) → inner ≡ true → is_byte t ≡ false
-    → elements_from read (length spot.left) spot spot.left ≡ Ok (each_as t vs) → values.items ≡ vs → elements_of read t spot ≡ Ok (value_as (known_as inner (Ty.array t)) (InnerArray values))
+pub inner_are : (inner : Bool) (read : Reader Val) (t : Ty) (spot : Spot) (values : Box (Vec Value Global) Global) (vs : List Value) → inner ≡ true → is_byte t ≡ false
+    → elements_from read (length spot.left) spot spot.left ≡ Ok (each_as t vs) → values.value.items ≡ vs → elements_of read t spot ≡ Ok (value_as (known_as inner (Ty.array t)) (InnerArray values))
 inner_are inner read t spot values vs is other found same =
     elements_are read t spot (each_as t vs) other found ∙ ap (λ (l : List Value). Ok (Val.array t (each_as t l))) (sym same) ∙ ap (λ (v : Val). Ok v) (sym (inner_holds (Ty.array t) values))
     ∙ ap (λ (b : Bool). Ok (value_as (known_as b (Ty.array t)) (InnerArray values))) (sym is)
@@ -245,10 +245,10 @@ array_are inner read t spot array vs is other found type same =
     ∙ ap (λ (b : Bool). Ok (value_as (known_as b (Ty.array t)) (Array array))) (sym is)
 
 -- a struct whose fields are there
-pub struct_are : (inner : Bool) (read : Ty → Reader Val) (ts : Tys) (spot start after : Spot) (values : Vec Value Global) → lone_in inner ts ≡ None → padding_at 8 spot ≡ Ok start
-    → fields_by read ts start ≡ Ok (fields_as inner ts values.items, after) → struct_by read ts spot ≡ Ok (value_as (known_as inner (Ty.struct ts)) (Struct values), after)
+pub struct_are : (inner : Bool) (read : Ty → Reader Val) (ts : Tys) (spot start after : Spot) (value : Value) (fields : List Value) → lone_in inner ts ≡ None → padding_at 8 spot ≡ Ok start
+    → fields_by read ts start ≡ Ok (fields_as inner ts fields, after) → HasFields value fields → struct_by read ts spot ≡ Ok (value_as (known_as inner (Ty.struct ts)) value, after)
 unfolding struct_by
-struct_are inner read ts spot start after values none padded found = rw (padded, found) (ap (λ (v : Val). Ok (v, after)) (sym (core_struct inner ts values none)))
+struct_are inner read ts spot start after value fields none padded found has = rw (padded, found) (ap (λ (v : Val). Ok (v, after)) (sym (core_struct inner ts value fields none has)))
 
 one_field : (read : Ty → Reader Val) (t : Ty) (spot : Spot) → fields_by read (Tys.more t Tys.end) spot ≡ (read t spot >>= λ v. Ok (Vals.more v.0 Vals.end, v.1))
 unfolding fields_by

@@ -14,7 +14,7 @@ use Rattle.dbus_types.specs.declared.value.Value.{Value, Array, InnerArray, Stru
 use Rattle.dbus_types.specs.declared.value.TypedArray.{TypedArray}
 use Rattle.dbus_types.specs.Known.{wrapping, is_variant, is_array, fields_in}
 use Rattle.dbus_types.specs.declared.complete_type.CompleteType.{CompleteType}
-use Rattle.dbus_types.proofs.ValueViews.{struct_holds, inner_holds, array_holds}
+use Rattle.dbus_types.proofs.ValueViews.{inner_holds, array_holds}
 use Rattle.dbus_types.specs.Types.{Ty, Tys}
 use Rattle.dbus_types.specs.Values.{Val, Vals}
 use Rattle.dbus_types.specs.Views.{type_of}
@@ -221,15 +221,10 @@ pub array_tree : (value : Value) (known : Ty) (array : Box TypedArray Global) �
     → core_as known value ≡ typed_array known (type_of array.value.element) (each_as (type_of array.value.element) array.value.values.items)
 array_tree value known array is = ap (core_as known) is ∙ array_holds known array
 
-pub inner_tree : (value : Value) (known t : Ty) (values : Vec Value Global) (slice : List Value) → value ≡ InnerArray values → slice ≡ values.items → t ≡ element_of known → core_as known value ≡ Val.array t (each_as t slice)
+pub inner_tree : (value : Value) (known t : Ty) (values : Box (Vec Value Global) Global) (slice : List Value) → value ≡ InnerArray values → slice ≡ values.value.items → t ≡ element_of known → core_as known value ≡ Val.array t (each_as t slice)
 inner_tree value known t values slice is same of_known =
     ap (core_as known) is ∙ inner_holds known values ∙ ap (λ (l : List Value). Val.array (element_of known) (each_as (element_of known) l)) (sym same)
     ∙ ap (λ (u : Ty). Val.array u (each_as u slice)) (sym of_known)
-
-pub struct_tree : (value : Value) (known : Ty) (values : Vec Value Global) (slice : List Value) → value ≡ Struct values → slice ≡ values.items
-    → core_as known value ≡ Val.struct (struct_fields known (all_as (fields_of known) slice) (each_as known slice))
-struct_tree value known values slice is same =
-    ap (core_as known) is ∙ struct_holds known values ∙ ap (λ (l : List Value). Val.struct (struct_fields known (all_as (fields_of known) l) (each_as known l))) (sym same)
 
 -- ---- what lies where it can't
 

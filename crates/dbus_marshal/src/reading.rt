@@ -331,15 +331,15 @@ pub fn read_basic(
     match basic {
         BasicType::String => {
             let (text, after) = read_string(alloc, endian, cursor)?;
-            Ok((Value::String(text), after))
+            Ok((Value::String(Box::new(alloc, text)?), after))
         }
         BasicType::ObjectPath => {
             let (path, after) = read_path(alloc, endian, cursor)?;
-            Ok((Value::ObjectPath(path), after))
+            Ok((Value::ObjectPath(Box::new(alloc, path)?), after))
         }
         BasicType::Signature => {
             let (signature, after) = read_signature(alloc, endian, cursor)?;
-            Ok((Value::Signature(signature), after))
+            Ok((Value::Signature(Box::new(alloc, signature)?), after))
         }
         _ => read_number(endian, basic, cursor),
     }

@@ -1,8 +1,8 @@
-ghost use Rattle.std.specs.Prelude.{◌≡◌, ◌++◌, [], ◌∷◌, length, OnOk};
+ghost use Rattle.std.specs.Prelude.{◌≡◌, true, ◌++◌, [], ◌∷◌, length, OnOk};
 ghost use Rattle.dbus_types.specs.Types.{Ty, text_of, texts_of};
 ghost use Rattle.dbus_types.specs.Values.{ty_of, tys_of};
 ghost use Rattle.dbus_types.specs.Views.{type_of, types_of};
-ghost use Rattle.dbus_types.specs.ValueViews.{value_of, values_of};
+ghost use Rattle.dbus_types.specs.ValueViews.{value_of, values_of, is_struct};
 
 use crate::OutOfMemory;
 use dbus_types::{CompleteType, Value};
@@ -64,11 +64,6 @@ pub fn write_type_of(out: &mut Vec<u8>, value: &Value) -> Result<(), OutOfMemory
             write_type(out, &array.element)?;
         }
         Value::InnerArray(_) => out.extend_from_slice(b"av")?,
-        Value::Struct(fields) => {
-            out.push(b'(')?;
-            write_types_of(out, fields.as_slice())?;
-            out.push(b')')?;
-        }
         Value::DictEntry(entry) => {
             let Some(key) = entry.key.basic_type() else {
                 out.push(b'v')?;
@@ -79,8 +74,35 @@ pub fn write_type_of(out: &mut Vec<u8>, value: &Value) -> Result<(), OutOfMemory
             write_type_of(out, &entry.value)?;
             out.push(b'}')?;
         }
-        _ => unreachable!(),
+        Value::Struct(_) | Value::Pair(_) => write_struct_type(out, value)?,
+        Value::Byte(_)
+        | Value::Boolean(_)
+        | Value::Int16(_)
+        | Value::Uint16(_)
+        | Value::Int32(_)
+        | Value::Uint32(_)
+        | Value::Int64(_)
+        | Value::Uint64(_)
+        | Value::Double(_)
+        | Value::UnixFd(_)
+        | Value::String(_)
+        | Value::ObjectPath(_)
+        | Value::Signature(_) => unreachable!(),
     }
+    Ok(())
+}
+
+#[cycle(value_types)]
+fn write_struct_type(out: &mut Vec<u8>, value: &Value) -> Result<(), OutOfMemory>
+    requires { is_struct value.now ≡ true }
+    ensures { OnOk result (out.new.items ≡ out.old.items ++ text_of (ty_of (value_of value.now))) }
+{
+    let Some(fields) = value.fields() else {
+        unreachable!()
+    };
+    out.push(b'(')?;
+    write_types_of(out, fields)?;
+    out.push(b')')?;
     Ok(())
 }
 

@@ -148,12 +148,15 @@ fn read_elements(
         (type_of element.now) (spot_of cursor.entry)) }
 {
     if is_byte(element) {
-        return Ok(Value::Bytes(Bytes::from_slice(alloc, cursor.left)?));
+        let bytes = Bytes::from_slice(alloc, cursor.left)?;
+        let whole = Box::new(alloc, bytes)?;
+        return Ok(Value::Bytes(whole));
     }
     let mut values = read_each(alloc, depth, endian, element, cursor)?;
     values.shrink_to_fit();
     if is_inner {
-        return Ok(Value::InnerArray(values));
+        let inner = Box::new(alloc, values)?;
+        return Ok(Value::InnerArray(inner));
     }
     let element = element.copy(alloc)?;
     let array = Box::new(alloc, TypedArray { element, values })?;
@@ -210,7 +213,8 @@ fn read_struct<'a>(
         return read_value(alloc, depth, endian, only, true, start);
     }
     let (fields, after) = read_fields(alloc, depth, endian, types, is_inner, start)?;
-    Ok((Value::Struct(fields), after))
+    let value = Value::structure(alloc, fields)?;
+    Ok((value, after))
 }
 
 #[cycle(readers)]

@@ -171,6 +171,9 @@ fn write_core(
         (behind phase (length out.old.items)))
         out.old.items out.new.items }
 {
+    if let Some(fields) = value.fields() {
+        return write_struct(out, phase, endian, fields, known);
+    }
     match value {
         Value::Byte(number) => write_u8(out, phase, endian, *number),
         Value::Boolean(is_true) => write_u32(out, phase, endian, u32::from(*is_true)),
@@ -195,8 +198,8 @@ fn write_core(
             values.as_slice(),
             element_of(known),
         ),
-        Value::Struct(fields) => write_struct(out, phase, endian, fields.as_slice(), known),
         Value::DictEntry(entry) => write_entry(out, phase, endian, entry, known),
+        Value::Struct(_) | Value::Pair(_) => unreachable!(),
     }
 }
 

@@ -218,6 +218,9 @@ fn core_spelling(
     ensures { IfOk result (λ made. made.items
         ≡ spelled endian (core_as (type_of known.now) value.now) place) }
 {
+    if let Some(fields) = value.fields() {
+        return struct_spelling(alloc, endian, fields, known, place);
+    }
     match value {
         Value::Byte(it) => number8(alloc, endian, *it, place),
         Value::Boolean(it) => number32(alloc, endian, u32::from(*it), place),
@@ -248,8 +251,8 @@ fn core_spelling(
             element_of(known),
             place,
         ),
-        Value::Struct(fields) => struct_spelling(alloc, endian, fields.as_slice(), known, place),
         Value::DictEntry(entry) => entry_spelling(alloc, endian, entry, known, place),
+        Value::Struct(_) | Value::Pair(_) => unreachable!(),
     }
 }
 

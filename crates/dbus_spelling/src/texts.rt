@@ -1,8 +1,8 @@
-ghost use Rattle.std.specs.Prelude.{◌≡◌, ◌++◌, [], ◌∷◌, IfOk};
+ghost use Rattle.std.specs.Prelude.{◌≡◌, true, ◌++◌, [], ◌∷◌, IfOk};
 ghost use Rattle.dbus_types.specs.Types.{text_of, texts_of};
 ghost use Rattle.dbus_types.specs.Values.{ty_of, tys_of};
 ghost use Rattle.dbus_types.specs.Views.{type_of, types_of};
-ghost use Rattle.dbus_types.specs.ValueViews.{value_of, values_of};
+ghost use Rattle.dbus_types.specs.ValueViews.{value_of, values_of, is_struct};
 
 use crate::OutOfMemory;
 use crate::numbers::{copied, joined};
@@ -65,12 +65,6 @@ pub fn text_of_value_type(alloc: Global, value: &Value) -> Result<Vec<u8>, OutOf
             joined(alloc, b"a", inner.as_slice())
         }
         Value::InnerArray(_) => copied(alloc, b"av"),
-        Value::Struct(fields) => {
-            let inner = texts_of_value_types(alloc, fields.as_slice())?;
-            let ended = joined(alloc, inner.as_slice(), b")")?;
-            let made = joined(alloc, b"(", ended.as_slice())?;
-            Ok(made)
-        }
         Value::DictEntry(entry) => {
             let Some(key) = entry.key.basic_type() else {
                 return copied(alloc, b"v");
@@ -79,8 +73,35 @@ pub fn text_of_value_type(alloc: Global, value: &Value) -> Result<Vec<u8>, OutOf
             let ended = joined(alloc, inner.as_slice(), b"}")?;
             joined(alloc, &[b'{', key.code()], ended.as_slice())
         }
-        _ => unreachable!(),
+        Value::Struct(_) | Value::Pair(_) => text_of_struct_type(alloc, value),
+        Value::Byte(_)
+        | Value::Boolean(_)
+        | Value::Int16(_)
+        | Value::Uint16(_)
+        | Value::Int32(_)
+        | Value::Uint32(_)
+        | Value::Int64(_)
+        | Value::Uint64(_)
+        | Value::Double(_)
+        | Value::UnixFd(_)
+        | Value::String(_)
+        | Value::ObjectPath(_)
+        | Value::Signature(_) => unreachable!(),
     }
+}
+
+#[cycle(value_types)]
+fn text_of_struct_type(alloc: Global, value: &Value) -> Result<Vec<u8>, OutOfMemory>
+    requires { is_struct value.now ≡ true }
+    ensures { IfOk result (λ made. made.items ≡ text_of (ty_of (value_of value.now))) }
+{
+    let Some(fields) = value.fields() else {
+        unreachable!()
+    };
+    let inner = texts_of_value_types(alloc, fields)?;
+    let ended = joined(alloc, inner.as_slice(), b")")?;
+    let made = joined(alloc, b"(", ended.as_slice())?;
+    Ok(made)
 }
 
 #[cycle(value_types)]

@@ -1,8 +1,8 @@
 -- What a value of the program stands for, without where it lies in memory.
-use Rattle.std.specs.Prelude.{ℕ, Bool, true, false, List, [], ◌∷◌, Option, Some, None}
+use Rattle.std.specs.Prelude.{ℕ, Bool, true, false, List, [], ◌∷◌, Option, Some, None, ◌≡◌}
 use Rattle.std.specs.Int.{w16, w32, w64, cast_unsigned}
 use Rattle.dbus_types.specs.declared.complete_type.BasicType.TheVariants as basics
-use Rattle.dbus_types.specs.declared.value.Value.{Value, Byte, Boolean, Int16, Uint16, Int32, Uint32, Int64, Uint64, Double, UnixFd, String, ObjectPath, Signature, Variant', Array', InnerArray', Bytes, Struct', DictEntry', Row_of-Value, end_of-Value, more_of-Value}
+use Rattle.dbus_types.specs.declared.value.Value.{Value, Byte, Boolean, Int16, Uint16, Int32, Uint32, Int64, Uint64, Double, UnixFd, String, ObjectPath, Signature, Variant', Array', InnerArray', Bytes, Struct', Pair', DictEntry', Row_of-Value, end_of-Value, more_of-Value}
 use Rattle.dbus_types.specs.Types.{Ty, Tys, texts_of}
 use Rattle.dbus_types.specs.Views.{type_of}
 use Rattle.dbus_types.specs.SignatureViews.{types_in}
@@ -92,6 +92,13 @@ struct_fields Ty.variant all each = each
 struct_fields (Ty.array t) all each = each
 struct_fields (Ty.entry key t) all each = each
 
+-- the fields of a struct that hasn't two: those of one that has lie elsewhere
+abbrev pub unless_two : Vals → Vals
+unless_two Vals.end = Vals.end
+unless_two (Vals.more v Vals.end) = Vals.more v Vals.end
+unless_two (Vals.more v (Vals.more w Vals.end)) = Vals.end
+unless_two (Vals.more v (Vals.more w (Vals.more x vs))) = Vals.more v (Vals.more w (Vals.more x vs))
+
 abbrev mutual
   -- The tree of a value that lies where this type is known, which has no struct of one field around it. Where nothing is
   -- known, the type is a variant.
@@ -106,14 +113,15 @@ abbrev mutual
   core_as known (Uint64 n) = Val.number basics.Uint64 n
   core_as known (Double n) = Val.number basics.Double n
   core_as known (UnixFd n) = Val.number basics.UnixFd n
-  core_as known (String t) = Val.text basics.String t
-  core_as known (ObjectPath p) = Val.text basics.ObjectPath p
-  core_as known (Signature s) = Val.text basics.Signature (texts_of (types_in s))
+  core_as known (String t) = Val.text basics.String t.value
+  core_as known (ObjectPath p) = Val.text basics.ObjectPath p.value
+  core_as known (Signature s) = Val.text basics.Signature (texts_of (types_in s.value))
   core_as known (Variant' place v) = in_variant known (core_as Ty.variant v)
   core_as known (Array' place t shape row) = typed_array known (type_of t) (row_each (type_of t) row)
-  core_as known (InnerArray' shape row) = Val.array (element_of known) (row_each (element_of known) row)
-  core_as known (Bytes bytes) = Val.bytes bytes
-  core_as known (Struct' shape row) = Val.struct (struct_fields known (row_all (fields_of known) row) (row_each known row))
+  core_as known (InnerArray' place shape row) = Val.array (element_of known) (row_each (element_of known) row)
+  core_as known (Bytes bytes) = Val.bytes bytes.value
+  core_as known (Struct' place shape row) = Val.struct (unless_two (struct_fields known (row_all (fields_of known) row) (row_each known row)))
+  core_as known (Pair' place shape row) = Val.struct (struct_fields known (row_all (fields_of known) row) (row_each known row))
   core_as known (DictEntry' place key v) = Val.entry (wrapped known (core_as (core_of known) key)) (wrapped (held_of known) (core_as (core_of (held_of known)) v))
 
   -- the trees of the values in a row, which all have this type
@@ -159,3 +167,31 @@ value_of v = value_as Ty.variant v
 -- the trees of values that aren't in an array, one behind the other
 abbrev pub values_of : List Value → Vals
 values_of vs = each_as Ty.variant vs
+
+-- the value is a struct of these fields, whatever is known where it lies
+abbrev pub HasFields : Value → List Value → Type 0
+HasFields value fields = (known : Ty) → core_as known value ≡ Val.struct (struct_fields known (all_as (fields_of known) fields) (each_as known fields))
+
+-- the fields that a struct's vector holds, which are never two
+abbrev pub if_not_two : List Value → List Value
+if_not_two [] = []
+if_not_two (v ∷ []) = v ∷ []
+if_not_two (v ∷ w ∷ []) = []
+if_not_two (v ∷ w ∷ x ∷ vs) = v ∷ w ∷ x ∷ vs
+
+-- whether the value is a struct
+abbrev pub is_struct : Value → Bool
+is_struct (Struct' place shape row) = true
+is_struct (Pair' place shape row) = true
+is_struct _ = false
+
+-- the fields, if the value is a struct
+abbrev pub FieldsAre : Value → Option (List Value) → Type 0
+FieldsAre value None = is_struct value ≡ true → ⊥
+FieldsAre value (Some fields) = (is_struct value ≡ true) × HasFields value fields
+
+-- The two fields, if the value is a struct of two, whatever is known of its place. If there are none, its tree is no struct of two
+-- fields, whatever is known.
+abbrev pub AreTwo : Value → Option (Value × Value) → Type 0
+AreTwo value None = (known : Ty) (v w : Val) → core_as known value ≡ Val.struct (Vals.more v (Vals.more w Vals.end)) → ⊥
+AreTwo value (Some two) = HasFields value (two.0 ∷ two.1 ∷ [])

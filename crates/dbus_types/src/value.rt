@@ -1,17 +1,25 @@
 ghost use Rattle.dbus_types.specs.BasicTypes.{BasicIs};
 ghost use Rattle.dbus_types.specs.Values.{ty_of};
-ghost use Rattle.dbus_types.specs.ValueViews.{value_of};
+ghost use Rattle.dbus_types.specs.ValueViews.{value_of, AreTwo, FieldsAre, HasFields, if_not_two};
+ghost use Rattle.dbus_types.specs.declared.value.Value.{size-Value};
+ghost use denote.Param.Weighed.{most};
+ghost use Rattle.std.specs.Prelude.{◌≡◌, ◌<◌, [], ◌∷◌, option_map, IfOk, IfSome, Some};
 
+use crate::OutOfMemory;
 use crate::complete_type::{BasicType, CompleteType};
 use crate::object_path::ObjectPath;
 use crate::signature::Signature;
 use kr_base::{Bytes, Text};
+use std::alloc::Global;
 
 /// A value (D-Bus Specification, "Type System"). Contracts see it as a `Val`, by `value_of`; signed
 /// numbers there are their bits.
 ///
 /// An array has its elements' type once: what lies in an array is seen with that type, by `value_as`.
-/// So an array inside an array has none, and a struct of one field inside an array is its field.
+/// So an array inside an array has none, and a struct of one field inside an array is its field. What
+/// doesn't fit into eight bytes lies in memory of its own, and two fields of a struct lie in one piece
+/// of memory: so a value takes 16 bytes. Structs are made by `structure` and read by `fields`, alike for
+/// each number of fields.
 #[cycle(values)]
 #[derive(Drop)]
 pub enum Value {
@@ -36,21 +44,23 @@ pub enum Value {
     /// `h`, the place of a file descriptor.
     UnixFd(u32),
     /// `s`.
-    String(Text),
+    String(Box<Text>),
     /// `o`.
-    ObjectPath(ObjectPath),
+    ObjectPath(Box<ObjectPath>),
     /// `g`.
-    Signature(Signature),
+    Signature(Box<Signature>),
     /// `v`, a value of any type.
     Variant(Box<Value>),
     /// `a`, an array that isn't inside another one, of elements that are no bytes.
     Array(Box<TypedArray>),
     /// `a`, an array inside another one, which has the type of these elements.
-    InnerArray(Vec<Value>),
+    InnerArray(Box<Vec<Value>>),
     /// `ay`, bytes.
-    Bytes(Bytes),
-    /// `(`, the fields.
-    Struct(Vec<Value>),
+    Bytes(Box<Bytes>),
+    /// `(`, the fields, unless there are two.
+    Struct(Box<Vec<Value>>),
+    /// `(`, two fields.
+    Pair(Box<[Value; 2]>),
     /// `{`, an array's element of a key and its value.
     DictEntry(Box<DictEntry>),
 }
@@ -99,7 +109,103 @@ impl Value {
             Value::InnerArray(_) => None,
             Value::Bytes(_) => None,
             Value::Struct(_) => None,
+            Value::Pair(_) => None,
             Value::DictEntry(_) => None,
         }
     }
+
+    /// A struct of these fields. Refused without memory.
+    pub fn structure(alloc: Global, fields: Vec<Value>) -> Result<Value, OutOfMemory>
+        ensures { IfOk result (λ value. FieldsAre value (Some fields.items)) }
+    {
+        let mut fields = fields;
+        if fields.len() == 2 {
+            let Some(second) = fields.pop() else {
+                unreachable!()
+            };
+            let Some(first) = fields.pop() else {
+                unreachable!()
+            };
+            let pair = Box::new(alloc, [first, second])?;
+            return Ok(Value::Pair(pair));
+        }
+        fields.shrink_to_fit();
+        let held = Box::new(alloc, fields)?;
+        Ok(Value::Struct(held))
+    }
+
+    /// The fields, if the value is a struct.
+    pub fn fields(&self) -> Option<&[Value]>
+        ensures fields { FieldsAre self.now (option_map (λ fields. fields.now) result) }
+        ensures inside { IfSome result (λ fields.
+            most size-Value fields.now < size-Value self.now) }
+    {
+        match self {
+            Value::Struct(fields) => Some(unless_two(fields.as_slice())),
+            Value::Pair(fields) => Some(fields.as_slice()),
+            Value::Byte(_) => None,
+            Value::Boolean(_) => None,
+            Value::Int16(_) => None,
+            Value::Uint16(_) => None,
+            Value::Int32(_) => None,
+            Value::Uint32(_) => None,
+            Value::Int64(_) => None,
+            Value::Uint64(_) => None,
+            Value::Double(_) => None,
+            Value::UnixFd(_) => None,
+            Value::String(_) => None,
+            Value::ObjectPath(_) => None,
+            Value::Signature(_) => None,
+            Value::Variant(_) => None,
+            Value::Array(_) => None,
+            Value::InnerArray(_) => None,
+            Value::Bytes(_) => None,
+            Value::DictEntry(_) => None,
+        }
+    }
+
+    /// The two fields, if the value is a struct of two fields.
+    pub fn into_two(self) -> Option<(Value, Value)>
+        ensures { AreTwo self result }
+    {
+        match self {
+            Value::Pair(fields) => Some(two_of(Box::into_inner(fields))),
+            Value::Struct(_)
+            | Value::Byte(_)
+            | Value::Boolean(_)
+            | Value::Int16(_)
+            | Value::Uint16(_)
+            | Value::Int32(_)
+            | Value::Uint32(_)
+            | Value::Int64(_)
+            | Value::Uint64(_)
+            | Value::Double(_)
+            | Value::UnixFd(_)
+            | Value::String(_)
+            | Value::ObjectPath(_)
+            | Value::Signature(_)
+            | Value::Variant(_)
+            | Value::Array(_)
+            | Value::InnerArray(_)
+            | Value::Bytes(_)
+            | Value::DictEntry(_) => None,
+        }
+    }
+}
+
+fn two_of(pair: [Value; 2]) -> (Value, Value)
+    ensures { result.0 ∷ result.1 ∷ [] ≡ pair }
+{
+    let [first, second] = pair;
+    (first, second)
+}
+
+// The fields that a struct's vector holds, which are never two.
+fn unless_two(fields: &[Value]) -> &[Value]
+    ensures { result.now ≡ if_not_two fields.now }
+{
+    if fields.len() == 2 {
+        return &fields[..0];
+    }
+    fields
 }

@@ -378,11 +378,13 @@ fn close(out: &mut String, around: usize) -> Result<(), Fail> {
 
 #[cycle(shown)]
 fn show_core(out: &mut String, value: &Value, known: &CompleteType) -> Result<(), Fail> {
+    if let Some(fields) = value.fields() {
+        return show_struct(out, fields, known);
+    }
     match value {
         Value::Variant(inner) => show_variant(out, inner),
         Value::Array(array) => show_array(out, array.values.as_slice(), &array.element),
         Value::InnerArray(values) => show_array(out, values.as_slice(), element_of(known)),
-        Value::Struct(fields) => show_struct(out, fields.as_slice(), known),
         Value::DictEntry(entry) => show_entry(out, entry, known),
         _ => show_leaf(out, value),
     }

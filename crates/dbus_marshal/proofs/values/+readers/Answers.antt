@@ -1,5 +1,5 @@
 -- What the readers answer is what reading gives.
-use Rattle.std.proofs.Common.{List, sym, ap, ◌∙◌}
+use Rattle.std.proofs.Common.{List, Vec, Global, sym, ap, ◌∙◌}
 use Rattle.std.proofs.lemmas.Bool.{eqb-true, eqb-false}
 use Rattle.std.proofs.lemmas.List.{nil_from_length}
 use Rattle.std.proofs.lemmas.Result.{err_from_is_err_and}
@@ -38,13 +38,13 @@ read_each-returns t c = elements_over (value_at c.args.depth c.args.endian (type
 
 pub read_elements-returns-then-is_byte : goal.read_elements-returns-then-is_byte
 read_elements-returns-then-is_byte t c =
-    bytes_are c.args.is_inner (value_at c.args.depth c.args.endian (type_of c.args.element.now)) (type_of c.args.element.now) (spot_of c.args.cursor) c.in_ok-from_slice.field-0 (sym c.is_byte.ensures ∙ c.if-is_byte.true)
-    c.in_ok-from_slice.ensures
+    bytes_are c.args.is_inner (value_at c.args.depth c.args.endian (type_of c.args.element.now)) (type_of c.args.element.now) (spot_of c.args.cursor) c.in_ok-whole.whole (sym c.is_byte.ensures ∙ c.if-is_byte.true)
+    (c.in_ok-whole.ensures.ok ∙ c.in_ok-bytes.ensures)
 
 pub read_elements-returns-then-is_inner : goal.read_elements-returns-then-is_inner
 read_elements-returns-then-is_inner t c =
-    inner_are c.args.is_inner (value_at c.args.depth c.args.endian (type_of c.args.element.now)) (type_of c.args.element.now) (spot_of c.args.cursor) c.shrink_to_fit.new.self c.in_ok-values.values.items c.if-is_inner.true
-    (sym c.is_byte.ensures ∙ c.if-is_byte.false) c.in_ok-values.ensures c.shrink_to_fit.ensures.items
+    inner_are c.args.is_inner (value_at c.args.depth c.args.endian (type_of c.args.element.now)) (type_of c.args.element.now) (spot_of c.args.cursor) c.in_ok-inner.inner c.in_ok-values.values.items c.if-is_inner.true
+    (sym c.is_byte.ensures ∙ c.if-is_byte.false) c.in_ok-values.ensures (ap (λ (vs : Vec Value Global). vs.items) c.in_ok-inner.ensures.ok ∙ c.shrink_to_fit.ensures.items)
 
 pub read_elements-returns : goal.read_elements-returns
 read_elements-returns t c =
@@ -75,8 +75,8 @@ read_fields-returns t c = fields_end (value_at c.args.depth c.args.endian) _ _ (
 
 pub read_struct-returns : goal.read_struct-returns
 read_struct-returns t c =
-    struct_are c.args.is_inner (value_at c.args.depth c.args.endian) (types_of c.args.types.now) (spot_of c.args.cursor) (spot_of c.in_ok-start.start) (spot_of c.in_ok-fields.after) c.in_ok-fields.fields (sym c.in_default.ensures)
-    c.in_ok-start.ensures c.in_ok-fields.ensures
+    struct_are c.args.is_inner (value_at c.args.depth c.args.endian) (types_of c.args.types.now) (spot_of c.args.cursor) (spot_of c.in_ok-start.start) (spot_of c.in_ok-fields.after) c.in_ok-value.value c.in_ok-fields.fields.items (sym c.in_default.ensures)
+    c.in_ok-start.ensures c.in_ok-fields.ensures c.in_ok-value.ensures.1
 
 pub read_struct-returns-in-Some : goal.read_struct-returns-in-Some
 read_struct-returns-in-Some t c =

@@ -1,17 +1,18 @@
 -- What each writer leaves, from what its parts left.
-use Rattle.std.proofs.Common.{ℕ, ◌++◌, ◌&&◌, List, length, Ok, Err, sym, ap, subst, ◌∙◌}
+use Rattle.std.proofs.Common.{ℕ, ◌++◌, ◌&&◌, List, Vec, Global, length, Ok, Err, sym, ap, subst, ◌∙◌}
 use Rattle.std.proofs.lemmas.Result.{err_from_is_err_and}
 use Rattle.dbus_types.specs.declared.complete_type.BasicType.TheVariants as basics
 use Rattle.dbus_types.specs.declared.value.Value.{Value}
 use Rattle.dbus_types.specs.Types.{Ty, Tys, text_of, texts_of}
 use Rattle.dbus_types.specs.Values.{Val, Vals, ty_of}
+use Rattle.dbus_types.specs.SignatureViews.{types_in}
 use Rattle.dbus_types.specs.Views.{type_of, types_of}
 use Rattle.dbus_types.specs.ValueViews.{value_of, value_as, core_as, each_as, all_as, fields_of, held_of, in_variant, struct_fields, nothing}
 use Rattle.dbus_marshal.specs.declared.refused.MarshalFault.TheVariants.{TooLong}
 use Rattle.dbus_marshal.specs.Wire.{behind}
 use Rattle.dbus_marshal.specs.Spelling.{spelled, all_spelled, is_short, are_short, text_spelled}
 use Rattle.dbus_marshal.specs.Writing.{Writes}
-use Rattle.dbus_marshal.proofs.WritingLemmas.{writes_at, writes_both, writes_padded, writes_tree, writes_array, writes_wrapped, writes_nothing, array_tree, inner_tree, struct_tree, variant_no, variant_yes, typed_no, typed_yes, struct_yes, struct_no, array_fault, array_long, array_room, array_done, next_step, next_over, each_left, all_left, all_past, each_none, all_none}
+use Rattle.dbus_marshal.proofs.WritingLemmas.{writes_at, writes_both, writes_padded, writes_tree, writes_array, writes_wrapped, writes_nothing, array_tree, inner_tree, variant_no, variant_yes, typed_no, typed_yes, struct_yes, struct_no, array_fault, array_long, array_room, array_done, next_step, next_over, each_left, all_left, all_past, each_none, all_none}
 use Rattle.dbus_marshal.proofs.writers.+writers.Goals as goal
 
 pub write_value-returns : goal.write_value-returns
@@ -27,12 +28,12 @@ write_core-returns-in-Array t c =
 pub write_core-returns-in-InnerArray : goal.write_core-returns-in-InnerArray
 write_core-returns-in-InnerArray t c =
     writes_tree c.write_array.result c.args.endian _ _ (behind c.args.phase (length c.args.out.now.items)) c.args.out.now.items c.write_array.new.out.items
-    (inner_tree _ (type_of c.args.known.now) (type_of c.element_of.result.now) c.in-InnerArray.values _ c.in-InnerArray.is c.as_slice-in-InnerArray.ensures.value c.element_of.ensures) c.write_array.ensures
+    (inner_tree _ (type_of c.args.known.now) (type_of c.element_of.result.now) c.in-InnerArray.values _ c.in-InnerArray.is (c.as_slice-in-InnerArray.ensures.value ∙ ap (λ (vs : Vec Value Global). vs.items) c.deref-in-InnerArray.ensures) c.element_of.ensures) c.write_array.ensures
 
-pub write_core-returns-in-Struct : goal.write_core-returns-in-Struct
-write_core-returns-in-Struct t c =
+pub write_core-returns-in-Some : goal.write_core-returns-in-Some
+write_core-returns-in-Some t c =
     writes_tree c.write_struct.result c.args.endian _ _ (behind c.args.phase (length c.args.out.now.items)) c.args.out.now.items c.write_struct.new.out.items
-    (struct_tree _ (type_of c.args.known.now) c.in-Struct.fields _ c.in-Struct.is c.as_slice-in-Struct.ensures.value) c.write_struct.ensures
+    (c.in-Some.ensures.fields.1 (type_of c.args.known.now)) c.write_struct.ensures
 
 pub write_core-returns-in-DictEntry : goal.write_core-returns-in-DictEntry
 write_core-returns-in-DictEntry t c =
@@ -42,17 +43,17 @@ write_core-returns-in-DictEntry t c =
 pub write_core-returns-in-Bytes : goal.write_core-returns-in-Bytes
 write_core-returns-in-Bytes t c =
     writes_tree c.write_bytes.result c.args.endian _ _ (behind c.args.phase (length c.args.out.now.items)) c.args.out.now.items c.write_bytes.new.out.items
-    (ap (core_as (type_of c.args.known.now)) c.in-Bytes.is ∙ ap (λ (bs : List ℕ). Val.bytes bs) (sym c.as_slice.ensures)) c.write_bytes.ensures
+    (ap (core_as (type_of c.args.known.now)) c.in-Bytes.is ∙ ap (λ (bs : List ℕ). Val.bytes bs) (sym (c.as_slice.ensures ∙ c.deref-in-Bytes.ensures))) c.write_bytes.ensures
 
 pub write_core-returns-in-Variant : goal.write_core-returns-in-Variant
 write_core-returns-in-Variant t c =
     writes_tree c.write_variant.result c.args.endian _ _ (behind c.args.phase (length c.args.out.now.items)) c.args.out.now.items c.write_variant.new.out.items
-    (ap (core_as (type_of c.args.known.now)) c.in-Variant.is) (rw (← c.deref.ensures) c.write_variant.ensures)
+    (ap (core_as (type_of c.args.known.now)) c.in-Variant.is) (rw (← c.deref-in-Variant.ensures) c.write_variant.ensures)
 
 pub write_core-returns-in-Signature : goal.write_core-returns-in-Signature
 write_core-returns-in-Signature t c =
     writes_tree c.write_signature.result c.args.endian _ _ (behind c.args.phase (length c.args.out.now.items)) c.args.out.now.items c.write_signature.new.out.items
-    (ap (core_as (type_of c.args.known.now)) c.in-Signature.is ∙ ap (λ (ts : Tys). Val.text basics.Signature (texts_of ts)) (sym c.types.ensures.value)) c.write_signature.ensures
+    (ap (core_as (type_of c.args.known.now)) c.in-Signature.is ∙ ap (λ (ts : Tys). Val.text basics.Signature (texts_of ts)) (sym (c.types.ensures.value ∙ ap types_in c.deref-in-Signature.ensures))) c.write_signature.ensures
 
 pub write_variant-returns-then-not-is_variant : goal.write_variant-returns-then-not-is_variant
 write_variant-returns-then-not-is_variant t c =

@@ -1,12 +1,12 @@
 -- Each value's bytes, from those of its parts.
-use Rattle.std.proofs.Common.{List, ℕ, length, refl, sym, ap, ◌∙◌}
+use Rattle.std.proofs.Common.{List, Vec, Global, ℕ, length, refl, sym, ap, ◌∙◌}
 use Rattle.dbus_types.specs.declared.value.Value.{Value}
 use Rattle.dbus_types.specs.Types.{Ty}
 use Rattle.dbus_types.specs.Values.{Val}
 use Rattle.dbus_types.specs.Views.{type_of, types_of}
 use Rattle.dbus_types.specs.ValueViews.{value_of, value_as, core_as, each_as, all_as, fields_of, held_of, struct_fields}
 use Rattle.dbus_marshal.specs.Spelling.{spelled}
-use Rattle.dbus_marshal.proofs.WritingLemmas.{wrapped_value, array_tree, inner_tree, struct_tree, variant_no, typed_no, typed_yes, struct_yes, struct_no, each_left, all_left, all_past}
+use Rattle.dbus_marshal.proofs.WritingLemmas.{wrapped_value, array_tree, inner_tree, variant_no, typed_no, typed_yes, struct_yes, struct_no, each_left, all_left, all_past}
 use Rattle.dbus_spelling.proofs.PartLemmas.{handed, array_value, struct_value, variant_value, entry_value, next_made}
 use Rattle.dbus_spelling.proofs.plain.+plain.Goals as goal
 
@@ -17,11 +17,11 @@ spelling_as-returns t c =
 
 pub core_spelling-returns-in_ok-made-in-Bytes : goal.core_spelling-returns-in_ok-made-in-Bytes
 core_spelling-returns-in_ok-made-in-Bytes t c =
-    c.in_ok-made-in-Bytes.ensures ∙ ap (λ (v : Val). spelled c.args.endian v c.args.place) (ap (λ (bs : List ℕ). Val.bytes bs) c.as_slice-in-Bytes.ensures ∙ ap (core_as (type_of c.args.known.now)) (sym c.in-Bytes.is))
+    c.in_ok-made-in-Bytes.ensures ∙ ap (λ (v : Val). spelled c.args.endian v c.args.place) (ap (λ (bs : List ℕ). Val.bytes bs) (c.as_slice-in-Bytes.ensures ∙ c.deref-in-Bytes.ensures) ∙ ap (core_as (type_of c.args.known.now)) (sym c.in-Bytes.is))
 
 pub core_spelling-returns-in-Variant : goal.core_spelling-returns-in-Variant
 core_spelling-returns-in-Variant t c =
-    handed c.variant_spelling.result _ _ (ap (λ (v : Value). spelled c.args.endian (core_as (type_of c.args.known.now) v) c.args.place) (sym c.in-Variant.is)) (rw (← c.deref.ensures) c.variant_spelling.ensures)
+    handed c.variant_spelling.result _ _ (ap (λ (v : Value). spelled c.args.endian (core_as (type_of c.args.known.now) v) c.args.place) (sym c.in-Variant.is)) (rw (← c.deref-in-Variant.ensures) c.variant_spelling.ensures)
 
 pub core_spelling-returns-in-Array : goal.core_spelling-returns-in-Array
 core_spelling-returns-in-Array t c =
@@ -32,13 +32,13 @@ pub core_spelling-returns-in-InnerArray : goal.core_spelling-returns-in-InnerArr
 core_spelling-returns-in-InnerArray t c =
     handed c.array_spelling.result _ _
     (ap (λ (v : Val). spelled c.args.endian v c.args.place)
-    (sym (inner_tree _ (type_of c.args.known.now) (type_of c.element_of.result.now) c.in-InnerArray.values _ c.in-InnerArray.is c.as_slice-in-InnerArray.ensures.value c.element_of.ensures)))
+    (sym (inner_tree _ (type_of c.args.known.now) (type_of c.element_of.result.now) c.in-InnerArray.values _ c.in-InnerArray.is (c.as_slice-in-InnerArray.ensures.value ∙ ap (λ (vs : Vec Value Global). vs.items) c.deref-in-InnerArray.ensures) c.element_of.ensures)))
     c.array_spelling.ensures
 
-pub core_spelling-returns-in-Struct : goal.core_spelling-returns-in-Struct
-core_spelling-returns-in-Struct t c =
+pub core_spelling-returns-in-Some : goal.core_spelling-returns-in-Some
+core_spelling-returns-in-Some t c =
     handed c.struct_spelling.result _ _
-    (ap (λ (v : Val). spelled c.args.endian v c.args.place) (sym (struct_tree _ (type_of c.args.known.now) c.in-Struct.fields _ c.in-Struct.is c.as_slice-in-Struct.ensures.value))) c.struct_spelling.ensures
+    (ap (λ (v : Val). spelled c.args.endian v c.args.place) (sym (c.in-Some.ensures.fields.1 (type_of c.args.known.now)))) c.struct_spelling.ensures
 
 pub core_spelling-returns-in-DictEntry : goal.core_spelling-returns-in-DictEntry
 core_spelling-returns-in-DictEntry t c =
