@@ -3,4 +3,10 @@
 #![tactic(auto)]
 
 #[cfg(test)]
+mod checks;
+#[cfg(test)]
+mod prompts;
+#[cfg(test)]
 mod sessions;
+#[cfg(test)]
+mod words;
