@@ -1,14 +1,23 @@
+ghost use Rattle.std.specs.Prelude.{IsTrue};
+ghost use Rattle.connection_worker.specs.Serving.{HasJoined};
+
+use crate::checks::{cell, length, same_bytes, same_number, same_text};
 use connection_worker::{End, Salts, handshake, one_thread};
 use dbus_auth::{Auth, AuthFault};
 use kr_base::ConnId;
 use kr_memory::{ListedClock, MemorySink, MemorySource};
+use kr_outside::{Sink, Source};
 use lone_desk::LoneDesk;
+use service_desk::{ReadDesk, WriteDesk};
 use service_history::Service;
 use std::alloc::{AllocError, AllocGlobal, Global};
+use std::process::Abort;
 use std::sync::Wait;
 use std::test::Fail;
 
-const GUID: [u8; 32] = *b"0123456789abcdef0123456789abcdef";
+fn guid() -> [u8; 32] {
+    *b"0123456789abcdef0123456789abcdef"
+}
 
 // The name, what the client sends, the words of the answers, and how the handshake ends. `^` stands for
 // a zero byte, `~` for CR LF, `#` for a line feed. An open one tells how many bytes stand behind BEGIN.
@@ -23,42 +32,58 @@ another user|^AUTH EXTERNAL 30~BEGIN~|REJECTED|BeginTooSoon
 it ends inside a line|^AUTH EXTERNAL 31303030~BEGIN|OK|EndedEarly
 a line feed alone ends no line|^AUTH EXTERNAL 31303030#||EndedEarly";
 
+fn push_code(bytes: &mut Vec<u8>, code: u8) -> Result<(), AllocError> {
+    match code {
+        b'^' => bytes.push(0)?,
+        b'~' => bytes.extend_from_slice(b"\r\n")?,
+        b'#' => bytes.push(b'\n')?,
+        _ => bytes.push(code)?,
+    }
+    Ok(())
+}
+
 // The bytes that a text of the table stands for.
-fn bytes_of(alloc: Global, text: &str) -> Result<Vec<u8>, AllocError> {
+fn bytes_of(alloc: Global, text: &str) -> Result<Vec<u8>, Fail> {
     let mut bytes = Vec::new(alloc);
     for code in text.bytes() {
-        match code {
-            b'^' => bytes.push(0)?,
-            b'~' => bytes.extend_from_slice(b"\r\n")?,
-            b'#' => bytes.push(b'\n')?,
-            _ => bytes.push(code)?,
-        }
+        push_code(&mut bytes, code)?;
     }
     Ok(bytes)
+}
+
+fn answer_of(word: &str) -> &'static str {
+    match word {
+        "OK" => "OK 0123456789abcdef0123456789abcdef\r\n",
+        "REJECTED" => "REJECTED EXTERNAL\r\n",
+        "DATA" => "DATA\r\n",
+        "ERROR" => "ERROR\r\n",
+        _ => "",
+    }
 }
 
 // What is written for the words of the answers.
-fn answers_of(alloc: Global, words: &str) -> Result<Vec<u8>, AllocError> {
+fn answers_of(alloc: Global, words: &str) -> Result<Vec<u8>, Fail> {
     let mut bytes = Vec::new(alloc);
     for word in words.split(',') {
-        match word {
-            "OK" => bytes.extend_from_slice(b"OK 0123456789abcdef0123456789abcdef\r\n")?,
-            "REJECTED" => bytes.extend_from_slice(b"REJECTED EXTERNAL\r\n")?,
-            "DATA" => bytes.extend_from_slice(b"DATA\r\n")?,
-            "ERROR" => bytes.extend_from_slice(b"ERROR\r\n")?,
-            _ => {}
-        }
+        bytes.extend_from_slice(answer_of(word).as_bytes())?;
     }
     Ok(bytes)
 }
 
-// How a handshake ended, in a word.
-fn word_of(end: End) -> &'static str {
+fn fault_told(fault: AuthFault) -> &'static str {
+    match fault {
+        AuthFault::NoZero => "NoZero",
+        AuthFault::LineTooLong => "LineTooLong",
+        AuthFault::BeginTooSoon => "BeginTooSoon",
+        AuthFault::EndedEarly => "EndedEarly",
+    }
+}
+
+// How a connection ended, in a word.
+fn end_told(end: End) -> &'static str {
     match end {
-        End::AuthRefused(AuthFault::NoZero) => "NoZero",
-        End::AuthRefused(AuthFault::LineTooLong) => "LineTooLong",
-        End::AuthRefused(AuthFault::BeginTooSoon) => "BeginTooSoon",
-        End::AuthRefused(AuthFault::EndedEarly) => "EndedEarly",
+        End::Done => "Done",
+        End::AuthRefused(fault) => fault_told(fault),
         End::ReadFault => "ReadFault",
         End::WriteFault => "WriteFault",
         End::Memory => "Memory",
@@ -66,103 +91,181 @@ fn word_of(end: End) -> &'static str {
     }
 }
 
-// The handshake of the user 1000 over these bytes, cut into pieces of one byte where `is_cut` says so.
-fn played<R: AllocGlobal + Wait>(
+fn open_told(alloc: Global, rest: usize) -> Result<String, Fail> {
+    Ok(format!(in alloc; "open {rest}")?)
+}
+
+// How a handshake of the user 1000 ends.
+fn ended<R: AllocGlobal + Wait, I: Source, O: Sink>(
     rt: &R,
-    input: Vec<u8>,
-    is_cut: bool,
-    wanted: &[u8],
-    end: &str,
-) -> Result<bool, Fail> {
-    let alloc = rt.alloc();
-    let mut pieces = Vec::new(alloc);
-    if is_cut {
-        for _ in 0..input.len() {
-            pieces.push(1)?;
-        }
+    input: &mut I,
+    output: &mut O,
+) -> Result<String, Fail> {
+    match handshake(rt, Auth::new(1000, guid()), input, output) {
+        Ok(framer) => open_told(rt.alloc(), framer.rest()),
+        Err(end) => Ok(String::from_str(rt.alloc(), end_told(end))?),
     }
-    let mut source = MemorySource::new(input, pieces, Vec::new(alloc));
-    let mut sink = MemorySink::new(alloc, Vec::new(alloc), Vec::new(alloc));
-    let ended = match handshake(rt, Auth::new(1000, GUID), &mut source, &mut sink) {
-        Ok(framer) => format!(in alloc; "open {}", framer.rest())?,
-        Err(end) => format!(in alloc; "{}", word_of(end))?,
-    };
-    // What stands behind BEGIN is in the framer as far as it was read.
-    let is_end = ended.as_str() == end || (is_cut && ended.as_str() == "open 0");
-    Ok(is_end && sink.bytes() == wanted)
+}
+
+// So many pieces of one byte.
+fn bytes_alone(alloc: Global, count: usize) -> Result<Vec<usize>, Fail> {
+    let mut pieces = Vec::new(alloc);
+    for _ in 0..count {
+        pieces.push(1usize)?;
+    }
+    Ok(pieces)
+}
+
+// A source of these bytes, cut into pieces of one byte where `is_cut` says so.
+fn source_of(alloc: Global, input: Vec<u8>, is_cut: bool) -> Result<MemorySource, Fail> {
+    let count = if is_cut { input.len() } else { 0 };
+    let pieces = bytes_alone(alloc, count)?;
+    Ok(MemorySource::new(input, pieces, Vec::new(alloc)))
+}
+
+fn plain_sink(alloc: Global) -> MemorySink {
+    MemorySink::new(alloc, Vec::new(alloc), Vec::new(alloc))
+}
+
+// Asserts that the input ends a handshake so, and that so much is written before.
+fn ends_so<R: AllocGlobal + Wait + Abort>(
+    rt: &R,
+    source: &mut MemorySource,
+    words: &str,
+    end: &str,
+    at: &str,
+) -> Result<(), Fail> {
+    let mut sink = plain_sink(rt.alloc());
+    let found = ended(rt, source, &mut sink)?;
+    same_text(rt, found.as_str(), end, at);
+    let wanted = answers_of(rt.alloc(), words)?;
+    same_bytes(rt, sink.bytes(), wanted.as_slice(), at);
+    Ok(())
+}
+
+fn is_answered<R: AllocGlobal + Wait + Abort>(rt: &R, row: &str) -> Result<(), Fail> {
+    let input = bytes_of(rt.alloc(), cell(row, 1))?;
+    let mut source = source_of(rt.alloc(), input, false)?;
+    ends_so(rt, &mut source, cell(row, 2), cell(row, 3), row)
+}
+
+// What stands behind BEGIN is in the framer as far as it was read.
+fn end_if_cut(end: &str) -> &str {
+    if end == "open 4" { "open 0" } else { end }
+}
+
+fn is_answered_if_cut<R: AllocGlobal + Wait + Abort>(rt: &R, row: &str) -> Result<(), Fail> {
+    let input = bytes_of(rt.alloc(), cell(row, 1))?;
+    let mut source = source_of(rt.alloc(), input, true)?;
+    ends_so(rt, &mut source, cell(row, 2), end_if_cut(cell(row, 3)), row)
 }
 
 #[test]
 fn each_conversation_is_answered_however_it_is_cut(rt: HostRuntime) -> Result<(), Fail> {
-    let alloc = rt.alloc();
     for row in CONVERSATIONS.lines() {
-        let (name, row) = row.split_once('|').ok_or("name")?;
-        let (input, row) = row.split_once('|').ok_or("input")?;
-        let (words, end) = row.split_once('|').ok_or("words")?;
-        let wanted = answers_of(alloc, words)?;
-        for is_cut in [false, true] {
-            let input = bytes_of(alloc, input)?;
-            let is_so = played(&rt, input, is_cut, &wanted, end)?;
-            assert!(rt; is_so, "{name}, cut: {is_cut}");
-        }
+        is_answered(&rt, row)?;
+        is_answered_if_cut(&rt, row)?;
     }
     Ok(())
+}
+
+// The length of a line, the words of the answers, and how the handshake ends.
+const LINES: &str = "\
+16382|ERROR|EndedEarly
+16383||LineTooLong
+";
+
+fn long_line(alloc: Global, length: usize) -> Result<Vec<u8>, Fail> {
+    let mut line = bytes_of(alloc, "^")?;
+    for _ in 0..length {
+        line.push(b'A')?;
+    }
+    line.extend_from_slice(b"\r\n")?;
+    Ok(line)
+}
+
+fn is_long<R: AllocGlobal + Wait + Abort>(rt: &R, row: &str) -> Result<(), Fail> {
+    let line = long_line(rt.alloc(), length(cell(row, 0))?)?;
+    let mut source = source_of(rt.alloc(), line, false)?;
+    ends_so(rt, &mut source, cell(row, 1), cell(row, 2), row)
 }
 
 #[test]
 fn a_line_of_the_limit_is_answered_and_a_longer_one_is_refused(
     rt: HostRuntime,
 ) -> Result<(), Fail> {
-    let alloc = rt.alloc();
-    for (length, end) in [(16_382usize, "EndedEarly"), (16_383, "LineTooLong")] {
-        let mut input = bytes_of(alloc, "^")?;
-        for _ in 0..length {
-            input.push(b'A')?;
-        }
-        input.extend_from_slice(b"\r\n")?;
-        let wanted = if length == 16_382 { "ERROR" } else { "" };
-        let wanted = answers_of(alloc, wanted)?;
-        assert!(rt; played(&rt, input, false, &wanted, end)?, "{length}");
+    for row in LINES.lines() {
+        is_long(&rt, row)?;
     }
+    Ok(())
+}
+
+fn name(alloc: Global) -> Result<Vec<u8>, Fail> {
+    bytes_of(alloc, "^AUTH EXTERNAL 31303030~")
+}
+
+// A source of the name alone, whose call of the number 1 fails.
+fn failing_source(alloc: Global) -> Result<MemorySource, Fail> {
+    let failing = Vec::from_slice(alloc, &[1u64])?;
+    Ok(MemorySource::new(name(alloc)?, Vec::new(alloc), failing))
+}
+
+// A sink that takes 3 bytes, and whose call of the number 1 fails.
+fn failing_sink(alloc: Global) -> Result<MemorySink, Fail> {
+    let pieces = Vec::from_slice(alloc, &[3usize])?;
+    let failing = Vec::from_slice(alloc, &[1u64])?;
+    Ok(MemorySink::new(alloc, pieces, failing))
+}
+
+fn a_write_fails<R: AllocGlobal + Wait + Abort>(rt: &R) -> Result<(), Fail> {
+    let mut source = source_of(rt.alloc(), name(rt.alloc())?, false)?;
+    let mut sink = failing_sink(rt.alloc())?;
+    let found = ended(rt, &mut source, &mut sink)?;
+    same_text(rt, found.as_str(), "WriteFault", "a write");
+    same_bytes(rt, sink.bytes(), b"OK ", "a write");
     Ok(())
 }
 
 #[test]
 fn a_fault_of_a_stream_is_told(rt: HostRuntime) -> Result<(), Fail> {
-    let alloc = rt.alloc();
-    let input = bytes_of(alloc, "^AUTH EXTERNAL 31303030~")?;
-    let failing = Vec::from_slice(alloc, &[1u64])?;
-    let mut source = MemorySource::new(input, Vec::new(alloc), failing);
-    let mut sink = MemorySink::new(alloc, Vec::new(alloc), Vec::new(alloc));
-    let ended = handshake(&rt, Auth::new(1000, GUID), &mut source, &mut sink);
-    assert!(rt; matches!(ended, Err(End::ReadFault)));
-    assert_eq!(rt; sink.bytes().len(), 37);
-    let input = bytes_of(alloc, "^AUTH EXTERNAL 31303030~")?;
-    let mut source = MemorySource::new(input, Vec::new(alloc), Vec::new(alloc));
-    let pieces = Vec::from_slice(alloc, &[3usize])?;
-    let failing = Vec::from_slice(alloc, &[1u64])?;
-    let mut sink = MemorySink::new(alloc, pieces, failing);
-    let ended = handshake(&rt, Auth::new(1000, GUID), &mut source, &mut sink);
-    assert!(rt; matches!(ended, Err(End::WriteFault)));
-    assert_eq!(rt; sink.bytes(), b"OK ".as_slice());
+    let mut source = failing_source(rt.alloc())?;
+    // The 37 bytes of the answer are written before.
+    ends_so(&rt, &mut source, "OK", "ReadFault", "a read")?;
+    a_write_fails(&rt)
+}
+
+fn salts_of(conn: ConnId) -> Salts {
+    Salts::new([0; 32], conn)
+}
+
+fn conn_of(text: &str) -> Result<ConnId, Fail> {
+    Ok(ConnId(text.parse::<u64>().ok().ok_or("connection")?))
+}
+
+fn next_told(alloc: Global, salts: &mut Salts) -> Result<String, Fail> {
+    Ok(hex::encode(alloc, salts.next().as_slice())?)
+}
+
+// Connection, and its first two salts under a seed of zeros.
+const SALTS: &str = "\
+1|ef3fdfd6c61578fb|f5cf35bd3dd33b80
+2|d0c5b9b744287072|8d812f034c635e81
+4294967298|b219bcbf4750253c|fe456cd3b8ab770a
+";
+
+fn has_salts<R: AllocGlobal + Abort>(rt: &R, row: &str) -> Result<(), Fail> {
+    let mut salts = salts_of(conn_of(cell(row, 0))?);
+    let first = next_told(rt.alloc(), &mut salts)?;
+    same_text(rt, first.as_str(), cell(row, 1), row);
+    let second = next_told(rt.alloc(), &mut salts)?;
+    same_text(rt, second.as_str(), cell(row, 2), row);
     Ok(())
 }
 
 #[test]
 fn salts_are_words_of_the_connections_stream(rt: HostRuntime) -> Result<(), Fail> {
-    // Connection, and its first two salts under a seed of zeros.
-    let cases = "\
-1 ef3fdfd6c61578fb f5cf35bd3dd33b80
-2 d0c5b9b744287072 8d812f034c635e81
-4294967298 b219bcbf4750253c fe456cd3b8ab770a";
-    for case in cases.lines() {
-        let (conn, salts) = case.split_once(' ').ok_or("connection")?;
-        let (first, second) = salts.split_once(' ').ok_or("salts")?;
-        let mut salts = Salts::new([0; 32], ConnId(conn.parse()?));
-        for wanted in [first, second] {
-            let salt = hex::encode(rt.alloc(), salts.next().as_slice())?;
-            assert_eq!(rt; salt.as_str(), wanted, "{case}");
-        }
+    for row in SALTS.lines() {
+        has_salts(&rt, row)?;
     }
     Ok(())
 }
@@ -179,40 +282,71 @@ const SESSION: &str = "\
 6c02010134000000010000001000000005017500010000000801670002766f0001730000000000000000000023\
 0000002f6f72672f667265656465736b746f702f736563726574732f73657373696f6e2f733100";
 
+// Appends the bytes of these digits.
+fn push_digits(bytes: &mut Vec<u8>, alloc: Global, digits: &str) -> Result<(), Fail> {
+    let message = hex::decode(alloc, digits).ok().ok_or("hex")?;
+    bytes.extend_from_slice(message.as_slice())?;
+    Ok(())
+}
+
+// A client that shakes hands and opens a session.
+fn client(alloc: Global) -> Result<Vec<u8>, Fail> {
+    let mut input = bytes_of(alloc, "^AUTH EXTERNAL~DATA~NEGOTIATE_UNIX_FD~BEGIN~")?;
+    push_digits(&mut input, alloc, OPEN_SESSION)?;
+    Ok(input)
+}
+
+// What is written to that client.
+fn written(alloc: Global) -> Result<Vec<u8>, Fail> {
+    let mut output = answers_of(alloc, "DATA,OK,ERROR")?;
+    push_digits(&mut output, alloc, SESSION)?;
+    Ok(output)
+}
+
+// Serves the first connection at a desk; how it ended.
+fn served<R: AllocGlobal + Wait, I: Source, O: Sink, D: ReadDesk + WriteDesk>(
+    rt: &R,
+    input: &mut I,
+    output: &mut O,
+    desk: &mut D,
+) -> &'static str
+    requires alone { IsTrue (D.told desk.old).is_alone }
+    requires joined { HasJoined (D.told desk.old) }
+{
+    let mut clock = ListedClock::new(Vec::new(rt.alloc()));
+    let mut salts = salts_of(ConnId(1));
+    let auth = Auth::new(1000, guid());
+    end_told(one_thread(rt, auth, input, output, desk, &mut clock, &mut salts))
+}
+
+fn stored(desk: LoneDesk) -> u64 {
+    desk.into_service().events().len() as u64
+}
+
+// Serves the first connection of a service; the events, once it is done.
+fn events_of<R: AllocGlobal + Wait + Abort, I: Source, O: Sink>(
+    rt: &R,
+    input: &mut I,
+    output: &mut O,
+) -> Result<u64, Fail> {
+    let mut desk = LoneDesk::join(Service::open(rt.alloc()))?;
+    let end = served(rt, input, output, &mut desk);
+    same_text(rt, end, "Done", "the end");
+    Ok(stored(desk))
+}
+
+fn is_served<R: AllocGlobal + Wait + Abort>(rt: &R, is_cut: bool, at: &str) -> Result<(), Fail> {
+    let mut source = source_of(rt.alloc(), client(rt.alloc())?, is_cut)?;
+    let mut sink = plain_sink(rt.alloc());
+    let events = events_of(rt, &mut source, &mut sink)?;
+    same_number(rt, events, 4, at);
+    let wanted = written(rt.alloc())?;
+    same_bytes(rt, sink.bytes(), wanted.as_slice(), at);
+    Ok(())
+}
+
 #[test]
 fn one_call_is_answered_on_one_thread(rt: HostRuntime) -> Result<(), Fail> {
-    let alloc = rt.alloc();
-    for is_cut in [false, true] {
-        let mut input = bytes_of(alloc, "^AUTH EXTERNAL~DATA~NEGOTIATE_UNIX_FD~BEGIN~")?;
-        let message = hex::decode(alloc, OPEN_SESSION).ok().ok_or("hex")?;
-        input.extend_from_slice(message.as_slice())?;
-        let mut wanted = answers_of(alloc, "DATA,OK,ERROR")?;
-        let reply = hex::decode(alloc, SESSION).ok().ok_or("hex")?;
-        wanted.extend_from_slice(reply.as_slice())?;
-        let mut pieces = Vec::new(alloc);
-        if is_cut {
-            for _ in 0..input.len() {
-                pieces.push(1usize)?;
-            }
-        }
-        let mut source = MemorySource::new(input, pieces, Vec::new(alloc));
-        let mut sink = MemorySink::new(alloc, Vec::new(alloc), Vec::new(alloc));
-        let mut desk = LoneDesk::join(Service::open(alloc))?;
-        let mut clock = ListedClock::new(Vec::new(alloc));
-        let mut salts = Salts::new([0; 32], ConnId(1));
-        let auth = Auth::new(1000, GUID);
-        let end = one_thread(
-            &rt,
-            auth,
-            &mut source,
-            &mut sink,
-            &mut desk,
-            &mut clock,
-            &mut salts,
-        );
-        assert_eq!(rt; end, End::Done, "cut: {is_cut}");
-        assert_eq!(rt; sink.bytes(), wanted.as_slice(), "cut: {is_cut}");
-        assert_eq!(rt; desk.into_service().events().len(), 4);
-    }
-    Ok(())
+    is_served(&rt, false, "whole")?;
+    is_served(&rt, true, "cut")
 }

@@ -1,0 +1,29 @@
+// What a test asserts, and how it reads its table: one function for each type.
+
+use std::process::Abort;
+use std::test::Fail;
+
+/// Asserts that two texts are the same; `at` says where.
+pub fn same_text(rt: &impl Abort, found: &str, want: &str, at: &str) {
+    assert_eq!(rt; found, want, "at {at}");
+}
+
+/// Asserts that two runs of bytes are the same; `at` says where.
+pub fn same_bytes(rt: &impl Abort, found: &[u8], want: &[u8], at: &str) {
+    assert_eq!(rt; found, want, "at {at}");
+}
+
+/// Asserts that two numbers are the same; `at` says where.
+pub fn same_number(rt: &impl Abort, found: u64, want: u64, at: &str) {
+    assert_eq!(rt; found, want, "at {at}");
+}
+
+/// The cell of a row at this place, where bars are between the cells.
+pub fn cell(row: &str, place: usize) -> &str {
+    row.split('|').nth(place).unwrap_or("no such cell")
+}
+
+/// The length that a text is.
+pub fn length(text: &str) -> Result<usize, Fail> {
+    Ok(text.parse::<usize>().ok().ok_or("a length")?)
+}
