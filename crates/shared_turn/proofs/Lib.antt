@@ -1,0 +1,4 @@
+pub mod Histories
+pub mod Keeps
+pub mod Readies
+pub mod Seating

@@ -1,0 +1,5 @@
+pub mod Passes
+pub mod Places
+pub mod Rule
+pub mod Seats
+pub mod Steps

@@ -1,0 +1,15 @@
+//! A value that many threads use by turns, and one history of all that is recorded in it. Callers may
+//! rely on these: one thread at a time has the value; a thread gets it as the one before gave it back;
+//! what a pass has seen of the history is a beginning of all that was recorded, and of what its own
+//! calls recorded it has the places, each once. Who waits for a turn sleeps.
+#![tactic(auto)]
+
+mod chronicle;
+mod known;
+mod pass;
+mod plays;
+mod turn;
+
+pub use chronicle::Chronicle;
+pub use pass::Pass;
+pub use turn::Turn;
