@@ -1,5 +1,5 @@
-//! The tests of the service, over what its crates give to all: the machine, its history, and the desk over a
-//! service of one thread. They are in a crate of their own so that no crate is proved again for its tests.
+//! The tests of the service, over what its crates give to all: the machine, its history, the desk over a
+//! service of one thread, and one service for many threads. They are in a crate of their own so that no crate is proved again for its tests.
 #![tactic(auto)]
 
 #[cfg(test)]
@@ -10,5 +10,7 @@ mod desk;
 mod history;
 #[cfg(test)]
 mod machine;
+#[cfg(test)]
+mod threads;
 #[cfg(test)]
 mod words;

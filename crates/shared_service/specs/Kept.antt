@@ -1,0 +1,47 @@
+-- What a desk keeps of its pass: each fact has one proof at most, and they make its view one of the service.
+use Rattle.std.specs.Prelude.{◌≡◌, ℕ, ◌+◌, List, [], ◌∷◌, length, refl}
+use mathlib.Core.Path.{sym, subst}
+use mathlib.Core.HLevel.{×_prop, Unit-prop}
+use Rattle.std.proofs.Props.{props}
+use Rattle.service_machine.specs.declared.rows.Rows.{Rows}
+use Rattle.service_machine.specs.declared.event.Event.{Event}
+use Rattle.service_machine.specs.declared.event.Event.TheVariants as event
+use Rattle.service_machine.specs.Step.{step, Fits}
+use Rattle.service_machine.specs.Replay.{Legal}
+use Rattle.service_desk.specs.Views.{View, ArePlaces, IsView}
+use Rattle.shared_service.specs.Passes.{state_of, count_of}
+
+fits-prop : (state : Rows) (event : Event) → IsProp (Fits state event)
+fits-prop state (event.Connect conn) = Prim.hlevel props
+fits-prop state (event.Arrive arrival) = Prim.hlevel props
+fits-prop state (event.Leave conn) = Prim.hlevel props
+fits-prop state (event.Take conn) = Prim.hlevel props
+fits-prop state (event.Gone conn) = Prim.hlevel props
+
+events-prop : (state : Rows) (events : List Event) → IsProp (Legal state events)
+events-prop state [] = Unit-prop
+events-prop state (event ∷ events) = ×_prop (fits-prop state event) (events-prop (step state event) events)
+
+rising-prop : (from below : ℕ) (places : List ℕ) → IsProp (ArePlaces from below places)
+rising-prop from below [] = Prim.hlevel props
+rising-prop from below (place ∷ places) = ×_prop (Prim.hlevel props) (rising-prop (place + 1) below places)
+
+-- the events that were seen are legal from the start
+abbrev pub IsLegal : View → Type 0
+IsLegal view = Legal view.start view.seen
+
+-- that has one proof at most
+pub legal-prop : (view : View) → IsProp (IsLegal view)
+legal-prop view = events-prop view.start view.seen
+
+-- the own places rise, each below the number of events
+abbrev pub Rises : View → Type 0
+Rises view = ArePlaces 0 (length view.seen) view.own
+
+-- so has that
+pub rises-prop : (view : View) → IsProp (Rises view)
+rises-prop view = rising-prop 0 (length view.seen) view.own
+
+-- a view whose events are legal leads to the state that they lead to
+pub leads : (view other : View) → IsLegal view → Rises view → other ≡ view → IsView (state_of view) (count_of view) other
+leads view other legal places same = subst (λ (v : View). IsView (state_of view) (count_of view) v) (sym same) record { legal = legal; leads = refl; counted = refl; places = places }

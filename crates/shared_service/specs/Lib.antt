@@ -1,0 +1,5 @@
+pub mod Ends
+pub mod Kept
+pub mod Passes
+pub mod Standing
+pub mod Tries

@@ -1,0 +1,85 @@
+-- What a pass is: of which service, and its view of that service's history.
+use Rattle.std.specs.Prelude.{◌≡◌, ℕ, ◌+◌, true, false, [], length, Option, Some, None}
+use Rattle.atomic_table.specs.Seated.{TableId}
+use Rattle.kr_base.specs.declared.ids.ConnId.{ConnId}
+use Rattle.service_machine.specs.declared.rows.Rows.{Rows}
+use Rattle.service_machine.specs.declared.event.Event.{Event}
+use Rattle.service_machine.specs.Step.{opened_rows, IsCrowded}
+use Rattle.service_machine.specs.Replay.{replay, Legal}
+use Rattle.service_history.specs.Windows.{Window}
+use Rattle.service_desk.specs.Views.{View, ArePlaces}
+use Rattle.service_desk.specs.Places.{Told, Place, Looks}
+use Rattle.service_machine.specs.Limits.{IsSpent}
+use Rattle.service_machine.specs.declared.event.JoinRefused.{JoinRefused}
+use Rattle.service_machine.specs.declared.event.JoinRefused.TheVariants as join
+use Rattle.shared_turn.specs.Passes as turn
+use Rattle.shared_turn.specs.Places.{StartsWith, longer, merged}
+
+-- a pass, as contracts see it
+pub record Seen : Type 0 where
+  pub table : TableId
+  pub view : View
+
+-- a start, where there is one
+abbrev pub start_or : Option Rows → Rows
+start_or None = opened_rows
+start_or (Some start) = start
+
+-- the view of a pass through the turn
+abbrev pub view_of : turn.View Rows Event → View
+view_of pass = record { start = start_or pass.start; before = pass.before; seen = pass.seen; own = pass.own }
+
+-- the same, with the service that it is of
+abbrev pub seen_of : turn.View Rows Event → Seen
+seen_of pass = record { table = pass.table; view = view_of pass }
+
+-- What a pass keeps between two calls: it doesn't have the turn, and what it has seen is legal from its start.
+pub record IsIdle (pass : turn.View Rows Event) : Type 0 where
+  pub start : (start : Rows) × (pass.start ≡ Some start)
+  pub outside : pass.has_turn ≡ false
+  pub legal : Legal (start_or pass.start) pass.seen
+  pub places : ArePlaces 0 (length pass.seen) pass.own
+
+-- the first pass of a service: it has seen the stored events, and none of them is its own
+abbrev pub opened : TableId → Window → Seen
+opened table window = record { table = table; view = record { start = window.base; before = window.era; seen = window.events; own = [] } }
+
+-- a pass that has seen the same, and recorded nothing
+abbrev pub noted : Seen → Seen
+noted pass = record pass { view = record pass.view { own = [] } }
+
+-- the state that the history leads to, as far as the view has seen it
+abbrev pub state_of : View → Rows
+state_of view = replay view.start view.seen
+
+-- how many events the run has had up to there
+abbrev pub count_of : View → ℕ
+count_of view = view.before + length view.seen
+
+-- What a desk over a shared service tells by its view: others record events too, and a call that takes waits.
+abbrev pub told : ConnId → View → Told
+told conn view = record { conn = conn; state = state_of view; count = count_of view; is_alone = false; is_steady = true; is_waiting = true }
+
+-- where such a desk stands; it has seen just its view
+abbrev pub spot : ConnId → View → Place
+spot conn view = record { told = told conn view; has_seen = λ other. other ≡ view }
+
+-- the refusal's cause, in what the pass has seen
+abbrev pub HasCause : JoinRefused → View → Type 0
+HasCause join.EventsSpent view = IsSpent (count_of view)
+HasCause join.TooManyConnections view = IsCrowded (state_of view)
+HasCause join.OutOfMemory view = Unit {0}
+
+-- Why no connection could join, by the state that the pass has seen then; nothing was recorded.
+abbrev pub IsRefused : JoinRefused → View → View → Type 0
+IsRefused refused old new = ((conn : ConnId) → Looks (spot conn old) (spot conn new)) × HasCause refused new
+
+-- Both are of one run. The pass knows also what the other did: it has seen the longer of both histories, of which each had seen a beginning,
+-- and the places of both are its own, each once.
+pub record IsGathered (old other new : Seen) : Type 0 where
+  pub start : old.view.start ≡ other.view.start
+  pub before : old.view.before ≡ other.view.before
+  pub is : new ≡ record old { view = record old.view { seen = longer old.view.seen other.view.seen; own = merged old.view.own other.view.own } }
+  pub starts : StartsWith new.view.seen old.view.seen
+  pub starts_other : StartsWith new.view.seen other.view.seen
+  pub places : ArePlaces 0 (length new.view.seen) new.view.own

@@ -1,0 +1,29 @@
+-- What one call does behind the turn, by the service as it was found there.
+use Rattle.std.specs.Prelude.{◌≡◌, List, ◌++◌}
+use Rattle.kr_base.specs.declared.ids.ConnId.{ConnId}
+use Rattle.secret_calls.specs.declared.taken.Taken.{Taken}
+use Rattle.secret_calls.specs.declared.taken.Taken.TheVariants as taken
+use Rattle.service_machine.specs.declared.event.Event.{Event}
+use Rattle.service_machine.specs.declared.event.Event.TheVariants as event
+use Rattle.service_history.specs.History.{History, given_for, told}
+use Rattle.service_desk.specs.Views.{View, with_others, with_own}
+use Rattle.shared_service.specs.Standing.{Stands}
+
+-- The service as the history left it that begins with all that the view has seen.
+pub record IsClosed (view : View) (service : History) : Type 0 where
+  pub between : List Event
+  pub stands : Stands service view.start view.before (view.seen ++ between)
+
+-- the view after a call that was given this: what it recorded is its own
+abbrev pub after_take : ConnId → Taken → View → View
+after_take conn (taken.Outs outs) view = with_own (event.Take conn) view
+after_take conn taken.Closed view = with_own (event.Gone conn) view
+after_take conn _ view = view
+
+-- The pass saw events of others, found the service as they left it, and was given what the service gives there.
+pub record Tries (conn : ConnId) (old : View) (given : Taken) (new : View) : Type 0 where
+  pub between : List Event
+  pub service : History
+  pub stands : Stands service old.start old.before (old.seen ++ between)
+  pub given_is : given ≡ given_for conn service.state (told conn service)
+  pub is : new ≡ after_take conn given (with_others between old)

@@ -1,0 +1,34 @@
+ghost use Rattle.service_desk.specs.Views.{IsView};
+ghost use Rattle.shared_service.specs.Passes.{state_of, count_of};
+
+use crate::kept::Kept;
+use std::marker::Model;
+
+/// What a thread has seen of the service's history, and which of its events are the thread's own. A
+/// contract sees which service it is of, and its view. It takes no memory.
+#[derive(Drop)]
+pub struct Pass {
+    pub(crate) inner: shared_turn::Pass<Kept>,
+}
+
+impl Model for Pass {
+    ghost use Rattle.shared_service.specs.Passes.{Seen};
+
+    ghost Value = { Seen };
+
+    ghost use Rattle.shared_service.specs.Passes.{seen_of, IsIdle};
+
+    ghost view = { λ pass. seen_of pass.inner };
+
+    ghost invariant = { λ pass. IsIdle pass.inner };
+}
+
+impl Pass {
+    /// What a pass has seen is legal from its start, and its own places are among it, each once. It does
+    /// nothing.
+    pub fn has_seen_a_history(&self)
+        ensures { IsView (state_of self.now.view) (count_of self.now.view) self.now.view }
+    {
+        let _inner = &self.inner;
+    }
+}

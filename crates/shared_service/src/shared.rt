@@ -1,0 +1,238 @@
+ghost use Rattle.std.specs.Prelude.{◌≡◌, ◌+◌, ◌∷◌, [], true, IfOk, OnOk, OnErr, IfErr};
+ghost use Rattle.service_machine.specs.declared.event.Event.{Event};
+ghost use Rattle.service_machine.specs.declared.event.Event.TheVariants as event;
+ghost use Rattle.service_history.specs.Windows.{total};
+ghost use Rattle.service_machine.specs.declared.event.Output.TheVariants as output;
+ghost use Rattle.service_desk.specs.Places.{Looks, Extends};
+ghost use Rattle.service_desk.specs.Calls.{Arrives, IsRefusal, Leaves, Takes, Goes};
+ghost use Rattle.shared_turn.specs.Passes.{outside, recorded};
+ghost use Rattle.shared_service.specs.Standing.{newest};
+ghost use Rattle.shared_service.specs.Ends.{IsEnd};
+ghost use Rattle.shared_service.specs.Passes.{opened, noted, spot, told, IsRefused, IsGathered};
+ghost use Rattle.shared_service.specs.Tries.{Tries, IsClosed};
+
+use crate::kept::Kept;
+use crate::pass::Pass;
+use kr_base::{ConnId, OutOfMemory};
+use secret_calls::{Refused, Request, Taken};
+use service_history::Service;
+use service_machine::{Arrival, JoinRefused};
+use shared_turn::Turn;
+use std::alloc::Global;
+use std::marker::Model;
+use std::sync::Wait;
+
+/// A service that threads share. A contract sees which one it is.
+#[derive(Drop)]
+pub struct SharedService {
+    turn: Turn<Kept>,
+}
+
+impl Model for SharedService {
+    ghost use Rattle.atomic_table.specs.Seated.{TableId};
+
+    ghost Value = { TableId };
+
+    ghost view = { λ shared. shared.turn };
+}
+
+// How many events the run has had.
+fn total(service: &Service) -> u64
+    ensures { result ≡ total service.now.window }
+{
+    service.era() + service.events().len() as u64
+}
+
+impl SharedService {
+    /// Shares a service among threads, and gives the first pass, which has seen the stored events.
+    pub fn open(alloc: Global, service: Service) -> Result<(SharedService, Pass), OutOfMemory>
+        ensures { IfOk result (λ both. both.1 ≡ opened both.0 service.window) }
+    {
+        let count = total(&service);
+        let (turn, inner) = Turn::open(alloc, Kept { service }, count)?;
+        Ok((SharedService { turn }, Pass { inner }))
+    }
+
+    // Gives the turn on after a call that recorded one event or none: the number of events tells which.
+    fn end(&self, inner: &mut shared_turn::Pass<Kept>, kept: Kept, count: u64)
+        requires table { inner.old.table ≡ self.now }
+        requires inside { inner.old.has_turn ≡ true }
+        requires ended { IsEnd kept.service count inner.old }
+        ensures same { total kept.service.window ≡ count → inner.new ≡ outside inner.old }
+        ensures recorded { (event : Event) → (total kept.service.window ≡ count → ⊥)
+            → newest kept.service.window.events ≡ event ∷ []
+            → inner.new ≡ recorded event inner.old }
+    {
+        if total(&kept.service) == count {
+            self.turn.give_back(inner, kept);
+        } else {
+            self.turn.record(inner, kept);
+        }
+    }
+
+    /// Records that the connection asks no more, where it is there and isn't leaving already.
+    pub fn leave<R: Wait>(&self, rt: &R, pass: &mut Pass, conn: ConnId)
+        requires table { pass.old.table ≡ self.now }
+        ensures same { pass.new.table ≡ pass.old.table }
+        ensures left { Leaves (spot conn pass.old.view) (spot conn pass.new.view) }
+    {
+        let mut kept = self.turn.enter(rt, &mut pass.inner);
+        let count = total(&kept.service);
+        kept.service.leave(conn);
+        self.end(&mut pass.inner, kept, count);
+    }
+
+    /// Records that the connection is gone, where it is there.
+    pub fn gone<R: Wait>(&self, rt: &R, pass: &mut Pass, conn: ConnId)
+        requires table { pass.old.table ≡ self.now }
+        ensures same { pass.new.table ≡ pass.old.table }
+        ensures gone { Goes (spot conn pass.old.view) (spot conn pass.new.view) }
+    {
+        let mut kept = self.turn.enter(rt, &mut pass.inner);
+        let count = total(&kept.service);
+        kept.service.gone(conn);
+        self.end(&mut pass.inner, kept, count);
+    }
+
+    // Takes once: also where nothing waits. Gives the number of the run's events besides.
+    fn try_take<R: Wait>(&self, rt: &R, pass: &mut Pass, conn: ConnId) -> (Taken, u64)
+        requires table { pass.old.table ≡ self.now }
+        ensures same { pass.new.table ≡ pass.old.table }
+        ensures tried { Tries conn pass.old.view result.0 pass.new.view }
+    {
+        let mut kept = self.turn.enter(rt, &mut pass.inner);
+        let count = total(&kept.service);
+        let taken = kept.service.take(conn);
+        self.end(&mut pass.inner, kept, count);
+        (taken, count)
+    }
+
+    /// Gives what waits for the connection, and records that it took it; waits while there is nothing.
+    /// `Overrun` where nothing waits and an output was lost; `Closed` where nothing waits and the
+    /// connection is leaving, and it is gone then; `Missing` where it isn't there. Never `Empty`.
+    pub fn take<R: Wait>(&self, rt: &R, pass: &mut Pass, conn: ConnId) -> Taken
+        requires table { pass.old.table ≡ self.now }
+        ensures same { pass.new.table ≡ pass.old.table }
+        ensures taken { Takes (spot conn pass.old.view) (spot conn pass.new.view) result }
+    {
+        for _ in rt.forever() {
+            let (taken, count) = self.try_take(rt, pass, conn);
+            match taken {
+                Taken::Empty => self.turn.sleep(rt, count),
+                taken => return taken,
+            }
+        }
+        unreachable!()
+    }
+
+    /// The connection asks for something, at a moment in seconds since 1970, with random bytes should a
+    /// key be derived.
+    ///
+    /// Refused with `EventsSpent` where all events that can be counted are recorded, then with `Gone`
+    /// where the connection isn't there; `OutOfMemory` may come in place of any.
+    pub fn arrive<R: Wait>(
+        &self,
+        rt: &R,
+        pass: &mut Pass,
+        conn: ConnId,
+        request: Request,
+        now: u64,
+        salt: [u8; 8],
+    ) -> Result<(), Refused>
+        requires table { pass.old.table ≡ self.now }
+        ensures same { pass.new.table ≡ pass.old.table }
+        ensures recorded { OnOk result (Arrives
+            (spot conn pass.old.view) (spot conn pass.new.view)
+            (event.Arrive (record { conn = conn; request = request; now = now; salt = salt }))) }
+        ensures looked { OnErr result (Looks
+            (spot conn pass.old.view) (spot conn pass.new.view)) }
+        ensures cause { IfErr result (λ refused. IsRefusal refused (told conn pass.new.view)) }
+    {
+        let arrival = Arrival {
+            conn,
+            request,
+            now,
+            salt,
+        };
+        let mut kept = self.turn.enter(rt, &mut pass.inner);
+        let count = total(&kept.service);
+        let arrived = kept.service.arrive(arrival);
+        self.end(&mut pass.inner, kept, count);
+        arrived
+    }
+
+    // Records a connection that joins, and gives its number.
+    fn connect<R: Wait>(&self, rt: &R, pass: &mut Pass) -> Result<ConnId, JoinRefused>
+        requires table { pass.old.table ≡ self.now }
+        ensures same { pass.new.table ≡ pass.old.table }
+        ensures joined { IfOk result (λ conn. Extends
+            (spot conn pass.old.view) (spot conn pass.new.view)
+            (event.Connect conn) (output.Joined conn)) }
+        ensures refused { IfErr result (λ refused.
+            IsRefused refused pass.old.view pass.new.view) }
+    {
+        let mut kept = self.turn.enter(rt, &mut pass.inner);
+        let count = total(&kept.service);
+        let joined = kept.service.join();
+        self.end(&mut pass.inner, kept, count);
+        joined
+    }
+
+    /// A connection joins. Gives its number, a pass for its reader and one for its writer: both have seen
+    /// what this one has, the joining last, and have recorded nothing.
+    ///
+    /// Refused with `EventsSpent` where all events that can be counted are recorded, then with
+    /// `TooManyConnections` where 256 connections are there or no number is left; `OutOfMemory` may come
+    /// in place of any.
+    pub fn join<R: Wait>(
+        &self,
+        rt: &R,
+        pass: &mut Pass,
+    ) -> Result<(ConnId, Pass, Pass), JoinRefused>
+        requires table { pass.old.table ≡ self.now }
+        ensures same { pass.new.table ≡ pass.old.table }
+        ensures joined { IfOk result (λ joined. Extends
+            (spot joined.0 pass.old.view) (spot joined.0 pass.new.view)
+            (event.Connect joined.0) (output.Joined joined.0)) }
+        ensures passes { IfOk result (λ joined.
+            (joined.1 ≡ noted pass.new) × (joined.2 ≡ noted pass.new)) }
+        ensures refused { IfErr result (λ refused.
+            IsRefused refused pass.old.view pass.new.view) }
+    {
+        let conn = self.connect(rt, pass)?;
+        let reader = self.note(pass);
+        let writer = self.note(pass);
+        Ok((conn, reader, writer))
+    }
+
+    /// A new pass, which has seen the same and recorded nothing.
+    pub fn note(&self, pass: &mut Pass) -> Pass
+        requires table { pass.old.table ≡ self.now }
+        ensures same { pass.new ≡ pass.old }
+        ensures noted { result ≡ noted pass.old }
+    {
+        let inner = self.turn.note(&mut pass.inner);
+        Pass { inner }
+    }
+
+    /// The pass learns what another has seen, and takes over what it recorded.
+    pub fn gather(&self, pass: &mut Pass, other: Pass)
+        requires table { pass.old.table ≡ self.now }
+        requires other_table { other.table ≡ self.now }
+        ensures { IsGathered pass.old other pass.new }
+    {
+        let Pass { inner } = other;
+        self.turn.gather(&mut pass.inner, inner);
+    }
+
+    /// Takes the turn, and gives the service back as all that was recorded left it. The turn is never
+    /// given on, so a later call waits for ever.
+    pub fn close<R: Wait>(&self, rt: &R, mut pass: Pass) -> Service
+        requires table { pass.table ≡ self.now }
+        ensures { IsClosed pass.view result }
+    {
+        let kept = self.turn.enter(rt, &mut pass.inner);
+        let Kept { service } = kept;
+        service
+    }
+}
