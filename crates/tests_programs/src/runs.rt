@@ -1,4 +1,7 @@
 // The top call over streams and hosts in memory: whole conversations, and each way in which a run ends early.
+ghost use Rattle.std.specs.Prelude.{◌≡◌, [], IfOk};
+
+use crate::checks::{begins, cell, ends, holds, numbers, same_bytes, same_number};
 use dbus_auth::AuthFault;
 use dbus_framing::Violation;
 use keyring_program::{Status, run};
@@ -114,17 +117,22 @@ field 0|HELLO PLAIN@16:00|bad message: BadHeader|OK
 no path|HELLO PLAIN@16:14|bad message: MissingField|OK
 a text that doesn't end|HELLO PLAIN@148:01|bad message: BadBody|OK";
 
+// Bytes in hex up to `]`, and ASCII behind it.
+fn put_piece(alloc: Global, bytes: &mut Vec<u8>, piece: &str) -> Result<(), Fail> {
+    match piece.split_once(']') {
+        Some((digits, plain)) => {
+            bytes.extend_from_slice(hex::decode(alloc, digits)?.as_slice())?;
+            Ok(bytes.extend_from_slice(plain.as_bytes())?)
+        }
+        None => Ok(bytes.extend_from_slice(piece.as_bytes())?),
+    }
+}
+
 // What this text spells: hex in brackets, and ASCII.
 fn spelled(alloc: Global, text: &str) -> Result<Vec<u8>, Fail> {
     let mut bytes = Vec::new(alloc);
     for piece in text.split('[') {
-        match piece.split_once(']') {
-            Some((digits, plain)) => {
-                bytes.extend_from_slice(hex::decode(alloc, digits)?.as_slice())?;
-                bytes.extend_from_slice(plain.as_bytes())?;
-            }
-            None => bytes.extend_from_slice(piece.as_bytes())?,
-        }
+        put_piece(alloc, &mut bytes, piece)?;
     }
     Ok(bytes)
 }
@@ -150,16 +158,29 @@ fn change(bytes: &mut Vec<u8>, place: usize, others: &[u8]) {
     }
 }
 
-// The bytes of a word of the table: a part, changed at some places.
-fn word_of(alloc: Global, word: &str) -> Result<Vec<u8>, Fail> {
-    let mut pieces = word.split('@');
-    let mut bytes = spelled(alloc, part(pieces.next().ok_or("a part")?))?;
-    for piece in pieces {
-        let (place, digits) = piece.split_once(':').ok_or("a place")?;
-        let others = hex::decode(alloc, digits)?;
-        change(&mut bytes, place.parse::<usize>()?, others.as_slice());
+// The bytes with those of a change, a place and digits behind it.
+fn change_by(alloc: Global, bytes: &mut Vec<u8>, word: &str) -> Result<(), Fail> {
+    let (place, digits) = word.split_once(':').ok_or("a place")?;
+    let others = hex::decode(alloc, digits)?;
+    change(bytes, place.parse::<usize>()?, others.as_slice());
+    Ok(())
+}
+
+// The bytes of a part, changed at some places.
+fn changed(alloc: Global, name: &str, changes: &str) -> Result<Vec<u8>, Fail> {
+    let mut bytes = spelled(alloc, part(name))?;
+    for word in changes.split('@') {
+        change_by(alloc, &mut bytes, word)?;
     }
     Ok(bytes)
+}
+
+// The bytes of a word of the table: a part, which may be changed.
+fn word_of(alloc: Global, word: &str) -> Result<Vec<u8>, Fail> {
+    match word.split_once('@') {
+        Some((name, changes)) => changed(alloc, name, changes),
+        None => spelled(alloc, part(word)),
+    }
 }
 
 // The bytes of these words, one behind the other.
@@ -171,10 +192,15 @@ fn bytes_of(alloc: Global, words: &str) -> Result<Vec<u8>, Fail> {
     Ok(bytes)
 }
 
-fn texts_of(alloc: Global, words: &[&str]) -> Result<Vec<Text>, Fail> {
+fn text_of(alloc: Global, text: &str) -> Result<Text, Fail> {
+    Ok(Text::from_str(alloc, text)?.ok_or("a zero byte")?)
+}
+
+// The words of a command line, one behind a `/` each.
+fn words_of(alloc: Global, line: &str) -> Result<Vec<Text>, Fail> {
     let mut texts = Vec::new(alloc);
-    for word in words {
-        texts.push(Text::from_str(alloc, word)?.ok_or("a zero byte")?)?;
+    for word in line.split('/').skip(1) {
+        texts.push(text_of(alloc, word)?)?;
     }
     Ok(texts)
 }
@@ -185,35 +211,58 @@ fn empty_host(alloc: Global) -> SteadyHost {
     SteadyHost::new(alloc, Files::new(alloc), 0, clock)
 }
 
-// Runs `stdio . 1000` under the zero seed.
+// Runs a command line on a host, under the zero seed.
+fn run_on<R: AllocGlobal + Wait, I: Source, O: Sink, H: Host>(
+    rt: &R,
+    line: &str,
+    input: &mut I,
+    output: &mut O,
+    host: &mut H,
+) -> Result<Status, Fail> {
+    let words = words_of(rt.alloc(), line)?;
+    Ok(run(rt, words.as_slice(), input, output, host, [0; 32]))
+}
+
+// Runs `stdio . 1000` where the folders are empty.
 fn stdio<R: AllocGlobal + Wait, I: Source, O: Sink>(
     rt: &R,
     input: &mut I,
     output: &mut O,
 ) -> Result<Status, Fail> {
-    let alloc = rt.alloc();
-    let words = texts_of(alloc, &["stdio", ".", "1000"])?;
-    let mut host = empty_host(alloc);
-    Ok(run(rt, words.as_slice(), input, output, &mut host, [0; 32]))
+    let mut host = empty_host(rt.alloc());
+    run_on(rt, "/stdio/./1000", input, output, &mut host)
 }
 
-// How the run of this input ends, in pieces of these lengths, and what it writes.
-fn played<R: AllocGlobal + Wait>(
-    rt: &R,
+// This input in pieces of these lengths; these reads fail, counted from 0.
+fn source_of(
+    alloc: Global,
     input: &[u8],
     pieces: &[usize],
-    failing_reads: &[u64],
-    failing_writes: &[u64],
-) -> Result<(Status, Vec<u8>), Fail> {
-    let alloc = rt.alloc();
-    let mut source = MemorySource::new(
-        input.to_vec(alloc)?,
-        pieces.to_vec(alloc)?,
-        failing_reads.to_vec(alloc)?,
-    );
-    let mut sink = MemorySink::new(alloc, Vec::new(alloc), failing_writes.to_vec(alloc)?);
-    let status = stdio(rt, &mut source, &mut sink)?;
-    Ok((status, sink.bytes().to_vec(alloc)?))
+    failing: Vec<u64>,
+) -> Result<MemorySource, Fail> {
+    let input = input.to_vec(alloc)?;
+    let pieces = pieces.to_vec(alloc)?;
+    Ok(MemorySource::new(input, pieces, failing))
+}
+
+// A sink of which these writes fail, counted from 0.
+fn sink_of(alloc: Global, failing: Vec<u64>) -> MemorySink {
+    MemorySink::new(alloc, Vec::new(alloc), failing)
+}
+
+// The run of this source ends so and writes this to the sink.
+fn plays<R: Abort + AllocGlobal + Wait>(
+    rt: &R,
+    name: &str,
+    source: &mut MemorySource,
+    sink: &mut MemorySink,
+    told: &str,
+    wanted: &[u8],
+) -> Result<(), Fail> {
+    let status = stdio(rt, source, sink)?;
+    ends(rt, status, told, name)?;
+    same_bytes(rt, sink.bytes(), wanted, name);
+    Ok(())
 }
 
 // The run of this input ends so and writes this, in these pieces.
@@ -225,64 +274,68 @@ fn answers<R: Abort + AllocGlobal + Wait>(
     told: &str,
     wanted: &[u8],
 ) -> Result<(), Fail> {
-    let (status, written) = played(rt, input, pieces, &[], &[])?;
-    let text = format!(in rt.alloc(); "{status}")?;
-    assert_eq!(rt; text.as_str(), told, "at {name}");
-    assert_eq!(rt; written.as_slice(), wanted, "at {name}");
-    Ok(())
+    let mut source = source_of(rt.alloc(), input, pieces, Vec::new(rt.alloc()))?;
+    let mut sink = sink_of(rt.alloc(), Vec::new(rt.alloc()));
+    plays(rt, name, &mut source, &mut sink, told, wanted)
+}
+
+// The input is answered as one piece and byte by byte.
+fn answers_both<R: Abort + AllocGlobal + Wait>(
+    rt: &R,
+    name: &str,
+    input: &[u8],
+    told: &str,
+    wanted: &[u8],
+) -> Result<(), Fail> {
+    let ones = vec![in rt.alloc(); 1; input.len()]?;
+    answers(rt, name, input, &[], told, wanted)?;
+    answers(rt, name, input, ones.as_slice(), told, wanted)
+}
+
+fn is_answered<R: Abort + AllocGlobal + Wait>(rt: &R, row: &str) -> Result<(), Fail> {
+    let input = bytes_of(rt.alloc(), cell(row, 1))?;
+    let wanted = bytes_of(rt.alloc(), cell(row, 3))?;
+    let told = cell(row, 2);
+    answers_both(rt, row, input.as_slice(), told, wanted.as_slice())
 }
 
 #[test]
 fn each_conversation_is_answered_however_it_is_cut(rt: HostRuntime) -> Result<(), Fail> {
-    let alloc = rt.alloc();
     for row in CONVERSATIONS.lines() {
-        let (name, row) = row.split_once('|').ok_or("a name")?;
-        let (input, row) = row.split_once('|').ok_or("an input")?;
-        let (told, output) = row.split_once('|').ok_or("an end")?;
-        let input = bytes_of(alloc, input)?;
-        let wanted = bytes_of(alloc, output)?;
-        let ones = vec![in alloc; 1; input.len()]?;
-        for pieces in [&[], ones.as_slice()] {
-            answers(&rt, name, input.as_slice(), pieces, told, wanted.as_slice())?;
-        }
+        is_answered(&rt, row)?;
     }
     Ok(())
 }
 
 #[test]
 fn a_call_cut_after_every_byte_is_answered_once(rt: HostRuntime) -> Result<(), Fail> {
-    let alloc = rt.alloc();
-    let input = bytes_of(alloc, "HELLO PLAIN")?;
-    let wanted = bytes_of(alloc, "OK SESSION")?;
+    let input = bytes_of(rt.alloc(), "HELLO PLAIN")?;
+    let wanted = bytes_of(rt.alloc(), "OK SESSION")?;
+    let (input, wanted) = (input.as_slice(), wanted.as_slice());
     for place in 0..input.len() {
-        answers(
-            &rt,
-            "a call",
-            input.as_slice(),
-            &[place],
-            "done",
-            wanted.as_slice(),
-        )?;
+        answers(&rt, "a call", input, &[place], "done", wanted)?;
     }
     Ok(())
 }
 
+// The input without its last bytes, so many.
+fn ends_inside<R: Abort + AllocGlobal + Wait>(
+    rt: &R,
+    input: &[u8],
+    less: usize,
+    wanted: &[u8],
+) -> Result<(), Fail> {
+    let (front, _) = input.split_at(input.len().saturating_sub(less));
+    let told = "bad message: EndInside";
+    answers(rt, "a part of a call", front, &[], told, wanted)
+}
+
 #[test]
 fn a_call_that_ends_early_is_told(rt: HostRuntime) -> Result<(), Fail> {
-    let alloc = rt.alloc();
-    let mut input = bytes_of(alloc, "HELLO PLAIN")?;
-    let wanted = bytes_of(alloc, "OK")?;
-    for _ in 1..149 {
-        input.pop();
-        let told = "bad message: EndInside";
-        answers(
-            &rt,
-            "a part of a call",
-            input.as_slice(),
-            &[],
-            told,
-            wanted.as_slice(),
-        )?;
+    let input = bytes_of(rt.alloc(), "HELLO PLAIN")?;
+    let wanted = bytes_of(rt.alloc(), "OK")?;
+    for less in 1..149 {
+        ends_inside(&rt, input.as_slice(), less, wanted.as_slice())?;
     }
     Ok(())
 }
@@ -301,103 +354,125 @@ const LONG_CALL: &str = "\
 [6c010001c8ff0f00020000002800000001016f00010000002f00000000000000030173000400000050696e670000000008\
 01670002617900c4ff0f00]";
 
+// The handshake, and so many bytes of a call that is so many bytes longer than a mebibyte.
+fn long_input(alloc: Global, more: u8, count: usize) -> Result<Vec<u8>, Fail> {
+    let mut input = bytes_of(alloc, "HELLO")?;
+    let mut call = long_call(alloc, more)?;
+    call.truncate(count);
+    input.extend_from_slice(call.as_slice())?;
+    Ok(input)
+}
+
+fn long_is_told<R: Abort + AllocGlobal + Wait>(
+    rt: &R,
+    name: &str,
+    input: &[u8],
+    told: &str,
+    output: &str,
+) -> Result<(), Fail> {
+    let wanted = bytes_of(rt.alloc(), output)?;
+    answers(rt, name, input, &[], told, wanted.as_slice())
+}
+
 #[test]
 fn a_mebibyte_is_a_call_and_one_byte_more_is_too_large(rt: HostRuntime) -> Result<(), Fail> {
-    let alloc = rt.alloc();
-    let mut input = bytes_of(alloc, "HELLO")?;
-    input.extend_from_slice(long_call(alloc, 0)?.as_slice())?;
-    let wanted = bytes_of(alloc, "OK NOARGUMENTS@8:01@68:02")?;
-    answers(
-        &rt,
-        "a mebibyte",
-        input.as_slice(),
-        &[],
-        "done",
-        wanted.as_slice(),
-    )?;
-    let mut input = bytes_of(alloc, "HELLO")?;
-    let mut front = long_call(alloc, 1)?;
-    front.truncate(16);
-    input.extend_from_slice(front.as_slice())?;
-    let wanted = bytes_of(alloc, "OK")?;
+    let whole = long_input(rt.alloc(), 0, 1_048_576)?;
+    let output = "OK NOARGUMENTS@8:01@68:02";
+    long_is_told(&rt, "a mebibyte", whole.as_slice(), "done", output)?;
+    let front = long_input(rt.alloc(), 1, 16)?;
     let told = "bad message: TooLarge";
-    answers(
-        &rt,
-        "a byte more",
-        input.as_slice(),
-        &[],
-        told,
+    long_is_told(&rt, "a byte more", front.as_slice(), told, "OK")
+}
+
+// A call of OpenSession with this serial, behind others.
+fn put_call(alloc: Global, input: &mut Vec<u8>, serial: u8) -> Result<(), Fail> {
+    let mut call = bytes_of(alloc, "PLAIN")?;
+    change(&mut call, 8, &[serial]);
+    Ok(input.extend_from_slice(call.as_slice())?)
+}
+
+// 65 calls of OpenSession, then the first session is closed and a further one opened.
+fn many_calls(alloc: Global) -> Result<Vec<u8>, Fail> {
+    let mut input = bytes_of(alloc, "HELLO")?;
+    for serial in 1..66u8 {
+        put_call(alloc, &mut input, serial)?;
+    }
+    let rest = bytes_of(alloc, "CLOSE@8:42 PLAIN@8:43")?;
+    input.extend_from_slice(rest.as_slice())?;
+    Ok(input)
+}
+
+// What the run of those calls writes.
+fn many_answers<R: Abort + AllocGlobal + Wait>(rt: &R) -> Result<Vec<u8>, Fail> {
+    let input = many_calls(rt.alloc())?;
+    let mut source = source_of(rt.alloc(), input.as_slice(), &[], Vec::new(rt.alloc()))?;
+    let mut sink = sink_of(rt.alloc(), Vec::new(rt.alloc()));
+    let status = stdio(rt, &mut source, &mut sink)?;
+    ends(rt, status, "done", "65 sessions")?;
+    Ok(sink.bytes().to_vec(rt.alloc())?)
+}
+
+#[test]
+fn a_65th_session_is_one_too_many(rt: HostRuntime) -> Result<(), Fail> {
+    let written = many_answers(&rt)?;
+    let wanted = bytes_of(rt.alloc(), "FULL PONG@8:42@20:42 SESSION65")?;
+    let ends_so = written.as_slice().ends_with(wanted.as_slice());
+    holds(&rt, ends_so, "the end of what is written");
+    // The line OK, 9 and 55 sessions with one digit and with two, and these three.
+    let length = (37usize + 9 * 84 + 55 * 85).saturating_add(wanted.len());
+    same_number(&rt, written.len(), length, "the length of what is written");
+    Ok(())
+}
+
+// The reads and the writes that fail, counted from 0, how the run ends, and what is written.
+const FAULTS: &str = "\
+0||input failed|
+1||input failed|OK
+3||input failed|OK
+4||input failed|OK SESSION
+|0|output failed|
+|1|output failed|OK
+";
+
+// The input of a row comes in pieces of 60 bytes.
+fn fails<R: Abort + AllocGlobal + Wait>(rt: &R, row: &str) -> Result<(), Fail> {
+    let input = bytes_of(rt.alloc(), "HELLO PLAIN")?;
+    let reads = numbers(rt.alloc(), cell(row, 0))?;
+    let writes = numbers(rt.alloc(), cell(row, 1))?;
+    let wanted = bytes_of(rt.alloc(), cell(row, 3))?;
+    let mut source = source_of(rt.alloc(), input.as_slice(), &[60; 4], reads)?;
+    let mut sink = sink_of(rt.alloc(), writes);
+    plays(
+        rt,
+        row,
+        &mut source,
+        &mut sink,
+        cell(row, 2),
         wanted.as_slice(),
     )
 }
 
 #[test]
-fn a_65th_session_is_one_too_many(rt: HostRuntime) -> Result<(), Fail> {
-    let alloc = rt.alloc();
-    let mut input = bytes_of(alloc, "HELLO")?;
-    for serial in 1..66u8 {
-        let mut call = bytes_of(alloc, "PLAIN")?;
-        change(&mut call, 8, &[serial]);
-        input.extend_from_slice(call.as_slice())?;
-    }
-    // The first is closed, and a further one opened.
-    let rest = bytes_of(alloc, "CLOSE@8:42 PLAIN@8:43")?;
-    input.extend_from_slice(rest.as_slice())?;
-    let (status, written) = played(&rt, input.as_slice(), &[], &[], &[])?;
-    assert_eq!(rt; status, Status::Done);
-    let wanted = bytes_of(alloc, "FULL PONG@8:42@20:42 SESSION65")?;
-    assert!(rt; written.as_slice().ends_with(wanted.as_slice()));
-    // The line OK, 9 and 55 sessions with one digit and with two, and these three.
-    let length = 37usize + 9 * 84 + 55 * 85;
-    assert_eq!(rt; written.len(), length.saturating_add(wanted.len()));
-    Ok(())
-}
-
-// The input comes in pieces of 60 bytes; these reads and writes fail, counted from 0; the run ends so,
-// and this is written.
-fn fails<R: Abort + AllocGlobal + Wait>(
-    rt: &R,
-    failing_reads: &[u64],
-    failing_writes: &[u64],
-    want: Status,
-    output: &str,
-) -> Result<(), Fail> {
-    let input = bytes_of(rt.alloc(), "HELLO PLAIN")?;
-    let (status, written) = played(
-        rt,
-        input.as_slice(),
-        &[60; 4],
-        failing_reads,
-        failing_writes,
-    )?;
-    assert_eq!(rt; status, want, "at {failing_reads:?} and {failing_writes:?}");
-    let wanted = bytes_of(rt.alloc(), output)?;
-    assert_eq!(rt;
-        written.as_slice(),
-        wanted.as_slice(),
-        "at {failing_reads:?} and {failing_writes:?}"
-    );
-    Ok(())
-}
-
-#[test]
 fn a_stream_that_fails_ends_the_run(rt: HostRuntime) -> Result<(), Fail> {
-    fails(&rt, &[0], &[], Status::ReadFault, "")?;
-    fails(&rt, &[1], &[], Status::ReadFault, "OK")?;
-    fails(&rt, &[3], &[], Status::ReadFault, "OK")?;
-    fails(&rt, &[4], &[], Status::ReadFault, "OK SESSION")?;
-    fails(&rt, &[], &[0], Status::WriteFault, "")?;
-    fails(&rt, &[], &[1], Status::WriteFault, "OK")
+    for row in FAULTS.lines() {
+        fails(&rt, row)?;
+    }
+    Ok(())
+}
+
+// A source of what these words spell, which never fails.
+fn steady_source(alloc: Global, words: &str) -> Result<SteadySource, Fail> {
+    Ok(SteadySource::new(bytes_of(alloc, words)?, Vec::new(alloc)))
 }
 
 #[test]
 fn steady_streams_see_the_run_to_its_end(rt: HostRuntime) -> Result<(), Fail> {
-    let alloc = rt.alloc();
-    let mut source = SteadySource::new(bytes_of(alloc, "HELLO PLAIN")?, Vec::new(alloc));
-    let mut sink = SteadySink::new(alloc, 1024, Vec::new(alloc))?;
-    assert_eq!(rt; stdio(&rt, &mut source, &mut sink)?, Status::Done);
-    let wanted = bytes_of(alloc, "OK SESSION")?;
-    assert_eq!(rt; sink.bytes(), wanted.as_slice());
+    let mut source = steady_source(rt.alloc(), "HELLO PLAIN")?;
+    let mut sink = SteadySink::new(rt.alloc(), 1024, Vec::new(rt.alloc()))?;
+    let status = stdio(&rt, &mut source, &mut sink)?;
+    ends(&rt, status, "done", "steady streams")?;
+    let wanted = bytes_of(rt.alloc(), "OK SESSION")?;
+    same_bytes(&rt, sink.bytes(), wanted.as_slice(), "steady streams");
     Ok(())
 }
 
@@ -415,131 +490,133 @@ const COMMANDS: &str = "\
 /stdio/./+1000 usage
 /stdio/./4294967296 usage";
 
-// How the run of these words over the handshake alone ends.
-fn ended<R: AllocGlobal + Wait>(rt: &R, words: &str) -> Result<Status, Fail> {
-    let alloc = rt.alloc();
-    let mut texts = Vec::new(alloc);
-    for word in words.split('/').skip(1) {
-        texts.push(Text::from_str(alloc, word)?.ok_or("a zero byte")?)?;
-    }
-    let mut source = SteadySource::new(bytes_of(alloc, "HELLO")?, Vec::new(alloc));
-    let mut sink = SteadySink::new(alloc, 64, Vec::new(alloc))?;
-    let mut host = empty_host(alloc);
-    let words = texts.as_slice();
-    Ok(run(rt, words, &mut source, &mut sink, &mut host, [0; 32]))
+// How the run of a command line over the handshake alone ends, on this host.
+fn ended<R: AllocGlobal + Wait, H: Host>(rt: &R, line: &str, host: &mut H) -> Result<Status, Fail> {
+    let mut source = steady_source(rt.alloc(), "HELLO")?;
+    let mut sink = SteadySink::new(rt.alloc(), 64, Vec::new(rt.alloc()))?;
+    run_on(rt, line, &mut source, &mut sink, host)
+}
+
+fn is_command<R: Abort + AllocGlobal + Wait>(rt: &R, row: &str) -> Result<(), Fail> {
+    let (line, want) = row.split_once(' ').ok_or("an end")?;
+    let mut host = empty_host(rt.alloc());
+    let told = ended(rt, line, &mut host)?.to_string(rt.alloc())?;
+    // After a usage the commands are printed.
+    begins(rt, told.as_str(), want, row);
+    Ok(())
 }
 
 #[test]
 fn three_plain_words_are_a_command(rt: HostRuntime) -> Result<(), Fail> {
     for row in COMMANDS.lines() {
-        let (words, want) = row.split_once(' ').ok_or("an end")?;
-        let told = format!(in rt.alloc(); "{}", ended(&rt, words)?)?;
-        // After a usage the commands are printed.
-        assert!(rt; told.as_str().starts_with(want), "at {words}: {told}");
+        is_command(&rt, row)?;
     }
     Ok(())
 }
 
-// How the run of `stdio FOLDER 1000` ends over the handshake alone, on this host.
-fn opens<R: AllocGlobal + Wait, H: Host>(
-    rt: &R,
-    folder: &str,
-    host: &mut H,
-) -> Result<Status, Fail> {
-    let alloc = rt.alloc();
-    let words = texts_of(alloc, &["stdio", folder, "1000"])?;
-    let mut source = SteadySource::new(bytes_of(alloc, "HELLO")?, Vec::new(alloc));
-    let mut sink = SteadySink::new(alloc, 64, Vec::new(alloc))?;
-    let words = words.as_slice();
-    Ok(run(rt, words, &mut source, &mut sink, host, [0; 32]))
-}
-
-// A host whose folder is `.`, with a keyring file that isn't one; these calls of the host and of the folder
-// fail, counted from 0.
-fn memory_host(
-    alloc: Global,
-    host_fails: &[u64],
-    folder_fails: &[u64],
-) -> Result<MemoryHost, Fail> {
-    let path = Text::from_str(alloc, ".")?.ok_or("a zero byte")?;
-    let name = Text::from_str(alloc, "x.keyring")?.ok_or("a zero byte")?;
-    let mut folder = MemoryFolder::new(alloc, folder_fails.to_vec(alloc)?);
+// A folder with a keyring file that isn't one; these calls of the folder fail, counted from 0.
+fn memory_folder(alloc: Global, failing: Vec<u64>) -> Result<MemoryFolder, Fail>
+    ensures { IfOk result (λ folder. folder.made ≡ []) }
+{
+    let name = text_of(alloc, "x.keyring")?;
+    let mut folder = MemoryFolder::new(alloc, failing);
     folder.set(name, Some(Bytes::from_slice(alloc, b"abc")?))?;
-    let clock = ListedClock::new(Vec::new(alloc));
-    Ok(MemoryHost::new(alloc, path, folder, clock, host_fails.to_vec(alloc)?))
+    Ok(folder)
 }
 
-// How the run ends on such a host.
-fn opens_in_memory<R: AllocGlobal + Wait>(
+// The host of a row, whose folder is `.`.
+fn memory_host(alloc: Global, row: &str) -> Result<MemoryHost, Fail> {
+    let path = text_of(alloc, ".")?;
+    let host_fails = numbers(alloc, cell(row, 1))?;
+    let folder = memory_folder(alloc, numbers(alloc, cell(row, 2))?)?;
+    let clock = ListedClock::new(Vec::new(alloc));
+    Ok(MemoryHost::new(alloc, path, folder, clock, host_fails))
+}
+
+// The run of a command line over the handshake alone ends so on this host.
+fn opens_on<R: Abort + AllocGlobal + Wait, H: Host>(
     rt: &R,
-    folder: &str,
-    host_fails: &[u64],
-    folder_fails: &[u64],
-) -> Result<Status, Fail> {
-    let mut host = memory_host(rt.alloc(), host_fails, folder_fails)?;
-    opens(rt, folder, &mut host)
+    line: &str,
+    host: &mut H,
+    told: &str,
+    at: &str,
+) -> Result<(), Fail> {
+    let status = ended(rt, line, host)?;
+    ends(rt, status, told, at)
+}
+
+// A command line, the calls of a host in memory and those of its folder that fail, counted from 0, and how
+// the run over the handshake alone ends.
+const FOLDERS: &str = "\
+/stdio/./1000|||done
+/stdio/there/1000|||folder failed
+/stdio/./1000|0||folder failed
+/stdio/./1000||0|folder failed
+/stdio/./1000||1|folder failed
+";
+
+fn opens<R: Abort + AllocGlobal + Wait>(rt: &R, row: &str) -> Result<(), Fail> {
+    let mut host = memory_host(rt.alloc(), row)?;
+    opens_on(rt, cell(row, 0), &mut host, cell(row, 3), row)
 }
 
 #[test]
 fn a_folder_that_fails_ends_the_run(rt: HostRuntime) -> Result<(), Fail> {
-    assert_eq!(rt; opens_in_memory(&rt, ".", &[], &[])?, Status::Done);
-    assert_eq!(rt;
-        opens_in_memory(&rt, "there", &[], &[])?,
-        Status::FolderFault
-    );
-    assert_eq!(rt; opens_in_memory(&rt, ".", &[0], &[])?, Status::FolderFault);
-    assert_eq!(rt; opens_in_memory(&rt, ".", &[], &[0])?, Status::FolderFault);
-    assert_eq!(rt; opens_in_memory(&rt, ".", &[], &[1])?, Status::FolderFault);
+    for row in FOLDERS.lines() {
+        opens(&rt, row)?;
+    }
     Ok(())
 }
 
+fn make_folders(rt: &HostRuntime) -> Result<(), Fail> {
+    fs::create_dir(rt, "rings")?;
+    fs::write(rt, "rings/x.keyring", b"abc")?;
+    fs::write(rt, "file", b"no folder")?;
+    fs::create_dir(rt, "closed")?;
+    Ok(fs::set_permissions(rt, "closed", Permissions::from_mode(0))?)
+}
+
+// A command line, and how the run over the handshake alone ends.
+const REAL_FOLDERS: &str = "\
+/stdio/rings/1000|done
+/stdio/missing/1000|folder failed
+/stdio/file/1000|folder failed
+/stdio/closed/1000|folder failed
+";
+
 #[test]
 fn a_real_folder_is_opened_or_a_fault(rt: HostRuntime) -> Result<(), Fail> {
-    fs::create_dir(&rt, "rings")?;
-    fs::write(&rt, "rings/x.keyring", b"abc")?;
-    fs::write(&rt, "file", b"no folder")?;
-    fs::create_dir(&rt, "closed")?;
-    fs::set_permissions(&rt, "closed", Permissions::from_mode(0))?;
+    make_folders(&rt)?;
     let mut host = RealHost::new(rt);
-    assert_eq!(rt; opens(&rt, "rings", &mut host)?, Status::Done);
-    for path in ["missing", "file", "closed"] {
-        assert_eq!(rt;
-            opens(&rt, path, &mut host)?,
-            Status::FolderFault,
-            "at {path}"
-        );
+    for row in REAL_FOLDERS.lines() {
+        opens_on(&rt, cell(row, 0), &mut host, cell(row, 1), row)?;
     }
     Ok(())
+}
+
+fn is_end(
+    rt: &(impl AllocGlobal + Abort),
+    status: Status,
+    number: usize,
+    text: &str,
+) -> Result<(), Fail> {
+    same_number(rt, usize::from(status.number()), number, text);
+    ends(rt, status, text, text)
 }
 
 #[test]
 fn each_end_has_its_number_and_its_text(rt: HostRuntime) -> Result<(), Fail> {
-    let cases = [
-        (Status::Done, 0, "done"),
-        (Status::ReadFault, 3, "input failed"),
-        (Status::WriteFault, 4, "output failed"),
-        (Status::FolderFault, 5, "folder failed"),
-        (
-            Status::Violation(Violation::BadBody),
-            7,
-            "bad message: BadBody",
-        ),
-        (
-            Status::AuthRefused(AuthFault::LineTooLong),
-            8,
-            "handshake refused: LineTooLong",
-        ),
-        (Status::Memory, 9, "out of memory"),
-        (Status::EventsSpent, 11, "events spent"),
-    ];
-    for (status, number, text) in cases {
-        assert_eq!(rt; status.number(), number, "at {text}");
-        let told = format!(in rt.alloc(); "{status}")?;
-        assert_eq!(rt; told.as_str(), text);
-    }
-    let usage = format!(in rt.alloc(); "{}", Status::Usage)?;
+    is_end(&rt, Status::Done, 0, "done")?;
+    is_end(&rt, Status::ReadFault, 3, "input failed")?;
+    is_end(&rt, Status::WriteFault, 4, "output failed")?;
+    is_end(&rt, Status::FolderFault, 5, "folder failed")?;
+    let violation = Status::Violation(Violation::BadBody);
+    is_end(&rt, violation, 7, "bad message: BadBody")?;
+    let refused = Status::AuthRefused(AuthFault::LineTooLong);
+    is_end(&rt, refused, 8, "handshake refused: LineTooLong")?;
+    is_end(&rt, Status::Memory, 9, "out of memory")?;
+    is_end(&rt, Status::EventsSpent, 11, "events spent")?;
     let command =
         "usage: keyringd stdio DIR UID | serve DIR SOCKET --uid U [--connections N] | load N SEED";
-    assert_eq!(rt; usage.as_str(), command);
-    Ok(())
+    ends(&rt, Status::Usage, command, "usage")
 }
