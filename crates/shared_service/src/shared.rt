@@ -45,6 +45,8 @@ fn total(service: &Service) -> u64
 
 impl SharedService {
     /// Shares a service among threads, and gives the first pass, which has seen the stored events.
+    ///
+    /// Refused with `OutOfMemory` where no memory is left; the service is dropped then.
     pub fn open(alloc: Global, service: Service) -> Result<(SharedService, Pass), OutOfMemory>
         ensures { IfOk result (λ both. both.1 ≡ opened both.0 service.window) }
     {
@@ -70,7 +72,8 @@ impl SharedService {
         }
     }
 
-    /// Records that the connection asks no more, where it is there and isn't leaving already.
+    /// Waits for the turn, and records that the connection asks no more, where it is there and isn't
+    /// leaving already.
     pub fn leave<R: Wait>(&self, rt: &R, pass: &mut Pass, conn: ConnId)
         requires table { pass.old.table ≡ self.now }
         ensures same { pass.new.table ≡ pass.old.table }
@@ -82,7 +85,7 @@ impl SharedService {
         self.end(&mut pass.inner, kept, count);
     }
 
-    /// Records that the connection is gone, where it is there.
+    /// Waits for the turn, and records that the connection is gone, where it is there.
     pub fn gone<R: Wait>(&self, rt: &R, pass: &mut Pass, conn: ConnId)
         requires table { pass.old.table ≡ self.now }
         ensures same { pass.new.table ≡ pass.old.table }
@@ -107,7 +110,7 @@ impl SharedService {
         (taken, count)
     }
 
-    /// Gives what waits for the connection, and records that it took it; waits while there is nothing.
+    /// Gives what waits for the connection, and records that it took it; sleeps while there is nothing.
     /// `Overrun` where nothing waits and an output was lost; `Closed` where nothing waits and the
     /// connection is leaving, and it is gone then; `Missing` where it isn't there. Never `Empty`.
     pub fn take<R: Wait>(&self, rt: &R, pass: &mut Pass, conn: ConnId) -> Taken
@@ -125,8 +128,8 @@ impl SharedService {
         unreachable!()
     }
 
-    /// The connection asks for something, at a moment in seconds since 1970, with random bytes should a
-    /// key be derived.
+    /// Waits for the turn. The connection asks for something, at a moment in seconds since 1970, with
+    /// random bytes should a key be derived.
     ///
     /// Refused with `EventsSpent` where all events that can be counted are recorded, then with `Gone`
     /// where the connection isn't there; `OutOfMemory` may come in place of any.
@@ -178,8 +181,8 @@ impl SharedService {
         joined
     }
 
-    /// A connection joins. Gives its number, a pass for its reader and one for its writer: both have seen
-    /// what this one has, the joining last, and have recorded nothing.
+    /// Waits for the turn; a connection joins. Gives its number, a pass for its reader and one for its
+    /// writer: both have seen what this one has, the joining last, and have recorded nothing.
     ///
     /// Refused with `EventsSpent` where all events that can be counted are recorded, then with
     /// `TooManyConnections` where 256 connections are there or no number is left; `OutOfMemory` may come
@@ -205,7 +208,7 @@ impl SharedService {
         Ok((conn, reader, writer))
     }
 
-    /// A new pass, which has seen the same and recorded nothing.
+    /// A new pass, which has seen the same and recorded nothing. It takes no memory and doesn't wait.
     pub fn note(&self, pass: &mut Pass) -> Pass
         requires table { pass.old.table ≡ self.now }
         ensures same { pass.new ≡ pass.old }
@@ -215,7 +218,8 @@ impl SharedService {
         Pass { inner }
     }
 
-    /// The pass learns what another has seen, and takes over what it recorded.
+    /// The pass learns what another pass of the same service has seen, and takes over what it recorded.
+    /// It takes no memory and doesn't wait.
     pub fn gather(&self, pass: &mut Pass, other: Pass)
         requires table { pass.old.table ≡ self.now }
         requires other_table { other.table ≡ self.now }

@@ -43,6 +43,8 @@ impl<C: Chronicle> Model for Turn<C> {
 impl<C: Chronicle> Turn<C> {
     /// Puts a value behind a turn, and gives the first pass, which has seen the events that the value
     /// still has. `count` is the number of all events of the run.
+    ///
+    /// Refused with `AllocError` where no memory is left; the value is dropped then.
     pub fn open(alloc: Global, value: C, count: u64) -> Result<(Turn<C>, Pass<C>), AllocError>
         requires stands { C.stands value (C.start value) (C.before value) (C.events value) }
         requires count { count ≡ C.before value + length (C.events value) }
