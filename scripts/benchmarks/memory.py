@@ -1,7 +1,7 @@
 """The most memory at once that messages of about a megabyte take, for each of their bytes: arrays of empty arrays of a
 long struct, arrays 32 deep, variants, a dict, bytes, signatures of several kinds, and structs 32 deep; read by unmarshal
 alone, and as the body of a call to `keyringd stdio`, the process included."""
-from benchmarks.shared import ROOT, c_program, lines_of, rattle_program, run
+from benchmarks.shared import c_program, keyringd, lines_of, rattle_program, run
 
 MEMORY_PROGRAM = """//! Reads the body of one array, whose elements are some bytes over and over, and prints how many values it is.
 #![tactic(auto)]
@@ -111,11 +111,8 @@ def ping_with(signature, body):
 
 def measure(folder):
     ours = rattle_program(folder / "rattle", "memory_bench", MEMORY_PROGRAM, lines_of(["kr_base", "dbus_types", "dbus_marshal"]), " hex")
-    here = ROOT / "crates/keyringd"
-    words = ["stdio", ".", "1000"]
-    run(["rt", "run", "--", *words], cwd=here, stdin=open(here / "stdin", "rb"), errors="replace")
     (folder / "rings").mkdir()
-    program = [here / "out/keyringd", "stdio", folder / "rings", "1000"]
+    program = [keyringd(), "stdio", folder / "rings", "1000"]
     starter = c_program(folder, "starter", STARTER_C)
     for name, (signature, lead, chunk, less) in SHAPES.items():
         count = 1040000 // len(chunk)

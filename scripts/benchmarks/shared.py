@@ -47,17 +47,30 @@ def peak(words, given=os.devnull):
         return int(run([sys.executable, "-c", program, *words], stdin=bytes_of)) * 1024
 
 
-def rattle_program(folder, name, text, lines, more=""):
-    """A scratch repository over these crates, and the built program."""
+def rattle_program(folder, name, text, lines, more="", proofs=None):
+    """The built program, in a scratch repository over these crates. It takes over what the gate proved of them on this machine.
+    `proofs` has the program's own proof files, by their paths."""
     names = [line.split(":")[0] for line in lines]
     for it in names:
-        shutil.copytree(ROOT / "crates" / it, folder / "crates" / it)
+        shutil.copytree(ROOT / "crates" / it, folder / "crates" / it, ignore=shutil.ignore_patterns("out", "must-fail", "wrong-bodies"))
     (folder / "crates" / name / "src").mkdir(parents=True)
     (folder / "crates" / name / "src/main.rt").write_text(text)
+    for path, proof in (proofs or {}).items():
+        place = folder / "crates" / name / "proofs" / path
+        place.parent.mkdir(parents=True)
+        place.write_text(proof)
     (folder / "crates.txt").write_text("\n".join([*lines, f"{name}: " + " ".join(names) + more]) + "\n")
+    shutil.copy2(ROOT / "HANDLES", folder / "HANDLES")
     run(["git", "init", "-q", folder])
-    run(["rt", "run", "--", "encrypt", "1"], cwd=folder / "crates" / name)
+    run(["rt", "fmt"], cwd=folder / "crates" / name)
+    run(["rt", "ci", name], cwd=folder)
     return folder / "crates" / name / "out" / name
+
+
+def keyringd():
+    """The program of this repository, built. It takes over what the gate proved."""
+    run(["rt", "ci", "keyringd"], cwd=ROOT)
+    return ROOT / "crates/keyringd/out/keyringd"
 
 
 def c_program(folder, name, text, *more):
@@ -67,11 +80,15 @@ def c_program(folder, name, text, *more):
 
 
 def lines_of(names):
-    """The lines of crates.txt for these crates."""
-    found = [line for line in (ROOT / "crates.txt").read_text().splitlines() if line.split(":")[0] in names]
-    if len(found) != len(names):
-        sys.exit(f"scripts/bench: crates.txt lacks one of {', '.join(names)}")
-    return found
+    """The lines of crates.txt for these crates and all crates below them."""
+    lines = [line for line in (ROOT / "crates.txt").read_text().splitlines() if line and not line.startswith("#")]
+    below = {line.partition(":")[0]: line.partition(":")[2].split() for line in lines}
+    wanted = list(names)
+    for it in wanted:
+        if it not in below:
+            sys.exit(f"scripts/bench: crates.txt lacks {it}")
+        wanted += [under for under in below[it] if under in below and under not in wanted]
+    return [line for line in lines if line.partition(":")[0] in wanted]
 
 
 def escaped(text):

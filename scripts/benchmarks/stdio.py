@@ -3,7 +3,7 @@ program over libdbus that reads the same stream, 64 KiB at a time, and writes th
 own as keyringd does; then ten times as many calls, and memory."""
 import os, subprocess, sys, tempfile
 
-from benchmarks.shared import PING, PINGS, ROOT, c_program, peak, run
+from benchmarks.shared import PING, PINGS, c_program, keyringd, peak, run
 
 STDIO_C = r"""
 #include <dbus/dbus.h>
@@ -63,13 +63,10 @@ int main(void) {
 
 
 def measure(folder):
-    here = ROOT / "crates/keyringd"
-    words = ["stdio", ".", "1000"]
-    run(["rt", "run", "--", *words], cwd=here, stdin=open(here / "stdin", "rb"), errors="replace")
     flags = run(["pkg-config", "--cflags", "--libs", "dbus-1"]).split()
     theirs = c_program(folder, "dbus_stdio", STDIO_C, "-D_GNU_SOURCE", *flags)
     (folder / "rings").mkdir()
-    ours = [here / "out/keyringd", "stdio", folder / "rings", "1000"]
+    ours = [keyringd(), "stdio", folder / "rings", "1000"]
     streams = {count: stream_of(folder / f"{count}", count) for count in (PINGS, 10 * PINGS)}
     mine, written = best_piped(ours, streams[PINGS])
     peer, wanted = best_piped([theirs], streams[PINGS])
