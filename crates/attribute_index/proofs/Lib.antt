@@ -1,4 +1,6 @@
 pub mod EntryLemmas
+pub mod BranchLemmas
+pub mod ThereLemmas
+pub mod KeptLemmas
 pub mod PairLemmas
 pub mod FindLemmas
-pub mod LeanLemmas

@@ -1,10 +1,12 @@
 -- Which items have which attributes (Secret Service API, "Lookup Attributes"): for each pair of a name and a text the rising ids of
 -- the items that have it.
-use Rattle.std.specs.Prelude.{◌≡◌, ℕ, ◌&&◌, Bool, if◌then◌else◌, List, [], ◌∷◌, Option, Some, None, IfSome, map, not}
+use Rattle.std.specs.Prelude.{◌≡◌, ℕ, ◌&&◌, Bool, if◌then◌else◌, List, [], ◌∷◌, Option, Some, None, Result, OnOk, OnErr, true, false, map, not}
 use Rattle.std.specs.List.{list_all}
 use Rattle.std.specs.List.Sorted.{IsStrictlySortedBy}
-use Rattle.std.specs.Map.{lookup}
-use Rattle.std.specs.Ordering.{nat_cmp}
+use Rattle.std.specs.Cmp.Lexicographic.{slice_cmp}
+use Rattle.std.specs.Map.{keys_of, lookup, set_value}
+use Rattle.std.specs.Ordering.{nat_cmp, is_eq, ordering_then}
+use Rattle.std.specs.declared.cmp.Ordering.{Ordering}
 use Rattle.kr_base.specs.Attributes.{is_name}
 use Rattle.kr_base.specs.IdLists.{IsIdList, has_id, with_id, without_id}
 use Rattle.kr_base.specs.declared.attributes.AttrValue.{AttrValue}
@@ -15,21 +17,35 @@ abbrev pub or_none : {X : Type 0} → Option (List X) → List X
 or_none None = []
 or_none (Some xs) = xs
 
--- the ids at a text, of the texts of one name
-abbrev pub ids_among : List (List ℕ × List ℕ) → List ℕ → List ℕ
-ids_among lists text = or_none (lookup (is_name text) lists)
+-- Which pair of a name and a text comes first: by the name, and by the text where the names are the same.
+abbrev pub pair_cmp : List ℕ × List ℕ → List ℕ × List ℕ → Ordering
+pair_cmp one other = ordering_then (slice_cmp nat_cmp one.0 other.0) (slice_cmp nat_cmp one.1 other.1)
 
--- the ids at a pair of a name and a text
-abbrev pub ids_in_names : List (List ℕ × List (List ℕ × List ℕ)) → List ℕ → List ℕ → List ℕ
-ids_in_names names name text = ids_among (or_none (lookup (is_name name) names)) text
+-- a list is there, and it has no id
+abbrev pub is_none_left : Option (List ℕ) → Bool
+is_none_left None = false
+is_none_left (Some []) = true
+is_none_left (Some (id ∷ more)) = false
+
+-- whether two pairs have the same name and the same text
+abbrev pub is_pair : List ℕ × List ℕ → List ℕ × List ℕ → Bool
+is_pair one other = is_eq (pair_cmp one other)
+
+-- the ids at all pairs of a name and a text
+abbrev pub Names : Type 0
+Names = List ((List ℕ × List ℕ) × List ℕ)
+
+-- the ids at a pair
+abbrev pub ids_in_names : Names → List ℕ → List ℕ → List ℕ
+ids_in_names names name text = or_none (lookup (is_pair (name, text)) names)
+
+-- the pairs are in order, and none stands twice
+abbrev pub IsSorted : Names → Type 0
+IsSorted names = IsStrictlySortedBy pair_cmp (keys_of names)
 
 -- one of the pairs has the name and the text, and none of the others has
 abbrev pub is_own : List (List ℕ × AttrValue) → List (List ℕ × AttrValue) → List ℕ → List ℕ → Bool
 is_own pairs but name text = has_pair name text pairs && not (has_pair name text but)
-
--- the ids of all names and texts
-abbrev pub Names : Type 0
-Names = List (List ℕ × List (List ℕ × List ℕ))
 
 -- the id was put at each of these names and texts
 abbrev pub IsPut : (List ℕ → List ℕ → Bool) → ℕ → Names → Names → Type 0
@@ -53,18 +69,6 @@ is_this name text n t = is_name name n && is_name text t
 abbrev pub is_own_pair : List ℕ × AttrValue → List (List ℕ × AttrValue) → List ℕ → List ℕ → Bool
 is_own_pair pair but n t = is_this pair.0 (text_of pair.1) n t && not (has_pair n t but)
 
--- the id was put at the text, among the texts of one name
-abbrev pub IsPutAmong : List ℕ → ℕ → List (List ℕ × List ℕ) → List (List ℕ × List ℕ) → Type 0
-IsPutAmong text id old new = (other : List ℕ) → ids_among new other ≡ (if is_name text other then with_id id (ids_among old other) else ids_among old other)
-
--- the id was taken out at the text, among the texts of one name
-abbrev pub IsTakenAmong : List ℕ → ℕ → List (List ℕ × List ℕ) → List (List ℕ × List ℕ) → Type 0
-IsTakenAmong text id old new = (other : List ℕ) → ids_among new other ≡ (if is_name text other then without_id id (ids_among old other) else ids_among old other)
-
--- the ids at each text of one name are the same
-abbrev pub IsSameAmong : List (List ℕ × List ℕ) → List (List ℕ × List ℕ) → Type 0
-IsSameAmong old new = (other : List ℕ) → ids_among new other ≡ ids_among old other
-
 -- the ids at each name and text are the same
 abbrev pub IsSame : Names → Names → Type 0
 IsSame old new = (name text : List ℕ) → ids_in_names new name text ≡ ids_in_names old name text
@@ -73,17 +77,18 @@ IsSame old new = (name text : List ℕ) → ids_in_names new name text ≡ ids_i
 abbrev pub AllRise : Names → Type 0
 AllRise names = (name text : List ℕ) → IsIdList (ids_in_names names name text)
 
--- no text is kept without ids, among the texts of one name
-abbrev pub IsLeanAmong : List (List ℕ × List ℕ) → Type 0
-IsLeanAmong lists = (text : List ℕ) → ¬ (lookup (is_name text) lists ≡ Some [])
-
--- of one name there are texts, and none of them is kept without ids
-abbrev pub IsLeanName : Option (List (List ℕ × List ℕ)) → Type 0
-IsLeanName found = IfSome found (λ lists. ¬ (lists ≡ []) × IsLeanAmong lists)
-
--- no name is kept without texts, and no text without ids
+-- no pair is kept without ids
 abbrev pub IsLean : Names → Type 0
-IsLean names = (name : List ℕ) → IsLeanName (lookup (is_name name) names)
+IsLean names = (name text : List ℕ) → ¬ (lookup (is_pair (name, text)) names ≡ Some [])
+
+-- the id was put at the pair, if it is there; after a refusal, and where it isn't there, all is as before
+abbrev pub IsPutThere : {E : Type 0} → Option (Result Unit E) → List ℕ × List ℕ → ℕ → Names → Names → Type 0
+IsPutThere None pair id old new = (new ≡ old) × (lookup (is_pair pair) old ≡ None)
+IsPutThere (Some result) pair id old new = (ids : List ℕ) × (lookup (is_pair pair) old ≡ Some ids) × OnOk result (new ≡ set_value (is_pair pair) old (with_id id ids)) × OnErr result (new ≡ old)
+
+-- the id was taken out at the pair, if it is there, and the answer is whether the pair has none left
+abbrev pub IsTakenThere : Bool → List ℕ × List ℕ → ℕ → Names → Names → Type 0
+IsTakenThere left pair id old new = (new ≡ set_value (is_pair pair) old (without_id id (or_none (lookup (is_pair pair) old)))) × (left ≡ is_none_left (lookup (is_pair pair) new))
 
 -- the id is at just the names and texts of the pairs
 abbrev pub IsAtJust : List (List ℕ × AttrValue) → ℕ → Names → Type 0

@@ -4,10 +4,10 @@ ghost use Rattle.attribute_match.specs.Match.{has_pair, text_of};
 ghost use Rattle.attribute_index.specs.Index.{IsAtJust, IsFound, IsMoved, IsPut, IsSame, IsTaken, ids_at, wanted_lists};
 
 use crate::finding::{all_of, in_all};
-use crate::names::{Texts, put_all, take_all};
+use crate::names::{put_all, take_all};
+use crate::pairs::Pairs;
 use kr_base::{AttrValue, Attributes, IdList, ItemId, OutOfMemory, Steps, Text};
 use std::alloc::{AllocError, Global};
-use std::collections::BTreeMap;
 use std::marker::Model;
 use std::sync::ledger::Ledger;
 
@@ -15,7 +15,7 @@ use std::sync::ledger::Ledger;
 /// sees the ids at each name and text.
 #[derive(Drop)]
 pub struct AttributeIndex {
-    names: BTreeMap<Text, Texts>,
+    names: Pairs,
     all: IdList,
     none: IdList,
     alloc: Global,
@@ -27,9 +27,9 @@ impl Model for AttributeIndex {
 
     ghost Value = { Index };
 
-    ghost view = { λ i. record { names = i.names.entries; all = i.all } };
+    ghost view = { λ i. record { names = i.names; all = i.all } };
 
-    ghost invariant = { λ i. AllRise i.names.entries × IsLean i.names.entries × (i.none ≡ []) };
+    ghost invariant = { λ i. AllRise i.names × IsLean i.names × (i.none ≡ []) };
 }
 
 /// A number of 32 bits is below their count.
@@ -44,7 +44,7 @@ impl AttributeIndex {
         ensures all { result.all ≡ [] }
     {
         AttributeIndex {
-            names: BTreeMap::new(alloc),
+            names: Pairs::new(),
             all: IdList::new(alloc),
             none: IdList::new(alloc),
             alloc,
@@ -145,11 +145,8 @@ impl AttributeIndex {
     fn at_text(&self, name: &Text, text: &Text) -> &IdList
         ensures { result.now ≡ ids_at self.now name.now text.now }
     {
-        match self.names.get(name) {
-            Some(texts) => match texts.get(text) {
-                Some(list) => list,
-                None => &self.none,
-            },
+        match self.names.get(name, text) {
+            Some(list) => list,
             None => &self.none,
         }
     }

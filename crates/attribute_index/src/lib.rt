@@ -5,9 +5,10 @@
 //! item has any more takes none.
 #![tactic(auto)]
 
+mod branch;
 mod finding;
 mod index;
 mod names;
-mod texts;
+mod pairs;
 
 pub use index::AttributeIndex;

@@ -3,4 +3,4 @@ use Rattle.attribute_index.specs.Index.{IsLean, IsPut, is_own}
 use Rattle.attribute_index.proofs.names.put_first.Given as goal
 
 abbrev pub invariant-loop-place : goal.invariant-loop-place
-invariant-loop-place l = IsPut (is_own (take l.place l.pairs) l.but) l.id.0 l.initial.names.entries l.names.entries × (IsLean l.initial.names.entries → IsLean l.names.entries)
+invariant-loop-place l = IsPut (is_own (take l.place l.pairs) l.but) l.id.0 l.initial.names l.names × (IsLean l.initial.names → IsLean l.names)

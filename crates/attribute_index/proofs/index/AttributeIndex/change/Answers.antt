@@ -4,5 +4,5 @@ use Rattle.attribute_index.proofs.index.AttributeIndex.change.Goals as goal
 
 pub invariant_of-self-2 : goal.invariant_of-self-2
 invariant_of-self-2 c =
-    let put = rise-put (is_own c.as_slice.result.now c.args.before.now) c.args.id.0 c.self.inside.names.entries c.put_all.new.names.entries c.fits.ensures c.self.invariant.0 c.in_default.ensures.put in
-    (rise-taken (is_own c.as_slice-2.result.now c.args.after.now) c.args.id.0 c.put_all.new.names.entries c.take_all.new.names.entries put c.take_all.ensures.taken, c.take_all.ensures.lean (c.put_all.ensures.lean c.self.invariant.1), c.self.invariant.2)
+    let put = rise-put (is_own c.as_slice.result.now c.args.before.now) c.args.id.0 c.self.inside.names c.put_all.new.names c.fits.ensures c.self.invariant.0 c.in_default.ensures.put in
+    (rise-taken (is_own c.as_slice-2.result.now c.args.after.now) c.args.id.0 c.put_all.new.names c.take_all.new.names put c.take_all.ensures.taken, c.take_all.ensures.lean (c.put_all.ensures.lean c.self.invariant.1), c.self.invariant.2)

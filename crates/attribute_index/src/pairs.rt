@@ -1,0 +1,505 @@
+ghost use Rattle.std.specs.Prelude.{◌≡◌, [], ◌∷◌, ◌++◌, None, OnOk, OnErr, IfOk};
+ghost use Rattle.std.specs.Map.{lookup, remove_entry};
+ghost use Rattle.std.specs.Option.{option_copied};
+ghost use Rattle.std.specs.Ordering.{is_lt};
+ghost use Rattle.attribute_index.specs.Around.{all_of, between, with_own};
+ghost use Rattle.attribute_index.specs.Branches.{pairs_after, pairs_before, pairs_of};
+ghost use Rattle.attribute_index.specs.Index.{IsLean, IsPut, IsPutThere, IsSame, IsSorted, IsTaken, IsTakenThere, is_pair, is_this, pair_cmp};
+
+use crate::branch::{Branch, Sides};
+use kr_base::{IdList, ItemId, OutOfMemory, Text};
+use std::alloc::{AllocError, Global};
+use std::cmp::Ordering;
+use std::marker::Model;
+use std::mem;
+
+/// How a name and a text compare to those of a branch: by the name, and by the text where the names are
+/// the same.
+fn order(name: &Text, text: &Text, branch: &Branch) -> Ordering
+    ensures { result ≡ pair_cmp (name.now, text.now) (branch.now.name, branch.now.text) }
+{
+    match name.cmp(&branch.name) {
+        Ordering::Equal => text.cmp(&branch.text),
+        Ordering::Less => Ordering::Less,
+        Ordering::Greater => Ordering::Greater,
+    }
+}
+
+/// Whether the pair of a branch comes before that of another.
+fn is_before(one: &Branch, other: &Branch) -> bool
+    ensures { result
+        ≡ is_lt (pair_cmp (one.now.name, one.now.text) (other.now.name, other.now.text)) }
+{
+    order(&one.name, &one.text, other).is_lt()
+}
+
+/// The height of a branch: how many pairs the longest way down from it has.
+fn height(branch: &Branch) -> u8 {
+    match &branch.sides {
+        Sides::Neither => 1,
+        Sides::Before(_) => 2,
+        Sides::After(_) => 2,
+        Sides::Both(height, _, _) => *height,
+    }
+}
+
+/// The height of a side.
+fn height_of(side: &Option<Box<Branch>>) -> u8 {
+    match side {
+        Some(branch) => height(branch),
+        None => 0,
+    }
+}
+
+/// The sides of a branch, in as little memory as they need.
+fn joined_sides(before: Option<Box<Branch>>, after: Option<Box<Branch>>) -> Sides
+    ensures before { pairs_before result ≡ pairs_of before }
+    ensures after { pairs_after result ≡ pairs_of after }
+{
+    match before {
+        None => match after {
+            None => Sides::Neither,
+            Some(after) => Sides::After(after),
+        },
+        Some(before) => match after {
+            None => Sides::Before(before),
+            Some(after) => {
+                let height = height(&before).max(height(&after)).saturating_add(1);
+                Sides::Both(height, before, after)
+            }
+        },
+    }
+}
+
+/// Takes the sides of a branch away.
+fn take_sides(branch: &mut Branch) -> (Option<Box<Branch>>, Option<Box<Branch>>)
+    ensures before { pairs_of result.0 ≡ branch.old.before }
+    ensures after { pairs_of result.1 ≡ branch.old.after }
+    ensures name { branch.new.name ≡ branch.old.name }
+    ensures text { branch.new.text ≡ branch.old.text }
+    ensures ids { branch.new.ids ≡ branch.old.ids }
+{
+    match mem::replace(&mut branch.sides, Sides::Neither) {
+        Sides::Neither => (None, None),
+        Sides::Before(before) => (Some(before), None),
+        Sides::After(after) => (None, Some(after)),
+        Sides::Both(_, before, after) => (Some(before), Some(after)),
+    }
+}
+
+/// A branch without its sides, between them.
+fn parted(branch: Box<Branch>) -> (Option<Box<Branch>>, Box<Branch>, Option<Box<Branch>>)
+    ensures { all_of branch.value ≡ between (pairs_of result.0) result.1.value (pairs_of result.2) }
+{
+    let mut branch = branch;
+    let (before, after) = take_sides(&mut branch);
+    (before, branch, after)
+}
+
+/// A branch with other sides.
+fn with_sides(
+    branch: Box<Branch>,
+    before: Option<Box<Branch>>,
+    after: Option<Box<Branch>>,
+) -> Box<Branch>
+    ensures { all_of result.value ≡ between (pairs_of before) branch.value (pairs_of after) }
+{
+    let mut branch = branch;
+    branch.sides = joined_sides(before, after);
+    branch
+}
+
+/// A branch with these sides, of which the one before it is two higher.
+fn lean_before(branch: Box<Branch>, before: Box<Branch>, after: Option<Box<Branch>>) -> Box<Branch>
+    ensures { all_of result.value ≡ between (all_of before.value) branch.value (pairs_of after) }
+{
+    let (outer, before, inner) = parted(before);
+    if height_of(&outer) >= height_of(&inner) {
+        return with_sides(before, outer, Some(with_sides(branch, inner, after)));
+    }
+    match inner {
+        None => with_sides(before, outer, Some(with_sides(branch, None, after))),
+        Some(inner) => {
+            let (low, inner, high) = parted(inner);
+            with_sides(
+                inner,
+                Some(with_sides(before, outer, low)),
+                Some(with_sides(branch, high, after)),
+            )
+        }
+    }
+}
+
+/// A branch with these sides, of which the one after it is two higher.
+fn lean_after(branch: Box<Branch>, before: Option<Box<Branch>>, after: Box<Branch>) -> Box<Branch>
+    ensures { all_of result.value ≡ between (pairs_of before) branch.value (all_of after.value) }
+{
+    let (inner, after, outer) = parted(after);
+    if height_of(&outer) >= height_of(&inner) {
+        return with_sides(after, Some(with_sides(branch, before, inner)), outer);
+    }
+    match inner {
+        None => with_sides(after, Some(with_sides(branch, before, None)), outer),
+        Some(inner) => {
+            let (low, inner, high) = parted(inner);
+            with_sides(
+                inner,
+                Some(with_sides(branch, before, low)),
+                Some(with_sides(after, high, outer)),
+            )
+        }
+    }
+}
+
+/// A branch with these sides, whose heights differ by two at most. It is turned so that those of the new
+/// sides differ by one at most.
+fn balanced(
+    branch: Box<Branch>,
+    before: Option<Box<Branch>>,
+    after: Option<Box<Branch>>,
+) -> Box<Branch>
+    ensures { all_of result.value ≡ between (pairs_of before) branch.value (pairs_of after) }
+{
+    let low = height_of(&before);
+    let high = height_of(&after);
+    if low > high.saturating_add(1) {
+        if let Some(before) = before {
+            return lean_before(branch, before, after);
+        }
+        return with_sides(branch, None, after);
+    }
+    if high > low.saturating_add(1) {
+        if let Some(after) = after {
+            return lean_after(branch, before, after);
+        }
+        return with_sides(branch, before, None);
+    }
+    with_sides(branch, before, after)
+}
+
+/// The pairs with one more, which isn't there yet.
+fn with_branch(pairs: Option<Box<Branch>>, own: Box<Branch>) -> Box<Branch>
+    requires { IsSorted (pairs_of pairs) }
+    ensures { all_of result.value ≡ with_own own.value (pairs_of pairs) }
+{
+    let branch = match pairs {
+        Some(branch) => branch,
+        None => return with_sides(own, None, None),
+    };
+    let (before, branch, after) = parted(branch);
+    if is_before(&own, &branch) {
+        let before = with_branch(before, own);
+        return balanced(branch, Some(before), after);
+    }
+    let after = with_branch(after, own);
+    balanced(branch, before, Some(after))
+}
+
+/// The pairs without the last one, and the last one.
+fn without_last(pairs: Box<Branch>) -> (Option<Box<Branch>>, Box<Branch>)
+    ensures { all_of pairs.value ≡ between (pairs_of result.0) result.1.value [] }
+{
+    let (before, branch, after) = parted(pairs);
+    match after {
+        None => (before, branch),
+        Some(after) => {
+            let (after, last) = without_last(after);
+            (Some(balanced(branch, before, after)), last)
+        }
+    }
+}
+
+/// The pairs before and after one that goes.
+fn joined(before: Option<Box<Branch>>, after: Option<Box<Branch>>) -> Option<Box<Branch>>
+    ensures { pairs_of result ≡ pairs_of before ++ pairs_of after }
+{
+    match before {
+        None => after,
+        Some(before) => {
+            let (before, last) = without_last(before);
+            Some(balanced(last, before, after))
+        }
+    }
+}
+
+/// The pairs without one.
+fn without_pair(pairs: Option<Box<Branch>>, name: &Text, text: &Text) -> Option<Box<Branch>>
+    requires { IsSorted (pairs_of pairs) }
+    ensures { pairs_of result ≡ remove_entry (is_pair (name.now, text.now)) (pairs_of pairs) }
+{
+    let branch = match pairs {
+        Some(branch) => branch,
+        None => return None,
+    };
+    let (before, branch, after) = parted(branch);
+    match order(name, text, &branch) {
+        Ordering::Equal => joined(before, after),
+        Ordering::Less => {
+            let before = without_pair(before, name, text);
+            Some(balanced(branch, before, after))
+        }
+        Ordering::Greater => {
+            let after = without_pair(after, name, text);
+            Some(balanced(branch, before, after))
+        }
+    }
+}
+
+impl Branch {
+    /// The ids at a pair.
+    fn get(&self, name: &Text, text: &Text) -> Option<&IdList>
+        requires { IsSorted (all_of self.now) }
+        ensures { option_copied result ≡ lookup (is_pair (name.now, text.now)) (all_of self.now) }
+    {
+        match order(name, text, self) {
+            Ordering::Equal => Some(&self.ids),
+            Ordering::Less => match &self.sides {
+                Sides::Before(before) => before.get(name, text),
+                Sides::Both(_, before, _) => before.get(name, text),
+                Sides::After(_) => None,
+                Sides::Neither => None,
+            },
+            Ordering::Greater => match &self.sides {
+                Sides::After(after) => after.get(name, text),
+                Sides::Both(_, _, after) => after.get(name, text),
+                Sides::Before(_) => None,
+                Sides::Neither => None,
+            },
+        }
+    }
+
+    /// Puts an id at a pair, if the pair is there. None where it isn't.
+    fn put(
+        &mut self,
+        alloc: Global,
+        name: &Text,
+        text: &Text,
+        id: ItemId,
+    ) -> Option<Result<(), OutOfMemory>>
+        requires { IsSorted (all_of self.old) }
+        ensures { IsPutThere result (name.now, text.now) id.0
+            (all_of self.old) (all_of self.new) }
+    {
+        match order(name, text, self) {
+            Ordering::Equal => Some(self.ids.insert(alloc, id)),
+            Ordering::Less => match &mut self.sides {
+                Sides::Before(before) => before.put(alloc, name, text, id),
+                Sides::Both(_, before, _) => before.put(alloc, name, text, id),
+                Sides::After(_) => None,
+                Sides::Neither => None,
+            },
+            Ordering::Greater => match &mut self.sides {
+                Sides::After(after) => after.put(alloc, name, text, id),
+                Sides::Both(_, _, after) => after.put(alloc, name, text, id),
+                Sides::Before(_) => None,
+                Sides::Neither => None,
+            },
+        }
+    }
+
+    /// Takes an id out at a pair, and tells whether the pair is there and has none left.
+    fn take(&mut self, alloc: Global, name: &Text, text: &Text, id: ItemId) -> bool
+        requires { IsSorted (all_of self.old) }
+        ensures { IsTakenThere result (name.now, text.now) id.0
+            (all_of self.old) (all_of self.new) }
+    {
+        match order(name, text, self) {
+            Ordering::Equal => {
+                self.ids.remove(alloc, id);
+                self.ids.len() == 0
+            }
+            Ordering::Less => match &mut self.sides {
+                Sides::Before(before) => before.take(alloc, name, text, id),
+                Sides::Both(_, before, _) => before.take(alloc, name, text, id),
+                Sides::After(_) => false,
+                Sides::Neither => false,
+            },
+            Ordering::Greater => match &mut self.sides {
+                Sides::After(after) => after.take(alloc, name, text, id),
+                Sides::Both(_, _, after) => after.take(alloc, name, text, id),
+                Sides::Before(_) => false,
+                Sides::Neither => false,
+            },
+        }
+    }
+}
+
+/// A branch of one pair, with one id.
+fn branch_of_one(
+    alloc: Global,
+    name: &Text,
+    text: &Text,
+    id: ItemId,
+) -> Result<Box<Branch>, OutOfMemory>
+    ensures name { IfOk result (λ made. made.value.name ≡ name.now) }
+    ensures text { IfOk result (λ made. made.value.text ≡ text.now) }
+    ensures ids { IfOk result (λ made. made.value.ids ≡ id.0 ∷ []) }
+{
+    let branch = Branch {
+        name: name.copy()?,
+        text: text.copy()?,
+        ids: IdList::of_one(id),
+        sides: Sides::Neither,
+    };
+    match Box::new(alloc, branch) {
+        Ok(branch) => Ok(branch),
+        Err(_) => Err(AllocError),
+    }
+}
+
+/// The pairs of a name and a text that items have, each with the ids of the items that have it. A contract
+/// sees their list in order. They lie in a tree whose two sides are about as high everywhere, so looking one
+/// up, putting one in or taking one out visits about as many pairs as the number of pairs has bits.
+#[derive(Drop)]
+pub struct Pairs {
+    root: Option<Box<Branch>>,
+}
+
+impl Model for Pairs {
+    ghost use Rattle.attribute_index.specs.Branches.{pairs_of};
+    ghost use Rattle.attribute_index.specs.Index.{IsSorted, Names};
+
+    ghost Value = { Names };
+
+    ghost view = { λ p. pairs_of p.root };
+
+    ghost invariant = { λ p. IsSorted (pairs_of p.root) };
+}
+
+/// Puts an id at a pair, if the pair is there. None where it isn't.
+fn put_there(
+    alloc: Global,
+    root: &mut Option<Box<Branch>>,
+    name: &Text,
+    text: &Text,
+    id: ItemId,
+) -> Option<Result<(), OutOfMemory>>
+    requires { IsSorted (pairs_of root.old) }
+    ensures { IsPutThere result (name.now, text.now) id.0 (pairs_of root.old) (pairs_of root.new) }
+{
+    match root {
+        Some(branch) => branch.put(alloc, name, text, id),
+        None => None,
+    }
+}
+
+/// Puts an id at a new pair.
+fn put_new(
+    alloc: Global,
+    root: &mut Option<Box<Branch>>,
+    name: &Text,
+    text: &Text,
+    id: ItemId,
+) -> Result<(), OutOfMemory>
+    requires sorted { IsSorted (pairs_of root.old) }
+    requires absent { lookup (is_pair (name.now, text.now)) (pairs_of root.old) ≡ None }
+    ensures sorted { IsSorted (pairs_of root.new) }
+    ensures put { OnOk result (IsPut (is_this name.now text.now) id.0
+        (pairs_of root.old) (pairs_of root.new)) }
+    ensures unchanged { OnErr result (pairs_of root.new ≡ pairs_of root.old) }
+    ensures lean { IsLean (pairs_of root.old) → IsLean (pairs_of root.new) }
+{
+    match branch_of_one(alloc, name, text, id) {
+        Ok(own) => {
+            let pairs = with_branch(root.take(), own);
+            *root = Some(pairs);
+            Ok(())
+        }
+        Err(_) => Err(AllocError),
+    }
+}
+
+/// Puts an id at a pair, which may be a new one.
+fn put(
+    alloc: Global,
+    root: &mut Option<Box<Branch>>,
+    name: &Text,
+    text: &Text,
+    id: ItemId,
+) -> Result<(), OutOfMemory>
+    requires { IsSorted (pairs_of root.old) }
+    ensures sorted { IsSorted (pairs_of root.new) }
+    ensures put { OnOk result (IsPut (is_this name.now text.now) id.0
+        (pairs_of root.old) (pairs_of root.new)) }
+    ensures unchanged { OnErr result (IsSame (pairs_of root.old) (pairs_of root.new)) }
+    ensures lean { IsLean (pairs_of root.old) → IsLean (pairs_of root.new) }
+{
+    match put_there(alloc, root, name, text, id) {
+        Some(answer) => answer,
+        None => put_new(alloc, root, name, text, id),
+    }
+}
+
+/// Takes an id out at a pair, and tells whether the pair is there and has none left.
+fn take_there(
+    alloc: Global,
+    root: &mut Option<Box<Branch>>,
+    name: &Text,
+    text: &Text,
+    id: ItemId,
+) -> bool
+    requires { IsSorted (pairs_of root.old) }
+    ensures { IsTakenThere result (name.now, text.now) id.0
+        (pairs_of root.old) (pairs_of root.new) }
+{
+    match root {
+        Some(branch) => branch.take(alloc, name, text, id),
+        None => false,
+    }
+}
+
+/// Takes an id out at a pair. A pair that has none left goes.
+fn take(alloc: Global, root: &mut Option<Box<Branch>>, name: &Text, text: &Text, id: ItemId)
+    requires { IsSorted (pairs_of root.old) }
+    ensures sorted { IsSorted (pairs_of root.new) }
+    ensures taken { IsTaken (is_this name.now text.now) id.0
+        (pairs_of root.old) (pairs_of root.new) }
+    ensures lean { IsLean (pairs_of root.old) → IsLean (pairs_of root.new) }
+{
+    if take_there(alloc, root, name, text, id) {
+        let pairs = without_pair(root.take(), name, text);
+        *root = pairs;
+    }
+}
+
+impl Pairs {
+    /// No pairs. It takes no memory.
+    pub fn new() -> Pairs
+        ensures { result ≡ [] }
+    {
+        Pairs { root: None }
+    }
+
+    /// The ids at a pair, lent.
+    pub fn get(&self, name: &Text, text: &Text) -> Option<&IdList>
+        ensures { option_copied result ≡ lookup (is_pair (name.now, text.now)) self.now }
+    {
+        match &self.root {
+            Some(branch) => branch.get(name, text),
+            None => None,
+        }
+    }
+
+    /// Puts an id at a pair.
+    pub fn put(
+        &mut self,
+        alloc: Global,
+        name: &Text,
+        text: &Text,
+        id: ItemId,
+    ) -> Result<(), OutOfMemory>
+        ensures put { OnOk result (IsPut (is_this name.now text.now) id.0 self.old self.new) }
+        ensures unchanged { OnErr result (IsSame self.old self.new) }
+        ensures lean { IsLean self.old → IsLean self.new }
+    {
+        put(alloc, &mut self.root, name, text, id)
+    }
+
+    /// Takes an id out at a pair. It takes no memory, and a pair that has no id left goes.
+    pub fn take(&mut self, alloc: Global, name: &Text, text: &Text, id: ItemId)
+        ensures taken { IsTaken (is_this name.now text.now) id.0 self.old self.new }
+        ensures lean { IsLean self.old → IsLean self.new }
+    {
+        take(alloc, &mut self.root, name, text, id);
+    }
+}
