@@ -35,6 +35,14 @@ fn two(alloc: Global, number: u32) -> Option<Attributes> {
     Attributes::from_pairs(alloc, pairs).ok()
 }
 
+// Two names that all items have, each with a text of the item's own.
+fn texts(alloc: Global, number: u32) -> Option<Attributes> {
+    let mut pairs = Vec::new(alloc);
+    pairs.push((text(alloc, "group")?, Text::of_number(number))).ok()?;
+    pairs.push((text(alloc, "number")?, Text::of_number(number))).ok()?;
+    Attributes::from_pairs(alloc, pairs).ok()
+}
+
 // Attributes named by the numbers from the first one on.
 fn many(alloc: Global, first: u32, count: u32, value: &str) -> Option<Attributes> {
     let mut pairs = Vec::new(alloc);
@@ -144,14 +152,29 @@ fn equal(alloc: Global, count: u32, rounds: u32) -> Option<usize> {
     Some(found.saturating_add(items.rows().len()))
 }
 
-// The attributes of an item in no more room than they need: with names that all items share, with names of their own, or 256
-// that all items have.
+// The attributes of an item in no more room than they need: with names that all items share, with names of their own (in
+// order, or with long texts too), with names that two items share, or 256 that all items have.
 fn held(alloc: Global, kind: &str, number: u32) -> Option<Attributes> {
     if kind.ends_with("none") {
         return Some(Attributes::new(alloc));
     }
     if kind.ends_with("own") {
         return many(alloc, number.wrapping_mul(2), 2, "v")?.copy().ok();
+    }
+    if kind.ends_with("rising") {
+        return many(alloc, number.wrapping_mul(2).saturating_add(1000000), 2, "v")?.copy().ok();
+    }
+    if kind.ends_with("long") {
+        return many(alloc, number.wrapping_mul(2), 2, "a text that is longer than a short one may be")?.copy().ok();
+    }
+    if kind.ends_with("pairwise") {
+        return many(alloc, (number / 2).wrapping_mul(2), 2, "v")?.copy().ok();
+    }
+    if kind.ends_with("texts") {
+        return texts(alloc, number)?.copy().ok();
+    }
+    if kind.ends_with("whole") {
+        return many(alloc, number.wrapping_mul(256), 256, "v")?.copy().ok();
     }
     if kind.ends_with("equal") {
         return blank(alloc)?.copy().ok();
@@ -328,6 +351,13 @@ static struct item *many(uint32_t first, size_t count, char *value) {
     return it;
 }
 
+static struct item *texts(uint32_t n) {
+    struct item *it = made(2);
+    it->texts[0][0] = strdup("group"); it->texts[0][1] = number(n);
+    it->texts[1][0] = strdup("number"); it->texts[1][1] = number(n);
+    return it;
+}
+
 static struct item *blank(void) {
     struct item *it = many(0, 256, "");
     it->texts[0][0][0] = 0;
@@ -361,7 +391,10 @@ int main(int argc, char **argv) {
         wanted = many(0, count + 1, "v");
         wanted->texts[count][0] = "nowhere";
     } else for (uint32_t n = 0; n < count; n++) 
-        add(strstr(what, "none") ? made(0) : strstr(what, "own") ? many(2 * n, 2, "v") : strstr(what, "equal") ? blank() : two(n));
+        add(strstr(what, "none") ? made(0) : strstr(what, "own") ? many(2 * n, 2, "v") : strstr(what, "equal") ? blank()
+            : strstr(what, "rising") ? many(2 * n + 1000000, 2, "v") : strstr(what, "pairwise") ? many(n / 2 * 2, 2, "v")
+            : strstr(what, "long") ? many(2 * n, 2, "a text that is longer than a short one may be")
+            : strstr(what, "texts") ? texts(n) : strstr(what, "whole") ? many(256 * n, 256, "v") : two(n));
     for (uint32_t round = 0; round < rounds; round++) {
         uint32_t n = strcmp(what, "again") ? round * 7919 % count : 0;
         if (!strcmp(what, "search") || !strcmp(what, "again")) {
@@ -404,8 +437,10 @@ def measure(folder):
         peer, peers = (spent(theirs, what, count, rounds) for count in (1000, 100000))
         print(f"item_store, {told}: {few / peer:.2f} of the peer's time among 1,000, {many / peers:.2f} among 100,000;")
         print(f"  among 100,000 {many / few:.2f} of among 1,000 (the peer {peers / peer:.2f}); {many * 1e9:.0f} ns")
-    for kind, items, each, told in ("shared", 100000, 2, "two pairs, with names that all share"), ("own", 100000, 2, "two pairs, with names of their own"), (
-            "equal", 10000, 256, "256 pairs that all have"):
+    for kind, items, each, told in ("shared", 100000, 2, "two pairs, with names that all share"), ("texts", 100000, 2, "two pairs, with texts of their own"), (
+            "own", 100000, 2, "two pairs, with names of their own"), ("rising", 100000, 2, "two pairs, with names of their own in order"), (
+            "long", 100000, 2, "two pairs, with names of their own and long texts"), ("whole", 10000, 256, "256 pairs, with names of their own"), (
+            "pairwise", 100000, 2, "two pairs that two items have"), ("equal", 10000, 256, "256 pairs that all have"):
         for program, of in (ours, "item_store"), (theirs, "the peer"):
             none, alone, both = (peak([program, f"{it}_{kind}", items, 0]) for it, kind in (("rows", "none"), ("rows", kind), ("index", kind)))
             print(f"{of}, items of {told}: a pair takes {(alone - none) / items / each:.1f} bytes, and {(both - alone) / items / each:.1f} in the index")
