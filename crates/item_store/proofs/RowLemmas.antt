@@ -455,3 +455,29 @@ rows-same (x ∷ xs) (y ∷ ys) rx ry h =
         | inr above ↦ absurd (row-below y x ys xs rx (λ z. sym (h z)) above)
       ]
     ]
+
+-- ---- a row that is changed back
+
+changed-again : (id : ℕ) (f g : Row → Row) (rows : Rows) (row : Row) → IsRising rows → row_at id rows ≡ Some row → g (f row) ≡ row → rows_changed id g (rows_changed id f rows) ≡ rows
+changed-again id f g [] row rising there back = refl
+changed-again id f g (r ∷ more) row rising there back =
+    let step : (b : Bool) → (id == r.0) ≡ b → rows_changed id g (rows_changed id f (r ∷ more)) ≡ r ∷ more =
+    elim [
+      | true ↦ λ is.
+          let this : (r.0 == id) ≡ true = turned r.0 id ∙ is in
+          let found : Some r.1 ≡ Some row = rw is at there in
+          let same : r.1 ≡ row = cc in
+          let above = above-this id r more rising is in
+          let rest : rows_changed id g (rows_changed id f more) ≡ more = ap (rows_changed id g) (changed-above id f more above) ∙ changed-above id g more above in
+          let own : g (f r.1) ≡ r.1 = ap (λ x. g (f x)) same ∙ back ∙ sym same in
+          rw (this, this) (λ i. (r.0, own i) ∷ rest i)
+      | false ↦ λ off.
+          let other : (r.0 == id) ≡ false = turned r.0 id ∙ off in
+          let later : row_at id more ≡ Some row = rw off at there in
+          rw (other, other) (ap (λ t. r ∷ t) (changed-again id f g more row (sorted_tail nat_cmp r.0 (keys_of more) rising) later back))
+    ] in
+    step (id == r.0) refl
+
+-- what brings a row back brings the rows back
+pub changed-back : (id : ℕ) (f g : Row → Row) (rows new : Rows) (row : Row) → IsRising rows → lookup (is_at (nat_cmp id)) rows ≡ Some row → new ≡ rows_changed id f rows → g (f row) ≡ row → rows_changed id g new ≡ rows
+changed-back id f g rows new row rising there set back = ap (rows_changed id g) set ∙ changed-again id f g rows row rising (sym (lookup-is id rows) ∙ there) back

@@ -9,9 +9,11 @@ mod fault;
 mod laws;
 mod rows;
 mod store;
+mod swapping;
 mod uncounted;
 
 pub use fault::ItemFault;
 pub use laws::rising_rows_are_one_list;
 pub use rows::Row;
 pub use store::ItemStore;
+pub use swapping::Swap;

@@ -6,9 +6,10 @@ ghost use Rattle.std.specs.List.{AllByRecursion, IsDistinct};
 ghost use Rattle.std.specs.Map.{keys_of};
 ghost use Rattle.attribute_index.specs.Index.{IsAtJust, IsMoved, IsPut, IsSame};
 ghost use Rattle.item_store.specs.Rows.{HasJustRows, IsKept, IsRising, attributes_of, candidates, first_id, has_just, ids_where, most_attributes, next_id, pair_lists, row_at, rows_changed, rows_without};
+ghost use Rattle.item_store.specs.Swapping.{with_parts};
 
 use crate::uncounted::{first_equal, found};
-use crate::{ItemFault, Row, rows};
+use crate::{ItemFault, Row, Swap, rows, swapping};
 use attribute_index::AttributeIndex;
 use keyring_file::FullItem;
 use kr_base::{Attributes, Bytes, IdList, ItemId, OutOfMemory, Steps, Text};
@@ -125,6 +126,18 @@ impl ItemStore {
             return Err(ItemFault::NoItem);
         }
         Ok(())
+    }
+
+    /// Swaps parts of an item with others, and tells whether the item is there. A second swap brings back
+    /// what was there before. It takes no memory.
+    pub fn swap(&mut self, id: ItemId, parts: &mut Swap) -> bool
+        ensures there { result ≡ is_some (row_at id.0 self.old) }
+        ensures set { self.new ≡ rows_changed id.0
+            (λ row. record row { item = with_parts parts.old row.item }) self.old }
+        ensures back { rows_changed id.0
+            (λ row. record row { item = with_parts parts.new row.item }) self.new ≡ self.old }
+    {
+        swapping::swap_parts(&mut self.rows, id.0, parts)
     }
 
     /// Sets the attributes of an item, and when it was changed.
