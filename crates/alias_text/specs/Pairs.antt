@@ -1,5 +1,5 @@
 -- The whole file `aliases` (docs/KEYRING_FILES.md, "The aliases").
-use Rattle.std.specs.Prelude.{◌≢◌, ◌≡◌, ℕ, ◌<◌, ◌≤◌, List, [], ◌∷◌, ◌++◌, All, length}
+use Rattle.std.specs.Prelude.{◌≢◌, ◌≡◌, ℕ, ◌<◌, ◌≤◌, List, [], ◌∷◌, ◌++◌, All, length, Option, None, Some}
 use Rattle.std.specs.List.{flat_map}
 use Rattle.kr_base.specs.Attributes.{Gathers}
 use Rattle.alias_text.specs.Line.{IsPair}
@@ -45,3 +45,8 @@ pub data AliasesOf : List ℕ → List (List ℕ × List ℕ) → Type 0 where
   too_long : (bytes : List ℕ) → longest < length bytes → AliasesOf bytes []
   read : (bytes : List ℕ) (aliases : List (List ℕ × List ℕ)) → length bytes ≤ longest
       → LinesGive bytes aliases → AliasesOf bytes aliases
+
+-- the aliases that the file gives, which is its bytes or none: no file gives none
+abbrev pub GivesAliases : Option (List ℕ) → List (List ℕ × List ℕ) → Type 0
+GivesAliases None aliases = aliases ≡ []
+GivesAliases (Some bytes) aliases = AliasesOf bytes aliases

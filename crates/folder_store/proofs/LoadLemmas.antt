@@ -7,8 +7,7 @@ use Rattle.std.specs.Cmp.Lexicographic.{slice_cmp}
 use Rattle.kr_base.specs.Attributes.{IsInOrder}
 use Rattle.kr_outside.specs.Folder.{Stays}
 use Rattle.kr_outside.specs.RenameDisk.{Image, Only}
-use Rattle.alias_text.specs.Pairs.{longest, too_long}
-use Rattle.folder_store.specs.Opened.{GivesAliases}
+use Rattle.alias_text.specs.Pairs.{longest, too_long, GivesAliases}
 use Rattle.replace_slot.specs.Cell.{Known, IsKnownImage}
 use Rattle.folder_store.specs.declared.found_aliases.FoundAliases.{FoundAliases}
 use Rattle.folder_store.specs.declared.found_aliases.FoundAliases.TheVariants as found

@@ -12,7 +12,7 @@ use Rattle.std.proofs.lemmas.Map.Entries.{lookup_head, lookup_tail}
 use Rattle.std.proofs.lemmas.Map.Lookups.{exact_bytes}
 use Rattle.kr_base.specs.Attributes.{is_name, value_at}
 use Rattle.kr_outside.specs.RenameDisk.{Image}
-use Rattle.folder_store.specs.Opened.{GivesAliases}
+use Rattle.alias_text.specs.Pairs.{GivesAliases}
 use Rattle.folder_store.specs.declared.limits.Limits.{Limits}
 use Rattle.folder_store.specs.Names.{aliases}
 use Rattle.folder_store.specs.Opened.{Opening, Opened}

@@ -1,8 +1,7 @@
 -- The sums over the collections that are listed.
 use Rattle.std.proofs.Common.{◌≡◌, ℕ, ◌+◌, List, [], ◌∷◌, ◌++◌, length, refl, sym, ◌∙◌, ap, subst, arith, Result, Ok, Err, OnOk, Some}
 use Rattle.keyring_file.specs.Clear.{ClearPart}
-use Rattle.keyring_file.specs.ClearText.{ClearText}
-use Rattle.folder_store.specs.Opened.{HasClear}
+use Rattle.keyring_file.specs.ClearText.{ClearText, HasClear}
 use Rattle.keyring_file.specs.declared.fault.ClearFault.{ClearFault}
 use Rattle.replace_slot.specs.Cell.{CellState, Known}
 use Rattle.folder_store.specs.declared.limits.Limits.{Limits}

@@ -8,7 +8,7 @@ use Rattle.kr_outside.specs.declared.slot.DeviceCall.{DeviceCall}
 use Rattle.kr_outside.specs.Moments.{LeavesOnly}
 use Rattle.kr_outside.specs.RenameDisk.{Image, Temporary, Unknown, Only, LeavesAnyBytes, LeavesNoMore}
 use Rattle.keyring_file.specs.Clear.{ClearPart}
-use Rattle.folder_store.specs.Opened.{HasClear}
+use Rattle.keyring_file.specs.ClearText.{HasClear}
 use Rattle.folder_store.specs.declared.limits.Limits.{Limits}
 use Rattle.folder_store.specs.Names.{IsRingName}
 use Rattle.folder_store.specs.Opened.{Takes, other, left_alone, Fits, leaves_alone}

@@ -1,8 +1,7 @@
 -- What a start finds of the file of the aliases, as contracts see it.
 use Rattle.std.specs.Prelude.{◌≡◌, ℕ, List, [], Bool, IsTrue}
 use Rattle.kr_outside.specs.RenameDisk.{Image}
-use Rattle.alias_text.specs.Pairs.{longest}
-use Rattle.folder_store.specs.Opened.{GivesAliases}
+use Rattle.alias_text.specs.Pairs.{longest, GivesAliases}
 use Rattle.replace_slot.specs.Cell.{Known, IsKnownImage}
 use Rattle.folder_store.specs.Ring.{IsLonger}
 use Rattle.folder_store.specs.declared.found_aliases.FoundAliases.{FoundAliases}

@@ -1,13 +1,13 @@
 -- What a start finds in a folder (docs/KEYRING_FILES.md, "A folder").
-use Rattle.std.specs.Prelude.{◌≡◌, ℕ, ◌+◌, ◌<◌, ◌≤◌, List, [], ◌∷◌, ◌++◌, length, map, None, Some}
+use Rattle.std.specs.Prelude.{◌≡◌, ℕ, ◌+◌, ◌<◌, ◌≤◌, List, [], ◌∷◌, ◌++◌, length, map}
 use Rattle.std.specs.Cmp.Lexicographic.{slice_cmp}
 use Rattle.std.specs.List.Sorted.{IsPermutation, IsStrictlySortedBy}
 use Rattle.std.specs.Ordering.{nat_cmp}
 use Rattle.kr_base.specs.Attributes.{IsInOrder, value_at}
 use Rattle.kr_outside.specs.RenameDisk.{Image}
 use Rattle.keyring_file.specs.Clear.{ClearPart}
-use Rattle.keyring_file.specs.ClearText.{ClearText}
-use Rattle.alias_text.specs.Pairs.{AliasesOf}
+use Rattle.keyring_file.specs.ClearText.{HasClear}
+use Rattle.alias_text.specs.Pairs.{GivesAliases}
 use Rattle.folder_store.specs.declared.limits.Limits.{Limits}
 use Rattle.folder_store.specs.Names.{aliases, IsRingName}
 
@@ -26,10 +26,6 @@ items_in (ring ∷ rings) = length ring.clear.items + items_in rings
 abbrev pub bytes_in : List RingRow → ℕ
 bytes_in [] = 0
 bytes_in (ring ∷ rings) = length ring.image + bytes_in rings
-
--- the file is a keyring file with this clear part, whatever its encrypted area is
-abbrev pub HasClear : List ℕ → ClearPart → Type 0
-HasClear file clear = (area : List ℕ) × ClearText file clear area
 
 -- what stands open after some files: the collections that are listed, and the stems that are used
 pub record Opening : Type 0 where
@@ -69,11 +65,6 @@ pub data Opens (limits : Limits) : List (List ℕ × List ℕ) → Opening → T
   none : Opens limits [] (record { rings = []; used = [] })
   more : (files : List (List ℕ × List ℕ)) (opening next : Opening) (name image : List ℕ) → Opens limits files opening
       → Takes limits name image opening next → Opens limits (files ++ (name, image) ∷ []) next
-
--- the aliases that the image of their file gives: no file gives none
-abbrev pub GivesAliases : Image → List (List ℕ × List ℕ) → Type 0
-GivesAliases None pairs = pairs ≡ []
-GivesAliases (Some bytes) pairs = AliasesOf bytes pairs
 
 -- the same rows in byte order of their stems, of which no two are the same
 pub record IsByStem {R : Type 0} (stem : R → List ℕ) (rows ordered : List R) : Type 0 where

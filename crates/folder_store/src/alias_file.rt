@@ -1,6 +1,6 @@
 ghost use Rattle.std.specs.Prelude.{◌≡◌, IsTrue, IfOk};
 ghost use Rattle.kr_outside.specs.RenameDisk.{Only};
-ghost use Rattle.folder_store.specs.Opened.{GivesAliases};
+ghost use Rattle.alias_text.specs.Pairs.{GivesAliases};
 ghost use Rattle.replace_slot.specs.Cell.{Known, IsKnownImage};
 ghost use Rattle.folder_store.specs.Walk.{image_of};
 
@@ -21,7 +21,7 @@ pub struct AliasFile<S: Slot> {
 }
 
 impl<S: Slot> Model for AliasFile<S> {
-    ghost use Rattle.folder_store.specs.Opened.{GivesAliases};
+    ghost use Rattle.alias_text.specs.Pairs.{GivesAliases};
     ghost use Rattle.replace_slot.specs.Cell.{IsKnownImage};
     ghost use Rattle.folder_store.specs.Ring.{AliasState};
 

@@ -2,7 +2,7 @@ ghost use Rattle.std.specs.Prelude.{◌≡◌};
 ghost use Rattle.std.specs.Cmp.Lexicographic.{slice_cmp};
 ghost use Rattle.std.specs.List.Sorted.{IsPermutation, IsSortedByKey};
 ghost use Rattle.std.specs.Ordering.{nat_cmp};
-ghost use Rattle.folder_store.specs.Opened.{HasClear};
+ghost use Rattle.keyring_file.specs.ClearText.{HasClear};
 ghost use Rattle.replace_slot.specs.Cell.{IsKnownFile};
 ghost use Rattle.folder_store.specs.Ring.{bytes_of};
 
@@ -22,7 +22,7 @@ pub struct Ring<S: Slot> {
 }
 
 impl<S: Slot> Model for Ring<S> {
-    ghost use Rattle.folder_store.specs.Opened.{HasClear};
+    ghost use Rattle.keyring_file.specs.ClearText.{HasClear};
     ghost use Rattle.replace_slot.specs.Cell.{IsKnownFile};
     ghost use Rattle.folder_store.specs.Ring.{RingState};
 

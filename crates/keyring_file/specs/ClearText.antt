@@ -85,3 +85,7 @@ pub record IsAreaLength (len : ℕ) : Type 0 where
 pub record ClearText (file : List ℕ) (clear : ClearPart) (area : List ℕ) : Type 0 where
   pub blocks : IsAreaLength (length area)
   pub text : (SpellsClear clear ⨾ SpellsNumber (length area) ⨾ Exactly area) file
+
+-- the file has this clear part, whatever its encrypted area is
+abbrev pub HasClear : List ℕ → ClearPart → Type 0
+HasClear file clear = (area : List ℕ) × ClearText file clear area

@@ -1,7 +1,6 @@
 use Rattle.std.proofs.Common.{◌≡◌, ◌∷◌, [], ◌++◌, ◌+◌, ◌<◌, ◌^◌, Some, length, drop, refl, sym, ap, subst, ◌∙◌}
 use Rattle.std.proofs.lemmas.Result.{on_ok_weaker}
-use Rattle.keyring_file.specs.ClearText.{ClearText}
-use Rattle.folder_store.specs.Opened.{HasClear}
+use Rattle.keyring_file.specs.ClearText.{ClearText, HasClear}
 use Rattle.replace_slot.specs.Cell.{Known, IsKnownFile}
 use Rattle.folder_store.specs.Opened.{Takes, left_alone, listed, Fits, items_in, bytes_in}
 use Rattle.folder_store.specs.Ring.{rows_of, bytes_of}
