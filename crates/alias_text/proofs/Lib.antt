@@ -1,2 +1,4 @@
 pub mod LineLemmas
 pub mod PairLemmas
+pub mod WritingLemmas
+pub mod LawLemmas
