@@ -1,5 +1,5 @@
 -- What is sent is read again, as the same output.
-use Rattle.std.proofs.Common.{◌≡◌, ℕ, ◌^◌, ◌<◌, ◌≤◌, true, IsTrue, List, [], length, drop, codes, decimal, unwrap_or, refl, ap, ◌∙◌, sym, arith, length-append, if◌then◌else◌}
+use Rattle.std.proofs.Common.{◌≡◌, ℕ, ◌^◌, ◌<◌, ◌≤◌, true, IsTrue, List, [], Option, Some, None, IfSome, length, drop, codes, decimal, unwrap_or, refl, ap, ◌∙◌, sym, arith, length-append, if◌then◌else◌}
 use Rattle.std.specs.List.{All}
 use Rattle.std.specs.Str.{bytes_eq}
 use Rattle.std.specs.Str.Parse.{digits_value}
@@ -14,7 +14,8 @@ use Rattle.dbus_marshal.specs.Spelling.{all_spelled, are_short}
 use Rattle.dbus_marshal.specs.Fitting.{HaveSpelling}
 use Rattle.dbus_framing.specs.Names.{is_interface_name}
 use Rattle.dbus_framing.specs.Messages.{Parts, IsMessage}
-use Rattle.dbus_sending.specs.Sent.{CanBeSent, IsName, fields_of}
+use Rattle.dbus_framing.specs.Headers.{has_needed}
+use Rattle.dbus_sending.specs.Sent.{HasHeader, CanBeSent, IsName, IsSerial, bare_header, fields_of, fields_read}
 use Rattle.dbus_sending.proofs.MessageLemmas.{sent_is_message}
 use Rattle.secret_calls.specs.declared.out.Body.{Body}
 use Rattle.secret_calls.specs.declared.out.Body.TheVariants as body
@@ -22,7 +23,9 @@ use Rattle.secret_calls.specs.declared.out.ErrorName.{ErrorName}
 use Rattle.secret_calls.specs.declared.out.ErrorName.TheVariants as name
 use Rattle.secret_calls.specs.declared.out.Out.{Out}
 use Rattle.secret_calls.specs.declared.out.Out.TheVariants as out
-use Rattle.secret_calls.specs.Outs.{error_text, session_path, values_of, sent, FitsBody, FitsOut, spelled}
+use Rattle.secret_calls.specs.declared.serial.Serial.{Serial}
+use Rattle.secret_calls.specs.Outs.{error_text, session_path, values_of, header_of, body_of, sent, FitsBody, HasSpelling, spelled}
+use Rattle.secret_calls.proofs.SerialLemmas.{one_serial}
 use Rattle.secret_calls.proofs.SizeLemmas.{body-short}
 use Rattle.call_wire.specs.Said.{said, IsSendable}
 use Rattle.call_wire.proofs.PlainLemmas.{plain_text, plain_literal, path_plain, path_is}
@@ -60,38 +63,6 @@ one_body one other fits fit same = sym (body_again one fits) ∙ ap body_in same
 
 -- ---- names of errors
 
--- each name is a text
-is_plain : (name : ErrorName) → All IsPlain (error_text name)
-is_plain name.NotSupported = plain_literal (error_text name.NotSupported) refl
-is_plain name.UnknownObject = plain_literal (error_text name.UnknownObject) refl
-is_plain name.UnknownInterface = plain_literal (error_text name.UnknownInterface) refl
-is_plain name.UnknownMethod = plain_literal (error_text name.UnknownMethod) refl
-is_plain name.InvalidArgs = plain_literal (error_text name.InvalidArgs) refl
-is_plain name.LimitsExceeded = plain_literal (error_text name.LimitsExceeded) refl
-is_plain name.NoSession = plain_literal (error_text name.NoSession) refl
-
-name_short : (name : ErrorName) → length (error_text name) ≤ 255
-name_short name.NotSupported = omega arith
-name_short name.UnknownObject = omega arith
-name_short name.UnknownInterface = omega arith
-name_short name.UnknownMethod = omega arith
-name_short name.InvalidArgs = omega arith
-name_short name.LimitsExceeded = omega arith
-name_short name.NoSession = omega arith
-
--- and an error name
-named : (name : ErrorName) → is_interface_name (error_text name) ≡ true
-named name.NotSupported = refl
-named name.UnknownObject = refl
-named name.UnknownInterface = refl
-named name.UnknownMethod = refl
-named name.InvalidArgs = refl
-named name.LimitsExceeded = refl
-named name.NoSession = refl
-
-is_name : (name : ErrorName) → IsName (error_text name)
-is_name name = ((plain_text (error_text name) (is_plain name), omega (arith, name_short name)), named name)
-
 -- the error of a name
 abbrev which : List ℕ → ErrorName
 which text =
@@ -102,17 +73,27 @@ which text =
     if bytes_eq text (error_text name.InvalidArgs) then name.InvalidArgs else
     if bytes_eq text (error_text name.LimitsExceeded) then name.LimitsExceeded else name.NoSession
 
-which_is : (name : ErrorName) → which (error_text name) ≡ name
-which_is name.NotSupported = refl
-which_is name.UnknownObject = refl
-which_is name.UnknownInterface = refl
-which_is name.UnknownMethod = refl
-which_is name.InvalidArgs = refl
-which_is name.LimitsExceeded = refl
-which_is name.NoSession = refl
+-- an error's name is a short text, an error name, and that of no other error
+record IsNamed (name : ErrorName) : Type 0 where
+  plain : All IsPlain (error_text name)
+  short : length (error_text name) ≤ 255
+  formed : is_interface_name (error_text name) ≡ true
+  alone : which (error_text name) ≡ name
+
+named : (name : ErrorName) → IsNamed name
+named name.NotSupported = record { plain = plain_literal (error_text name.NotSupported) refl; short = omega arith; formed = refl; alone = refl }
+named name.UnknownObject = record { plain = plain_literal (error_text name.UnknownObject) refl; short = omega arith; formed = refl; alone = refl }
+named name.UnknownInterface = record { plain = plain_literal (error_text name.UnknownInterface) refl; short = omega arith; formed = refl; alone = refl }
+named name.UnknownMethod = record { plain = plain_literal (error_text name.UnknownMethod) refl; short = omega arith; formed = refl; alone = refl }
+named name.InvalidArgs = record { plain = plain_literal (error_text name.InvalidArgs) refl; short = omega arith; formed = refl; alone = refl }
+named name.LimitsExceeded = record { plain = plain_literal (error_text name.LimitsExceeded) refl; short = omega arith; formed = refl; alone = refl }
+named name.NoSession = record { plain = plain_literal (error_text name.NoSession) refl; short = omega arith; formed = refl; alone = refl }
+
+is_name : (name : ErrorName) → IsName (error_text name)
+is_name name = ((plain_text (error_text name) (named name).plain, omega (arith, (named name).short)), (named name).formed)
 
 one_error : (one other : ErrorName) → error_text one ≡ error_text other → one ≡ other
-one_error one other same = sym (which_is one) ∙ ap which same ∙ which_is other
+one_error one other same = sym (named one).alone ∙ ap which same ∙ (named other).alone
 
 -- ---- each output
 
@@ -129,65 +110,56 @@ fields_short (out.Error to name.InvalidArgs) serial = omega arith
 fields_short (out.Error to name.LimitsExceeded) serial = omega arith
 fields_short (out.Error to name.NoSession) serial = omega arith
 
+-- the header of an output, of this type and with this error's name, if any
+has_header : (kind serial : ℕ) (to : Serial) (name : Option (List ℕ)) → 0 < kind → kind < 256 → IsSerial serial → IfSome name IsName
+    → HasHeader (record (bare_header kind 1 serial) { error_name = name; reply_serial = Some to.number })
+has_header kind serial to name some few numbered named = record {
+  typed = λ e. omega (arith, some, e);
+  kind = omega (arith, few);
+  flags = omega arith;
+  serial = numbered;
+  path = tt;
+  interface = tt;
+  member = tt;
+  error_name = named;
+  reply_serial = (to.some, to.fits);
+  destination = tt;
+  sender = tt;
+}
+
+header_is : (serial : ℕ) → IsSerial serial → (out : Out) → HasHeader (header_of out serial)
+header_is serial numbered (out.Return to body) = has_header 2 serial to None (omega arith) (omega arith) numbered tt
+header_is serial numbered (out.Error to name) = has_header 3 serial to (Some (error_text name)) (omega arith) (omega arith) numbered (is_name name)
+
+needed : (serial : ℕ) (out : Out) → IsTrue (has_needed (header_of out serial).kind (fields_read (sent out serial)))
+needed serial (out.Return to body) = refl
+needed serial (out.Error to name) = refl
+
 can_be_sent : (most serial : ℕ) (out : Out) → IsSendable most out serial → CanBeSent (sent out serial)
-can_be_sent most serial (out.Return to body) is =
-    let are = body_is body is.has.fits in
+can_be_sent most serial out is =
+    let are = body_is (body_of out) is.has in
     record {
-      header = record {
-        typed = λ e. omega (arith, e);
-        kind = omega arith;
-        flags = omega arith;
-        serial = (is.numbered, is.serial_fits);
-        path = tt;
-        interface = tt;
-        member = tt;
-        error_name = tt;
-        reply_serial = (is.has.answers, is.has.answered_fits);
-        destination = tt;
-        sender = tt;
-      };
-      needed = refl;
+      header = header_is serial (is.numbered, is.serial_fits) out;
+      needed = needed serial out;
       listed = are.listed;
       spelled = are.spelled;
       arrays = are.arrays;
-      fields_short = fields_short (out.Return to body) serial;
-      body_short = omega (arith, body-short body is.has.fits);
-    }
-can_be_sent most serial (out.Error to name) is =
-    record {
-      header = record {
-        typed = λ e. omega (arith, e);
-        kind = omega arith;
-        flags = omega arith;
-        serial = (is.numbered, is.serial_fits);
-        path = tt;
-        interface = tt;
-        member = tt;
-        error_name = is_name name;
-        reply_serial = (is.has.answers, is.has.answered_fits);
-        destination = tt;
-        sender = tt;
-      };
-      needed = refl;
-      listed = refl;
-      spelled = tt;
-      arrays = refl;
-      fields_short = fields_short (out.Error to name) serial;
-      body_short = omega arith;
+      fields_short = fields_short out serial;
+      body_short = omega (arith, body-short (body_of out) is.has);
     }
 
 pub sent_again : (most serial : ℕ) (out : Out) → IsSendable most out serial → IsMessage most (spelled out serial) (said out serial)
 sent_again most serial out is = sent_is_message most (sent out serial) (can_be_sent most serial out is) is.short
 
 -- outputs that say the same are the same
-pub one_output : (serial again : ℕ) (one other : Out) → FitsOut one → FitsOut other → said one serial ≡ said other again → (one ≡ other) × (serial ≡ again)
+pub one_output : (serial again : ℕ) (one other : Out) → HasSpelling one → HasSpelling other → said one serial ≡ said other again → (one ≡ other) × (serial ≡ again)
 one_output serial again (out.Return to body) (out.Return too other) fits fit same = (
-  ap (λ n. out.Return n body) (ap (λ (p : Parts). unwrap_or p.reply_serial 0) same) ∙ ap (λ b. out.Return too b) (one_body body other fits fit (ap (λ (p : Parts). p.body) same)),
+  ap (λ n. out.Return n body) (one_serial to too (ap (λ (p : Parts). unwrap_or p.reply_serial 0) same)) ∙ ap (λ b. out.Return too b) (one_body body other fits fit (ap (λ (p : Parts). p.body) same)),
   ap (λ (p : Parts). p.serial) same,
 )
 one_output serial again (out.Return to body) (out.Error too name) fits fit same = absurd (omega (arith, ap (λ (p : Parts). p.kind) same))
 one_output serial again (out.Error to name) (out.Return too body) fits fit same = absurd (omega (arith, ap (λ (p : Parts). p.kind) same))
 one_output serial again (out.Error to name) (out.Error too other) fits fit same = (
-  ap (λ n. out.Error n name) (ap (λ (p : Parts). unwrap_or p.reply_serial 0) same) ∙ ap (λ n. out.Error too n) (one_error name other (ap (λ (p : Parts). unwrap_or p.error_name []) same)),
+  ap (λ n. out.Error n name) (one_serial to too (ap (λ (p : Parts). unwrap_or p.reply_serial 0) same)) ∙ ap (λ n. out.Error too n) (one_error name other (ap (λ (p : Parts). unwrap_or p.error_name []) same)),
   ap (λ (p : Parts). p.serial) same,
 )

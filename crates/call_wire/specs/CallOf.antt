@@ -49,6 +49,6 @@ wants_reply flags = flags % 2 == 0
 -- the request that a message is
 pub record CallOf (parts : Parts) (request : Request) : Type 0 where
   pub call : request.call ≡ call_on (object_of parts.path) parts
-  pub serial : request.serial ≡ parts.serial
+  pub serial : request.serial.number ≡ parts.serial
   pub wants_reply : request.wants_reply ≡ wants_reply parts.flags
   pub length : request.length ≡ parts.size

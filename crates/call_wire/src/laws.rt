@@ -2,7 +2,7 @@
 ghost use Rattle.std.specs.Prelude.{◌≡◌, ℕ};
 ghost use Rattle.secret_calls.specs.declared.call.Request.{Request};
 ghost use Rattle.secret_calls.specs.declared.out.Out.{Out};
-ghost use Rattle.secret_calls.specs.Outs.{FitsOut, spelled};
+ghost use Rattle.secret_calls.specs.Outs.{HasSpelling, spelled};
 ghost use Rattle.dbus_framing.specs.Messages.{Parts, IsMessage};
 ghost use Rattle.call_wire.specs.Said.{said, IsSendable};
 ghost use Rattle.call_wire.specs.CallOf.{CallOf};
@@ -20,9 +20,10 @@ pub fn a_message_is_one_request()
 /// What is sent is read again as the same output: its spelling is a message that says it, and by
 /// `a_message_has_one_meaning` of `dbus_framing` nothing else; and what a message says is one output,
 /// with one serial.
+#[tactic(auto, using(crate::proofs::AgainLemmas::sent_again, crate::proofs::AgainLemmas::one_output))]
 pub fn what_is_sent_is_read_again()
     ensures message { (most serial : ℕ) (out : Out) → IsSendable most out serial
         → IsMessage most (spelled out serial) (said out serial) }
-    ensures one { (serial again : ℕ) (one other : Out) → FitsOut one → FitsOut other
+    ensures one { (serial again : ℕ) (one other : Out) → HasSpelling one → HasSpelling other
         → said one serial ≡ said other again → (one ≡ other) × (serial ≡ again) }
 {}

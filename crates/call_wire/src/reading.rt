@@ -10,7 +10,7 @@ use crate::members::{Row, call_with, has_meant, member_called};
 use dbus_types::Message;
 use kr_base::Text;
 use kr_names::{ObjectName, parse_path};
-use secret_calls::{Call, CallFault, Request};
+use secret_calls::{Call, CallFault, Request, Serial};
 use std::alloc::Global;
 
 // The object that the path names.
@@ -90,7 +90,9 @@ pub fn call_of(alloc: Global, message: &Message) -> Result<Request, OutOfMemory>
     let object = object_of(alloc, &message.path)?;
     let call = call_of_object(&object, message)?;
     Ok(Request {
-        serial: serial_of(message),
+        serial: Serial {
+            number: serial_of(message),
+        },
         wants_reply: message.flags % 2 == 0,
         length: message.length,
         call,

@@ -2,6 +2,7 @@
 use Rattle.std.proofs.Common.{◌≡◌, ℕ, List, [], ◌∷◌, ◌++◌, if◌then◌else◌, refl, sym, ◌∙◌, ap, subst, append_assoc, append-nil}
 use Rattle.std.specs.List.{concat}
 use Rattle.secret_calls.specs.declared.call.Request.{Request}
+use Rattle.secret_calls.proofs.SerialLemmas.{one_serial}
 use Rattle.dbus_auth.specs.Handshake.{Run}
 use Rattle.dbus_framing.specs.Messages.{Parts}
 use Rattle.dbus_framing.specs.Streams.{Stream}
@@ -45,7 +46,7 @@ alike-of same (parts ∷ calls) (a ∷ one) [] p q = absurd q
 alike-of same (parts ∷ calls) (a ∷ one) (b ∷ other) p q = (
   record {
     call = same parts a.request b.request p.0 q.0;
-    serial = p.0.serial ∙ sym q.0.serial;
+    serial = one_serial a.request.serial b.request.serial (p.0.serial ∙ sym q.0.serial);
     wants_reply = p.0.wants_reply ∙ sym q.0.wants_reply;
   },
   alike-of same calls one other p.1 q.1,

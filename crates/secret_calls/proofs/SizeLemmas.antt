@@ -1,16 +1,16 @@
 -- How long outputs are: their length doesn't depend on the serial, and each may wait for a connection.
-use Rattle.std.proofs.Common.{◌≡◌, ℕ, ◌+◌, ◌^◌, ◌<◌, ◌≤◌, min, List, [], ◌∷◌, ◌++◌, length, decimal, refl, ◌∙◌, arith, length-append}
+use Rattle.std.proofs.Common.{◌≡◌, ℕ, ◌^◌, ◌<◌, ◌≤◌, min, [], ◌∷◌, ◌++◌, length, decimal, refl, ◌∙◌, arith, length-append}
 use Rattle.std.proofs.Math.Nat.{min-eq_right}
 use Rattle.std.proofs.lemmas.Fmt.{length-decimal-le}
 use Rattle.dbus_marshal.specs.Wire.{number_bytes}
-use Rattle.kr_base.specs.declared.ids.SessionId.{SessionId}
 use Rattle.secret_calls.specs.declared.out.Body.{Body}
 use Rattle.secret_calls.specs.declared.out.Body.TheVariants as body
 use Rattle.secret_calls.specs.declared.out.Out.{Out}
 use Rattle.secret_calls.specs.declared.out.Out.TheVariants as out
 use Rattle.secret_calls.specs.declared.out.ErrorName.{ErrorName}
 use Rattle.secret_calls.specs.declared.out.ErrorName.TheVariants as name
-use Rattle.secret_calls.specs.Outs.{spelled_body, spelled, FitsBody, FitsOut, most_waiting}
+use Rattle.secret_calls.specs.declared.serial.Serial.{Serial}
+use Rattle.secret_calls.specs.Outs.{spelled_body, spelled, FitsBody, HasSpelling, most_waiting}
 
 -- any serial has four bytes
 pub any_serial : (out : Out) (one other : ℕ) → length (spelled out one) ≡ length (spelled out other)
@@ -26,7 +26,7 @@ unfolding number_bytes
 body-short body.Empty fits = omega arith
 body-short (body.Session session) fits = omega (arith, length-append (decimal session.0 ++ 0 ∷ []) [], length-append (decimal session.0) (0 ∷ []), digits-few session.0 fits)
 
-error-short : (to serial : ℕ) (name : ErrorName) → length (spelled (out.Error to name) serial) ≤ most_waiting
+error-short : (to : Serial) (serial : ℕ) (name : ErrorName) → length (spelled (out.Error to name) serial) ≤ most_waiting
 unfolding number_bytes
 error-short to serial name.NotSupported = omega arith
 error-short to serial name.UnknownObject = omega arith
@@ -36,7 +36,7 @@ error-short to serial name.InvalidArgs = omega arith
 error-short to serial name.LimitsExceeded = omega arith
 error-short to serial name.NoSession = omega arith
 
-pub out-short : (out : Out) (serial : ℕ) → FitsOut out → length (spelled out serial) ≤ most_waiting
+pub out-short : (out : Out) (serial : ℕ) → HasSpelling out → length (spelled out serial) ≤ most_waiting
 unfolding number_bytes
 out-short (out.Return to body.Empty) serial fits = omega arith
 out-short (out.Return to (body.Session session)) serial fits = omega (arith, length-append (decimal session.0 ++ 0 ∷ []) [], length-append (decimal session.0) (0 ∷ []), digits-few session.0 fits)

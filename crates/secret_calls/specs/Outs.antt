@@ -1,6 +1,6 @@
 -- What the service sends, and how it is spelled: D-Bus Specification, "Message Format"; Secret Service API draft
 -- 0.2, the interfaces' methods and errors.
-use Rattle.std.specs.Prelude.{◌≢◌, ℕ, ◌^◌, ◌<◌, List, [], ◌++◌, Some, None, codes, decimal}
+use Rattle.std.specs.Prelude.{ℕ, ◌^◌, ◌<◌, List, [], ◌++◌, Some, codes, decimal}
 use Rattle.secret_calls.specs.declared.out.Body.{Body}
 use Rattle.secret_calls.specs.declared.out.Body.TheVariants as body
 use Rattle.secret_calls.specs.declared.out.ErrorName.{ErrorName}
@@ -40,8 +40,8 @@ spelled_body body = all_spelled Little (values_of body) 0
 -- The header of an output: a METHOD_RETURN, or an ERROR with its name, each with the flag NO_REPLY_EXPECTED and the serial of
 -- the call that it answers.
 abbrev pub header_of : Out → ℕ → SentHeader
-header_of (out.Return to body) serial = record (bare_header 2 1 serial) { reply_serial = Some to }
-header_of (out.Error to name) serial = record (bare_header 3 1 serial) { error_name = Some (error_text name); reply_serial = Some to }
+header_of (out.Return to body) serial = record (bare_header 2 1 serial) { reply_serial = Some to.number }
+header_of (out.Error to name) serial = record (bare_header 3 1 serial) { error_name = Some (error_text name); reply_serial = Some to.number }
 
 -- the body of an output: an error has none
 abbrev pub body_of : Out → Body
@@ -56,27 +56,15 @@ sent out serial = record { header = header_of out serial; body = values_of (body
 abbrev pub spelled : Out → ℕ → List ℕ
 spelled out serial = spelled_message (sent out serial)
 
--- the serial of the call that an output answers
-abbrev pub answered : Out → ℕ
-answered (out.Return to body) = to
-answered (out.Error to name) = to
-
 -- a session that a return names has a number of 64 bits
 abbrev pub FitsBody : Body → Type 0
 FitsBody body.Empty = Unit {0}
 FitsBody (body.Session session) = session.0 < 2 ^ 64
 
--- the numbers of an output's values are those of the program
-abbrev pub FitsOut : Out → Type 0
-FitsOut (out.Return to body) = FitsBody body
-FitsOut (out.Error to name) = Unit {0}
-
--- The output has a spelling, which is a message: the serial that it answers is a number of 32 bits and not 0, and its values
--- are of their types.
-pub record HasSpelling (out : Out) : Type 0 where
-  pub answers : answered out ≢ 0
-  pub answered_fits : answered out < 2 ^ 32
-  pub fits : FitsOut out
+-- The output has a spelling, which is a message: its values are of their types. That the serial which it answers is one of a
+-- message is in its type.
+abbrev pub HasSpelling : Out → Type 0
+HasSpelling out = FitsBody (body_of out)
 
 -- the most bytes that an output may have, which is the most that may wait for a connection
 abbrev pub most_waiting : ℕ

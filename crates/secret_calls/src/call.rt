@@ -1,6 +1,6 @@
-ghost use Rattle.std.specs.Prelude.{◌≡◌, ◌≢◌, ◌<◌, ◌^◌};
+ghost use Rattle.std.specs.Prelude.{◌≡◌};
 
-use crate::ErrorName;
+use crate::{ErrorName, Serial};
 use kr_base::{SessionId, Text};
 
 /// A call of the service, with its arguments. An object that a call is made on is an argument too.
@@ -52,16 +52,12 @@ impl CallFault {
 /// A method call that came in.
 #[derive(Drop)]
 pub struct Request {
-    /// The serial of its message, by which a reply names it.
-    pub serial: u32,
+    /// The serial of its message.
+    pub serial: Serial,
     /// Whether the caller wants a reply.
     pub wants_reply: bool,
     /// How many bytes its message has.
     pub length: u32,
     /// The call, or what keeps the message from being one.
     pub call: Result<Call, CallFault>,
-    /// No message has the serial 0.
-    pub ghost has_serial: { serial ≢ 0 },
-    /// A serial is a number of 32 bits.
-    pub ghost fits: { serial < 2 ^ 32 },
 }

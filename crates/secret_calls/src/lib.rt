@@ -1,17 +1,20 @@
 //! The calls of the service as values, and what is sent for them, after the Secret Service API (draft
 //! 0.2) and the D-Bus Specification. A request is a call with what its message says beside it, or the
 //! fault that the message has; an output is a method return or an error, with its spelling as a message.
-//! Callers may rely on these: a request's serial isn't 0, each fault has the error that answers it, and
-//! the size that is told of an output is the length of its spelling, whatever serial it is sent with.
+//! Callers may rely on these: no request has the serial 0 and no output answers it, each fault has the
+//! error that answers it, and the size that is told of an output is the length of its spelling, whatever
+//! serial it is sent with.
 #![tactic(auto)]
 
 mod call;
 mod out;
 mod returns;
+mod serial;
 mod size;
 mod taken;
 
 pub use call::{Call, CallFault, Request};
 pub use out::{Body, ErrorName, Out};
+pub use serial::Serial;
 pub use size::{body_size, size_of_out};
 pub use taken::{Refused, Taken};

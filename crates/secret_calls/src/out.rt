@@ -3,6 +3,7 @@ ghost use Rattle.dbus_marshal.specs.Putting.{puts};
 ghost use Rattle.dbus_sending.specs.HeaderViews.{seen};
 ghost use Rattle.secret_calls.specs.Outs.{values_of, header_of, spelled};
 
+use crate::Serial;
 use crate::returns::put_session;
 use dbus_marshal::{Put, PutValues};
 use dbus_sending::{Header, put_message};
@@ -108,14 +109,14 @@ pub enum Out {
     /// A method return.
     Return {
         /// The serial of the call that it answers.
-        to: u32,
+        to: Serial,
         /// Its values.
         body: Body,
     },
     /// An error. It has no body.
     Error {
         /// The serial of the call that it answers.
-        to: u32,
+        to: Serial,
         /// Its name.
         name: ErrorName,
     },
@@ -144,12 +145,12 @@ impl Out {
     {
         match self {
             Out::Return { to, body: _ } => Header {
-                reply_serial: Some(*to),
+                reply_serial: Some(to.number),
                 ..Header::bare(METHOD_RETURN, NO_REPLY_EXPECTED, serial)
             },
             Out::Error { to, name } => Header {
                 error_name: Some(name.as_str()),
-                reply_serial: Some(*to),
+                reply_serial: Some(to.number),
                 ..Header::bare(ERROR, NO_REPLY_EXPECTED, serial)
             },
         }

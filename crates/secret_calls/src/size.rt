@@ -1,6 +1,6 @@
 // How many bytes an output has when it is sent. What waits for a connection is counted by it.
 ghost use Rattle.std.specs.Prelude.{◌≡◌, ℕ, ◌+◌, ◌^◌, ◌<◌, length, min};
-ghost use Rattle.secret_calls.specs.Outs.{spelled, spelled_body, FitsBody, FitsOut};
+ghost use Rattle.secret_calls.specs.Outs.{spelled, spelled_body, FitsBody, HasSpelling};
 
 use crate::{Body, Out};
 use dbus_marshal::{Counter, size_of_values};
@@ -24,7 +24,7 @@ fn body_fits(body: &Body)
 
 // The numbers of an output fit their types.
 fn out_fits(out: &Out)
-    ensures { FitsOut out.now }
+    ensures { HasSpelling out.now }
 {
     match out {
         Out::Return { to: _, body } => body_fits(body),

@@ -486,14 +486,8 @@ may-run caller state (Ok (call.CloseSession session)) = closed-may caller sessio
 -- the message of an answer whose values are of their types
 message-waits : (caller : ConnId) (request : Request) (answer : Result Body ErrorName) → FitsAnswer answer → CanWait (record { to = caller; out = message_of request.serial answer })
 unfolding size_of
-message-waits caller request (Ok body) fits = record {
-  spelled = record { answers = request.has_serial; answered_fits = request.fits; fits = fits };
-  small = out-short (out.Return request.serial body) 1 fits;
-}
-message-waits caller request (Err name) fits = record {
-  spelled = record { answers = request.has_serial; answered_fits = request.fits; fits = tt };
-  small = out-short (out.Error request.serial name) 1 tt;
-}
+message-waits caller request (Ok body) fits = record { spelled = fits; small = out-short (out.Return request.serial body) 1 fits }
+message-waits caller request (Err name) fits = record { spelled = tt; small = out-short (out.Error request.serial name) 1 tt }
 
 replies-wait : (wanted : Bool) (sent : Sent) → CanWait sent → AllByRecursion CanWait (cond wanted (sent ∷ []) [])
 replies-wait true sent waits = (waits, tt)

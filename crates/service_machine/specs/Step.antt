@@ -1,6 +1,6 @@
 -- One event of the service, as a step from rows to rows. What an event puts out stands beside what becomes of it,
 -- so that laws can speak of the outputs before the limit on what waits.
-use Rattle.std.specs.Prelude.{◌≡◌, ℕ, ◌<◌, ◌≤◌, ◌⊎◌, true, false, if◌then◌else◌, IsTrue, IsSomeAnd, List, [], ◌∷◌, ◌++◌, length, Result, Ok, Err}
+use Rattle.std.specs.Prelude.{◌≡◌, ◌<◌, ◌≤◌, ◌⊎◌, true, false, if◌then◌else◌, IsTrue, IsSomeAnd, List, [], ◌∷◌, ◌++◌, length, Result, Ok, Err}
 use Rattle.kr_base.specs.declared.ids.ConnId.{ConnId}
 use Rattle.secret_calls.specs.declared.call.Call.{Call}
 use Rattle.secret_calls.specs.declared.call.Call.TheVariants as call
@@ -10,6 +10,7 @@ use Rattle.secret_calls.specs.declared.out.Body.{Body}
 use Rattle.secret_calls.specs.declared.out.ErrorName.{ErrorName}
 use Rattle.secret_calls.specs.declared.out.Out.{Out}
 use Rattle.secret_calls.specs.declared.out.Out.TheVariants as out
+use Rattle.secret_calls.specs.declared.serial.Serial.{Serial}
 use Rattle.secret_calls.specs.Calls.{error_of}
 use Rattle.session_table.specs.Sessions.{no_sessions, abandoned}
 use Rattle.service_machine.specs.declared.rows.ConnRow.{ConnRow}
@@ -44,7 +45,7 @@ plan_of (Ok call) asked = row_of call asked
 plan_of (Err fault) asked = refused (error_of fault)
 
 -- the message that answers a call
-abbrev pub message_of : ℕ → Result Body ErrorName → Out
+abbrev pub message_of : Serial → Result Body ErrorName → Out
 message_of serial (Ok body) = out.Return serial body
 message_of serial (Err name) = out.Error serial name
 

@@ -9,7 +9,7 @@ use crate::connections::Connections;
 use crate::{ApplyRefused, Arrived, DeskRow, Event, Incoming, Output, Rows};
 use kr_base::{ConnId, OutOfMemory, SessionId, Text};
 use kr_items::Items;
-use secret_calls::{Body, Call, CallFault, ErrorName, Out, Request, body_size};
+use secret_calls::{Body, Call, CallFault, ErrorName, Out, Request, Serial, body_size};
 use session_table::{SessionRefused, SessionTable};
 use std::alloc::{AllocError, Global};
 
@@ -263,7 +263,7 @@ fn bounded(answer: Answer) -> Answer
 }
 
 // The message that answers the call with this serial.
-fn message(serial: u32, answer: Answer) -> Out
+fn message(serial: Serial, answer: Answer) -> Out
     ensures { result ≡ message_of serial answer }
 {
     match answer {

@@ -1,14 +1,18 @@
 use crate::checks::{holds, same_number, same_text};
 use kr_base::SessionId;
-use secret_calls::{Body, CallFault, ErrorName, Out, body_size, size_of_out};
+use secret_calls::{Body, CallFault, ErrorName, Out, Serial, body_size, size_of_out};
 use std::process::Abort;
 use std::test::Fail;
+
+const FIRST: Serial = Serial { number: 1 };
+
+const LAST: Serial = Serial { number: u32::MAX };
 
 // A reply of this session is so long.
 fn session_has(rt: &impl Abort, number: u64, want: u64, at: &str) {
     let body = Body::Session(SessionId(number));
     same_number(rt, body_size(&body) + 32, want, at);
-    same_number(rt, size_of_out(&Out::Return { to: 7, body }), want, at);
+    same_number(rt, size_of_out(&Out::Return { to: FIRST, body }), want, at);
 }
 
 fn is_copied(out: &Out) -> Result<bool, Fail> {
@@ -17,7 +21,7 @@ fn is_copied(out: &Out) -> Result<bool, Fail> {
 
 // A reply of this error is so long, and its copy is the same.
 fn error_has(rt: &impl Abort, name: ErrorName, want: u64) -> Result<(), Fail> {
-    let out = Out::Error { to: 1, name };
+    let out = Out::Error { to: FIRST, name };
     same_number(rt, size_of_out(&out), want, name.as_str());
     holds(rt, is_copied(&out)?, name.as_str());
     Ok(())
@@ -25,7 +29,7 @@ fn error_has(rt: &impl Abort, name: ErrorName, want: u64) -> Result<(), Fail> {
 
 fn empty_has(rt: &impl Abort, want: u64) -> Result<(), Fail> {
     let pong = Out::Return {
-        to: u32::MAX,
+        to: LAST,
         body: Body::Empty,
     };
     same_number(rt, size_of_out(&pong), want, "an empty reply");

@@ -5,7 +5,7 @@ use dbus_framing::Framer;
 use dbus_marshal::unmarshal;
 use dbus_types::{Endian, Message, Signature, Value};
 use kr_base::{SessionId, Text};
-use secret_calls::{Body, Call, CallFault, ErrorName, Out, Request, size_of_out};
+use secret_calls::{Body, Call, CallFault, ErrorName, Out, Request, Serial, size_of_out};
 use std::alloc::{AllocGlobal, Global};
 use std::process::Abort;
 use std::test::Fail;
@@ -36,7 +36,7 @@ fn wish_told(wants_reply: bool) -> &'static str {
 
 // A request by its serial, whether a reply is wanted, its length, and the call or its fault.
 fn request_told(alloc: Global, request: &Request) -> Result<String, Fail> {
-    let serial = decimal(alloc, u64::from(request.serial))?;
+    let serial = decimal(alloc, u64::from(request.serial.number))?;
     let wish = wish_told(request.wants_reply);
     let length = decimal(alloc, u64::from(request.length))?;
     let call = call_told(alloc, &request.call)?;
@@ -253,7 +253,15 @@ fn error_named(text: &str) -> Result<ErrorName, Fail> {
     Err("no error")?
 }
 
-fn output_in(text: &str, to: u32) -> Result<Out, Fail> {
+fn serial_in(text: &str) -> Result<Serial, Fail> {
+    let number = number(text)?;
+    if number == 0 {
+        return Err("serial")?;
+    }
+    Ok(Serial { number })
+}
+
+fn output_in(text: &str, to: Serial) -> Result<Out, Fail> {
     if text == "empty" {
         return Ok(Out::Return {
             to,
@@ -273,17 +281,14 @@ fn output_in(text: &str, to: u32) -> Result<Out, Fail> {
 }
 
 // The digits of the output's message.
-fn written(alloc: Global, out: &Out, serial: u32) -> Result<String, Fail> {
-    if serial == 0 {
-        return Err("serial")?;
-    }
-    let bytes = message_of(alloc, out, serial)?;
+fn written(alloc: Global, out: &Out, serial: Serial) -> Result<String, Fail> {
+    let bytes = message_of(alloc, out, serial.number)?;
     Ok(hex::encode(alloc, bytes.as_slice())?)
 }
 
 fn is_written(rt: &(impl AllocGlobal + Abort), row: &str) -> Result<(), Fail> {
-    let out = output_in(cell(row, 0), number(cell(row, 1))?)?;
-    let text = written(rt.alloc(), &out, number(cell(row, 2))?)?;
+    let out = output_in(cell(row, 0), serial_in(cell(row, 1))?)?;
+    let text = written(rt.alloc(), &out, serial_in(cell(row, 2))?)?;
     same_text(rt, text.as_str(), cell(row, 3), row);
     same_number(rt, size_of_out(&out), (text.len() / 2) as u64, row);
     Ok(())

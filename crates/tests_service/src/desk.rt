@@ -1,7 +1,7 @@
 use crate::checks::{cell, holds, number, same_number, same_text};
 use crate::words::call_of;
 use lone_desk::LoneDesk;
-use secret_calls::{Body, Call, CallFault, Out, Refused, Request, Taken};
+use secret_calls::{Body, Call, CallFault, Out, Refused, Request, Serial, Taken};
 use service_desk::{Desk, JoinRefused, ReadDesk, WriteDesk};
 use service_history::Service;
 use std::alloc::Global;
@@ -10,12 +10,12 @@ use std::test::Fail;
 
 // A request with this serial.
 fn request(serial: &str, call: Result<Call, CallFault>) -> Result<Request, Fail> {
-    let serial = serial.parse::<u32>().ok().ok_or("serial")?;
-    if serial == 0 {
+    let number = serial.parse::<u32>().ok().ok_or("serial")?;
+    if number == 0 {
         return Err("serial")?;
     }
     Ok(Request {
-        serial,
+        serial: Serial { number },
         wants_reply: true,
         length: 128,
         call,
@@ -26,13 +26,13 @@ fn outs_told(outs: &[Out]) -> &'static str {
     match outs {
         [
             Out::Return {
-                to: 1,
+                to: Serial { number: 1 },
                 body: Body::Session(_),
             },
         ] => "a session",
         [
             Out::Return {
-                to: 2,
+                to: Serial { number: 2 },
                 body: Body::Empty,
             },
         ] => "a pong",

@@ -1,7 +1,7 @@
 use crate::checks::{cell, same_number, same_text};
 use crate::words::{call_of, decimal, last_told, session_told};
 use kr_base::ConnId;
-use secret_calls::{Call, CallFault, Request, Taken};
+use secret_calls::{Call, CallFault, Request, Serial, Taken};
 use service_history::Service;
 use service_machine::{Arrival, Incoming, Output};
 use std::alloc::Global;
@@ -19,7 +19,7 @@ fn join(service: &mut Service) -> Result<u64, Fail> {
 // The first connection asks, with a request of this length.
 fn ask(service: &mut Service, length: u32, call: Result<Call, CallFault>) -> Result<(), Fail> {
     let request = Request {
-        serial: 9,
+        serial: Serial { number: 9 },
         wants_reply: true,
         length,
         call,

@@ -2,7 +2,7 @@ use crate::checks::{cell, holds, number, same_number, same_text};
 use crate::words::{call_of, last_told};
 use kr_base::ConnId;
 use kr_items::Items;
-use secret_calls::{Call, CallFault, Out, Request};
+use secret_calls::{Call, CallFault, Out, Request, Serial};
 use service_machine::{ApplyRefused, Arrival, Incoming, Machine, Output, Rows};
 use std::alloc::Global;
 use std::process::Abort;
@@ -42,7 +42,7 @@ fn arrive(
     call: Result<Call, CallFault>,
 ) -> Result<(), ApplyRefused> {
     let request = Request {
-        serial: 7,
+        serial: Serial { number: 7 },
         wants_reply: true,
         length: 128,
         call,

@@ -5,7 +5,7 @@ ghost use Rattle.std.specs.Arc.{arc_value};
 
 use crate::checks::{holds, same_number};
 use kr_base::ConnId;
-use secret_calls::{Call, Request, Taken};
+use secret_calls::{Call, Request, Serial, Taken};
 use service_desk::{ReadDesk, WriteDesk};
 use service_history::Service;
 use service_machine::Event;
@@ -33,12 +33,12 @@ fn shared(alloc: Global) -> Result<(Arc<SharedService, Global>, Pass), Fail>
 }
 
 // A Ping with this serial. A reply to it may be wanted.
-fn ping(serial: u32, wants_reply: bool) -> Option<Request> {
-    if serial == 0 {
+fn ping(number: u32, wants_reply: bool) -> Option<Request> {
+    if number == 0 {
         return None;
     }
     Some(Request {
-        serial,
+        serial: Serial { number },
         wants_reply,
         length: 128,
         call: Ok(Call::Ping),
@@ -64,7 +64,7 @@ fn asks_all<D: ReadDesk>(desk: &mut D) {
 // The serial of the request, where the event is one of this connection.
 fn serial_of(event: &Event, conn: ConnId) -> Option<u32> {
     match event {
-        Event::Arrive(arrival) if arrival.conn == conn => Some(arrival.request.serial),
+        Event::Arrive(arrival) if arrival.conn == conn => Some(arrival.request.serial.number),
         _ => None,
     }
 }

@@ -1,0 +1,12 @@
+ghost use Rattle.std.specs.Prelude.{◌≢◌, ◌<◌, ◌^◌};
+
+/// The serial of a message, by which a reply names it (D-Bus Specification, "Message Format").
+#[derive(Clone, Copy, PartialEq, Eq)]
+pub struct Serial {
+    /// The number.
+    pub number: u32,
+    /// No message has the serial 0.
+    pub ghost some: { number ≢ 0 },
+    /// A serial is a number of 32 bits.
+    pub ghost fits: { number < 2 ^ 32 },
+}
