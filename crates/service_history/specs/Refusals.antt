@@ -1,22 +1,19 @@
--- Why an event isn't recorded.
-use Rattle.service_machine.specs.declared.rows.Rows.{Rows}
-use Rattle.service_machine.specs.declared.event.Incoming.{Incoming}
-use Rattle.service_machine.specs.declared.event.ApplyRefused.{ApplyRefused}
-use Rattle.service_machine.specs.declared.event.ApplyRefused.TheVariants as apply
-use Rattle.service_machine.specs.Machine.{IsOfNone, IsConnect}
-use Rattle.service_machine.specs.Step.{IsCrowded}
+-- Why an event isn't recorded: why a connection doesn't join, or a request isn't taken.
+use Rattle.secret_calls.specs.declared.taken.Refused.{Refused}
+use Rattle.secret_calls.specs.declared.taken.Refused.TheVariants as request
+use Rattle.service_machine.specs.declared.event.JoinRefused.{JoinRefused}
+use Rattle.service_machine.specs.declared.event.JoinRefused.TheVariants as join
 use Rattle.service_history.specs.declared.refused.EventRefused.{EventRefused}
-use Rattle.service_history.specs.declared.refused.EventRefused.TheVariants as refused
+use Rattle.service_history.specs.declared.refused.EventRefused.TheVariants as event
 
--- the refusal of an event that the machine refused
-abbrev pub refusal_of : ApplyRefused → EventRefused
-refusal_of apply.NoConnection = refused.NoConnection
-refusal_of apply.TooManyConnections = refused.TooManyConnections
-refusal_of apply.OutOfMemory = refused.OutOfMemory
+-- a connection didn't join
+abbrev pub not_joined : JoinRefused → EventRefused
+not_joined join.EventsSpent = event.EventsSpent
+not_joined join.TooManyConnections = event.TooManyConnections
+not_joined join.OutOfMemory = event.OutOfMemory
 
--- the refusal has its cause in the state and the event
-abbrev pub IsRefused : Rows → Incoming → EventRefused → Type 0
-IsRefused state came refused.EventsSpent = ⊥
-IsRefused state came refused.NoConnection = IsOfNone state came
-IsRefused state came refused.TooManyConnections = IsConnect came × IsCrowded state
-IsRefused state came refused.OutOfMemory = Unit {0}
+-- a request wasn't taken
+abbrev pub not_taken : Refused → EventRefused
+not_taken request.EventsSpent = event.EventsSpent
+not_taken request.Gone = event.NoConnection
+not_taken request.OutOfMemory = event.OutOfMemory

@@ -1,9 +1,8 @@
 ghost use Rattle.std.specs.Prelude.{◌≡◌};
-ghost use Rattle.service_history.specs.declared.refused.EventRefused.TheVariants.{OutOfMemory};
-ghost use Rattle.service_history.specs.Refusals.{refusal_of};
+ghost use Rattle.service_history.specs.Refusals.{not_joined, not_taken};
 
-use service_machine::ApplyRefused;
-use std::alloc::AllocError;
+use secret_calls::Refused;
+use service_machine::JoinRefused;
 use thiserror::Error;
 
 /// Why an event wasn't recorded.
@@ -23,22 +22,26 @@ pub enum EventRefused {
     OutOfMemory,
 }
 
-impl From<AllocError> for EventRefused {
-    ghost from_gives = { λ _ e. e ≡ OutOfMemory };
+impl From<JoinRefused> for EventRefused {
+    ghost from_gives = { λ refused e. e ≡ not_joined refused };
 
-    fn from(_error: AllocError) -> Self {
-        EventRefused::OutOfMemory
+    fn from(refused: JoinRefused) -> Self {
+        match refused {
+            JoinRefused::EventsSpent => EventRefused::EventsSpent,
+            JoinRefused::TooManyConnections => EventRefused::TooManyConnections,
+            JoinRefused::OutOfMemory => EventRefused::OutOfMemory,
+        }
     }
 }
 
-impl From<ApplyRefused> for EventRefused {
-    ghost from_gives = { λ refused e. e ≡ refusal_of refused };
+impl From<Refused> for EventRefused {
+    ghost from_gives = { λ refused e. e ≡ not_taken refused };
 
-    fn from(refused: ApplyRefused) -> Self {
+    fn from(refused: Refused) -> Self {
         match refused {
-            ApplyRefused::NoConnection => EventRefused::NoConnection,
-            ApplyRefused::TooManyConnections => EventRefused::TooManyConnections,
-            ApplyRefused::OutOfMemory => EventRefused::OutOfMemory,
+            Refused::EventsSpent => EventRefused::EventsSpent,
+            Refused::Gone => EventRefused::NoConnection,
+            Refused::OutOfMemory => EventRefused::OutOfMemory,
         }
     }
 }

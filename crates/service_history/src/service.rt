@@ -9,7 +9,7 @@ use crate::EventRefused;
 use crate::window::Window;
 use kr_base::ConnId;
 use secret_calls::{Refused, Taken};
-use service_machine::{Arrival, Event, Incoming, JoinRefused, Machine, Output, Rows};
+use service_machine::{Arrival, Arrived, Event, Incoming, JoinRefused, Machine, Output, Rows};
 use std::alloc::Global;
 use std::marker::Model;
 
@@ -131,13 +131,14 @@ impl Service {
             → IsCrowded self.old.state }
         ensures unchanged { OnErr result (self.new ≡ self.old) }
     {
-        if self.window.total() >= LIMIT {
-            return Err(EventRefused::EventsSpent);
+        match event {
+            Incoming::Connect => Ok(Output::Joined(self.join()?)),
+            Incoming::Arrive(arrival) => {
+                self.arrive(arrival)?;
+                Ok(Output::Arrived(Arrived {}))
+            }
+            _ => unreachable!(),
         }
-        let next = self.window.prepare(&self.machine)?;
-        let (output, event) = self.machine.apply(event)?;
-        self.window.commit(next, event);
-        Ok(output)
     }
 
     /// Gives what waits for the connection, and records that it took it. Where nothing waits: `Overrun`
