@@ -199,14 +199,6 @@ never_began uid guid left old new output end.Memory more = record {
 }
 never_began uid guid left old new output _ more = absurd more
 
--- no memory was left for the first piece
-pub no_piece : (uid : ℕ) (guid : List ℕ) (b : Both) → Shakes uid guid b b (Err end.Memory)
-no_piece uid guid b = record {
-  read = [];
-  took = Took-none b.input;
-  ends = (GaveFront-more b.output b.output [] (concat (handshake uid guid []).answers) (GaveFront-whole b.output b.output [] (Gave-none b.output)), refl);
-}
-
 -- the first byte isn't zero
 pub no_zero : (uid : ℕ) (guid held : List ℕ) (old new : Input) (output : Output) → ReadsMore [] held old new (Ok tt) → (get_or held 0 0 ≡ 0 → ⊥)
     → Shakes uid guid (record { input = old; output = output }) (record { input = new; output = output }) (Err (end.AuthRefused fault.NoZero))

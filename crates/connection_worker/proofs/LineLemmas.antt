@@ -15,7 +15,7 @@ use Rattle.dbus_auth.proofs.CutLemmas.{first_cut-at, first_cut-nowhere}
 use Rattle.dbus_auth.proofs.RunLemmas.{run-first, run-waiting}
 use Rattle.connection_worker.specs.Streams.{Output, Gave, GaveFront}
 use Rattle.connection_worker.specs.Lines.{IsLineEnd, Answers}
-use Rattle.connection_worker.proofs.StreamLemmas.{Gave-none, Gave-trans, GaveFront-more, GaveFront-behind}
+use Rattle.connection_worker.proofs.StreamLemmas.{Gave-trans, GaveFront-more, GaveFront-behind}
 
 -- the first CR LF stands behind the place before this one
 pub ends-here : (bytes : List ℕ) (place : ℕ) → 1 ≤ place → place < length bytes → get_or bytes (place - 1) 0 ≡ 13 → get_or bytes place 0 ≡ 10
@@ -73,9 +73,6 @@ pub by_step : (at : Exchange) (bytes : List ℕ) (place : ℕ) (brought : Step) 
 by_step at bytes place brought ends fits is = rw is (by_row at bytes place ends fits)
 
 -- ---- all lines
-
-pub answers-none : (at : Exchange) (bytes : List ℕ) (o : Output) → Answers at bytes o o (run at bytes)
-answers-none at bytes o = record { answers = []; run = refl; gave = Gave-none o }
 
 -- the run goes on with another one that equals it
 pub answers-is : (at : Exchange) (bytes : List ℕ) (old new : Output) (one other : Run) → Answers at bytes old new one → one ≡ other → Answers at bytes old new other

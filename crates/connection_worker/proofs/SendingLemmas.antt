@@ -4,7 +4,7 @@ use Rattle.std.proofs.lemmas.List.{length_push}
 use Rattle.secret_calls.specs.declared.out.Out.{Out}
 use Rattle.secret_calls.specs.Outs.{spelled}
 use Rattle.connection_worker.specs.Written.{serial_behind, spelled_behind}
-use Rattle.connection_worker.specs.Sending.{AreBehind, Spells}
+use Rattle.connection_worker.specs.Sending.{Spells}
 
 pub spelled_behind-append : (taken : ℕ) (outs more : List Out) → spelled_behind taken (outs ++ more) ≡ spelled_behind taken outs ++ spelled_behind (taken + length outs) more
 spelled_behind-append taken [] more = ap (λ n. spelled_behind n more) (omega arith)
@@ -12,10 +12,6 @@ spelled_behind-append taken (out ∷ outs) more =
     ap (λ l. spelled out (serial_behind taken) ++ l) (spelled_behind-append (taken + 1) outs more)
     ∙ sym (append_assoc (spelled out (serial_behind taken)) (spelled_behind (taken + 1) outs) (spelled_behind (taken + 1 + length outs) more))
     ∙ ap (λ n. (spelled out (serial_behind taken) ++ spelled_behind (taken + 1) outs) ++ spelled_behind n more) (omega arith)
-
--- serials go on by one
-pub behind-next : (taken serials next : ℕ) → AreBehind taken serials → next ≡ (serials + 1) % 4294967295 → AreBehind (taken + 1) next
-behind-next taken serials next is to = omega (arith, is, to)
 
 -- one more output
 pub spells-push : (outs : List Out) (out : Out) (old mid new serial : ℕ) (bytes message : List ℕ) → Spells outs old mid bytes → serial ≡ mid + 1 → new ≡ (mid + 1) % 4294967295

@@ -1,18 +1,16 @@
 -- What the calls of a desk that is alone change.
-use Rattle.std.proofs.Common.{◌≡◌, ℕ, ◌≤◌, IsTrue, true, false, List, [], ◌∷◌, length, Option, Some, refl, sym, ap, arith, subst, rules, nat_lt, cond, ◌==◌}
+use Rattle.std.proofs.Common.{◌≡◌, ℕ, ◌≤◌, IsTrue, true, false, List, length, Option, Some, refl, arith, rules, nat_lt, ◌==◌}
 use Rattle.kr_outside.specs.Clock.{GivesFirst}
 use Rattle.secret_calls.specs.declared.out.Out.{Out}
-use Rattle.service_machine.specs.declared.event.Event.TheVariants as event
 use Rattle.service_machine.specs.declared.event.Output.TheVariants as output
 use Rattle.service_machine.specs.Connections.{has, desk_of}
 use Rattle.service_machine.specs.Limits.{most_events}
 use Rattle.service_desk.specs.Places.{Told, Place, Looks}
-use Rattle.service_desk.specs.Records.{Records, of_own}
 use Rattle.service_desk.proofs.RecordLemmas.{alone-looks, alone-extends}
 use Rattle.service_desk.specs.Calls.{Arrives}
 use Rattle.connection_worker.specs.Salts.{Salting, words_at}
-use Rattle.service_machine.specs.Single.{Asked, arrival, is_owed, taking}
-use Rattle.connection_worker.specs.Serving.{IsOwed, behind_salt, HasArrived, HasAsked, HasGiven}
+use Rattle.service_machine.specs.Single.{Asked, arrival}
+use Rattle.connection_worker.specs.Serving.{IsOwed, behind_salt, HasArrived, HasAsked}
 
 -- a number is itself
 pub same : (n : ℕ) → (n == n) ≡ true
@@ -24,18 +22,6 @@ only-desk told outs is = rw is.only (rw (same told.conn.0) refl)
 
 pub only-there : (told : Told) (outs : List Out) → IsOwed told outs → has told.conn told.state.connections.rows ≡ true
 only-there told outs is = rw is.only (rw (same told.conn.0) refl)
-
--- nothing was owed, and nothing given
-pub not-given : (old new : Place) → is_owed old.told.conn old.told.state ≡ false → Records old new [] → HasGiven old new
-not-given old new none so =
-    let e : taking old.told.conn old.told.state ≡ [] = ap (λ b. cond b (event.Take old.told.conn ∷ []) []) none in
-    subst (λ events. Records old new (of_own old.told.state events)) (sym e) so
-
--- what was owed was given
-pub was-given : (old new : Place) → is_owed old.told.conn old.told.state ≡ true → Records old new (of_own old.told.state (event.Take old.told.conn ∷ [])) → HasGiven old new
-was-given old new some so =
-    let e : taking old.told.conn old.told.state ≡ event.Take old.told.conn ∷ [] = ap (λ b. cond b (event.Take old.told.conn ∷ []) []) some in
-    subst (λ events. Records old new (of_own old.told.state events)) (sym e) so
 
 -- ---- a request
 

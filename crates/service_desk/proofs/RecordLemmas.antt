@@ -26,12 +26,6 @@ with_seen-append [] more view = refl
 with_seen-append (Others event ∷ seen) more view = with_seen-append seen more (with_others (event ∷ []) view)
 with_seen-append (Own event answer ∷ seen) more view = with_seen-append seen more (with_own event view)
 
--- events that were seen are legal
-pub answered-legal : (state : Rows) (seen : List Seen) → AreAnswered state seen → Legal state (events_of seen)
-answered-legal state [] is = tt
-answered-legal state (Others event ∷ seen) is = (is.0, answered-legal (step state event) seen is.1)
-answered-legal state (Own event answer ∷ seen) is = (is.0, answered-legal (step state event) seen is.2)
-
 -- ---- events of others
 
 others-answered : (state : Rows) (events : List Event) → Legal state events → AreAnswered state (of_others events)

@@ -1,14 +1,12 @@
 -- One more event of a history, and a cut.
-use Rattle.std.proofs.Common.{◌≡◌, ℕ, ◌+◌, ◌≤◌, min, List, [], ◌∷◌, ◌++◌, ap, ◌∙◌, sym, arith}
+use Rattle.std.proofs.Common.{◌+◌, ◌≤◌, [], ◌∷◌, ap, ◌∙◌, sym, arith}
 use Rattle.std.proofs.lemmas.List.{length_push}
-use Rattle.std.proofs.lemmas.List.Sums.{sum_by_push}
 use Rattle.service_machine.specs.declared.rows.Rows.{Rows}
 use Rattle.service_machine.specs.declared.event.Event.{Event}
 use Rattle.service_machine.specs.Step.{step, Fits}
-use Rattle.service_machine.specs.Replay.{cost, cost_of}
 use Rattle.service_machine.specs.Sound.{IsSound}
 use Rattle.service_machine.proofs.ReplayLemmas.{replay-append, Legal-append}
-use Rattle.service_machine.proofs.SoundLemmas.{sound-step, sound-replay}
+use Rattle.service_machine.proofs.SoundLemmas.{sound_step, sound_replay}
 use Rattle.service_history.specs.Limits.{most_counted}
 use Rattle.service_history.specs.History.{History, IsHistory, cut, with_event}
 use Rattle.service_history.specs.Windows.{total}
@@ -17,12 +15,12 @@ use Rattle.service_history.proofs.RoomLemmas.{room-few}
 
 -- the state of a history is sound
 pub history-sound : (history : History) → IsHistory history → IsSound history.state
-history-sound history is = rw is.replayed (sound-replay history.window.base history.window.events is.sound is.legal)
+history-sound history is = rw is.replayed (sound_replay history.window.base history.window.events is.sound is.legal)
 
 -- what sure events take behind an event
 pub room-behind : (state : Rows) (event : Event) → IsSound state → Fits state event → room (step state event).connections.rows ≤ 768
 room-behind state event sound fits =
-    omega (arith, room-few (step state event).connections.rows, (sound-step state event sound fits).connections.few)
+    omega (arith, room-few (step state event).connections.rows, (sound_step state event sound fits).connections.few)
 
 pub history-push : (history : History) (event : Event) → IsHistory history → Fits history.state event
     → total history.window + 1 + room (step history.state event).connections.rows ≤ most_counted → IsHistory (with_event event history)
@@ -35,13 +33,8 @@ history-push history event is fits counted = record {
 
 pub history-cut : (history : History) → IsHistory history → IsHistory (cut history)
 history-cut history is = record {
-  sound = sound-replay history.window.base history.window.events is.sound is.legal;
+  sound = sound_replay history.window.base history.window.events is.sound is.legal;
   legal = tt;
   replayed = is.replayed;
   counted = omega (arith, is.counted);
 }
-
--- the cost with one more event, counted up to the last number
-pub cost-push : (events : List Event) (event : Event) (counted : ℕ) → counted ≡ min (cost events) 18446744073709551615
-    → min (counted + cost_of event) 18446744073709551615 ≡ min (cost (events ++ event ∷ [])) 18446744073709551615
-cost-push events event counted is = rw (sum_by_push cost_of events event) (omega (arith, is))

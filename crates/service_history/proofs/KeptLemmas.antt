@@ -14,7 +14,7 @@ use Rattle.service_history.specs.History.{IsHistory}
 use Rattle.service_history.specs.Inside.{Held, IsReady, chosen, in_window, IsKept}
 use Rattle.service_history.specs.Room.{room}
 use Rattle.service_history.specs.Windows.{Window, total, stored, begun, next_window}
-use Rattle.service_history.proofs.RoomLemmas.{room-changed_one, room-left, room-left_one, room-emptied, room-emptied_one, room-without_one}
+use Rattle.service_history.proofs.RoomLemmas.{room-changed_one, room-left_one, room-emptied_one, room-without_one}
 use Rattle.service_history.proofs.HistoryLemmas.{history-sound, room-behind, history-push, history-cut}
 
 -- an event that is stored
@@ -47,13 +47,13 @@ sure state held event kept fits less = record {
 pub sure-leave : (conn : ConnId) (desk : DeskRow) (state : Rows) (held : Held) → IsKept state held → Some desk ≡ desk_of conn state.connections.rows → desk.leaving ≡ false → IsSure state held (event.Leave conn)
 sure-leave conn desk state held kept told stays =
     let fits : Fits state (event.Leave conn) = rw (← told) stays in
-    sure state held (event.Leave conn) kept fits (room-changed_one (λ desk. desk.leaving ≡ false) conn left room-left room-left_one state.connections.rows fits)
+    sure state held (event.Leave conn) kept fits (room-changed_one (λ desk. desk.leaving ≡ false) conn left (λ row. omega arith) room-left_one state.connections.rows fits)
 
 -- one for which something waits takes it
 pub sure-take : (conn : ConnId) (desk : DeskRow) (state : Rows) (held : Held) → IsKept state held → Some desk ≡ desk_of conn state.connections.rows → desk.waits ≡ true → IsSure state held (event.Take conn)
 sure-take conn desk state held kept told some =
     let fits : Fits state (event.Take conn) = rw (← told) some in
-    sure state held (event.Take conn) kept fits (room-changed_one (λ desk. desk.waits ≡ true) conn emptied room-emptied room-emptied_one state.connections.rows fits)
+    sure state held (event.Take conn) kept fits (room-changed_one (λ desk. desk.waits ≡ true) conn emptied (λ row. omega arith) room-emptied_one state.connections.rows fits)
 
 -- one that is there is gone
 pub sure-gone : (conn : ConnId) (desk : DeskRow) (state : Rows) (held : Held) → IsKept state held → Some desk ≡ desk_of conn state.connections.rows → IsSure state held (event.Gone conn)

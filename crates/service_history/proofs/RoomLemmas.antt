@@ -55,14 +55,8 @@ room-changed_one P conn change less one (row ∷ rows) told =
     ] in
     pass (is_row conn row) refl
 
-pub room-left : (row : ConnRow) → room_of (left row) ≤ room_of row
-room-left row = omega arith
-
 pub room-left_one : (row : ConnRow) → row.leaving ≡ false → room_of (left row) + 1 ≤ room_of row
 room-left_one row stays = rw stays (omega arith)
-
-pub room-emptied : (row : ConnRow) → room_of (emptied row) ≤ room_of row
-room-emptied row = omega arith
 
 pub room-emptied_one : (row : ConnRow) → waits row ≡ true → room_of (emptied row) + 1 ≤ room_of row
 room-emptied_one row some = rw some (omega arith)

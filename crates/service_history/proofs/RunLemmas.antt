@@ -8,7 +8,7 @@ use Rattle.service_machine.specs.declared.event.Event.TheVariants as event
 use Rattle.service_machine.specs.declared.event.Incoming.{Incoming}
 use Rattle.service_machine.specs.declared.event.Output.{Output}
 use Rattle.service_machine.specs.Replay.{Legal, cost}
-use Rattle.service_history.specs.History.{History, opened_history, cut_where_due, with_event, IsRecorded, told, taken_by, left_by, gone_by}
+use Rattle.service_history.specs.History.{History, opened_history, cut_where_due, with_event, IsRecorded, taken_by, left_by, gone_by}
 use Rattle.service_history.specs.Limits.{most_stored, most_cost}
 use Rattle.service_history.specs.Runs.{GoesOn, Follows, AreCalls, windows_of}
 use Rattle.service_history.specs.Windows.{Window, is_due, first_window, next_window, Begins, AreInRow, AreWindows}
@@ -30,8 +30,8 @@ cut-some : (events : List Event) → (nat_le most_stored (length events) || nat_
 cut-some [] due = let no : ⊥ = cc in absurd no
 cut-some (event ∷ events) due = omega arith
 
-pub recorded-follows : (old new : History) (came : Incoming) (answer : Output) → IsRecorded old came answer new → Follows old.window new.window
-recorded-follows old new came answer so =
+pub recorded_follows : (old new : History) (came : Incoming) (answer : Output) → IsRecorded old came answer new → Follows old.window new.window
+recorded_follows old new came answer so =
     let pass : (b : Bool) → is_due old.window ≡ b → Follows old.window (with_event so.event (cut_where_due old)).window =
     elim [
       | true ↦ λ is. rw is (inr (record { some = cut-some old.window.events is; next = record { more = so.event ∷ []; is = refl } }))
@@ -39,28 +39,19 @@ recorded-follows old new came answer so =
     ] in
     subst (λ (h : History). Follows old.window h.window) (sym so.appends) (pass (is_due old.window) refl)
 
-take-goes : (conn : ConnId) (desk : Option DeskRow) (old : History) → GoesOn old.window (taken_by conn desk old).window
-take-goes conn None old = same-window old.window
-take-goes conn (Some desk) old =
+pub take_goes : (conn : ConnId) (desk : Option DeskRow) (old : History) → GoesOn old.window (taken_by conn desk old).window
+take_goes conn None old = same-window old.window
+take_goes conn (Some desk) old =
     choice old.window desk.waits (with_event (event.Take conn) old) (cond (desk.leaving && not desk.overrun) (with_event (event.Gone conn) old) old) (one-more (event.Take conn) old)
     (choice old.window (desk.leaving && not desk.overrun) (with_event (event.Gone conn) old) old (one-more (event.Gone conn) old) (same-window old.window))
 
-leave-goes : (conn : ConnId) (desk : Option DeskRow) (old : History) → GoesOn old.window (left_by conn desk old).window
-leave-goes conn None old = same-window old.window
-leave-goes conn (Some desk) old = choice old.window desk.leaving old (with_event (event.Leave conn) old) (same-window old.window) (one-more (event.Leave conn) old)
+pub leave_goes : (conn : ConnId) (desk : Option DeskRow) (old : History) → GoesOn old.window (left_by conn desk old).window
+leave_goes conn None old = same-window old.window
+leave_goes conn (Some desk) old = choice old.window desk.leaving old (with_event (event.Leave conn) old) (same-window old.window) (one-more (event.Leave conn) old)
 
-gone-goes : (conn : ConnId) (desk : Option DeskRow) (old : History) → GoesOn old.window (gone_by conn desk old).window
-gone-goes conn None old = same-window old.window
-gone-goes conn (Some desk) old = one-more (event.Gone conn) old
-
-pub take-window : (old : History) (conn : ConnId) → GoesOn old.window (taken_by conn (told conn old) old).window
-take-window old conn = take-goes conn (told conn old) old
-
-pub leave-window : (old : History) (conn : ConnId) → GoesOn old.window (left_by conn (told conn old) old).window
-leave-window old conn = leave-goes conn (told conn old) old
-
-pub gone-window : (old : History) (conn : ConnId) → GoesOn old.window (gone_by conn (told conn old) old).window
-gone-window old conn = gone-goes conn (told conn old) old
+pub gone_goes : (conn : ConnId) (desk : Option DeskRow) (old : History) → GoesOn old.window (gone_by conn desk old).window
+gone_goes conn None old = same-window old.window
+gone_goes conn (Some desk) old = one-more (event.Gone conn) old
 
 -- ---- one call after another
 
@@ -71,10 +62,6 @@ begins-on start old new begins on legal = record {
   base = ap (λ (w : Window). w.base) on.is ∙ begins.base;
   legal = legal;
 }
-
--- one that begins the next does so
-begins-next : (start new : Window) → GoesOn start new → Legal new.base new.events → Begins start new
-begins-next start new on legal = record { era = ap (λ (w : Window). w.era) on.is; base = ap (λ (w : Window). w.base) on.is; legal = legal }
 
 -- a window in front of windows that follow on it
 row-front : (start window : Window) (windows : List Window) → Begins start window → 0 < length window.events → AreInRow (next_window window) windows → AreInRow start (window ∷ windows)
@@ -95,8 +82,8 @@ row-from start old (new ∷ more) begins calls =
           let some : 0 < length old.window.events = ended.some in
           grind (arith, nat_tests) in
           rw differs (row-front start old.window (windows_of new more) begins ended.some
-          (row-from (next_window old.window) new more (begins-next (next_window old.window) new.window ended.next legal) calls.2))
+          (row-from (next_window old.window) new more (begins-on (next_window old.window) (next_window old.window) new.window (record { era = refl; base = refl; legal = tt }) ended.next legal) calls.2))
     ]
 
-pub calls-row : (histories : List History) → AreCalls opened_history histories → AreWindows (windows_of opened_history histories)
-calls-row histories calls = row-from first_window opened_history histories (record { era = refl; base = refl; legal = tt }) calls
+pub calls_row : (histories : List History) → AreCalls opened_history histories → AreWindows (windows_of opened_history histories)
+calls_row histories calls = row-from first_window opened_history histories (record { era = refl; base = refl; legal = tt }) calls

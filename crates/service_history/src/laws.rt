@@ -23,6 +23,7 @@ pub fn windows_are_one_history()
 
 /// Each call of a service goes on in its window, or ends it and begins the next one: so the windows that
 /// a service is in, one call after another, are the windows of a run.
+#[tactic(auto, using(crate::proofs::RunLemmas::recorded_follows, crate::proofs::RunLemmas::take_goes, crate::proofs::RunLemmas::leave_goes, crate::proofs::RunLemmas::gone_goes, crate::proofs::RunLemmas::calls_row))]
 pub fn calls_yield_windows_in_a_row()
     ensures event { (old new : History) (came : Incoming) (answer : Output)
         → IsRecorded old came answer new → Follows old.window new.window }

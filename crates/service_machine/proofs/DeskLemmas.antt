@@ -1,5 +1,5 @@
 -- Entries of a map in order, seen as rows: a look-up, a change of one, one more behind all, one less.
-use Rattle.std.proofs.Common.{◌≡◌, ℕ, ◌+◌, ◌<◌, ◌≤◌, ◌==◌, nat_le, length, Result, Ok, Err, OnOk, Bool, true, false, List, [], ◌∷◌, ◌++◌, map, Option, Some, None, is_some, refl, ap, ◌∙◌, sym, arith, Less, Greater}
+use Rattle.std.proofs.Common.{◌≡◌, ℕ, ◌+◌, ◌<◌, ◌≤◌, ◌==◌, nat_le, length, Result, Ok, Err, OnOk, Bool, true, false, cond, List, [], ◌∷◌, ◌++◌, map, Option, Some, None, is_some, refl, ap, ◌∙◌, sym, arith, Less, Greater}
 use Rattle.std.specs.Ordering.{nat_cmp}
 use Rattle.std.specs.Option.{option_map}
 use Rattle.std.specs.List.{AllByRecursion, find}
@@ -191,31 +191,13 @@ remove_entry-given next test (e ∷ es) all =
     ] in
     step (test e.0) refl
 
--- ---- numbers that were given, with one more
-
-pub given-longer : (next more : ℕ) (keys : List ℕ) → next < more → AreGiven next keys → AreGiven more keys
-given-longer next more [] le given = tt
-given-longer next more (k ∷ ks) le given = (omega (arith, given.0), given-longer next more ks le given.1)
-
-pub given-push : (next : ℕ) (keys : List ℕ) (k : ℕ) → AreGiven next keys → k < next → AreGiven next (keys ++ k ∷ [])
-given-push next [] k given below = (below, tt)
-given-push next (x ∷ xs) k given below = (given.0, given-push next xs k given.1 below)
-
-pub counts-push : (entries : List (ℕ × Desk)) (entry : ℕ × Desk) → AreCounted entries → IsCounted entry.1 → AreCounted (entries ++ entry ∷ [])
-counts-push [] entry all one = (one, tt)
-counts-push (e ∷ es) entry all one = (all.0, counts-push es entry all.1 one)
-
 -- ---- what a table keeps
 
 pub changed-same : (conn : ℕ) (rows : List ConnRow) → changed (record { 0 = conn }) (λ row. row) rows ≡ rows
 changed-same conn [] = refl
 changed-same conn (row ∷ rows) =
-    let step : (b : Bool) → is_row (record { 0 = conn }) row ≡ b → changed (record { 0 = conn }) (λ row. row) (row ∷ rows) ≡ row ∷ rows =
-    elim [
-      | true ↦ λ is. rw is (ap (λ t. row ∷ t) (changed-same conn rows))
-      | false ↦ λ is. rw is (ap (λ t. row ∷ t) (changed-same conn rows))
-    ] in
-    step (is_row (record { 0 = conn }) row) refl
+    let same : (b : Bool) → cond b row row ≡ row = elim [ true ↦ refl | false ↦ refl ] in
+    rw (same (is_row (record { 0 = conn }) row), changed-same conn rows) refl
 
 -- after a change no connection is said to have room
 pub kept_after : (next conn : ℕ) (ready : Option ℕ) (change : ConnRow → ConnRow) (old new : List (ℕ × Desk)) → AreKept next ready old → Changes conn change old new → AreKept next None new

@@ -230,9 +230,6 @@ sound-delivered (one ∷ more) spelled state sound =
 
 -- ---- connections: one more behind all, one less
 
-pub joined-longer : (next : ℕ) (rows : List ConnRow) → AreJoined next rows → AreJoined (next + 1) rows
-joined-longer next rows all = each-weaker _ _ (λ row below. omega (arith, below)) rows all
-
 pub apart-push : (next : ℕ) (rows : List ConnRow) (row : ConnRow) → row.conn.0 ≡ next → AreJoined next rows → AreApart rows → AreApart (rows ++ row ∷ [])
 apart-push next [] row is joined apart = (tt, tt)
 apart-push next (first ∷ rows) row is joined apart =
@@ -287,7 +284,7 @@ has-without other conn (row ∷ rows) differs there =
 connections-joined : (conn : ConnId) (connections : ConnRows) → conn.0 ≡ connections.next → length connections.rows < most_connections → AreSoundConnections connections
     → AreSoundConnections (joined conn connections)
 connections-joined conn connections is room sound = record {
-  joined = each-append _ connections.rows (new_row conn ∷ []) (joined-longer connections.next connections.rows sound.joined) (omega (arith, is), tt);
+  joined = each-append _ connections.rows (new_row conn ∷ []) (each-weaker (λ row. row.conn.0 < connections.next) _ (λ row below. omega (arith, below)) connections.rows sound.joined) (omega (arith, is), tt);
   apart = apart-push connections.next connections.rows (new_row conn) is sound.joined sound.apart;
   few = rw length-append (omega (arith, room));
   waiting = each-append _ connections.rows (new_row conn ∷ []) sound.waiting (record { within = omega arith; spelled = tt }, tt);
@@ -509,37 +506,37 @@ sound-served caller request state there sound =
 
 -- ---- an event, a list of events
 
-pub sound-start : IsSound opened_rows
-sound-start = record {
+pub sound_start : IsSound opened_rows
+sound_start = record {
   connections = record { joined = tt; apart = tt; few = omega arith; waiting = tt };
   sessions = record { opened = tt; once = λ number. omega arith; limited = λ owner. omega arith; owned = tt; numbered = omega arith };
 }
 
-pub sound-step : (state : Rows) (event : Event) → IsSound state → Fits state event → IsSound (step state event)
-sound-step state (event.Connect conn) sound fits = record {
+pub sound_step : (state : Rows) (event : Event) → IsSound state → Fits state event → IsSound (step state event)
+sound_step state (event.Connect conn) sound fits = record {
   connections = connections-joined conn state.connections fits.0 fits.1 sound.connections;
   sessions = sessions-among state.connections.rows (joined conn state.connections).rows (λ owner there. has-push owner state.connections.rows (new_row conn) there) state.sessions sound.sessions;
 }
-sound-step state (event.Arrive arrival) sound fits =
+sound_step state (event.Arrive arrival) sound fits =
     let ran = served arrival.conn arrival.request state in
     sound-delivered (put_out arrival.conn arrival.request ran)
     (each-weaker CanWait (λ sent. HasSpelling sent.out) (λ sent waits. waits.spelled) (put_out arrival.conn arrival.request ran) (served-waits arrival.conn arrival.request state))
     ran.state (sound-served arrival.conn arrival.request state fits sound)
-sound-step state (event.Leave conn) sound fits = sound-changed conn left (λ row. refl) (λ row well. record { within = well.within; spelled = well.spelled }) state sound
-sound-step state (event.Take conn) sound fits = sound-changed conn emptied (λ row. refl) (λ row well. record { within = omega arith; spelled = tt }) state sound
-sound-step state (event.Gone conn) sound fits = record {
+sound_step state (event.Leave conn) sound fits = sound-changed conn left (λ row. refl) (λ row well. record { within = well.within; spelled = well.spelled }) state sound
+sound_step state (event.Take conn) sound fits = sound-changed conn emptied (λ row. refl) (λ row well. record { within = omega arith; spelled = tt }) state sound
+sound_step state (event.Gone conn) sound fits = record {
   connections = connections-without conn state.connections sound.connections;
   sessions = sessions-without conn state.connections.rows state.sessions sound.sessions;
 }
 
-pub sound-replay : (state : Rows) (events : List Event) → IsSound state → Legal state events → IsSound (replay state events)
-sound-replay state [] sound legal = sound
-sound-replay state (event ∷ events) sound legal = sound-replay (step state event) events (sound-step state event sound legal.0) legal.1
+pub sound_replay : (state : Rows) (events : List Event) → IsSound state → Legal state events → IsSound (replay state events)
+sound_replay state [] sound legal = sound
+sound_replay state (event ∷ events) sound legal = sound_replay (step state event) events (sound_step state event sound legal.0) legal.1
 
 -- what an event puts out can wait
-pub waits-step : (state : Rows) (event : Event) → IsSound state → Fits state event → AllByRecursion CanWait (puts_out state event)
-waits-step state (event.Connect conn) sound fits = tt
-waits-step state (event.Arrive arrival) sound fits = served-waits arrival.conn arrival.request state
-waits-step state (event.Leave conn) sound fits = tt
-waits-step state (event.Take conn) sound fits = tt
-waits-step state (event.Gone conn) sound fits = tt
+pub waits_step : (state : Rows) (event : Event) → IsSound state → Fits state event → AllByRecursion CanWait (puts_out state event)
+waits_step state (event.Connect conn) sound fits = tt
+waits_step state (event.Arrive arrival) sound fits = served-waits arrival.conn arrival.request state
+waits_step state (event.Leave conn) sound fits = tt
+waits_step state (event.Take conn) sound fits = tt
+waits_step state (event.Gone conn) sound fits = tt

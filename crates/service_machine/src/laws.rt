@@ -9,6 +9,7 @@ ghost use Rattle.service_machine.specs.Replay.{replay, Legal, outputs};
 ghost use Rattle.service_machine.specs.Sound.{CanWait, IsSound};
 
 /// The start is sound, and each event that fits keeps a sound state sound.
+#[tactic(auto, using(crate::proofs::SoundLemmas::sound_start, crate::proofs::SoundLemmas::sound_step, crate::proofs::SoundLemmas::sound_replay))]
 pub fn steps_keep_the_rows_sound()
     ensures start { IsSound opened_rows }
     ensures step { (state : Rows) (event : Event) → IsSound state → Fits state event
@@ -19,6 +20,7 @@ pub fn steps_keep_the_rows_sound()
 
 /// What an event puts out has a spelling, and is small enough to wait for a connection for which nothing
 /// waits: so a reply is lost only where others wait before it.
+#[tactic(auto, using(crate::proofs::SoundLemmas::waits_step))]
 pub fn outputs_can_wait()
     ensures { (state : Rows) (event : Event) → IsSound state → Fits state event
         → AllByRecursion CanWait (puts_out state event) }

@@ -8,13 +8,13 @@ use Rattle.service_machine.specs.Replay.{replay, Legal}
 use Rattle.service_machine.proofs.ReplayLemmas.{replay-append, Legal-append}
 use Rattle.service_history.specs.History.{History, IsHistory, cut, cut_where_due, with_event}
 use Rattle.service_history.specs.Windows.{total, is_due}
-use Rattle.service_machine.proofs.SoundLemmas.{sound-replay}
+use Rattle.service_machine.proofs.SoundLemmas.{sound_replay}
 use Rattle.shared_service.specs.Standing.{Stands, newest}
 
 -- a cut keeps what every service keeps
 history-cut : (service : History) → IsHistory service → IsHistory (cut service)
 history-cut service kept = record {
-  sound = sound-replay service.window.base service.window.events kept.sound kept.legal;
+  sound = sound_replay service.window.base service.window.events kept.sound kept.legal;
   legal = tt;
   replayed = kept.replayed;
   counted = let few = kept.counted in omega (arith, few);
@@ -100,18 +100,6 @@ module _ (start : Rows) (before : ℕ) (log : List Event) where
             (stands-with service event stands fits (subst IsHistory same kept))
       ] in
       pass (is_due service.window) refl
-
--- a service stands for the events that it stores
-pub stands-opened : (service : History) → IsHistory service → Stands service service.window.base service.window.era service.window.events
-stands-opened service kept = record {
-  kept = kept;
-  legal = kept.legal;
-  cut = 0;
-  few = omega arith;
-  era = omega arith;
-  base = refl;
-  events = refl;
-}
 
 -- the last event of a service that recorded one
 pub newest-due : (service new : History) (event : Event) → new ≡ with_event event (cut_where_due service) → newest new.window.events ≡ event ∷ []

@@ -1,16 +1,16 @@
-use Rattle.std.proofs.Common.{◌+◌, ◌∷◌, ◌++◌, [], arith, ap, map}
+use Rattle.std.proofs.Common.{◌<◌, ◌∷◌, ◌++◌, [], arith, ap, map}
 use Rattle.std.proofs.lemmas.Option.{none-some}
 use Rattle.std.proofs.lemmas.List.{map-append}
 use Rattle.service_machine.specs.Desks.{row_of}
-use Rattle.service_machine.proofs.DeskLemmas.{given-longer, given-push, counts-push}
+use Rattle.service_machine.proofs.SoundLemmas.{each-append, each-weaker}
 use Rattle.service_machine.proofs.connections.Connections.join.Goals as goal
 
 -- the new number is above all, and below the next
 pub invariant_of-self-2 : goal.invariant_of-self-2
 invariant_of-self-2 c = record {
   ordered = c.add.ensures.ordered;
-  given = rw (c.in_ok-add.ensures.added, map-append) (given-push (c.self.inside.next + 1) _ c.self.inside.next (given-longer c.self.inside.next (c.self.inside.next + 1) _ (omega arith) c.self.invariant.given) (omega arith));
-  counts = rw c.in_ok-add.ensures.added (counts-push c.self.inside.desks.entries (c.self.inside.next, c.new.result) c.self.invariant.counts c.new.ensures.counts);
+  given = rw (c.in_ok-add.ensures.added, map-append) (each-append _ _ _ (each-weaker (λ k. k < c.self.inside.next) _ (λ k below. omega (arith, below)) _ c.self.invariant.given) (omega arith, tt));
+  counts = rw c.in_ok-add.ensures.added (each-append _ _ _ c.self.invariant.counts (c.new.ensures.counts, tt));
   room = λ other is. absurd (none-some other is);
 }
 
