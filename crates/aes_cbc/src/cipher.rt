@@ -76,7 +76,8 @@ fn last_round(words: &[u32; 44], s: State) -> State
     sum(shifted, key_of_round(words, 10))
 }
 
-/// The rounds stand one behind the other, since a loop over them costs a third of the speed.
+/// The cipher. The rounds are written out one after the other, since a loop over them costs a third
+/// of the speed.
 #[inline(always)]
 pub fn encipher(words: &[u32; 44], s: State) -> State
     ensures { bytes_in result ≡ cipher words.now (bytes_in s) }

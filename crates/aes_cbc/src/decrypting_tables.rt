@@ -1,5 +1,5 @@
 // The tables of the inverse cipher: the inverse S-box, and for each row of a column what a byte there
-// adds to the column of the next round. That they are right is proved from the definitions in specs/.
+// adds to the column of the next round. The definitions in specs/ prove that they are right.
 
 /// INVSBOX (FIPS 197, 5.3.2).
 pub static INVERSE_SBOX: [u8; 256] = [

@@ -1,5 +1,5 @@
 // The tables of the cipher: the S-box, and for each row of a column what a byte there adds to the
-// column of the next round. That they are right is proved from the definitions in specs/.
+// column of the next round. The definitions in specs/ prove that they are right.
 
 /// SBOX (FIPS 197, 5.1.1).
 pub static SBOX: [u8; 256] = [

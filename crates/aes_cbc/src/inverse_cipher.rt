@@ -1,5 +1,5 @@
 // The equivalent inverse cipher (FIPS 197, 5.3.5), which is InvCipher (5.3) with the round keys mixed
-// beforehand, so that a round is look-ups as in the cipher.
+// beforehand, so that a round consists of look-ups, as in the cipher.
 
 ghost use Rattle.std.specs.Prelude.{◌≡◌, ◌≤◌, ℕ, List};
 ghost use Rattle.std.specs.Int.{w32, to_be_bytes};
@@ -67,7 +67,8 @@ fn last_inverse_round(words: &[u32; 44], s: State) -> State
     sum(restored, key_of_round(words, 0))
 }
 
-/// The words are the inverted schedule of those that the state was enciphered with.
+/// The inverse cipher. The words are the inverted schedule of the words with which the
+/// state was enciphered.
 #[inline(always)]
 pub fn decipher(words: &[u32; 44], s: State) -> State
     ensures { (w : List ℕ) → IsInverted words.now w

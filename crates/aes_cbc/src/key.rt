@@ -28,7 +28,7 @@ impl Model for Key {
 }
 
 impl Key {
-    /// The key of these bytes, with KeyExpansion (FIPS 197, 5.2) for both directions.
+    /// The key with these bytes, with KeyExpansion (FIPS 197, 5.2) for both directions.
     pub fn new(key: [u8; 16]) -> Key
         ensures { result ≡ key }
     {
@@ -41,7 +41,7 @@ impl Key {
         }
     }
 
-    /// Encrypts whole blocks of 16 bytes in place, chained behind the initialization vector
+    /// Encrypts whole blocks of 16 bytes in place, chained after the initialization vector
     /// (SP 800-38A, 6.2). It takes no memory.
     pub fn encrypt_in_place(&self, vector: [u8; 16], blocks: &mut [u8])
         requires { length blocks.old % 16 ≡ 0 }
@@ -55,7 +55,7 @@ impl Key {
         }
     }
 
-    /// Decrypts whole blocks of 16 bytes in place, chained behind the initialization vector
+    /// Decrypts whole blocks of 16 bytes in place, chained after the initialization vector
     /// (SP 800-38A, 6.2). It takes no memory.
     pub fn decrypt_in_place(&self, vector: [u8; 16], blocks: &mut [u8])
         requires { length blocks.old % 16 ≡ 0 }

@@ -1,8 +1,8 @@
 //! AES with a key of 16 bytes (FIPS 197), in cipher block chaining mode (SP 800-38A), in place over
 //! whole blocks. The definitions are the standards' own, over bytes as polynomials; the code looks its
-//! words up in tables, and that the tables are right is proved by computing them from the definitions.
-//! Callers may rely on these: no call takes memory, each result equals the definition for every length
-//! that is a multiple of 16, and decrypting undoes encrypting, and the other way round.
+//! words up in tables, which are proved right by computing them from the definitions. Callers may rely
+//! on these: no call takes memory, each result equals the definition for every length that is a
+//! multiple of 16, and decrypting undoes encrypting, and vice versa.
 #![tactic(auto)]
 
 mod cipher;

@@ -25,7 +25,7 @@ fn substituted_rotated(word: u32) -> u32
     ])
 }
 
-// The word at a place from the words before it.
+// The word at an index, from the words before it.
 fn next_word(words: &[u32; 44], i: usize) -> u32
     requires behind { 4 ≤ i }
     requires within { i < 44 }

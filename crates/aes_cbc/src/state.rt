@@ -14,7 +14,7 @@ pub struct State {
     pub fourth: u32,
 }
 
-/// The four bytes from a place on, as a word.
+/// The four bytes from a position on, as a word.
 #[inline(always)]
 pub fn load_word(bytes: &[u8], at: usize) -> u32
     requires { at + 4 ≤ length bytes.now }
@@ -23,7 +23,7 @@ pub fn load_word(bytes: &[u8], at: usize) -> u32
     u32::from_be_bytes([bytes[at], bytes[at + 1], bytes[at + 2], bytes[at + 3]])
 }
 
-/// The sixteen bytes from a place on.
+/// The sixteen bytes from a position on.
 #[inline(always)]
 pub fn load(bytes: &[u8], at: usize) -> State
     requires { at + 16 ≤ length bytes.now }
@@ -37,7 +37,7 @@ pub fn load(bytes: &[u8], at: usize) -> State
     }
 }
 
-// Writes a word over the four bytes from a place on.
+// Writes a word over the four bytes from a position on.
 #[inline(always)]
 fn store_word(bytes: &mut [u8], at: usize, word: u32)
     requires { at + 4 ≤ length bytes.old }
@@ -50,7 +50,7 @@ fn store_word(bytes: &mut [u8], at: usize, word: u32)
     bytes[at + 3] = (word % 256) as u8;
 }
 
-/// Writes a state over the sixteen bytes from a place on.
+/// Writes a state over the sixteen bytes from a position on.
 #[inline(always)]
 pub fn store(bytes: &mut [u8], at: usize, state: State)
     requires { at + 16 ≤ length bytes.old }

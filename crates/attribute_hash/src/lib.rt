@@ -1,6 +1,6 @@
-//! The hashes that a keyring file tells of an item's attributes in its clear part (GNOME keyring file
-//! format), over MD5 (RFC 1321, by the crate `md5`). Callers may rely on these: each hash is that of
-//! the definition, and the hash of one value takes no memory.
+//! The hashes of an item's attributes in the clear part of a keyring file (GNOME keyring file
+//! format), over MD5 (RFC 1321, by the crate `md5`). Callers may rely on these: each hash is that
+//! of the definition, and hashing one text or one number takes no memory.
 #![tactic(auto)]
 
 mod hash;

@@ -1,6 +1,7 @@
-//! Whether an item has the attributes that a search wants (Secret Service API, "Lookup Attributes"): by
-//! its attributes, or, while its collection is locked, by the hashes that a keyring file tells of them.
-//! Callers may rely on these: each answer is that of the definition, and none takes memory.
+//! Whether an item has the attributes that a search wants (Secret Service API, "Lookup
+//! Attributes"): by its attributes, or, while its collection is locked, by their hashes in a
+//! keyring file. Callers may rely on these: each result is that of the definition, and no
+//! call takes memory.
 #![tactic(auto)]
 
 mod matching;

@@ -14,7 +14,7 @@ fn is_same(one: &[u8], other: &[u8]) -> bool
     one == other
 }
 
-/// Whether the two values are shown as one text.
+/// Whether the two values are shown as the same text.
 fn is_shown_alike(one: &AttrValue, other: &AttrValue) -> bool
     ensures { result ≡ is_name (text_of one.now) (text_of other.now) }
 {
@@ -25,11 +25,12 @@ fn is_shown_alike(one: &AttrValue, other: &AttrValue) -> bool
     is_same(one.as_bytes(), other.as_bytes())
 }
 
-/// Whether the item has the name with a value that is shown as this one is. It takes no memory.
+/// Whether the item has the name with a value that is shown as the same text as this one. It
+/// takes no memory.
 pub fn has_pair(name: &Text, value: &AttrValue, item: &Attributes) -> bool
     ensures { result ≡ has_pair_of name.now (text_of value.now) item.now }
 {
-    // The search stands on the order of names, which reading the item shows.
+    // The search relies on the order of names, which reading the item shows.
     let _pairs = item.as_slice();
     match item.get(name.as_str()) {
         Some(found) => is_shown_alike(value, found),
@@ -38,7 +39,7 @@ pub fn has_pair(name: &Text, value: &AttrValue, item: &Attributes) -> bool
 }
 
 /// Whether the item has each wanted name with the wanted text (Secret Service API, "Lookup
-/// Attributes"). A number is shown as its decimal text. With none wanted each item matches.
+/// Attributes"). A number is shown as its decimal text. If none is wanted, each item matches.
 pub fn matches(wanted: &Attributes, item: &Attributes) -> bool
     ensures { result ≡ matches_by_texts wanted.now item.now }
 {
@@ -48,7 +49,7 @@ pub fn matches(wanted: &Attributes, item: &Attributes) -> bool
         .all(|pair| has_pair(&pair.0, &pair.1, item))
 }
 
-/// Whether the two pairs have the same name and are shown as one text.
+/// Whether the two pairs have the same name and are shown as the same text.
 fn is_same_pair(one: &(Text, AttrValue), other: &(Text, AttrValue)) -> bool
     ensures { result ≡ are_same (one.now.0, text_of one.now.1) (other.now.0, text_of other.now.1) }
 {
@@ -74,7 +75,7 @@ pub fn is_equal(one: &Attributes, other: &Attributes) -> bool
     true
 }
 
-/// Whether the hash is that of the text, or of the number of which the text is the decimal text.
+/// Whether it is the hash of the text, or of the number whose decimal text this is.
 fn is_hash_of(found: &HashedValue, text: &str) -> bool
     ensures { result ≡ is_hash text.now found.now }
 {
@@ -103,9 +104,9 @@ fn has_value_hash(name: &Text, value: &AttrValue, hashed: &[HashedPair]) -> bool
     has_hash(name, shown(value, &mut digits), hashed)
 }
 
-/// Whether a locked item has each wanted name with the wanted text, as far as its hashes tell (GNOME
-/// keyring file format): the hash is that of the text, or that of the number of which the text is the
-/// decimal text without leading zeros. With none wanted each item matches.
+/// Whether a locked item has each wanted name with the wanted text, as far as its hashes show (GNOME
+/// keyring file format): the hash is that of the text, or that of the number whose decimal text
+/// without leading zeros it is. If none is wanted, each item matches.
 pub fn hashed_matches(wanted: &Attributes, hashed: &[HashedPair]) -> bool
     ensures { result ≡ matches_by_hashes wanted.now hashed.now }
 {

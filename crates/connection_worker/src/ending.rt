@@ -4,9 +4,9 @@ use dbus_framing::Violation;
 /// Why the serving of a connection ended.
 #[derive(Clone, Copy, Debug, PartialEq, Eq)]
 pub enum End {
-    /// All that was to be done is done.
+    /// Everything was done.
     Done,
-    /// What came in is no stream of messages.
+    /// The input isn't a stream of messages.
     Violation(Violation),
     /// The handshake was refused.
     AuthRefused(AuthFault),
@@ -14,11 +14,11 @@ pub enum End {
     ReadFault,
     /// The sink failed.
     WriteFault,
-    /// The service has recorded all the events that it can count.
+    /// The service has recorded as many events as it can count.
     EventsSpent,
     /// The connection isn't there any more.
     OtherEnded,
-    /// An output was lost, since too much waited.
+    /// An output was lost because too many were waiting.
     Overrun,
     /// No memory was left.
     Memory,

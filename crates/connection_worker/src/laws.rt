@@ -1,5 +1,4 @@
-// What the definitions of one thread say together. Each law is the contract of a function that does
-// nothing.
+// Laws of the definitions of one thread. Each law is the contract of a function that does nothing.
 ghost use Rattle.std.specs.Prelude.{◌≡◌, List, []};
 ghost use Rattle.kr_base.specs.declared.ids.ConnId.{ConnId};
 ghost use Rattle.service_machine.specs.declared.rows.Rows.{Rows};
@@ -10,16 +9,16 @@ ghost use Rattle.connection_worker.specs.Serving.{IsOwed};
 ghost use Rattle.service_machine.specs.Single.{Asked, single};
 ghost use Rattle.connection_worker.specs.Written.{given_by};
 
-/// What the only connection is given is the reply to each request that wants one, in the order of the
-/// requests, and nothing else: each is the one that the request's row of the table of calls gives in
-/// the state behind the requests before it.
+/// What the only connection is given is the reply to each request that wants one, in the order of
+/// the requests, and nothing else: each reply is the one that the request's row of the table of
+/// calls gives in the state after the requests before it.
 pub fn each_request_is_answered_at_once()
     ensures { (told : Told) (asked : List Asked) → IsOwed told []
         → given_by told.conn told.state (single told.conn told.state asked)
         ≡ replies_to told.conn told.state asked }
 {}
 
-/// What the events of the only connection give to it is what its desk's calls were answered: the outputs
+/// What the events give to the only connection is what the calls of its desk returned: the outputs
 /// of its takes, in order.
 pub fn what_is_given_was_taken()
     ensures { (conn : ConnId) (state : Rows) (asked : List Asked)

@@ -1,8 +1,8 @@
-//! What is done for one connection, over any source and any sink: the handshake, and behind it each call
-//! with its reply, on one thread. Callers may rely on these: what is written is what the definitions of
-//! the handshake and of the service give for what was read, however that was cut; the service's events
-//! are those of the requests in order, each with its moment and its salt; each end has its cause; and
-//! what was recorded was answered, but where the sink failed or memory ran out.
+//! What is done for one connection, over any source and any sink: the handshake, and then each call
+//! with its reply, on one thread. Callers may rely on these: what is written is what the
+//! definitions of the handshake and of the service give for what was read, however that was cut;
+//! the service's events are those of the requests in order, each with its moment and its salt; each
+//! end has its cause; and what was recorded was answered, unless the sink failed or memory ran out.
 #![tactic(auto)]
 
 mod ending;

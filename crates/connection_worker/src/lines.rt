@@ -1,4 +1,4 @@
-// The lines of a handshake, as far as they stand in some bytes.
+// The lines of a handshake, as far as they are in some bytes.
 ghost use Rattle.std.specs.Prelude.{◌≡◌, ◌+◌, ◌<◌, ◌≤◌, ℕ, length};
 ghost use Rattle.connection_worker.specs.Lines.{IsLineEnd, LineOf, TurnOf};
 ghost use Rattle.connection_worker.specs.Streams.{output_of};
@@ -6,31 +6,31 @@ ghost use Rattle.connection_worker.specs.Streams.{output_of};
 use dbus_auth::{Answer, Auth, AuthFault, LINE_LIMIT, Step};
 use kr_outside::{Failed, Sink, write_all};
 
-/// What the first line brings.
+/// What the first line leads to.
 #[derive(Drop)]
 pub enum Line {
     /// It hasn't ended yet.
     Unfinished,
-    /// It has so many bytes with its ending, and is answered.
+    /// It has this many bytes, including its ending, and is answered.
     Answered(Answer, usize),
-    /// It has so many bytes with its ending, and opens the connection.
+    /// It has this many bytes, including its ending, and opens the connection.
     Begins(usize),
     /// The handshake is refused.
     Refused(AuthFault),
 }
 
-/// Where all lines that have ended lead.
+/// What all lines that have ended lead to.
 #[derive(Clone, Copy, PartialEq, Eq)]
 pub enum Turn {
-    /// They have so many bytes; more are awaited.
+    /// They have this many bytes; more are awaited.
     Waits(usize),
-    /// They have so many bytes; messages follow.
+    /// They have this many bytes; messages follow.
     Begins(usize),
     /// The handshake is refused.
     Refused(AuthFault),
 }
 
-// The place of the first CR LF.
+// The position of the first CR LF.
 fn line_end(bytes: &[u8]) -> Option<usize>
     ensures { IsLineEnd bytes.now result }
 {
@@ -42,7 +42,7 @@ fn line_end(bytes: &[u8]) -> Option<usize>
     None
 }
 
-// What the first line brings, by its row of the table.
+// What the first line leads to, by its row of the table.
 fn first_line(auth: &mut Auth, bytes: &[u8]) -> Line
     ensures { LineOf auth.old bytes.now result auth.new }
 {
@@ -64,7 +64,7 @@ fn first_line(auth: &mut Auth, bytes: &[u8]) -> Line
 
 /// Answers all lines that have ended, each before the next one is looked at.
 ///
-/// Refused with `Failed` where the sink fails.
+/// Refused with `Failed` if the sink fails.
 pub fn answer_lines<O: Sink>(auth: &mut Auth, output: &mut O, bytes: &[u8]) -> Result<Turn, Failed>
     ensures { TurnOf auth.old bytes.now
         (output_of O.written O.faults O.is_steady output.old)

@@ -12,13 +12,13 @@ use kr_outside::{Failed, Sink, Source};
 use std::alloc::AllocGlobal;
 use std::sync::Wait;
 
-/// How many bytes are read at a time, at most.
+/// The most bytes that are read at a time.
 const PIECE: usize = 65_536;
 
-/// How many bytes a message that comes in may have.
+/// The most bytes that an incoming message may have.
 const MOST: u32 = 1_048_576;
 
-// Reads a piece, and puts it behind the bytes that are held.
+// Reads a piece, and appends it to the bytes that are held.
 fn read_more<I: Source>(input: &mut I, piece: &mut [u8], held: &mut Vec<u8>) -> Result<(), End>
     requires { 0 < length piece.old }
     ensures { ReadsMore held.old.items held.new.items
@@ -35,7 +35,7 @@ fn read_more<I: Source>(input: &mut I, piece: &mut [u8], held: &mut Vec<u8>) -> 
     }
 }
 
-// Lets go of the first bytes.
+// Removes the first bytes.
 fn remove_front(bytes: &mut Vec<u8>, count: usize)
     requires { count ≤ vec_len bytes.old }
     ensures { bytes.new.items ≡ drop count bytes.old.items }
@@ -45,7 +45,7 @@ fn remove_front(bytes: &mut Vec<u8>, count: usize)
     bytes.truncate(len - count);
 }
 
-// A framer that was fed what stands behind these first bytes.
+// A framer to which everything after the first `count` bytes was fed.
 fn framer_behind(bytes: &Vec<u8>, count: usize) -> Result<Framer, End>
     requires { count ≤ vec_len bytes.now }
     ensures fed { IfOk result (λ framer.
@@ -60,7 +60,7 @@ fn framer_behind(bytes: &Vec<u8>, count: usize) -> Result<Framer, End>
     }
 }
 
-// The handshake behind its first byte; the bytes that are held begin a line.
+// The handshake after its first byte. The bytes that are held begin a line.
 fn shake<R: Wait, I: Source, O: Sink>(
     rt: &R,
     auth: Auth,
@@ -96,11 +96,11 @@ fn shake<R: Wait, I: Source, O: Sink>(
     unreachable!()
 }
 
-/// The server's half of the handshake: reads lines, by 65,536 bytes at a time at most, and writes the
-/// answer of each before the next one is looked at. What was read behind BEGIN is in the framer.
+/// The server's half of the handshake: reads lines, at most 65,536 bytes at a time, and writes the
+/// answer to each before the next one is looked at. What was read after BEGIN is in the framer.
 ///
-/// Refused with `AuthRefused` where the bytes show a fault, or where the input ended before BEGIN;
-/// with `ReadFault` and `WriteFault` where a stream failed; and with `Memory`.
+/// Refused with `AuthRefused` if the bytes show a fault, or if the input ended before BEGIN; with
+/// `ReadFault` and `WriteFault` if a stream failed; and with `Memory` if no memory was left.
 pub fn handshake<R: AllocGlobal + Wait, I: Source, O: Sink>(
     rt: &R,
     auth: Auth,

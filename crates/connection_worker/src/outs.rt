@@ -1,4 +1,4 @@
-// Outputs that were taken, to bytes that are written.
+// Outputs that were taken are made into bytes and written.
 ghost use Rattle.std.specs.Prelude.{◌≡◌, ◌++◌, IfOk, OnErr, IsErrOf};
 ghost use Rattle.connection_worker.specs.Streams.{output_of};
 ghost use Rattle.connection_worker.specs.Sending.{Spells, Sends};
@@ -23,7 +23,7 @@ fn joined(bytes: Vec<u8>, message: Vec<u8>) -> Result<Vec<u8>, OutOfMemory>
     Ok(all)
 }
 
-// The outputs as messages, one behind the other.
+// The outputs as messages, one after the other.
 fn messages_of(alloc: Global, outs: &[Out], serials: &mut Serials) -> Result<Vec<u8>, End>
     ensures spelled { IfOk result (λ bytes.
         Spells outs.now serials.old serials.new bytes.items) }
@@ -42,7 +42,7 @@ fn messages_of(alloc: Global, outs: &[Out], serials: &mut Serials) -> Result<Vec
     Ok(bytes)
 }
 
-/// Writes the outputs with one write, where the sink takes all.
+/// Writes the outputs, with one write if the sink takes everything.
 pub fn send<O: Sink>(
     alloc: Global,
     outs: &[Out],

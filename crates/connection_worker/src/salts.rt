@@ -9,7 +9,7 @@ use rand_core::utils::NextWord;
 use std::marker::Model;
 
 /// The salts of one connection's requests, one after the other. A contract sees the key, the stream and
-/// the place of the next word.
+/// the position of the next word.
 #[derive(Drop)]
 pub struct Salts {
     words: ChaCha20Rng,
@@ -27,7 +27,7 @@ impl Model for Salts {
     } };
 }
 
-/// The next word of the generator, in its four bytes, the least significant first.
+/// The next word of the generator as four bytes, the least significant first.
 #[tactic(auto, unfolding(crate::specs::Salts::word_of))]
 pub fn next_cells(words: &mut ChaCha20Rng) -> [u8; 4]
     ensures cells { let was = words.old in result ≡ word_of was.key was.stream was.word_pos }
@@ -38,7 +38,7 @@ pub fn next_cells(words: &mut ChaCha20Rng) -> [u8; 4]
 }
 
 impl Salts {
-    /// The salts of this connection under this seed, from the first on.
+    /// The salts of this connection under this seed, from the first one on.
     pub fn new(seed: [u8; 32], conn: ConnId) -> Salts
         ensures { result ≡ record { key = key_of seed; stream = conn.0; place = 0 } }
     {

@@ -2,11 +2,11 @@ ghost use Rattle.std.specs.Prelude.{◌≡◌, ◌≢◌, ◌+◌, ◌%◌};
 
 use std::marker::Model;
 
-// The last serial is 2^32 - 1, and behind it comes 1 again.
+// The last serial is 2^32 - 1, and after it comes 1 again.
 const COUNT: u32 = 4_294_967_295;
 
-/// The serials of a connection's outputs. A contract sees how many outputs there were, counted up to
-/// the number of serials.
+/// The serials of a connection's outputs. A contract sees how many outputs there were, modulo the
+/// number of serials.
 #[derive(Drop)]
 pub struct Serials {
     taken: u32,

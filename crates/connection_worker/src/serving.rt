@@ -1,4 +1,4 @@
-// Requests that are served on one thread.
+// Serving requests on one thread.
 ghost use Rattle.std.specs.Prelude.{◌≡◌, ◌<◌, IsTrue, [], length};
 ghost use Rattle.service_desk.specs.Places.{place};
 ghost use Rattle.connection_worker.specs.Serving.{world, owed, IsOwed, Asks, Gives};
@@ -21,10 +21,10 @@ use service_desk::{ReadDesk, WriteDesk};
 use std::alloc::{AllocGlobal, Global};
 use std::sync::Wait;
 
-/// How many bytes are read at a time, at most.
+/// The most bytes that are read at a time.
 const PIECE: usize = 65_536;
 
-// Asks the clock, takes a salt, and has the request recorded.
+// Asks the clock, draws a salt, and has the request recorded.
 fn ask<D: ReadDesk, C: Clock>(
     request: Request,
     desk: &mut D,
@@ -45,7 +45,7 @@ fn ask<D: ReadDesk, C: Clock>(
     }
 }
 
-// Takes what is owed, and writes it.
+// Takes the outputs that are due, and writes them.
 fn give<O: Sink, D: WriteDesk>(
     alloc: Global,
     output: &mut O,
@@ -96,7 +96,7 @@ fn answer_call<O: Sink, D: ReadDesk + WriteDesk, C: Clock>(
     give(alloc, output, desk, serials)
 }
 
-// Serves one message: a method call is answered, and any other message needs nothing.
+// Serves one message: a method call is answered, and nothing is done for any other message.
 fn answer_message<O: Sink, D: ReadDesk + WriteDesk, C: Clock>(
     alloc: Global,
     message: &Message,
@@ -121,7 +121,7 @@ fn answer_message<O: Sink, D: ReadDesk + WriteDesk, C: Clock>(
     answer_call(alloc, message, output, desk, clock, salts, serials)
 }
 
-// Serves the calls among the messages that stand whole.
+// Serves the calls among the complete messages.
 fn answer_messages<R: AllocGlobal + Wait, O: Sink, D: ReadDesk + WriteDesk, C: Clock>(
     rt: &R,
     framer: &mut Framer,
@@ -178,7 +178,7 @@ fn feed_more<I: Source>(input: &mut I, piece: &mut [u8], framer: &mut Framer) ->
     }
 }
 
-// The same, with room for a piece.
+// The same as `serve`, with a buffer for a piece.
 fn serve_by<R: AllocGlobal + Wait, I: Source, O: Sink, D: ReadDesk + WriteDesk, C: Clock>(
     rt: &R,
     framer: Framer,
@@ -215,12 +215,12 @@ fn serve_by<R: AllocGlobal + Wait, I: Source, O: Sink, D: ReadDesk + WriteDesk, 
     unreachable!()
 }
 
-/// Serves the calls that stand in the framer and those that come, by 65,536 bytes at a time at most,
-/// each with its reply before the next one is looked at.
+/// Serves the calls in the framer and those that arrive later, reading at most 65,536 bytes at a
+/// time, each with its reply before the next one is looked at.
 ///
-/// Ends with `Done` where the input ended between two messages, with `Violation` where it ended inside
-/// one or shows a violation, with `ReadFault` and `WriteFault` where a stream failed, with
-/// `EventsSpent`, and with `Memory`.
+/// Ends with `Done` if the input ended between two messages, with `Violation` if it ended inside
+/// one or shows a violation, with `ReadFault` and `WriteFault` if a stream failed, with
+/// `EventsSpent` if no more events can be counted, and with `Memory` if no memory was left.
 pub fn serve<R: AllocGlobal + Wait, I: Source, O: Sink, D: ReadDesk + WriteDesk, C: Clock>(
     rt: &R,
     framer: Framer,

@@ -15,16 +15,16 @@ use std::alloc::AllocGlobal;
 use std::sync::Wait;
 
 /// Serves one connection to its end (D-Bus Specification, "Authentication Protocol" and "Message
-/// Format"): the handshake, then each call with its reply, before the next one is looked at, and at
-/// last the connection is gone. The clock is asked once for each call, and so are the salts.
+/// Format"): the handshake, then each call with its reply before the next one is looked at; at last
+/// the connection is gone. The clock is asked once for each call, and one salt is drawn.
 ///
-/// Ends with `AuthRefused` where the bytes show a fault of the handshake, or the input ended before
-/// BEGIN (`EndedEarly`); with `Done` where the input ended between two messages; with `Violation`
-/// where the bytes after BEGIN break a rule of messages, or the input ended inside one
-/// (`EndInside`); with `ReadFault` and `WriteFault` only where the count of the source, of the sink,
-/// rose; with `EventsSpent` where all events that can be counted are recorded; and with `Memory`. It
-/// never ends with `OtherEnded` or `Overrun`. All that was recorded is answered before, but after
-/// `WriteFault` and `Memory`. No fault of a read is passed over.
+/// Ends with `AuthRefused` if the bytes show a fault of the handshake, or the input ended before
+/// BEGIN (`EndedEarly`); with `Done` if the input ended between two messages; with `Violation` if
+/// the bytes after BEGIN break a rule of messages, or the input ended inside one (`EndInside`);
+/// with `ReadFault` and `WriteFault` only if the count of the source, or of the sink, rose; with
+/// `EventsSpent` if all events that can be counted are recorded; and with `Memory` if no memory was
+/// left. It never ends with `OtherEnded` or `Overrun`. All that was recorded is answered by then,
+/// except at `WriteFault` and `Memory`. No fault of a read is ignored.
 pub fn one_thread<R: AllocGlobal + Wait, I: Source, O: Sink, D: ReadDesk + WriteDesk, C: Clock>(
     rt: &R,
     auth: Auth,

@@ -3,13 +3,13 @@ ghost use Rattle.dbus_auth.specs.Answers.{ok_line, data_line, rejected_line, err
 
 use std::marker::Model;
 
-/// One line that the server answers. A contract sees its bytes, CR LF at the end among them.
+/// One line that the server answers with. A contract sees its bytes, including CR LF at the end.
 #[derive(Debug, Drop)]
 pub struct Answer {
     reply: Reply,
 }
 
-// The four answers. The first keeps its whole line, since the server's GUID stands in it.
+// The four answers. The first keeps its whole line, since it contains the server's GUID.
 #[derive(Debug, Drop)]
 enum Reply {
     Accepted([u8; 37]),
@@ -29,7 +29,7 @@ impl Model for Answer {
 }
 
 impl Answer {
-    /// The bytes of the line, CR LF at their end.
+    /// The bytes of the line, with CR LF at the end.
     pub fn bytes(&self) -> &[u8]
         ensures { result.now ≡ self.now }
     {
@@ -59,7 +59,7 @@ impl Answer {
         Answer { reply: Reply::Data }
     }
 
-    // `REJECTED` with the one mechanism that the server knows.
+    // `REJECTED` with the only mechanism that the server knows.
     pub(crate) fn rejected() -> Answer
         ensures { result ≡ rejected_line }
     {

@@ -6,17 +6,17 @@ use crate::command::Command;
 use std::marker::Model;
 use thiserror::Error;
 
-/// How many bytes a line may have, CR LF at its end among them.
+/// The most bytes that a line may have, including CR LF at its end.
 pub const LINE_LIMIT: usize = 16_384;
 
-/// Where a handshake stands (D-Bus Specification, "Authentication Protocol", "Server states").
+/// The state of a handshake (D-Bus Specification, "Authentication Protocol", "Server states").
 #[derive(Clone, Copy, Debug, PartialEq, Eq)]
 pub enum State {
-    /// The client is to name a mechanism.
+    /// The client should name a mechanism.
     WaitingForAuth,
-    /// The client has named EXTERNAL, and is to send its argument.
+    /// The client has named EXTERNAL, and should send its argument.
     WaitingForData,
-    /// The client was told `OK`, and is to begin.
+    /// The client was answered `OK`, and should begin.
     WaitingForBegin,
 }
 
@@ -26,30 +26,30 @@ pub enum AuthFault {
     /// The first byte of the stream isn't zero.
     #[error("NoZero")]
     NoZero,
-    /// `LINE_LIMIT` bytes of a line are there, and it hasn't ended within them.
+    /// `LINE_LIMIT` bytes of a line have arrived, and it hasn't ended within them.
     #[error("LineTooLong")]
     LineTooLong,
-    /// `BEGIN` stands before `OK` was answered.
+    /// `BEGIN` came before `OK` was answered.
     #[error("BeginTooSoon")]
     BeginTooSoon,
-    /// The input ended before a `BEGIN` line that is accepted.
+    /// The input ended before a `BEGIN` line was accepted.
     #[error("EndedEarly")]
     EndedEarly,
 }
 
-/// What a line brings.
+/// What a line leads to.
 #[derive(Drop)]
 pub enum Step {
-    /// This line is answered, and the handshake goes on.
+    /// This line is answered, and the handshake continues.
     Say(Answer),
     /// The handshake is done: messages follow.
     Begin,
-    /// The handshake is refused, and the connection is to end.
+    /// The handshake is refused, and the connection must end.
     Refused(AuthFault),
 }
 
-/// The server's half of one handshake. A contract sees the awaited user id, the server's GUID and
-/// the state of the table.
+/// The server's half of one handshake. A contract sees the user id that is awaited, the server's
+/// GUID and the state.
 #[derive(Drop)]
 pub struct Auth {
     uid: u32,
@@ -66,8 +66,8 @@ impl Model for Auth {
 }
 
 impl Auth {
-    /// A handshake before its first line. It awaits this user id; the GUID is the server's number
-    /// as 32 hex digits.
+    /// A handshake before its first line. It awaits this user id; `guid` is the server's number as
+    /// 32 hex digits.
     pub fn new(uid: u32, guid: [u8; 32]) -> Auth
         ensures { result ≡ fresh uid guid }
     {
@@ -78,11 +78,13 @@ impl Auth {
         }
     }
 
-    /// What a line brings, by its row of the table (D-Bus Specification, "Authentication Protocol",
-    /// "Server states"). The line is given without its CR LF, and may hold any bytes.
+    /// What a line leads to, by its row of the table (D-Bus Specification,
+    /// "Authentication Protocol", "Server states"). The line is passed without its CR LF,
+    /// and may contain any bytes.
     ///
-    /// Refused with `BeginTooSoon` exactly where the line's word is `BEGIN` and the state isn't
-    /// `WaitingForBegin`, and with no other fault. The state is as before then, and at `Begin`.
+    /// Refused with `BeginTooSoon` exactly if the line's word is `BEGIN` and the state
+    /// isn't `WaitingForBegin`, and with no other fault. The state is unchanged then, and
+    /// also at `Begin`.
     pub fn line(&mut self, line: &[u8]) -> Step
         ensures answer { result ≡ step_of self.old line.now }
         ensures next { self.new ≡ next_of self.old line.now }
@@ -93,7 +95,7 @@ impl Auth {
     }
 }
 
-// The table: what is answered to a command, and the next state.
+// The table: the answer to a command, and the next state.
 fn answer_to(guid: &[u8; 32], state: State, command: Command) -> (Step, State)
     ensures answer { result.0 ≡ (row guid.now state command).0 }
     ensures next { result.1 ≡ (row guid.now state command).1 }

@@ -4,7 +4,7 @@ ghost use Rattle.dbus_auth.specs.Commands.{is_hex_of, is_accepted, auth_of, data
 
 use itoa::Buffer;
 
-// What a line asks, as far as the table of the handshake tells lines apart.
+// What a line asks for, as far as the table of the handshake distinguishes lines.
 #[derive(Clone, Copy)]
 pub(crate) enum Command {
     // `AUTH EXTERNAL` without an argument.
@@ -25,12 +25,12 @@ pub(crate) enum Command {
     Begin,
     // `NEGOTIATE_UNIX_FD`.
     NegotiateUnixFd,
-    // A line with any other word, the empty one among them.
+    // A line with any other word, including the empty one.
     Unknown,
 }
 
 impl Command {
-    // What the line asks of a server that awaits this user id.
+    // What the line asks for, if the server awaits this user id.
     #[tactic(auto, unfolding(crate::specs::Commands::command_of))]
     pub(crate) fn of(uid: u32, line: &[u8]) -> Command
         ensures { result ≡ command_of uid line.now }
@@ -58,7 +58,7 @@ impl Command {
     }
 }
 
-// A line with the word AUTH.
+// The command of a line with the word AUTH.
 fn auth(uid: u32, argument: Option<&[u8]>) -> Command
     ensures { result ≡ auth_of uid (option_copied argument.entry) }
 {
@@ -76,7 +76,7 @@ fn auth(uid: u32, argument: Option<&[u8]>) -> Command
     }
 }
 
-// A line with the word DATA.
+// The command of a line with the word DATA.
 fn data(uid: u32, argument: Option<&[u8]>) -> Command
     ensures { result ≡ data_of uid (option_copied argument.entry) }
 {
@@ -88,7 +88,7 @@ fn data(uid: u32, argument: Option<&[u8]>) -> Command
     }
 }
 
-// A line's word and its argument: what stands before the first space and behind it.
+// A line's word and its argument: what is before the first space, and what is after it.
 fn split(line: &[u8]) -> (&[u8], Option<&[u8]>)
     ensures word { result.0.now ≡ word_of line.now }
     ensures argument { option_copied result.1 ≡ argument_of line.now }
@@ -99,14 +99,14 @@ fn split(line: &[u8]) -> (&[u8], Option<&[u8]>)
     }
 }
 
-// Where the first space stands.
+// The position of the first space.
 fn first_space(line: &[u8]) -> Option<usize>
     ensures { result ≡ position is_space line.now }
 {
     line.iter().position(|c| *c == b' ')
 }
 
-// Whether the argument shows the user id, or is empty.
+// Whether the argument is the user id, or is empty.
 #[tactic(auto, unfolding(crate::specs::Commands::is_accepted))]
 fn accepts(uid: u32, argument: &[u8]) -> bool
     ensures { result ≡ is_accepted uid argument.now }
@@ -118,12 +118,12 @@ fn accepts(uid: u32, argument: &[u8]) -> bool
     is_hex_of(argument, buffer.format(uid).as_bytes())
 }
 
-// Whether the text is hex, of either case, for these bytes.
+// Whether the text is these bytes in hex, of either case.
 fn is_hex_of(text: &[u8], bytes: &[u8]) -> bool
     requires { length bytes.now ≤ 10 }
     ensures { result ≡ is_hex_of text.now bytes.now }
 {
-    // The ten digits that a u32 has at most.
+    // A u32 has at most ten digits.
     let mut room = [0; 10];
     let read = &mut room[..bytes.len()];
     hex::decode_to_slice(text, &mut *read).is_ok() && &*read == bytes

@@ -14,7 +14,7 @@ ghost use Rattle.dbus_auth.specs.declared.auth.Step.TheVariants as step;
 ghost use Rattle.dbus_auth.specs.declared.auth.AuthFault.{AuthFault};
 ghost use Rattle.dbus_auth.specs.declared.auth.AuthFault.TheVariants.{NoZero, BeginTooSoon};
 
-/// A law: which arguments are accepted. The user id's digits are, in hex of either case.
+/// A law: which arguments are accepted. Among them are the user id's digits in hex, of either case.
 pub fn accepted_arguments()
     ensures fact { (uid : ℕ) (argument : List ℕ) →
         IsTrue (is_accepted uid argument) ↔ IsAccepted uid argument }
@@ -24,7 +24,7 @@ pub fn accepted_arguments()
         IsTrue (is_accepted uid (encode_upper (decimal uid))) }
 {}
 
-/// A law: bytes are cut at the first CR LF that stands in them.
+/// A law: bytes are cut at the first CR LF in them.
 pub fn cut_at_the_first_line_end()
     ensures first { (bytes : List ℕ) (place : ℕ) → EndsAt bytes place
         → ((k : ℕ) → k < place → EndsAt bytes k → ⊥)
@@ -34,12 +34,12 @@ pub fn cut_at_the_first_line_end()
         → first_cut bytes ≡ None }
 {}
 
-/// A law: the limit that callers are given is the one that the definitions have.
+/// A law: the limit for callers is the one of the definitions.
 pub fn a_line_has_16_384_bytes_at_most()
     ensures { LINE_LIMIT ≡ line_limit }
 {}
 
-/// A law: a stream begins with a zero byte, and behind it the table runs.
+/// A law: a stream begins with a zero byte, and after it the table runs.
 pub fn begins_with_zero()
     ensures nothing { (uid : ℕ) (guid : List ℕ) →
         handshake uid guid [] ≡ silent (waiting (fresh uid guid) []) }
@@ -49,14 +49,13 @@ pub fn begins_with_zero()
         → handshake uid guid (first ∷ bytes) ≡ silent (refused NoZero) }
 {}
 
-/// A law: the run over bytes is that of its lines, one behind the other, in these ways and in no
-/// other.
+/// A law: the run over bytes is that of their lines, one after the other, in these ways and no other.
 pub fn runs_line_by_line()
     ensures { (at : Exchange) (bytes : List ℕ) (answers : List (List ℕ)) (end : End) →
         (run at bytes ≡ record { answers = answers; end = end }) ↔ Runs at bytes answers end }
 {}
 
-/// A law: the table fed with lines one by one gives the run over their bytes.
+/// A law: feeding lines to the table one by one gives the run over their bytes.
 pub fn lines_one_by_one()
     ensures { (at : Exchange) (lines : List (List ℕ)) → AllByRecursion IsLine lines →
         run at (joined lines) ≡ fed at lines }
@@ -73,16 +72,16 @@ pub fn cut_anywhere()
         ≡ in_pieces (handshake uid guid (first ∷ [])) pieces }
 {}
 
-/// A law: each answer is that of the row of a line, behind the lines that the answers before it
-/// were given to.
+/// A law: each answer comes from the row of one line, after the lines to which the answers before
+/// it were given.
 pub fn each_answer_has_its_line()
     ensures { (at : Exchange) (bytes : List ℕ) (front since : List (List ℕ)) (answer : List ℕ) →
         (run at bytes).answers ≡ front ++ answer ∷ since
         → HasLine at bytes front (λ place line rest. step_of place line ≡ step.Say answer) }
 {}
 
-/// A law: `OK` is answered to a line that gives an accepted argument where one is awaited, and to
-/// no other. So no client is told `OK` before it has given one.
+/// A law: `OK` is the answer to a line that gives an accepted argument when one is awaited, and to
+/// no other line. So no client gets `OK` before it has given one.
 pub fn ok_answers_an_accepted_argument()
     ensures row { (at : Exchange) (line : List ℕ) →
         (step_of at line ≡ step.Say (ok_line at.guid)) ↔ GivesAccepted at line }
@@ -91,15 +90,15 @@ pub fn ok_answers_an_accepted_argument()
         → HasLine (fresh uid guid) bytes front (λ at line rest. GivesAccepted at line) }
 {}
 
-/// A law: a handshake is open exactly behind a `BEGIN` line before which an `OK` stands, with
-/// nothing answered since but `ERROR`.
+/// A law: a handshake is open exactly after a `BEGIN` line before which `OK` was answered, and
+/// nothing but `ERROR` since.
 pub fn only_begin_opens()
     ensures { (uid : ℕ) (guid bytes : List ℕ) (answers : List (List ℕ)) (rest : List ℕ) →
         (run (fresh uid guid) bytes ≡ record { answers = answers; end = opened rest })
         ↔ IsOpened uid guid bytes answers rest }
 {}
 
-/// A law: a `BEGIN` line opens the handshake where an `OK` stands, and is refused where none does.
+/// A law: a `BEGIN` line opens the handshake if an `OK` is in force, and is refused if none is.
 pub fn ok_decides_begin()
     ensures opens { (uid : ℕ) (guid lines line rest : List ℕ) (answers : List (List ℕ))
         (state : State) → Stands (fresh uid guid) lines answers state → IsLine line
@@ -113,16 +112,16 @@ pub fn ok_decides_begin()
         ≡ record { answers = answers; end = refused BeginTooSoon } }
 {}
 
-/// A law: behind the zero byte a handshake is refused with a fault exactly where the fault's cause
-/// stands in the bytes.
+/// A law: after the zero byte a handshake is refused with a fault exactly if the bytes contain
+/// the fault's cause.
 pub fn each_refusal_has_its_cause()
     ensures { (uid : ℕ) (guid bytes : List ℕ) (answers : List (List ℕ)) (fault : AuthFault) →
         (run (fresh uid guid) bytes ≡ record { answers = answers; end = refused fault })
         ↔ HasCause uid guid bytes answers fault }
 {}
 
-/// A law: more bytes are awaited exactly where all lines that have ended were answered, and of the
-/// next one fewer bytes than the limit are there, or none.
+/// A law: more bytes are awaited exactly if all lines that have ended were answered, and fewer
+/// bytes of the next one than the limit are there, perhaps none.
 pub fn waits_for_the_end_of_a_line()
     ensures { (at : Exchange) (bytes : List ℕ) (answers : List (List ℕ)) (place : Exchange)
         (left : List ℕ) →

@@ -1,9 +1,9 @@
 //! The server's half of the D-Bus authentication handshake with the mechanism EXTERNAL, as a table
 //! of one line in and one answer out (D-Bus Specification, "Authentication Protocol"). Callers may
-//! rely on these: each line is answered by its row of the table, whatever bytes it holds; no
-//! client is told `OK` before it has shown the awaited user id or has left it out; and the run of
-//! the table over a stream of bytes is stated as a function of the whole stream, which doesn't
-//! depend on how the stream was cut. Nothing here takes memory.
+//! rely on these: each line is answered by its row of the table, whatever bytes it contains; no
+//! client gets `OK` before it has shown the awaited user id or has left it out; and the run of the
+//! table over a stream of bytes is stated as a function of the whole stream, which doesn't depend
+//! on how the stream was cut. Nothing here takes memory.
 #![tactic(auto)]
 
 mod answer;

@@ -18,7 +18,7 @@ use std::marker::Model;
 // The room that an empty buffer may keep.
 const KEPT_ROOM: usize = 65_536;
 
-/// What is seen in front of a stream.
+/// What a look at the next message finds.
 #[derive(Drop)]
 enum Look {
     Waits(Progress),
@@ -26,7 +26,7 @@ enum Look {
     Whole(Message),
 }
 
-/// What is found behind the messages of ignored types.
+/// What is found after messages of ignored types, and how many bytes these have.
 #[derive(Drop)]
 struct Found {
     taken: usize,
@@ -34,14 +34,14 @@ struct Found {
 }
 
 /// Takes messages out of bytes that come in any pieces (D-Bus Specification, "Message Format"). A
-/// contract sees the reader's limit, the bytes that no message took, the violation that was found, and how
-/// many bytes are held.
+/// contract sees the reader's limit, the bytes that no message has consumed, the violation that was
+/// found, and how many bytes are held.
 #[derive(Drop)]
 pub struct Framer {
     most: u32,
     // The bytes fed, from the first one that is kept.
     fed: Vec<u8>,
-    // How many of them messages took.
+    // How many of them messages have consumed.
     start: usize,
     progress: Progress,
     // Made at the first look.
@@ -67,7 +67,7 @@ impl Model for Framer {
         IsKept framer.most framer.fed.items framer.start framer.progress };
 }
 
-// What is known of the first 16 bytes, or is read of them now.
+// What is known of the first 16 bytes, or what they say when read now.
 fn head_known(most: u32, progress: Progress, bytes: &[u8]) -> Result<Head, Violation>
     requires begun { 16 ≤ length bytes.now }
     requires known { IsKnown most bytes.now progress }
@@ -149,7 +149,7 @@ fn remove_front(bytes: &mut Vec<u8>, count: usize)
     bytes.truncate(len - count);
 }
 
-// Lets go of the bytes that messages took, and of much room where no byte is left.
+// Removes the bytes that messages consumed, and frees a large buffer if no byte is left.
 fn let_go(bytes: &mut Vec<u8>, taken: usize)
     requires { taken ≤ vec_len bytes.old }
     ensures { bytes.new.items ≡ drop taken bytes.old.items }
@@ -164,8 +164,9 @@ fn let_go(bytes: &mut Vec<u8>, taken: usize)
     }
 }
 
-// Lets go of the bytes that messages took where moving the others costs no more than they did, and
-// answers where the others stand then. So what is still there is at most as much as the others.
+// Removes the bytes that messages consumed, unless there are more others, which would have to be
+// moved. Returns the position of the others then. So the consumed bytes that stay are never more
+// than the others.
 fn make_room(bytes: &mut Vec<u8>, taken: usize) -> usize
     requires { taken ≤ vec_len bytes.old }
     ensures rest { drop result bytes.new.items ≡ drop taken bytes.old.items }
@@ -179,8 +180,8 @@ fn make_room(bytes: &mut Vec<u8>, taken: usize) -> usize
 }
 
 impl Framer {
-    /// A framer that nothing was fed to. `most` is how many bytes a message may have. It takes no
-    /// memory.
+    /// A framer to which nothing was fed. `most` is the most bytes that a message may have. It
+    /// takes no memory.
     pub fn new(alloc: Global, most: u32) -> Framer
         ensures { result ≡ just_fed most [] }
     {
@@ -193,9 +194,9 @@ impl Framer {
         }
     }
 
-    /// Takes further bytes of the stream.
+    /// Adds more bytes of the stream.
     ///
-    /// Refused with `OutOfMemory`, and then nothing has changed.
+    /// Refused with `OutOfMemory`; nothing has changed then.
     pub fn feed(&mut self, piece: &[u8]) -> Result<(), OutOfMemory>
         ensures fed { OnOk result (self.new ≡ record self.old {
           rest = self.old.rest ++ piece.now;
@@ -208,13 +209,13 @@ impl Framer {
         Ok(())
     }
 
-    /// The next message of the stream. Messages of types over 4 are looked at and left out.
+    /// The next message of the stream. Messages of types above 4 are checked and skipped.
     ///
-    /// None where no further message stands whole and no violation shows. Refused with the first
-    /// violation of what stands behind the messages, and from then on always with that one; and with
-    /// `OutOfMemory`, and then nothing has changed.
+    /// None if no further message is complete and no violation shows. Refused with the first
+    /// violation in what follows the messages, and from then on always with that one; and with
+    /// `OutOfMemory`, in which case nothing has changed.
     pub fn next(&mut self) -> Result<Option<Message>, FrameRefused>
-        // A message is the next one of the stream. None waits for more bytes.
+        // A message is the next one of the stream. None means that more bytes are awaited.
         ensures message { IfOk result (λ found. IfSome found (λ message.
             Cut self.old.most self.old.rest (parts_of message ∷ []) self.new.rest)) }
         ensures waits { IfOk result (λ found. IfNone found
@@ -224,12 +225,12 @@ impl Framer {
         ensures most { self.new.most ≡ self.old.most }
         ensures few { HoldsFew self.new }
 
-        // A violation is the first one, and stays. For want of memory nothing changes.
+        // A violation is the first one, and stays. If memory runs out, nothing changes.
         ensures refused { IfErr result (λ refusal. IsRefusal self.old refusal self.new) }
         ensures remembered { (cause : Violation) → self.old.broken ≡ Some cause
             → (result ≡ Err (refused.Violation cause)) × (self.new ≡ self.old) }
 
-        // None, a violation and a message each come wherever they may, but where memory ran out.
+        // None, a violation and a message each come exactly when they may, unless memory ran out.
         ensures exact { IsExact self.old.most self.old.rest result }
     {
         if let Progress::Broken(cause) = self.progress {
@@ -260,7 +261,7 @@ impl Framer {
         }
     }
 
-    /// How many of the bytes fed no message took.
+    /// The number of bytes fed that no message has consumed.
     pub fn rest(&self) -> usize
         ensures { result ≡ length self.now.rest }
     {

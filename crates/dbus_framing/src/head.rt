@@ -6,8 +6,7 @@ ghost use Rattle.dbus_framing.specs.Messages.{endian_of, word_at, fields_end, bo
 use crate::violation::Violation;
 use dbus_types::Endian;
 
-/// What the first 16 bytes of a message say: in which order the bytes of its numbers stand, and how
-/// many bytes it has.
+/// What the first 16 bytes of a message say: the byte order of its numbers, and how many bytes it has.
 #[derive(Clone, Copy)]
 pub struct Head {
     pub endian: Endian,
@@ -25,7 +24,7 @@ fn word_of(endian: Endian, bytes: &[u8]) -> u32
     }
 }
 
-/// The number of 32 bits at a place.
+/// The number of 32 bits at a position.
 #[tactic(auto, unfolding(crate::specs::Messages::word_at))]
 pub fn word_at(endian: Endian, place: usize, bytes: &[u8]) -> u32
     requires { place + 4 ≤ length bytes.now }
@@ -36,14 +35,14 @@ pub fn word_at(endian: Endian, place: usize, bytes: &[u8]) -> u32
     word_of(endian, word)
 }
 
-/// How many bytes reach from so many bytes to the next multiple of 8.
+/// The number of bytes from `count` to the next multiple of 8.
 pub fn padding_behind(count: usize) -> usize
     ensures { result ≡ padding 8 count }
 {
     (8 - count % 8) % 8
 }
 
-/// Where the body of a message begins that begins with these bytes.
+/// Where the body of a message begins, if the message begins with these bytes.
 pub fn body_start(endian: Endian, bytes: &[u8]) -> usize
     requires { 16 ≤ length bytes.now }
     ensures value { result ≡ body_start endian bytes.now }

@@ -59,7 +59,7 @@ fn kind_of(code: u8) -> FieldKind
     }
 }
 
-// The value of a field that had none before.
+// The value of a field, or None if the field had one before.
 fn once<T: Drop>(before: &Option<T>, value: Option<T>) -> Option<T>
     ensures { result ≡ once before.now value }
 {
@@ -204,17 +204,17 @@ fn with_values(header: Header, fields: Vec<Value>) -> Option<Header>
     Some(header)
 }
 
-/// The header whose field array was read as these values.
+/// The header whose array of fields was read as these values.
 ///
-/// None where a field isn't as it must be: its code is 0, or a known one has another type, stands
-/// twice, or holds no right path, name or serial.
+/// None if a field is invalid: its code is 0, or a known field has another type, occurs twice, or
+/// doesn't contain a valid path, name or serial.
 pub fn fields_in(values: Vec<Value>) -> Option<Header>
     ensures { option_map fields_of result ≡ fields_in (values_of values.items) }
 {
     with_values(empty(), structs_in(one_of(values)?)?)
 }
 
-/// Whether the header has the fields that messages of this type need.
+/// Whether the header has the fields that messages of this type must have.
 pub fn has_needed(kind: u8, header: &Header) -> bool
     ensures { result ≡ has_needed kind (fields_of header.now) }
 {

@@ -1,4 +1,4 @@
-// What the definitions of messages and streams say together. Each law is the contract of a function
+// Laws of the definitions of messages and streams. Each law is the contract of a function
 // that does nothing.
 ghost use Rattle.std.specs.Prelude.{◌≡◌, ◌<◌, ℕ, ◌++◌, List, [], slice_index};
 ghost use Rattle.dbus_framing.specs.declared.violation.Violation.{Violation};
@@ -6,14 +6,14 @@ ghost use Rattle.dbus_framing.specs.declared.violation.Violation.TheVariants as 
 ghost use Rattle.dbus_framing.specs.Messages.{Parts, IsHeaderAndBody, IsMessage};
 ghost use Rattle.dbus_framing.specs.Streams.{Cut, Stream, BeginsNone, Breaks, Turn, Went, fed_in, answered_in};
 
-/// No spelling of a message begins another, also under another limit: what was sent is read again,
-/// whatever follows.
+/// No spelling of a message begins another one, not even under another limit: what was sent is read
+/// again, whatever follows it.
 pub fn a_spelling_begins_no_other()
     ensures { (most more : ℕ) (spelling behind : List ℕ) (one other : Parts)
         → IsMessage most spelling one → IsMessage more (spelling ++ behind) other → behind ≡ [] }
 {}
 
-/// The bytes of a message say one thing.
+/// The bytes of a message have one meaning.
 pub fn a_message_has_one_meaning()
     ensures { (most : ℕ) (bytes : List ℕ) (one other : Parts)
         → IsMessage most bytes one → IsMessage most bytes other → one ≡ other }
@@ -27,17 +27,16 @@ pub fn a_message_is_a_header_and_a_body()
         → IsHeaderAndBody bytes parts }
 {}
 
-/// Bytes are one stream: the messages that stand whole in them are these and no others, and the rest is
-/// this one.
+/// Bytes are one stream: the complete messages in them are determined, and so is the rest.
 pub fn bytes_are_one_stream()
     ensures { (most : ℕ) (bytes rest left : List ℕ) (messages others : List Parts)
         → Stream most bytes messages rest → Stream most bytes others left
         → (messages ≡ others) × (rest ≡ left) }
 {}
 
-/// What `next` answered in turn is answered of all bytes that were fed, in whatever pieces: a further
-/// piece stands behind the rest, a further answer behind the answers, and the stream of the rest ends
-/// the stream of all bytes.
+/// The answers of successive calls of `next` add up to an answer about all bytes that were fed, in
+/// whatever pieces: a further piece comes after the rest, a further answer after the answers, and
+/// the stream of the rest ends the stream of all bytes.
 pub fn answers_add_up()
     ensures fed { (most : ℕ) (bytes piece rest : List ℕ) (answers : List Parts)
         → Cut most bytes answers rest → Cut most (bytes ++ piece) answers (rest ++ piece) }
@@ -49,8 +48,8 @@ pub fn answers_add_up()
         → Stream most bytes (answers ++ further) left }
 {}
 
-/// What was answered begins the messages of the stream, and what is left of them is the stream of the
-/// rest.
+/// The answers so far begin the messages of the stream, and the other messages are the stream
+/// of the rest.
 pub fn answers_begin_the_stream()
     ensures { (most : ℕ) (bytes left rest : List ℕ) (answers messages : List Parts)
         → Cut most bytes answers left → Stream most bytes messages rest
@@ -58,7 +57,7 @@ pub fn answers_begin_the_stream()
         × Stream most left further rest }
 {}
 
-/// After any turns of pieces and answers, what was answered in all begins the messages of the stream
+/// After any sequence of pieces and answers, all answers together begin the messages of the stream
 /// of all bytes that were fed, in whatever pieces they came.
 pub fn answers_begin_the_stream_of_any_pieces()
     ensures { (most : ℕ) (turns : List Turn) (left rest : List ℕ) (messages : List Parts)
@@ -67,7 +66,8 @@ pub fn answers_begin_the_stream_of_any_pieces()
         × Stream most left further rest }
 {}
 
-/// A violation shows whatever is fed behind it, is one, and no message stands where it shows.
+/// A violation stays whatever is fed after it, is the only one, and is never shown by bytes that
+/// begin with a message.
 pub fn violations_stay()
     ensures stays { (most : ℕ) (bytes piece : List ℕ) (cause : Violation)
         → Breaks most bytes cause → Breaks most (bytes ++ piece) cause }
@@ -77,7 +77,7 @@ pub fn violations_stay()
         → Breaks most bytes cause → BeginsNone most bytes }
 {}
 
-/// `EndInside` is no violation that bytes show, so a framer never answers it.
+/// `EndInside` is not a violation that bytes show, so a framer never returns it.
 pub fn no_bytes_end_inside()
     ensures { (most : ℕ) (bytes : List ℕ) → Breaks most bytes violation.EndInside → ⊥ }
 {}

@@ -1,9 +1,10 @@
-//! From a stream of bytes to messages (D-Bus Specification, "Message Format"). Contracts speak of whole
-//! lists of bytes: a message is its whole spelling (`IsMessage`), a stream is spellings one behind the
-//! other and a rest of which no front is a message (`Stream`). Callers may rely on these: what the calls
-//! of `next` answer are the messages of the stream of all bytes that were fed, in order, however the
-//! bytes were cut; None comes exactly where no further message stands whole and no violation shows; a
-//! violation is the first one and is answered for ever.
+//! From a stream of bytes to messages (D-Bus Specification, "Message Format"). Contracts speak of
+//! whole lists of bytes: a message is its whole spelling (`IsMessage`), and a stream is
+//! spellings, one after the other, and a rest of which no prefix is a message (`Stream`). Callers
+//! may rely on these: the messages that the calls of `next` return are those of the stream of all
+//! bytes that were fed, in order, however the bytes were cut; None is returned exactly if no
+//! further message is complete and no violation shows; a violation is the first one, and is
+//! returned again by every later call.
 #![tactic(auto)]
 
 mod framer;
@@ -25,5 +26,5 @@ pub use laws::{
 pub use names::{is_interface_name, is_member_name};
 pub use violation::{FrameRefused, Violation};
 
-/// No memory was left for a call. It is the one refusal that may come at any time.
+/// No memory was left for a call. This refusal alone may come at any time.
 pub type OutOfMemory = kr_base::OutOfMemory;

@@ -26,7 +26,7 @@ fn has_dot(bytes: &[u8]) -> bool
     bytes.iter().any(|code| *code == b'.')
 }
 
-// An element begins at the start and behind each dot, and none is empty.
+// An element begins at the start and after each dot, and none is empty.
 fn are_elements(bytes: &[u8]) -> bool
     ensures { result ≡ are_name_elements false bytes.now }
 {
@@ -49,7 +49,7 @@ fn are_elements(bytes: &[u8]) -> bool
     is_begun
 }
 
-// Whether the code goes on with an element, or begins one.
+// Whether the code continues an element, or begins one.
 fn is_next(is_begun: bool, code: u8) -> bool
     ensures { result ≡ (is_begun || not (is_ascii_digit code)) && is_element_code code }
 {

@@ -1,4 +1,4 @@
-// What values hold: each answers None where the value is none of its type.
+// What values contain: each function returns None if the value doesn't have its type.
 ghost use Rattle.std.specs.Prelude.{◌≡◌, option_map};
 ghost use Rattle.dbus_types.specs.SignatureViews.{types_in};
 ghost use Rattle.dbus_types.specs.Types.{Ty};
@@ -12,7 +12,7 @@ use dbus_marshal::is_byte;
 use dbus_types::{CompleteType, Signature, Value, fields_in, is_variant, lone_in};
 use kr_base::Text;
 
-/// The path that a value of type `o` is.
+/// The path in a value of type `o`.
 pub fn path_in(value: Value) -> Option<Text>
     ensures { result ≡ path_in (value_of value) }
 {
@@ -22,7 +22,7 @@ pub fn path_in(value: Value) -> Option<Text>
     }
 }
 
-/// The text that a value of type `s` is.
+/// The text in a value of type `s`.
 pub fn string_in(value: Value) -> Option<Text>
     ensures { result ≡ string_in (value_of value) }
 {
@@ -32,7 +32,7 @@ pub fn string_in(value: Value) -> Option<Text>
     }
 }
 
-/// The number that a value of type `u` is.
+/// The number in a value of type `u`.
 pub fn number_in(value: Value) -> Option<u32>
     ensures { result ≡ number_in (value_of value) }
 {
@@ -42,7 +42,7 @@ pub fn number_in(value: Value) -> Option<u32>
     }
 }
 
-/// The signature that a value of type `g` is.
+/// The signature in a value of type `g`.
 pub fn signature_in(value: Value) -> Option<Signature>
     ensures { option_map types_in result ≡ types_in_value (value_of value) }
 {
@@ -52,7 +52,7 @@ pub fn signature_in(value: Value) -> Option<Signature>
     }
 }
 
-/// The interface name or error name that a value of type `s` is.
+/// The interface name or error name in a value of type `s`.
 pub fn interface_in(value: Value) -> Option<Text>
     ensures { result ≡ interface_in (value_of value) }
 {
@@ -63,7 +63,7 @@ pub fn interface_in(value: Value) -> Option<Text>
     Some(text)
 }
 
-/// The member name that a value of type `s` is.
+/// The member name in a value of type `s`.
 pub fn member_in(value: Value) -> Option<Text>
     ensures { result ≡ member_in (value_of value) }
 {
@@ -74,7 +74,7 @@ pub fn member_in(value: Value) -> Option<Text>
     Some(text)
 }
 
-/// The reply serial that a value of type `u` is: any number but 0.
+/// The reply serial in a value of type `u`: any number but 0.
 pub fn serial_in(value: Value) -> Option<u32>
     ensures { result ≡ serial_in (value_of value) }
 {
@@ -120,7 +120,7 @@ pub fn field_in(field: Value) -> Option<(u8, Value)>
     Some((code, held_in(value)?))
 }
 
-/// The one value that there is.
+/// The only value, if there is exactly one.
 pub fn one_of(values: Vec<Value>) -> Option<Value>
     ensures { option_map value_of result ≡ one_of (values_of values.items) }
 {

@@ -18,7 +18,7 @@ use dbus_types::{Endian, Message, Signature, SignatureFault, Value};
 use std::alloc::{AllocError, Global};
 use std::marker::Model;
 
-// The values of which the bytes are the spelling, where they are one.
+// The values that the bytes spell, if they do.
 fn values_in(
     alloc: Global,
     signature: &Signature,
@@ -37,7 +37,7 @@ fn values_in(
     }
 }
 
-// A text that spells types is refused for want of memory alone.
+// A text that spells types is refused only for lack of memory.
 fn no_signature(fault: SignatureFault) -> Result<Signature, OutOfMemory>
     requires { Refuses fault (Ok field_types) }
     ensures { IsErr result }
@@ -108,7 +108,7 @@ fn are_zero(bytes: &[u8]) -> bool
     true
 }
 
-// The header fields of a message, where they and the padding behind them are as they must be.
+// The header fields of a message, if they and the padding after them are valid.
 #[tactic(auto, unfolding(crate::specs::Messages::fields_at))]
 fn fields_at(
     alloc: Global,
@@ -134,7 +134,7 @@ fn fields_at(
     }
 }
 
-// The signature of the body: that of no types where the header has none.
+// The signature of the body; it is empty if the header has none.
 fn signature_or_none(alloc: Global, signature: Option<Signature>) -> Signature
     ensures { types_in result ≡ unwrap_or (option_map types_in signature) Tys.end }
 {
@@ -181,10 +181,10 @@ fn bodied(
     })
 }
 
-/// The message that the bytes are, whose first 16 show no violation.
+/// The message that these bytes are; its first 16 bytes show no violation.
 ///
-/// Refused with the first violation of `BadHeader`, `MissingField` and `BadBody`, and with
-/// `OutOfMemory`.
+/// Refused with the first violation among `BadHeader`, `MissingField` and `BadBody`, and with
+/// `OutOfMemory` if no memory was left.
 pub fn message_at(
     alloc: Global,
     types: &FieldTypes,

@@ -4,10 +4,11 @@ ghost use Rattle.dbus_framing.specs.declared.violation.FrameRefused.TheVariants.
 use std::alloc::AllocError;
 use thiserror::Error;
 
-/// Which rule of messages bytes break (D-Bus Specification, "Message Format"). It prints as its name.
+/// The rule of messages that bytes break (D-Bus Specification, "Message Format"). It is printed
+/// as its name.
 #[derive(Clone, Copy, Debug, PartialEq, Eq, Error)]
 pub enum Violation {
-    /// The first byte says no byte order: it is neither `l` nor `B`.
+    /// The first byte isn't a byte order: it is neither `l` nor `B`.
     #[error("Endian")]
     Endian,
     /// The major version isn't 1.
@@ -16,14 +17,15 @@ pub enum Violation {
     /// The serial is 0.
     #[error("ZeroSerial")]
     ZeroSerial,
-    /// The message is longer than the reader takes.
+    /// The message is longer than the reader accepts.
     #[error("TooLarge")]
     TooLarge,
-    /// The header fields or the padding behind them can't be read, or a field isn't as it must be: its
-    /// code is 0, or a known one has another type, stands twice, or holds no right path, name or serial.
+    /// The header fields or the padding after them can't be read, or a field is invalid: its code
+    /// is 0, or a known field has another type, occurs twice, or doesn't contain a valid path,
+    /// name or serial.
     #[error("BadHeader")]
     BadHeader,
-    /// A field is missing that messages of this type need.
+    /// A field that messages of this type must have is missing.
     #[error("MissingField")]
     MissingField,
     /// The body isn't the spelling of the types that SIGNATURE lists.
@@ -32,12 +34,12 @@ pub enum Violation {
     /// The message's type is 0.
     #[error("InvalidType")]
     InvalidType,
-    /// The input ended inside a message. A framer never answers this: its caller knows of the end.
+    /// The input ended inside a message. A framer never returns this: only its caller knows of the end.
     #[error("EndInside")]
     EndInside,
 }
 
-/// Why `Framer::next` answered no message.
+/// Why `Framer::next` was refused.
 #[derive(Clone, Copy, Debug)]
 pub enum FrameRefused {
     /// The bytes break a rule.

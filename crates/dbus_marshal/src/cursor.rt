@@ -1,6 +1,6 @@
 ghost use Rattle.std.specs.Prelude.{◌<◌};
 
-/// Where reading stands: the place modulo 8, and the bytes from there on.
+/// Where reading is: the position modulo 8, and the bytes from there on.
 #[derive(Drop)]
 pub struct Cursor<'a> {
     pub place: usize,

@@ -1,6 +1,6 @@
 //! Values to bytes and back (D-Bus Specification, "Marshaling"). Contracts speak of plain trees of
-//! values and whole lists of bytes: what is read is spelled so, what is spelled so is read, and a
-//! fault is the first one from the left.
+//! values and of whole lists of bytes. Callers may rely on these: bytes are read as values exactly
+//! if they are the spelling of these values, and a fault is the first one from the left.
 #![tactic(auto)]
 
 mod cursor;
@@ -27,5 +27,5 @@ pub use putting::{
 pub use refused::{MarshalFault, ValueFault};
 pub use values::unmarshal;
 
-/// No memory was left for a call. It is the one refusal that may come at any time.
+/// No memory was left for a call. This refusal alone may come at any time.
 pub type OutOfMemory = kr_base::OutOfMemory;

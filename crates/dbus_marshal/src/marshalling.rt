@@ -12,11 +12,11 @@ use crate::writers::write_each;
 use dbus_types::{CompleteType, Endian, Value};
 use std::alloc::Global;
 
-/// The bytes that values are (D-Bus Specification, "Marshaling"). `place` is where the first byte
-/// stands, counted from the message's start.
+/// The bytes of values (D-Bus Specification, "Marshaling"). `place` is the position of the first
+/// byte, counted from the message's start.
 ///
-/// Refused with `TooLong` exactly where an array has over 67,108,864 bytes of elements, and with
-/// `OutOfMemory`.
+/// Refused with `TooLong` exactly if an array has more than 67,108,864 bytes of elements, and with
+/// `OutOfMemory` if no memory was left.
 pub fn marshal(
     alloc: Global,
     values: &[Value],
@@ -25,14 +25,14 @@ pub fn marshal(
 ) -> Result<Vec<u8>, MarshalFault>
     requires { HaveSpelling (values_of values.now) }
 
-    // It gives the one spelling, which is read as the same values.
+    // The result is the one spelling, which is read as the same values.
     ensures spelled { IfOk result (λ bytes. AreSpelled endian place
         (tys_of (values_of values.now)) (values_of values.now) bytes.items) }
     ensures again { IfOk result (λ bytes. IsTrue (is_signature (tys_of (values_of values.now)))
         → values_at endian (tys_of (values_of values.now))
         (record { place = place % 8; left = bytes.items }) ≡ Ok (values_of values.now)) }
 
-    // No array is too long, or one is.
+    // No array is too long at Ok, and one is at TooLong.
     ensures short { IfOk result (λ bytes.
         IsTrue (are_short endian (values_of values.now) (place % 8))) }
     ensures long { IsErrOf result MarshalFault.TooLong

@@ -43,7 +43,7 @@ pub fn is_byte(complete_type: &CompleteType) -> bool
     }
 }
 
-/// How many bytes reach from a place to the next multiple of the alignment.
+/// The number of bytes from a position to the next multiple of the alignment.
 pub fn padding(alignment: usize, place: usize) -> usize
     requires { 0 < alignment }
     ensures { result ≡ padding alignment place }

@@ -1,11 +1,11 @@
-// What values are written to: a vector, or a counter that tells how many bytes there will be.
+// What values are written to: a vector, or a counter of the bytes that there will be.
 ghost use Rattle.std.specs.Prelude.{◌≡◌, ◌%◌, ◌<◌, ◌++◌, ℕ, List, [], length, replicate, min, OnOk};
 ghost use Rattle.dbus_marshal.specs.Putting.{Counts};
 
 use crate::OutOfMemory;
 
-/// What bytes are put into. It stands for the list of the bytes that it was given from a message's
-/// start on, so that a contract over it holds for the bytes and for their number alike.
+/// What bytes are put into. Contracts see the list of all bytes put so far, from a message's start
+/// on, so that a contract about it applies to the bytes and to their number alike.
 pub trait Put {
     ghost use Rattle.std.specs.Prelude.{◌≡◌, ◌%◌, ◌<◌, ◌++◌, ℕ, List, length, OnOk};
 
@@ -19,7 +19,7 @@ pub trait Put {
         ensures { (before : List ℕ) → stands self.old before
             → OnOk result (stands self.new (before ++ bytes.now)) };
 
-    /// The place of the next byte, counted from the message's start modulo 8.
+    /// The position of the next byte, counted from the message's start modulo 8.
     fn place(&self) -> usize
         ensures place { (before : List ℕ) → stands self.now before → result ≡ length before % 8 }
         ensures below { result < 8 };
@@ -45,12 +45,12 @@ impl Put for Vec<u8> {
 #[derive(Clone, Copy)]
 pub enum Never {}
 
-/// Counts the bytes that it is given, and keeps none of them. It takes no memory. Over
-/// 18,446,744,073,709,551,615 bytes it stays at that number.
+/// Counts the bytes that are put, and keeps none of them. It takes no memory. Its number stays at
+/// 18,446,744,073,709,551,615 once there.
 #[derive(Clone, Copy)]
 pub struct Counter {
     size: u64,
-    /// The lower 32 bits of the number of bytes, which are those of an array's length.
+    /// The lower 32 bits of the number of bytes, as in an array's length.
     low: u32,
 }
 
@@ -73,14 +73,14 @@ impl Put for Counter {
 }
 
 impl Counter {
-    /// A counter that was given nothing.
+    /// A counter into which nothing was put.
     pub fn new() -> Counter
         ensures { Counts result.size result.low [] }
     {
         Counter { size: 0, low: 0 }
     }
 
-    /// A counter as if so many bytes were there, which are fewer than 8.
+    /// A counter as if `place` bytes, fewer than 8, had been put.
     pub fn at(place: usize) -> Counter
         requires { place < 8 }
         ensures { Counts result.size result.low (replicate place 0) }
@@ -91,7 +91,7 @@ impl Counter {
         }
     }
 
-    /// How many bytes were put.
+    /// The number of bytes that were put.
     pub fn size(&self) -> u64
         ensures { (before : List ℕ) → Counts self.now.size self.now.low before
             → result ≡ min 18446744073709551615 (length before) }
@@ -99,7 +99,7 @@ impl Counter {
         self.size
     }
 
-    /// The lower 32 bits of how many bytes were put after those that were there at first.
+    /// The lower 32 bits of the number of bytes that were put after the first `place` bytes.
     pub fn low_after(&self, place: usize) -> u32
         requires { place < 8 }
         ensures { (before : List ℕ)

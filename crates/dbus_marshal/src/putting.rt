@@ -1,4 +1,4 @@
-// Values to bytes, or to their number (D-Bus Specification, "Marshaling"). All is little-endian.
+// Values to bytes, or to their number (D-Bus Specification, "Marshaling"). Everything is little-endian.
 ghost use Rattle.std.specs.Prelude.{◌≡◌, ◌+◌, ◌%◌, ◌<◌, ◌≤◌, ◌++◌, ℕ, List, [], ◌∷◌, length, min, OnOk};
 ghost use Rattle.dbus_types.specs.declared.complete_type.BasicType.TheVariants.{Byte, Uint32, Uint64, String, ObjectPath};
 ghost use Rattle.dbus_types.specs.Types.{Ty};
@@ -81,7 +81,7 @@ fn low_sum(one: usize, other: usize) -> u32
     (low % 4_294_967_296) as u32
 }
 
-/// Puts an OBJECT_PATH of two pieces.
+/// Puts an OBJECT_PATH that is given as two pieces.
 #[tactic(auto, using(crate::proofs::PutLemmas::long_path_put))]
 pub fn put_long_path<P: Put>(out: &mut P, front: &[u8], back: &[u8]) -> Result<(), P::Refused>
     ensures { (before : List ℕ) → P.stands out.old before → OnOk result
@@ -103,8 +103,8 @@ pub fn put_bytes<P: Put>(out: &mut P, bytes: &[u8]) -> Result<(), P::Refused>
     out.put(bytes)
 }
 
-/// Puts a SIGNATURE, of at most 255 bytes. A VARIANT is the signature of its value's type, and the
-/// value.
+/// Puts a SIGNATURE, of at most 255 bytes. A VARIANT is the signature of its value's type, followed
+/// by the value.
 #[tactic(auto, using(crate::proofs::PutLemmas::signature_put))]
 pub fn put_signature<P: Put>(out: &mut P, signature: &[u8]) -> Result<(), P::Refused>
     ensures { (before : List ℕ) → P.stands out.old before
@@ -139,7 +139,7 @@ pub trait PutValues {
             → OnOk result (P.stands out.new (puts before (values self.now))) };
 }
 
-// The place of the first element of an array that is put now.
+// The position of the first element of an array that is put next.
 fn first_place<P: Put>(out: &P, alignment: usize) -> usize
     requires some { 0 < alignment }
     requires most { alignment ≤ 8 }
@@ -152,7 +152,7 @@ fn first_place<P: Put>(out: &P, alignment: usize) -> usize
     (length_end + padding(alignment, length_end)) % 8
 }
 
-// Puts the start of an array whose elements have so many bytes, of which the lower 32 bits are given.
+// Puts the start of an array. `count` is the lower 32 bits of the number of bytes of its elements.
 #[tactic(auto, unfolding(crate::specs::Putting::opened))]
 fn open_array<P: Put>(out: &mut P, alignment: usize, count: u32) -> Result<(), P::Refused>
     requires some { 0 < alignment }
@@ -164,7 +164,8 @@ fn open_array<P: Put>(out: &mut P, alignment: usize, count: u32) -> Result<(), P
     pad_to(out, alignment)
 }
 
-/// How many bytes the values have that are put from this place on: the lower 32 bits.
+/// The lower 32 bits of the number of bytes that the values have when they are put from
+/// this position on.
 pub fn count_from<E: PutValues>(elements: &E, first: usize) -> u32
     requires { first < 8 }
     ensures { (place : ℕ) → first ≡ place
@@ -178,8 +179,8 @@ pub fn count_from<E: PutValues>(elements: &E, first: usize) -> u32
     counter.low_after(first)
 }
 
-/// How many bytes values have that are put at the start of a body, or 18,446,744,073,709,551,615 if
-/// they have more. It takes no memory.
+/// The number of bytes that the values have at the start of a body, or 18,446,744,073,709,551,615
+/// if they have more. It takes no memory.
 pub fn size_of_values<E: PutValues>(values: &E) -> u64
     ensures { result ≡ min 18446744073709551615
         (length (all_spelled Little (E.values values.now) 0)) }
@@ -192,8 +193,8 @@ pub fn size_of_values<E: PutValues>(values: &E) -> u64
     counter.size()
 }
 
-/// Puts an array, whose elements have this alignment. The elements are walked twice: once to count
-/// their bytes.
+/// Puts an array whose elements have this alignment. It goes through the elements twice: once to
+/// count their bytes, and once to put them.
 pub fn put_array<P: Put, E: PutValues>(
     out: &mut P,
     alignment: usize,

@@ -17,7 +17,7 @@ use dbus_types::{BasicType, Endian, ObjectPath, Signature, SignatureFault, Value
 use kr_base::Text;
 use std::alloc::Global;
 
-/// So many bytes, or Short.
+/// The next `count` bytes, or Short.
 #[tactic(auto, unfolding(crate::specs::Reading::bytes_at))]
 pub fn take_bytes(cursor: Cursor<'_>, count: usize) -> Result<(&[u8], Cursor<'_>), ValueFault>
     ensures reads { Reads (λ x. (x.0.now, spot_of x.1)) result
@@ -151,7 +151,7 @@ fn read_u64(endian: Endian, cursor: Cursor<'_>) -> Result<(u64, Cursor<'_>), Val
     Ok((u64_of(endian, bytes), after))
 }
 
-// A string that is UTF-8, where the bytes are one.
+// The bytes as a string, if they are UTF-8.
 fn utf8_of(bytes: &[u8]) -> Option<&str>
     ensures { option_map (λ s. s.now) result
         ≡ (if is_utf8 bytes.now then Some bytes.now else None) }
@@ -162,7 +162,7 @@ fn utf8_of(bytes: &[u8]) -> Option<&str>
     }
 }
 
-// A copy of the bytes, where they are a text.
+// A copy of the bytes, if they are a text.
 fn text_of(alloc: Global, bytes: &[u8]) -> Result<Option<Text>, OutOfMemory>
     ensures { IfOk result (λ made. made ≡ (if is_text bytes.now then Some bytes.now else None)) }
 {
@@ -220,7 +220,7 @@ fn read_path(
     Ok((path, after))
 }
 
-/// A signature: its length in one byte, the text, a zero byte.
+/// A signature: its length in one byte, its text, and a zero byte.
 #[tactic(auto, unfolding(crate::specs::Reading::signature_value_at))]
 pub fn read_signature(
     alloc: Global,
@@ -236,7 +236,7 @@ pub fn read_signature(
     Ok((signature, after))
 }
 
-// In a value, each fault of a signature is the one that it is no signature.
+// In a value, each fault of a signature becomes the same one: that it isn't a signature.
 fn parse_signature(alloc: Global, bytes: &[u8]) -> Result<Signature, ValueFault>
     ensures { Reads types_in result (listed (signature_at bytes.now)) }
 {
@@ -315,7 +315,7 @@ fn read_number(
     }
 }
 
-/// A value of a basic type, which is the same wherever it lies.
+/// A value of a basic type, which is read in the same way wherever it is.
 #[tactic(auto, unfolding(crate::specs::Reading::basic_at))]
 pub fn read_basic(
     alloc: Global,

@@ -5,23 +5,24 @@ use std::alloc::{AllocError, AllocFailed};
 /// Why no values were read (D-Bus Specification, "Marshaling").
 #[derive(Clone, Copy, Debug, PartialEq, Eq)]
 pub enum ValueFault {
-    /// The bytes end within a value, or a length says more bytes than are there.
+    /// The bytes end within a value, or a length exceeds the bytes that are there.
     Short,
     /// A byte of padding isn't zero.
     Padding,
     /// A boolean is neither 0 nor 1.
     BadBool,
-    /// A string isn't UTF-8, holds a zero byte, or doesn't end with one.
+    /// A string isn't UTF-8, contains a zero byte, or doesn't end with one.
     BadText,
-    /// The text of an object path hasn't the form of a path.
+    /// The text of an object path doesn't have the form of one.
     BadPath,
-    /// A signature isn't one, doesn't end with a zero byte, or a variant's lists not one type.
+    /// A signature isn't valid or doesn't end with a zero byte, or a variant's signature doesn't
+    /// list exactly one type.
     BadSignature,
-    /// An array has over 67,108,864 bytes.
+    /// An array has more than 67,108,864 bytes.
     ArrayTooLong,
-    /// Over 64 arrays, structs, dict entries and variants are open at once.
+    /// More than 64 arrays, structs, dict entries and variants are open at once.
     TooDeep,
-    /// All values are read, and bytes are left.
+    /// All values were read, and bytes are left.
     Rest,
     /// No memory was left.
     OutOfMemory,
@@ -50,7 +51,7 @@ impl<T: Drop> From<AllocFailed<T>> for ValueFault {
 /// Why no bytes were written (D-Bus Specification, "Marshaling").
 #[derive(Clone, Copy, Debug, PartialEq, Eq)]
 pub enum MarshalFault {
-    /// An array has over 67,108,864 bytes.
+    /// An array has more than 67,108,864 bytes.
     TooLong,
     /// No memory was left.
     OutOfMemory,

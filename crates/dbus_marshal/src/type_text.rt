@@ -34,7 +34,7 @@ pub fn write_type(out: &mut Vec<u8>, complete_type: &CompleteType) -> Result<(),
     Ok(())
 }
 
-/// Writes the texts of types, one behind the other.
+/// Writes the texts of types, one after the other.
 #[cycle(types)]
 pub fn write_types(out: &mut Vec<u8>, types: &[CompleteType]) -> Result<(), OutOfMemory>
     ensures { OnOk result (out.new.items ≡ out.old.items ++ texts_of (types_of types.now)) }
@@ -45,9 +45,10 @@ pub fn write_types(out: &mut Vec<u8>, types: &[CompleteType]) -> Result<(), OutO
     Ok(())
 }
 
-/// Writes the text of a value's type. An entry whose key isn't basic has none; it is written as a
-/// variant, which `ty_of` also says, and no value that has a spelling holds one. The type of an array
-/// that would be inside another one isn't known here; it is written as one of variants.
+/// Writes the text of a value's type. An entry whose key isn't basic has no type; it is written
+/// as a variant, as `ty_of` has it, and no value that has a spelling contains such an entry.
+/// The type of an array that would be inside another one isn't known here; it is written as an
+/// array of variants.
 #[cycle(value_types)]
 pub fn write_type_of(out: &mut Vec<u8>, value: &Value) -> Result<(), OutOfMemory>
     ensures { OnOk result (out.new.items ≡ out.old.items ++ text_of (ty_of (value_of value.now))) }

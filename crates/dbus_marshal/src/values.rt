@@ -34,7 +34,7 @@ fn only_of(types: &[CompleteType]) -> Result<&CompleteType, ValueFault>
     Ok(only)
 }
 
-// A value. What lies in an array is made without the types that the array has.
+// A value. What is in an array is made without the types that the array keeps.
 #[cycle(readers)]
 fn read_value<'a>(
     alloc: Global,
@@ -265,7 +265,7 @@ fn read_entry<'a>(
     Ok((Value::DictEntry(entry), after))
 }
 
-// The values of the types that are all of the bytes.
+// The values of the types, which all of the bytes spell.
 #[tactic(auto, unfolding(crate::specs::Reading::values_at))]
 fn read_values(
     alloc: Global,
@@ -288,12 +288,13 @@ fn read_values(
     Ok(values)
 }
 
-/// Reads the values of a signature's types, of which the bytes are the spelling (D-Bus
-/// Specification, "Marshaling"). `place` is where the bytes stand, counted from the message's start.
+/// Reads the values of a signature's types, which the bytes spell (D-Bus Specification,
+/// "Marshaling"). `place` is the position of the first byte, counted from the message's start.
 ///
-/// Refused with the first fault from the left: of a container that is too deep before anything of it
-/// is looked at; of padding by the bytes that are there, before Short; of a length that passes the
-/// end before what it counts. `Rest` comes where all values are read. And with `OutOfMemory`.
+/// Refused with the first fault from the left: a container that is too deep is refused before
+/// anything of it is looked at, padding by the bytes that are there before `Short`, and a length
+/// that passes the end before what it counts. `Rest` comes if all values were read, and
+/// `OutOfMemory` if no memory was left.
 pub fn unmarshal(
     alloc: Global,
     signature: &Signature,
@@ -301,22 +302,23 @@ pub fn unmarshal(
     place: u64,
     bytes: &[u8],
 ) -> Result<Vec<Value>, ValueFault>
-    // What is read is spelled so, and what is spelled so is read.
+    // Values are read exactly if the bytes are their spelling.
     ensures found { IfOk result (λ x.
         AreSpelled endian place (types_in signature.now) (values_of x.items) bytes.now) }
     ensures only { (vs : Vals) → AreSpelled endian place (types_in signature.now) vs bytes.now
         → Reads (λ x. values_of x.items) result (Ok vs) }
 
-    // Which fault it is.
+    // Which fault is returned.
     ensures exact { Reads (λ x. values_of x.items) result (values_at endian (types_in signature.now)
         (record { place = place % 8; left = bytes.now })) }
 
-    // The values have these types and can be written, and they are few for their bytes.
+    // The values have these types and can be written, and their number is bounded by that of the bytes.
     ensures types { IfOk result (λ x. tys_of (values_of x.items) ≡ types_in signature.now) }
     ensures fits { IfOk result (λ x. HaveSpelling (values_of x.items)) }
     ensures few { IfOk result (λ x. counts (values_of x.items) ≤ 65 * length bytes.now) }
 
-    // All that they take in memory is two parts for each byte at most, and what the signature takes.
+    // All that they take in memory is at most two parts for each byte, and one for each byte
+    // of the signature.
     ensures held { IfOk result (λ x. all_parts (values_of x.items)
         ≤ 2 * length bytes.now + length (texts_of (types_in signature.now))) }
 {

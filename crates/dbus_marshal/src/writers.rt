@@ -19,7 +19,7 @@ use dbus_types::{
     is_array, is_variant, wrapping,
 };
 
-// Puts the length of a text into the byte at the mark.
+// Writes the length of a text into the byte at the mark.
 #[tactic(auto, unfolding(crate::specs::Wire::number_bytes))]
 fn put_length(out: &mut Vec<u8>, mark: usize, endian: Endian, count: u8)
     requires { mark + 1 ≤ length out.old.items }
@@ -32,8 +32,8 @@ fn put_length(out: &mut Vec<u8>, mark: usize, endian: Endian, count: u8)
     }
 }
 
-// Ends the text that stands behind the byte at the mark, and puts its length there. Of a text of over
-// 255 bytes, which no signature has, it puts the lower bits.
+// Ends the text that starts after the byte at the mark, and writes its length there. For a text of
+// more than 255 bytes, which no signature has, it writes the lower bits.
 fn end_signature(out: &mut Vec<u8>, mark: usize, endian: Endian) -> Result<(), OutOfMemory>
     requires { mark + 1 ≤ length out.old.items }
     ensures { OnOk result (out.new.items ≡ take mark out.old.items
@@ -63,7 +63,7 @@ fn write_signature(
     Ok(())
 }
 
-// The signature of a value's type.
+// Writes the signature of a value's type.
 fn write_signature_of(
     out: &mut Vec<u8>,
     phase: usize,
@@ -100,8 +100,7 @@ fn write_bytes(
     Ok(())
 }
 
-// Writes four bytes for the length of an array, which stand at the mark, and the padding of its
-// first element.
+// Writes four bytes at the mark for the length of an array, and the padding of its first element.
 fn open_array(
     out: &mut Vec<u8>,
     phase: usize,
@@ -123,7 +122,7 @@ fn open_array(
     Ok(mark)
 }
 
-// Puts the length of an array into its four bytes.
+// Writes the length of an array into its four bytes.
 #[tactic(auto, unfolding(crate::specs::Wire::number_bytes))]
 fn close_array(out: &mut Vec<u8>, mark: usize, endian: Endian, count: u32)
     requires { mark + 4 ≤ length out.old.items }
@@ -136,8 +135,8 @@ fn close_array(out: &mut Vec<u8>, mark: usize, endian: Endian, count: u32)
     }
 }
 
-/// Writes a value with its padding (D-Bus Specification, "Marshaling"). The value lies where its type
-/// is known, as in an array: `known` is a variant where nothing is known.
+/// Writes a value with its padding (D-Bus Specification, "Marshaling"). `known` is what is known of
+/// its type from where it is, as in an array; if nothing is known, `known` is a variant.
 #[cycle(writers)]
 pub fn write_value(
     out: &mut Vec<u8>,
@@ -203,7 +202,7 @@ fn write_core(
     }
 }
 
-// A variant lies only where one is asked for, or where nothing is known.
+// A variant may be only where one is known, or where nothing is known.
 #[cycle(writers)]
 fn write_variant(
     out: &mut Vec<u8>,
@@ -226,7 +225,7 @@ fn write_variant(
     write_value(out, phase, endian, value, known)
 }
 
-// An array that has a type of its own lies only where none is known.
+// An array with a type of its own may be only where no type is known.
 #[cycle(writers)]
 fn write_typed_array(
     out: &mut Vec<u8>,
@@ -327,7 +326,7 @@ fn write_entry(
     write_value(out, phase, endian, &entry.value, held_of(known))
 }
 
-/// Writes values that lie where their one type is known, one behind the other.
+/// Writes values of one known type, one after the other.
 #[cycle(writers)]
 pub fn write_each(
     out: &mut Vec<u8>,
@@ -348,7 +347,7 @@ pub fn write_each(
     Ok(())
 }
 
-// Values that lie where their types are known, one behind the other.
+// Values whose types are known, one after the other.
 #[cycle(writers)]
 fn write_all(
     out: &mut Vec<u8>,

@@ -10,8 +10,8 @@ use crate::places::padding;
 use crate::refused::MarshalFault;
 use dbus_types::Endian;
 
-/// Writes zeros up to a multiple of the alignment. The bytes stand from a place on, which is counted
-/// modulo 8.
+/// Writes zeros up to a multiple of the alignment. `phase` is the position of the first byte of
+/// `out`, counted modulo 8.
 pub fn pad(out: &mut Vec<u8>, phase: usize, alignment: usize) -> Result<(), OutOfMemory>
     requires some { 0 < alignment }
     requires most { alignment ≤ 8 }
@@ -133,7 +133,7 @@ pub fn write_u64(
     Ok(())
 }
 
-/// Writes a string: its length, its bytes, a zero byte.
+/// Writes a string: its length, its bytes and a zero byte.
 pub fn write_text(
     out: &mut Vec<u8>,
     phase: usize,

@@ -9,14 +9,14 @@ use dbus_marshal::{
 };
 
 /// The header of a message that is sent (D-Bus Specification, "Message Format", "Header Fields"). A
-/// field is None where the header has none; the message's body tells SIGNATURE.
+/// field is None if the header has none; SIGNATURE comes from the message's body.
 #[derive(Clone, Copy)]
 pub struct Header<'a> {
     /// The type: 1 a call, 2 a return, 3 an error, 4 a signal.
     pub kind: u8,
     /// The flags.
     pub flags: u8,
-    /// The number of the message, which isn't 0.
+    /// The number of the message. It isn't 0.
     pub serial: u32,
     /// PATH: the object of a call or a signal.
     pub path: Option<&'a str>,
@@ -26,7 +26,7 @@ pub struct Header<'a> {
     pub member: Option<&'a str>,
     /// ERROR_NAME.
     pub error_name: Option<&'a str>,
-    /// REPLY_SERIAL: the serial of the call that this answers.
+    /// REPLY_SERIAL: the serial of the call that this message answers.
     pub reply_serial: Option<u32>,
     /// DESTINATION.
     pub destination: Option<&'a str>,
@@ -66,7 +66,7 @@ fn put_code<P: Put>(out: &mut P, code: u8) -> Result<(), P::Refused>
     put_byte(out, code)
 }
 
-// Puts PATH, where there is one.
+// Puts PATH, if there is one.
 #[tactic(auto, using(dbus_marshal::proofs::PutLemmas::variant_put, dbus_marshal::proofs::PutLemmas::struct_of_2))]
 fn put_path_field<P: Put>(out: &mut P, code: u8, path: Option<&str>) -> Result<(), P::Refused>
     ensures { (before : List ℕ) → P.stands out.old before
@@ -81,7 +81,7 @@ fn put_path_field<P: Put>(out: &mut P, code: u8, path: Option<&str>) -> Result<(
     put_path(out, path.as_bytes())
 }
 
-// Puts a field of a text, where there is one.
+// Puts a field with a text, if there is one.
 #[tactic(auto, using(dbus_marshal::proofs::PutLemmas::struct_of_2))]
 fn put_text_field<P: Put>(out: &mut P, code: u8, text: Option<&str>) -> Result<(), P::Refused>
     ensures { (before : List ℕ) → P.stands out.old before
@@ -95,7 +95,7 @@ fn put_text_field<P: Put>(out: &mut P, code: u8, text: Option<&str>) -> Result<(
     put_text_variant(out, text.as_bytes())
 }
 
-// Puts a field of a number, where there is one.
+// Puts a field with a number, if there is one.
 #[tactic(auto, using(dbus_marshal::proofs::PutLemmas::variant_put, dbus_marshal::proofs::PutLemmas::struct_of_2))]
 fn put_number_field<P: Put>(out: &mut P, code: u8, number: Option<u32>) -> Result<(), P::Refused>
     ensures { (before : List ℕ) → P.stands out.old before
@@ -110,7 +110,7 @@ fn put_number_field<P: Put>(out: &mut P, code: u8, number: Option<u32>) -> Resul
     put_u32(out, number)
 }
 
-// Puts SIGNATURE, where it lists a type.
+// Puts SIGNATURE, if it lists a type.
 #[tactic(auto, using(dbus_marshal::proofs::PutLemmas::variant_put, dbus_marshal::proofs::PutLemmas::struct_of_2))]
 fn put_signature_field<P: Put>(out: &mut P, signature: &str) -> Result<(), P::Refused>
     ensures { (before : List ℕ) → P.stands out.old before

@@ -25,8 +25,8 @@ fn put_start<P: Put>(out: &mut P, header: &Header, count: u32) -> Result<(), P::
     put_u32(out, header.serial)
 }
 
-/// Puts a message into a writer that was given nothing before (D-Bus Specification, "Message
-/// Format"). The signature is that of the body's values.
+/// Puts a message into a writer into which nothing was put before (D-Bus Specification, "Message
+/// Format"). `signature` is the signature of the body's values.
 pub fn put_message<P: Put, B: PutValues>(
     out: &mut P,
     header: &Header,

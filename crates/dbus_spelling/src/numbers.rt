@@ -7,7 +7,7 @@ use crate::OutOfMemory;
 use dbus_types::Endian;
 use std::alloc::Global;
 
-/// A copy of bytes.
+/// A copy of the bytes.
 pub fn copied(alloc: Global, bytes: &[u8]) -> Result<Vec<u8>, OutOfMemory>
     ensures { IfOk result (λ made. made.items ≡ bytes.now) }
 {
@@ -16,7 +16,7 @@ pub fn copied(alloc: Global, bytes: &[u8]) -> Result<Vec<u8>, OutOfMemory>
     Ok(made)
 }
 
-/// Bytes, and other bytes behind them.
+/// Bytes, and other bytes after them.
 pub fn joined(alloc: Global, front: &[u8], rest: &[u8]) -> Result<Vec<u8>, OutOfMemory>
     ensures { IfOk result (λ made. made.items ≡ front.now ++ rest.now) }
 {
@@ -45,7 +45,7 @@ pub fn start_of(alignment: usize, place: usize) -> usize
     (place + padding(alignment, place)) % 8
 }
 
-/// Zeros up to the alignment, and then the bytes.
+/// Zeros up to a multiple of the alignment, and then the bytes.
 pub fn aligned(
     alloc: Global,
     alignment: usize,

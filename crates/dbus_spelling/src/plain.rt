@@ -152,14 +152,14 @@ fn padded(alloc: Global, fields: &[u8], place: usize) -> Result<Vec<u8>, OutOfMe
     aligned(alloc, 8, place, fields)
 }
 
-// What lies where it can't is spelled as a struct without fields.
+// A value in a place where it can't be is spelled as a struct without fields.
 fn nothing(alloc: Global, place: usize) -> Result<Vec<u8>, OutOfMemory>
     ensures { IfOk result (λ made. made.items ≡ aligned 8 place []) }
 {
     aligned(alloc, 8, place, &[])
 }
 
-/// The bytes of a value that isn't in an array. The place is counted modulo 8.
+/// The bytes of a value that isn't in an array. The position is counted modulo 8.
 pub fn spelling(
     alloc: Global,
     endian: Endian,
@@ -172,7 +172,7 @@ pub fn spelling(
     spelling_as(alloc, endian, value, &CompleteType::Variant, place)
 }
 
-/// The bytes of values that aren't in an array, one behind the other.
+/// The bytes of values that aren't in an array, one after the other.
 pub fn spelling_of_all(
     alloc: Global,
     endian: Endian,
@@ -185,7 +185,7 @@ pub fn spelling_of_all(
     spelling_of_each(alloc, endian, values, &CompleteType::Variant, place)
 }
 
-// A value that lies where its type is known.
+// A value whose type is known from where it is.
 #[cycle(plain)]
 fn spelling_as(
     alloc: Global,
@@ -376,7 +376,7 @@ fn entry_spelling(
     Ok(made)
 }
 
-// Values that lie where their one type is known, one behind the other.
+// Values of one known type, one after the other.
 #[cycle(plain)]
 fn spelling_of_each(
     alloc: Global,
@@ -397,7 +397,7 @@ fn spelling_of_each(
     Ok(made)
 }
 
-// Values that lie where their types are known, one behind the other.
+// Values whose types are known, one after the other.
 #[cycle(plain)]
 fn spelling_of_fields(
     alloc: Global,

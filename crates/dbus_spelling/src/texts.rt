@@ -35,7 +35,7 @@ pub fn text_of_type(alloc: Global, complete_type: &CompleteType) -> Result<Vec<u
     }
 }
 
-/// The texts of types, one behind the other.
+/// The texts of types, one after the other.
 #[cycle(types)]
 pub fn texts_of_types(alloc: Global, types: &[CompleteType]) -> Result<Vec<u8>, OutOfMemory>
     ensures { IfOk result (λ made. made.items ≡ texts_of (types_of types.now)) }
@@ -48,8 +48,8 @@ pub fn texts_of_types(alloc: Global, types: &[CompleteType]) -> Result<Vec<u8>, 
     Ok(made)
 }
 
-/// The text of a value's type. An entry whose key isn't basic has none; it stands for a variant, as
-/// `ty_of` has it.
+/// The text of a value's type. An entry whose key isn't basic has no type; it counts as a variant,
+/// as `ty_of` has it.
 #[cycle(value_types)]
 pub fn text_of_value_type(alloc: Global, value: &Value) -> Result<Vec<u8>, OutOfMemory>
     ensures { IfOk result (λ made. made.items ≡ text_of (ty_of (value_of value.now))) }

@@ -26,7 +26,7 @@ pub enum BasicType {
     Uint64,
     /// `d`, an IEEE 754 number of 64 bits.
     Double,
-    /// `h`, the place of a file descriptor.
+    /// `h`, the index of a file descriptor.
     UnixFd,
     /// `s`, UTF-8 without a zero byte.
     String,
@@ -70,12 +70,13 @@ pub enum CompleteType {
     Array(Box<CompleteType>),
     /// The types of the fields, between `(` and `)`.
     Struct(Vec<CompleteType>),
-    /// The types of a key and its value, between `{` and `}`: only an array's elements have it.
+    /// The types of a key and its value, between `{` and `}`: only an array's elements may
+    /// have this type.
     DictEntry(BasicType, Box<CompleteType>),
 }
 
 impl CompleteType {
-    /// A second value of the same type.
+    /// A copy of the type.
     #[cycle(copies)]
     pub fn copy(&self, alloc: Global) -> Result<CompleteType, OutOfMemory>
         ensures { IfOk result (λ copied. type_of copied ≡ type_of self.now) }

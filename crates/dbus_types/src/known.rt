@@ -1,5 +1,5 @@
-// What is known of the type of a value by the place where it lies, as in an array. Where nothing is
-// known, it is that of a variant.
+// What is known of the type of a value from where it is, as in an array. If nothing is known, this
+// type is that of a variant.
 
 ghost use Rattle.std.specs.Prelude.{◌≡◌, ◌<◌, ◌≤◌, true, option_map};
 ghost use Rattle.dbus_types.specs.Views.{type_of, types_of};
@@ -8,7 +8,8 @@ ghost use Rattle.dbus_types.specs.Known.{lone_field, wrapping, is_array, is_vari
 
 use crate::complete_type::CompleteType;
 
-/// The type of the one field, where a struct of these fields lies in an array and has one.
+/// The type of the one field of a struct of these fields, if the struct is in an array and
+/// has one field.
 pub fn lone_in(types: &[CompleteType], is_inner: bool) -> Option<&CompleteType>
     ensures { option_map (λ t. type_of t.now) result ≡ lone_in is_inner (types_of types.now) }
 {
@@ -32,7 +33,7 @@ fn lone_field(known: &CompleteType) -> Option<&CompleteType>
     }
 }
 
-/// The type inside the structs of one field.
+/// The type inside the structs of one field, or the type itself if it isn't such a struct.
 pub fn core_of(known: &CompleteType) -> &CompleteType
     ensures { type_of result.now ≡ core_of (type_of known.now) }
 {
@@ -43,7 +44,7 @@ pub fn core_of(known: &CompleteType) -> &CompleteType
     core
 }
 
-/// The alignment of the structs of one field around it, which is 1 where there is none.
+/// The alignment of the structs of one field around that type, or 1 if there are none.
 pub fn wrapping(known: &CompleteType) -> usize
     ensures value { result ≡ wrapping (type_of known.now) }
     ensures some { 0 < result }
@@ -55,7 +56,7 @@ pub fn wrapping(known: &CompleteType) -> usize
     }
 }
 
-/// Whether it is an array's.
+/// Whether the type is an array's.
 pub fn is_array(known: &CompleteType) -> bool
     ensures { result ≡ is_array (type_of known.now) }
 {
@@ -65,7 +66,7 @@ pub fn is_array(known: &CompleteType) -> bool
     }
 }
 
-/// Whether it is a variant's.
+/// Whether the type is a variant's.
 pub fn is_variant(known: &CompleteType) -> bool
     ensures { result ≡ is_variant (type_of known.now) }
 {
@@ -75,7 +76,7 @@ pub fn is_variant(known: &CompleteType) -> bool
     }
 }
 
-/// The type of the elements, if it is an array's.
+/// The type of the elements, if the type is an array's.
 pub fn element_of(known: &CompleteType) -> &CompleteType
     ensures { type_of result.now ≡ element_of (type_of known.now) }
 {
@@ -85,7 +86,7 @@ pub fn element_of(known: &CompleteType) -> &CompleteType
     }
 }
 
-/// The type of the value, if it is a dict entry's.
+/// The type of the value, if the type is a dict entry's.
 pub fn held_of(known: &CompleteType) -> &CompleteType
     ensures { type_of result.now ≡ held_of (type_of known.now) }
 {
@@ -95,7 +96,7 @@ pub fn held_of(known: &CompleteType) -> &CompleteType
     }
 }
 
-/// The types of the fields, if it is a struct's.
+/// The types of the fields, if the type is a struct's.
 pub fn fields_in(known: &CompleteType) -> Option<&[CompleteType]>
     ensures { option_map (λ ts. types_of ts.now) result ≡ fields_in (type_of known.now) }
 {

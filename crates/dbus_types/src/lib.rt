@@ -1,7 +1,7 @@
-//! The types, values and messages of D-Bus (D-Bus Specification, "Type System", "Message Format"). A
-//! signature, an object path and a text were checked when they were made, and a message has a serial
+//! The types, values and messages of D-Bus (D-Bus Specification, "Type System", "Message Format").
+//! Signatures, object paths and texts are checked when they are made, and a message has a serial
 //! that isn't 0. Contracts see types and values as plain trees (`Ty` and `Val` of `specs/`), which
-//! say nothing of where they lie in memory.
+//! say nothing of where they are in memory.
 #![tactic(auto)]
 
 mod complete_type;
@@ -21,5 +21,5 @@ pub use object_path::ObjectPath;
 pub use signature::{Signature, SignatureFault};
 pub use value::{DictEntry, TypedArray, Value};
 
-/// No memory was left for a call. It is the one refusal that may come at any time.
+/// No memory was left for a call. This refusal alone may come at any time.
 pub type OutOfMemory = kr_base::OutOfMemory;

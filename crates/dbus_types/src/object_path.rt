@@ -7,8 +7,9 @@ use crate::OutOfMemory;
 use kr_base::Text;
 use std::marker::Model;
 
-/// The path of an object: `/`, or elements of `[A-Za-z0-9_]`, each not empty and each led by `/`
-/// (D-Bus Specification, "Marshaling", "Valid Object Paths"). A contract sees the list of its bytes.
+/// The path of an object: `/`, or elements of `[A-Za-z0-9_]`, each not empty and each after
+/// a `/` (D-Bus Specification, "Marshaling", "Valid Object Paths"). A contract sees the
+/// list of its bytes.
 #[derive(Drop)]
 pub struct ObjectPath {
     text: Text,
@@ -23,9 +24,9 @@ impl Model for ObjectPath {
 }
 
 impl ObjectPath {
-    /// The path that a text is. It takes no memory.
+    /// A text as an object path. It takes no memory.
     ///
-    /// None where the text is no object path.
+    /// None if the text isn't an object path.
     pub fn new(text: Text) -> Option<ObjectPath>
         ensures made { IfSome result (λ made. made ≡ text) }
         ensures path { IsSome result ↔ IsTrue (is_object_path text) }
@@ -36,7 +37,7 @@ impl ObjectPath {
         Some(ObjectPath { text })
     }
 
-    /// The path, lent as a string.
+    /// The path, borrowed as a string slice.
     pub fn as_str(&self) -> &str
         ensures value { result.now ≡ self.now }
         ensures path { IsTrue (is_object_path self.now) }
@@ -44,7 +45,7 @@ impl ObjectPath {
         self.text.as_str()
     }
 
-    /// The bytes of the path, lent.
+    /// The bytes of the path, borrowed.
     pub fn as_bytes(&self) -> &[u8]
         ensures value { result.now ≡ self.now }
         ensures path { IsTrue (is_object_path self.now) }
@@ -60,7 +61,7 @@ impl ObjectPath {
         self.text
     }
 
-    /// A second value of the same path, on the allocator of this one.
+    /// A copy of the path, with the same allocator.
     pub fn copy(&self) -> Result<ObjectPath, OutOfMemory>
         ensures { IfOk result (λ copied. copied ≡ self.now) }
     {
@@ -94,7 +95,7 @@ pub fn is_path(bytes: &[u8]) -> bool
     *first == b'/' && (rest.is_empty() || has_elements(rest))
 }
 
-// An element begins behind each slash, and none is empty.
+// An element begins after each slash, and none is empty.
 fn has_elements(bytes: &[u8]) -> bool
     ensures { result ≡ are_elements false bytes.now }
 {

@@ -12,9 +12,9 @@ use std::alloc::{AllocFailed, Global};
 pub enum SignatureFault {
     /// The text isn't a list of complete types.
     BadType,
-    /// Over 32 arrays, or over 32 structs, are open at once.
+    /// More than 32 arrays, or more than 32 structs, are open at once.
     TooDeep,
-    /// The text has over 255 bytes.
+    /// The text has more than 255 bytes.
     TooLong,
     /// No memory was left.
     OutOfMemory,
@@ -56,16 +56,17 @@ impl Signature {
 
     /// Reads a signature.
     ///
-    /// Refused with `TooLong` first, and else with the first fault from the left: `BadType` stands
-    /// at the first code that can't go on, or at the end of the text, and `TooDeep` at the code of
-    /// the array or struct that is one too many. And with `OutOfMemory`.
+    /// Refused with `TooLong` first, and otherwise with the first fault from the left: `BadType`
+    /// is at the first code that can't continue a signature, or at the end of the text, and
+    /// `TooDeep` at the code of the array or struct that is one too many. `OutOfMemory` comes if
+    /// no memory was left.
     pub fn parse(alloc: Global, text: &[u8]) -> Result<Signature, SignatureFault>
-        // What is read is spelled so, and what is spelled so is read.
+        // Types are read exactly if the text spells them.
         ensures found { IfOk result (λ made. text.now ≡ texts_of (types_in made)) }
         ensures only { (ts : Tys) → IsTrue (is_signature ts) → text.now ≡ texts_of ts
             → Reads types_in result (Ok ts) }
 
-        // Which fault it is.
+        // Which fault is returned.
         ensures exact { Reads types_in result (signature_at text.now) }
     {
         let types = read_signature(alloc, text)?;
@@ -81,7 +82,7 @@ impl Signature {
         }
     }
 
-    /// The types that the signature lists, lent.
+    /// The types that the signature lists, borrowed.
     pub fn types(&self) -> &[CompleteType]
         ensures value { types_of result.now ≡ types_in self.now }
         ensures checked { IsTrue (is_signature (types_in self.now)) }

@@ -10,9 +10,9 @@ use std::alloc::Global;
 /// What a type code begins.
 #[derive(Clone, Copy)]
 pub enum Lead {
-    /// A basic type, which is whole.
+    /// A basic type, which is complete.
     Basic(BasicType),
-    /// A variant, which is whole.
+    /// A variant, which is complete.
     Variant,
     /// An array.
     Array,
@@ -46,7 +46,8 @@ fn read_lead(code: u8) -> Lead
     }
 }
 
-// The place and depth are tests of a number, so a type that is read is never looked at again.
+// Whether a type may be here, and how deep it is, is checked while it is read, so a type that was
+// read is never looked at again.
 #[cycle(parser)]
 #[tactic(auto, unfolding(crate::specs::Signatures::type_at))]
 fn read_type(
@@ -158,7 +159,8 @@ fn read_struct(
     ensures shorter { IfOk result (λ x. length x.1.now < length codes.now) }
 {
     let (first, rest) = read_type(alloc, arrays, structs, codes)?;
-    // Room for one: what is given back of a larger piece stays unused between the pieces of others.
+    // Room for one: if a larger piece were shrunk later, the rest would stay unused
+    // between other pieces.
     let mut front = Vec::with_capacity(alloc, 1)?;
     front.push(first)?;
     let (fields, rest) = read_fields(alloc, arrays, structs, front, rest)?;
@@ -213,7 +215,7 @@ fn read_types(alloc: Global, codes: &[u8]) -> Result<Vec<CompleteType>, Signatur
     Ok(types)
 }
 
-/// The types of a text, or why it is no signature.
+/// The types of a text, or why it isn't a signature.
 #[tactic(auto, unfolding(crate::specs::Signatures::signature_at))]
 pub fn read_signature(alloc: Global, text: &[u8]) -> Result<Vec<CompleteType>, SignatureFault>
     ensures exact { Reads (λ x. types_of x.items) result (signature_at text.now) }

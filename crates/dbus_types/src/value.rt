@@ -12,14 +12,14 @@ use crate::signature::Signature;
 use kr_base::{Bytes, Text};
 use std::alloc::Global;
 
-/// A value (D-Bus Specification, "Type System"). Contracts see it as a `Val`, by `value_of`; signed
-/// numbers there are their bits.
+/// A value (D-Bus Specification, "Type System"). Contracts see it as a `Val`, by `value_of`, with
+/// signed numbers as their bits.
 ///
-/// An array has its elements' type once: what lies in an array is seen with that type, by `value_as`.
-/// So an array inside an array has none, and a struct of one field inside an array is its field. What
-/// doesn't fit into eight bytes lies in memory of its own, and two fields of a struct lie in one piece
-/// of memory: so a value takes 16 bytes. Structs are made by `structure` and read by `fields`, alike for
-/// each number of fields.
+/// An array has its elements' type once: what is in an array is seen with that type, by `value_as`.
+/// So an array inside an array has no type of its own, and a struct of one field inside an array is
+/// its field. What doesn't fit into eight bytes is in memory of its own, and two fields of a struct
+/// are in one piece of memory: so a value takes 16 bytes. Structs are made by `structure` and read
+/// by `fields`, in the same way for each number of fields.
 #[cycle(values)]
 #[derive(Drop)]
 pub enum Value {
@@ -39,9 +39,9 @@ pub enum Value {
     Int64(i64),
     /// `t`.
     Uint64(u64),
-    /// `d`, as the number that its eight bytes are. It is never computed with.
+    /// `d`, as the number made of its eight bytes. Nothing is computed with it.
     Double(u64),
-    /// `h`, the place of a file descriptor.
+    /// `h`, the index of a file descriptor.
     UnixFd(u32),
     /// `s`.
     String(Box<Text>),
@@ -51,11 +51,11 @@ pub enum Value {
     Signature(Box<Signature>),
     /// `v`, a value of any type.
     Variant(Box<Value>),
-    /// `a`, an array that isn't inside another one, of elements that are no bytes.
+    /// `a`, an array that isn't inside another one, of elements that aren't bytes.
     Array(Box<TypedArray>),
-    /// `a`, an array inside another one, which has the type of these elements.
+    /// `a`, an array inside another one, whose type is that of the elements of the outer one.
     InnerArray(Box<Vec<Value>>),
-    /// `ay`, bytes.
+    /// `ay`, an array of bytes.
     Bytes(Box<Bytes>),
     /// `(`, the fields, unless there are two.
     Struct(Box<Vec<Value>>),
@@ -114,7 +114,7 @@ impl Value {
         }
     }
 
-    /// A struct of these fields. Refused without memory.
+    /// A struct of these fields. Refused if no memory was left.
     pub fn structure(alloc: Global, fields: Vec<Value>) -> Result<Value, OutOfMemory>
         ensures { IfOk result (λ value. FieldsAre value (Some fields.items)) }
     {
@@ -200,7 +200,7 @@ fn two_of(pair: [Value; 2]) -> (Value, Value)
     (first, second)
 }
 
-// The fields that a struct's vector holds, which are never two.
+// The fields in a struct's vector, which are never two.
 fn unless_two(fields: &[Value]) -> &[Value]
     ensures { result.now ≡ if_not_two fields.now }
 {

@@ -28,8 +28,8 @@ impl Model for Derived {
 }
 
 /// Derives the key and the vector of a keyring file (GNOME keyring file format): SHA-256 of the
-/// password with the salt behind it, and again of each digest, `iterations` times in all. No
-/// iterations act as one. The password is any bytes. It takes no memory.
+/// password with the salt after it, and again of each digest, `iterations` times in all. Zero
+/// iterations count as one. The password may be any bytes. It takes no memory.
 #[tactic(auto, unfolding(crate::specs::Kdf::hashed))]
 pub fn derive(password: Bytes, salt: [u8; 8], iterations: u32) -> Derived
     ensures password { result.password ≡ password }
@@ -71,7 +71,7 @@ impl Derived {
         vector
     }
 
-    /// The password, lent.
+    /// The password, borrowed.
     pub fn password(&self) -> &Bytes
         ensures { result.now ≡ self.now.password }
     {
@@ -85,7 +85,7 @@ impl Derived {
         self.salt
     }
 
-    /// The iterations, as they were given.
+    /// The number of iterations that was passed to `derive`.
     pub fn iterations(&self) -> u32
         ensures { result ≡ self.now.iterations }
     {

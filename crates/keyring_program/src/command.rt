@@ -1,18 +1,18 @@
-// The words of the command line.
+// The arguments of the command line.
 ghost use Rattle.std.specs.Prelude.{◌≡◌, ℕ, MatchOption};
 ghost use Rattle.keyring_program.specs.Command.{is_plain, IsNumber, IsStdioIn, IsNoCommand};
 
 use itoa::Buffer;
 use kr_base::Text;
 
-/// Whether the word is no option: it doesn't begin with `-`, or is `-` alone.
+/// Whether the argument isn't an option: it doesn't begin with `-`, or is `-` alone.
 fn is_plain(word: &[u8]) -> bool
     ensures { result ≡ is_plain word.now }
 {
     !matches!(word, [b'-', _, ..])
 }
 
-/// The number of 32 bits that the text spells, in decimal digits with no sign and no leading zero.
+/// The number of 32 bits that the text spells, in decimal digits without a sign or a leading zero.
 fn number_of(text: &str) -> Option<u32>
     ensures { MatchOption result ((n : ℕ) → IsNumber n text.now → ⊥) (λ n. IsNumber n text.now) }
 {
@@ -29,8 +29,8 @@ fn number_of(text: &str) -> Option<u32>
     }
 }
 
-/// The folder of the command `stdio DIR UID`, and the user whom it lets in, by these words after the
-/// program's name. None where the words are no command.
+/// The folder of the command `stdio DIR UID`, and the user whom it lets in, from the arguments
+/// after the program's name. None if the arguments are invalid.
 pub fn stdio_words(words: &[Text]) -> Option<(&str, u32)>
     ensures { MatchOption result (IsNoCommand words.now)
         (λ command. IsStdioIn words.now command.0.now command.1) }

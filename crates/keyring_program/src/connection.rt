@@ -13,8 +13,8 @@ use service_history::Service;
 use std::alloc::AllocGlobal;
 use std::sync::Wait;
 
-/// Serves the client of this user to its end, as the only connection of a new service, on one thread.
-/// The seed determines the server's number and the salts.
+/// Serves this user's client to its end, as the only connection of a new service, on one thread. The
+/// seed determines the server's number and the salts.
 pub fn serve_client<R: AllocGlobal + Wait, I: Source, O: Sink, C: Clock>(
     rt: &R,
     uid: u32,

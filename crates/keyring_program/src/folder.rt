@@ -9,19 +9,19 @@ use folder_store::{LoadRefused, Loaded, load};
 use kr_outside::{Folder, Host, OutsideRefused};
 use std::alloc::Global;
 
-/// A folder, and what was loaded of it.
+/// A folder, and what was loaded from it.
 #[derive(Drop)]
 pub struct Held<F: Folder> {
     /// The folder.
     pub folder: F,
-    /// What was loaded of it.
+    /// What was loaded from it.
     pub loaded: Loaded<F::Cell>,
 }
 
 /// Opens the folder at this path, and loads it. The host is asked for no other folder.
 ///
-/// Refused with `Folder` where the host's count of faults rose, or the folder or one of its slots failed,
-/// and with `OutOfMemory`.
+/// Refused with `Folder` if the host's count of faults rose, or the folder or one of its slots
+/// failed, and with `OutOfMemory` if no memory was left.
 pub fn open_folder<H: Host>(
     alloc: Global,
     host: &mut H,
@@ -33,7 +33,7 @@ pub fn open_folder<H: Host>(
     ensures cause { IsErrOf result LoadRefused.Folder
         → Rose (H.faults host.old) (H.faults host.new) ⊎ ¬ (IsTrue (H.is_steady host.old)) }
 
-    // The host gave this folder and no other, and its clock is as it was.
+    // The host opened this folder and no other, and its clock is as it was.
     ensures given { OnOk result (GivesOne (H.given host.old) (H.given host.new)) }
     ensures one { GivesOneAtMost (H.given host.old) (H.given host.new) }
     ensures still { OnOk result (H.faults host.new ≡ H.faults host.old) }

@@ -1,5 +1,5 @@
-// What the definitions of a run say together. Each law is the contract of a function that does nothing
-// but call the laws that it rests on.
+// Laws of the definitions of a run. Each law is the contract of a function that does nothing except
+// call the laws on which it rests.
 ghost use Rattle.std.specs.Prelude.{◌≡◌, ◌++◌, ℕ, List};
 ghost use Rattle.std.specs.List.{concat};
 ghost use Rattle.dbus_auth.specs.Handshake.{Run};
@@ -13,9 +13,9 @@ ghost use Rattle.keyring_program.specs.Serves.{shaken};
 use call_wire::a_message_is_one_request;
 use connection_worker::each_request_is_answered_at_once;
 
-/// What is written of the calls that were read is determined by the bytes that were read, the user and
-/// the seed: runs over the same bytes that recorded each call of them write the same, whatever their
-/// moments were.
+/// What is written for the calls that were read is determined by the bytes that were read, the user
+/// and the seed: runs over the same bytes that recorded each call in them write the same, whatever
+/// their moments were.
 pub fn what_is_written_is_one()
     ensures { (uid : ℕ) (seed read rest left : List ℕ) (one other : List Asked)
         → AllServed (shaken uid seed read) one rest → AllServed (shaken uid seed read) other left
@@ -24,7 +24,7 @@ pub fn what_is_written_is_one()
     a_message_is_one_request();
 }
 
-/// What is written behind the handshake's answers is the reply to each request that wants one, in the
+/// What is written after the handshake's answers is the reply to each request that wants one, in the
 /// order of the requests, with serials from 1 on, and nothing else.
 pub fn each_request_has_its_reply()
     ensures { (run : Run) (asked : List Asked) → text_of run asked

@@ -1,4 +1,4 @@
-// The top call: from the words and the streams to the end.
+// The top call: from the arguments and the streams to the end.
 ghost use Rattle.std.specs.Prelude.{◌≡◌, ◌≤◌, ◌⊎◌, ◌↔◌, ℕ, IsTrue, List};
 ghost use Rattle.kr_outside.specs.Faults.{KeepsSteady, Rose, StandsStill};
 ghost use Rattle.kr_outside.specs.Host.{GivesOne, GivesOneAtMost};
@@ -19,17 +19,18 @@ use kr_outside::{Host, Sink, Source};
 use std::alloc::AllocGlobal;
 use std::sync::Wait;
 
-/// Runs the command of these words, which stand behind the program's name, over the input and the
+/// Runs the command of these arguments, which follow the program's name, over the input and the
 /// output, on this host. The seed determines all that is random: the server's number and the salts.
 ///
-/// `stdio DIR UID` opens and loads the folder DIR, holds it to the end, and serves the client of the user
-/// UID: the handshake, and each call with its reply. The clock is asked once for each call.
+/// `stdio DIR UID` opens and loads the folder DIR, keeps it open to the end, and serves the
+/// client of the user UID: the handshake, and each call with its reply. The clock is asked once
+/// for each call.
 ///
-/// Ends with `Usage` exactly where the words are no command; with `FolderFault` only where the
-/// host's count of faults rose, or what it gives may fail; with `Memory` where none is left before
-/// a byte is read; and else as `one_thread` of connection_worker says (its `HasCause` has a row for
-/// each end). All that was put out is written by then, but only a front of it where the end is
-/// `WriteFault` or `Memory`.
+/// Ends with `Usage` exactly if the arguments are invalid; with `FolderFault` only if the host's
+/// count of faults rose, or the folder that it opened may fail; with `Memory` if none is left
+/// before a byte is read; and otherwise as `one_thread` of connection_worker says (its `HasCause`
+/// has a row for each end). Everything that was put out is written by then, except that at
+/// `WriteFault` and `Memory` it may be only a prefix of it.
 pub fn run<R: AllocGlobal + Wait, I: Source, O: Sink, H: Host>(
     rt: &R,
     words: &[Text],
@@ -38,21 +39,21 @@ pub fn run<R: AllocGlobal + Wait, I: Source, O: Sink, H: Host>(
     host: &mut H,
     seed: [u8; 32],
 ) -> Status
-    // The words are looked at first: where they are no command, all is as it was. The folder comes
-    // next: until it is open nothing is read or written, and the clock isn't taken.
+    // The arguments are looked at first: if they are invalid, everything is as before. The folder
+    // comes next: until it is open nothing is read or written, and the clock isn't taken.
     ensures usage { (result ≡ Status.Usage) ↔ IsNoCommand words.now }
     ensures untouched { result ≡ Status.Usage
         → (input.new ≡ input.old) × (output.new ≡ output.old) × (host.new ≡ host.old) }
     ensures unserved { result ≡ Status.FolderFault → (input.new ≡ input.old)
         × (output.new ≡ output.old) × (H.coming host.new ≡ H.coming host.old) }
 
-    // The host gives one folder at most, and one exactly where the run had it; it has no fault then.
+    // The host opens one folder at most, and exactly one if the run had it; the host has no fault then.
     ensures one_folder { GivesOneAtMost (H.given host.old) (H.given host.new) }
     ensures had_folder { HadFolder result → GivesOne (H.given host.old) (H.given host.new)
         × (H.faults host.new ≡ H.faults host.old) }
 
-    // The folder is at fault only where the host's count rose, or what the host gave may fail. Else
-    // it is the folder of the words that was loaded.
+    // The folder is at fault only if the host's count rose, or if what the host opened may fail.
+    // Otherwise the folder named by the arguments was loaded.
     ensures folder_fault { result ≡ Status.FolderFault
         → Rose (H.faults host.old) (H.faults host.new) ⊎ ¬ (IsTrue (H.is_steady host.old)) }
     ensures opened { (folder : List ℕ) (uid : ℕ) (images : List ℕ → Image)
@@ -63,7 +64,7 @@ pub fn run<R: AllocGlobal + Wait, I: Source, O: Sink, H: Host>(
     ensures host_steady { KeepsSteady (H.is_steady host.old) (H.is_steady host.new)
         (H.faults host.old) (H.faults host.new) }
 
-    // What was read, recorded and written, and why the run ended so.
+    // What was read, recorded and written, and why the run ended as it did.
     ensures served { (uid : ℕ) → IsStdio words.now uid → (result ≡ Status.FolderFault)
         ⊎ Serves uid seed (H.coming host.old)
         (input_of I.left I.faults I.is_steady input.old)
@@ -72,7 +73,7 @@ pub fn run<R: AllocGlobal + Wait, I: Source, O: Sink, H: Host>(
         (output_of O.written O.faults O.is_steady output.new) result }
 
     // Over a host that never fails and streams that didn't, an open handshake and a stream of messages
-    // behind it are answered to their end.
+    // after it are answered to their end.
     ensures complete { (uid : ℕ) (bytes : List ℕ) → IsStdio words.now uid
         → IsWholeInput uid seed bytes → I.left input.old ≡ Some bytes
         → IsTrue (H.is_steady host.old)

@@ -1,12 +1,12 @@
-// The server's number, which its answer OK tells (D-Bus Specification, "Authentication Protocol").
+// The server's number, which its answer OK contains (D-Bus Specification, "Authentication Protocol").
 ghost use Rattle.std.specs.Prelude.{◌≡◌};
 ghost use Rattle.keyring_program.specs.ServerNumber.{first_words, guid};
 
 use connection_worker::Salts;
 use kr_base::ConnId;
 
-// The first four words of stream 0 under this key. Connections are numbered from 1 on, so that none has
-// its salts from this stream.
+// The first four words of stream 0 under this key. Connections are numbered from 1 on, so no connection
+// has its salts from this stream.
 fn first_words(seed: [u8; 32]) -> [u8; 16]
     ensures { result ≡ first_words seed }
 {

@@ -7,33 +7,33 @@ use dbus_auth::AuthFault;
 use dbus_framing::Violation;
 use std::fmt;
 
-/// How the program ended. It prints as what is told of it on standard error.
+/// How the program ended. It is displayed as the text that is printed on standard error.
 #[derive(Clone, Copy, Debug, PartialEq, Eq)]
 pub enum Status {
-    /// The input ended behind BEGIN with no part of a message left over, and all was answered.
+    /// The input ended between two messages, and every call was answered.
     Done,
-    /// The words are no command (docs/DECISIONS.md, "Words of the command line").
+    /// The arguments are invalid (docs/DECISIONS.md, "Words of the command line").
     Usage,
-    /// The input failed: its count of faults rose. All calls that came whole were answered.
+    /// The input failed: its count of faults rose. All calls that had arrived completely were answered.
     ReadFault,
-    /// The output failed: its count of faults rose. A front of what was put out is written.
+    /// The output failed: its count of faults rose. A prefix of the output was written.
     WriteFault,
     /// The folder couldn't be opened, or it or a file of it failed while it was loaded.
     FolderFault,
-    /// A message breaks a rule, or isn't whole at the end (D-Bus Specification, "Message Format").
+    /// A message breaks a rule, or isn't complete at the end (D-Bus Specification, "Message Format").
     Violation(Violation),
     /// The handshake was refused, or ended early (D-Bus Specification, "Authentication Protocol").
     AuthRefused(AuthFault),
-    /// No memory was left. A front of what was put out is written.
+    /// No memory was left. A prefix of the output was written.
     Memory,
-    /// The service has had all the events that it can count (`most_events` of service_machine).
+    /// The service has recorded as many events as it can count (`most_events` of service_machine).
     EventsSpent,
 }
 
 impl Status {
     ghost use Rattle.keyring_program.specs.Status.{number_of};
 
-    /// The status of a run whose connection, the only one of its service, ended so.
+    /// The status of a run whose connection, the only one of its service, ended in this way.
     pub fn of_end(end: End) -> Status
         requires { IsOnlyEnd end }
         ensures { result ≡ status_of end }
@@ -50,7 +50,7 @@ impl Status {
         }
     }
 
-    /// The number with which the process ends.
+    /// The exit number of the process.
     pub fn number(self) -> u8
         ensures { result ≡ number_of self }
     {

@@ -1,4 +1,4 @@
-// The words that the program is given.
+// The arguments of the program.
 ghost use Rattle.std.specs.Prelude.{◌≡◌, ◌⊎◌, IfErr};
 
 use crate::status::Status;
@@ -7,9 +7,10 @@ use std::alloc::AllocGlobal;
 use std::env::{self, Env};
 use std::io::ErrorKind;
 
-/// The words after the program's name.
+/// The arguments after the program's name.
 ///
-/// Refused with `Usage` where one of them isn't UTF-8 or contains a zero byte, and with `Memory`.
+/// Refused with `Usage` if one of them isn't UTF-8 or contains a zero byte, and with `Memory` if no
+/// memory was left.
 pub fn words_of<R: AllocGlobal + Env>(rt: &R) -> Result<Vec<Text>, Status>
     ensures refused { IfErr result (λ status.
         (status ≡ Status.Usage) ⊎ (status ≡ Status.Memory)) }

@@ -10,8 +10,8 @@ use crate::content::{Content, known_content};
 use key_derivation::Derived;
 use keyring_file::{a_file_that_is_spelled_so_is_read, an_area_that_is_spelled_so_is_read};
 
-/// A law that the contract states: a file of a content opens to that content, and so to no other. The
-/// call does nothing.
+/// A law, stated by the contract: a file of a content opens to that content, and so to no other
+/// one. The call does nothing.
 pub fn a_file_of_a_content_opens_to_it()
     ensures { FilesOpen }
 {
@@ -19,9 +19,9 @@ pub fn a_file_of_a_content_opens_to_it()
     an_area_that_is_spelled_so_is_read();
 }
 
-/// Two laws that the contract states, of every content that can be sealed, key and vector: where the
-/// sealed file is no larger than a file may be, it is a file of the content as it is arranged, and opens
-/// to that. The call does nothing.
+/// Two laws, stated by the contract, of every content that can be sealed, every key and every
+/// vector: if the sealed file is no larger than a file may be, it is a file of the content as it is
+/// arranged, and opens to that. The call does nothing.
 pub fn what_is_sealed_opens()
     ensures file { SealedAreFiles }
     ensures opens { SealedOpen }
@@ -29,16 +29,16 @@ pub fn what_is_sealed_opens()
     a_file_of_a_content_opens_to_it();
 }
 
-/// Laws that the contract states: a content is arranged to the same items by rising numbers, with the
-/// hashes of their attributes, there is no other such content, and what was arranged stays as it is. The
-/// call does nothing.
+/// Laws, stated by the contract: a content is arranged to the same items by rising numbers, with
+/// the hashes of their attributes; there is no other such content; and arranging it again changes
+/// nothing. The call does nothing.
 pub fn what_is_arranged_rises()
     ensures same { ArrangedAreArrangements }
     ensures only { ArrangedAlone }
     ensures stays { ArrangedStay }
 {}
 
-/// A law that the contract states: where two contents are equal but for the value of one item, which
+/// A law, stated by the contract: if two contents are equal except for the value of one item, which
 /// is as long in both, a reader of their sealed files who doesn't know the key sees files of one
 /// length with one clear part. The call does nothing but read the two.
 pub fn same_shape(one: &Content, two: &Content, key: &Derived)

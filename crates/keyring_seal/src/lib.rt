@@ -1,8 +1,8 @@
-//! Whole keyring files (GNOME keyring file format) under a key that was derived from a password: a file
-//! is opened to its content, or to the one fault that comes first, and a content is sealed to the one
-//! canonical file. Callers may rely on these: opening is a function of the bytes and the key, what was
-//! sealed opens to the same content with its items by rising number and the hashes of their attributes,
-//! and a file that would be too large is refused before anything is built.
+//! Whole keyring files (GNOME keyring file format) under a key that was derived from a password: a
+//! file is opened to its content, or to the first fault in it, and a content is sealed to its one
+//! canonical file. Callers may rely on these: opening is a function of the bytes and the key, what
+//! was sealed opens to the same content with its items by rising number and the hashes of their
+//! attributes, and a file that would be too large is refused before anything is built.
 #![tactic(auto)]
 
 mod content;

@@ -22,13 +22,13 @@ use std::alloc::Global;
 /// What is wrong with a file under a key: the first fault from the left.
 #[derive(Clone, Copy, Drop, PartialEq, Eq)]
 pub enum OpenFault {
-    /// The clear part, or the length of the area, isn't as it should be.
+    /// The clear part, or the length of the area, is invalid.
     Clear(ClearFault),
-    /// The decrypted area isn't as it should be. A wrong key shows as `CheckDiffers`.
+    /// The decrypted area is invalid. A wrong key leads to `CheckDiffers`.
     Area(AreaFault),
 }
 
-/// The blocks, decrypted under the key in a copy.
+/// A copy of the blocks, decrypted under the key.
 fn decrypted_copy(alloc: Global, blocks: &[u8], key: &Derived) -> Result<Vec<u8>, OutOfMemory>
     requires { length blocks.now % 16 ≡ 0 }
     ensures { IfOk result (λ area. area.items
@@ -72,23 +72,23 @@ fn content_of(alloc: Global, file: &[u8], key: &Derived) -> Result<Content, Read
 
 /// The content of a whole file under a key (GNOME keyring file format).
 ///
-/// A file is refused with the first fault from the left: those of the clear part and of the length of
-/// the area come first, then `CheckDiffers`, which is what a wrong key gives, then the other faults of
-/// the area. The area is decrypted in one copy, beside the file and the content.
+/// A file is refused with the first fault from the left: those of the clear part and of the length
+/// of the area come first, then `CheckDiffers`, to which a wrong key leads, then the other faults
+/// of the area. The area is decrypted in one copy, in addition to the file and the content.
 pub fn open_file(
     alloc: Global,
     file: &[u8],
     key: &Derived,
 ) -> Result<Content, ReadRefused<OpenFault>>
-    // What is opened is what the file is a file of.
+    // The result is the content that this file encodes.
     ensures found { IfOk result (IsFileOf file.now (key_of key.now) (vector_of key.now)) }
-    // What the file is a file of is opened, unless memory runs out.
+    // A content that the file encodes is returned, unless memory runs out.
     ensures only { (content : Whole)
         → IsFileOf file.now (key_of key.now) (vector_of key.now) content
         → Gives (λ opened. opened) result (Ok content) }
-    // It can be sealed again.
+    // The content can be sealed again.
     ensures sealable { IfOk result IsSealable }
-    // Which fault it is.
+    // Which fault is returned.
     ensures exact { Gives (λ content. content) result
         (opened file.now (key_of key.now) (vector_of key.now)) }
 {

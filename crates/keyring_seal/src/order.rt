@@ -9,7 +9,7 @@ use kr_base::OutOfMemory;
 use std::alloc::Global;
 use std::collections::BTreeMap;
 
-/// Whether each number is below the next one.
+/// Whether each number is less than the next one.
 fn is_rising(clear: &[ClearItem]) -> bool
     ensures { IsTrue result
         ↔ IsStrictlyIncreasing (map (λ item. item.id.0) clear.now) }
@@ -22,7 +22,7 @@ fn is_rising(clear: &[ClearItem]) -> bool
     true
 }
 
-/// The items as they stand, each as both parts tell it.
+/// The items in the given order, each as both parts have it.
 fn as_they_stand<'a>(
     alloc: Global,
     clear: &'a [ClearItem],
@@ -41,8 +41,8 @@ fn as_they_stand<'a>(
     Ok(rows)
 }
 
-/// The items by rising number, each as both parts tell it. Where they stand so, they are taken as they
-/// stand.
+/// The items by rising number, each as both parts have it. If they are in that order already,
+/// they aren't sorted.
 pub fn in_order<'a>(
     alloc: Global,
     clear: &'a [ClearItem],

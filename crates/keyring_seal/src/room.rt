@@ -1,5 +1,5 @@
-// How much room the bytes of a file take, of the room that it may have. Each function answers what is
-// left of the room, or None where there isn't that much.
+// How much of the room that a file may have its parts take. Each function returns what is left of
+// the room, or None if there isn't enough.
 
 ghost use Rattle.std.specs.Prelude.{◌≡◌, ◌+◌, length};
 ghost use Rattle.attribute_hash.specs.Hash.{hashes, pair_hash, value_hash};
@@ -11,14 +11,14 @@ use crate::content::Content;
 use keyring_file::{Access, Clear, ClearItem, FullItem};
 use kr_base::{AttrValue, Attributes, Text};
 
-/// What is left behind a string.
+/// What is left after a string.
 fn string_room(room: usize, len: usize) -> Option<usize>
     ensures { Takes room (4 + len) result }
 {
     room.checked_sub(4)?.checked_sub(len)
 }
 
-/// What is left behind a value with its kind.
+/// What is left after a value with its kind.
 #[tactic(auto, using(crate::proofs::RoomLemmas::sizes))]
 fn value_room(room: usize, value: &AttrValue) -> Option<usize>
     ensures { Takes room (length (value_text value.now)) result }
@@ -29,7 +29,7 @@ fn value_room(room: usize, value: &AttrValue) -> Option<usize>
     }
 }
 
-/// What is left behind a hashed value with its kind. The hash of a text has 32 bytes.
+/// What is left after a hashed value with its kind. The hash of a text has 32 bytes.
 #[tactic(auto, using(crate::proofs::RoomLemmas::sizes))]
 fn hash_room(room: usize, value: &AttrValue) -> Option<usize>
     ensures { Takes room (length (hashed_text (value_hash value.now))) result }
@@ -40,7 +40,7 @@ fn hash_room(room: usize, value: &AttrValue) -> Option<usize>
     }
 }
 
-/// What is left behind an attribute in the area.
+/// What is left after an attribute in the area.
 #[tactic(auto, using(crate::proofs::RoomLemmas::sizes))]
 fn attribute_room(room: usize, pair: &(Text, AttrValue)) -> Option<usize>
     ensures { Takes room (length (attribute_text pair.now)) result }
@@ -49,7 +49,7 @@ fn attribute_room(room: usize, pair: &(Text, AttrValue)) -> Option<usize>
     value_room(room, &pair.1)
 }
 
-/// What is left behind an attribute in the clear part.
+/// What is left after an attribute in the clear part.
 #[tactic(auto, using(crate::proofs::RoomLemmas::sizes))]
 fn hashed_room(room: usize, pair: &(Text, AttrValue)) -> Option<usize>
     ensures { Takes room (length (pair_text (pair_hash pair.now))) result }
@@ -58,7 +58,7 @@ fn hashed_room(room: usize, pair: &(Text, AttrValue)) -> Option<usize>
     hash_room(room, &pair.1)
 }
 
-/// What is left behind the attributes of an item in the area.
+/// What is left after the attributes of an item in the area.
 #[tactic(auto, using(crate::proofs::RoomLemmas::sizes))]
 fn attributes_room(room: usize, attributes: &Attributes) -> Option<usize>
     ensures { Takes room (length (list_text attribute_text attributes.now)) result }
@@ -70,7 +70,7 @@ fn attributes_room(room: usize, attributes: &Attributes) -> Option<usize>
     Some(left)
 }
 
-/// What is left behind the attributes of an item in the clear part.
+/// What is left after the attributes of an item in the clear part.
 #[tactic(auto, using(crate::proofs::RoomLemmas::sizes))]
 fn hashes_room(room: usize, attributes: &Attributes) -> Option<usize>
     ensures { Takes room (length (list_text pair_text (hashes attributes.now))) result }
@@ -82,7 +82,7 @@ fn hashes_room(room: usize, attributes: &Attributes) -> Option<usize>
     Some(left)
 }
 
-/// What is left behind an access entry.
+/// What is left after an access entry.
 #[tactic(auto, using(crate::proofs::RoomLemmas::sizes))]
 fn entry_room(room: usize, entry: &Access) -> Option<usize>
     ensures { Takes room (length (access_text entry.now)) result }
@@ -92,7 +92,7 @@ fn entry_room(room: usize, entry: &Access) -> Option<usize>
     string_room(room, entry.path.as_bytes().len())?.checked_sub(8)
 }
 
-/// What is left behind the access entries of an item.
+/// What is left after the access entries of an item.
 #[tactic(auto, using(crate::proofs::RoomLemmas::sizes))]
 fn access_room(room: usize, entries: &[Access]) -> Option<usize>
     ensures { Takes room (length (list_text access_text entries.now)) result }
@@ -104,7 +104,7 @@ fn access_room(room: usize, entries: &[Access]) -> Option<usize>
     Some(left)
 }
 
-/// What is left behind an item in the area.
+/// What is left after an item in the area.
 #[tactic(auto, using(crate::proofs::RoomLemmas::sizes))]
 fn item_room(room: usize, item: &FullItem) -> Option<usize>
     ensures { Takes room (length (item_text item.now)) result }
@@ -115,7 +115,7 @@ fn item_room(room: usize, item: &FullItem) -> Option<usize>
     access_room(room, item.access.as_slice())
 }
 
-/// What is left behind the items in the area.
+/// What is left after the items in the area.
 fn items_room(room: usize, items: &[FullItem]) -> Option<usize>
     ensures { Takes room (length (flat_map item_text items.now)) result }
 {
@@ -126,7 +126,7 @@ fn items_room(room: usize, items: &[FullItem]) -> Option<usize>
     Some(left)
 }
 
-/// What is left behind the content type of an item, which version 0.0 leaves out.
+/// What is left after the content type of an item, which version 0.0 leaves out.
 #[tactic(auto, using(crate::proofs::RoomLemmas::sizes))]
 fn content_room(room: usize, minor: u8, content: &Text) -> Option<usize>
     ensures { Takes room (length (content_text minor content.now)) result }
@@ -138,7 +138,7 @@ fn content_room(room: usize, minor: u8, content: &Text) -> Option<usize>
     }
 }
 
-/// What is left behind an item in the clear part, with the hashes of its attributes.
+/// What is left after an item in the clear part, with the hashes of its attributes.
 #[tactic(auto, using(crate::proofs::RoomLemmas::sizes))]
 fn clear_item_room(room: usize, minor: u8, clear_item: &ClearItem, item: &FullItem) -> Option<usize>
     ensures { Takes room (length (row_text minor (clear_item.now, item.now))) result }
@@ -147,7 +147,7 @@ fn clear_item_room(room: usize, minor: u8, clear_item: &ClearItem, item: &FullIt
     content_room(room, minor, &clear_item.content)
 }
 
-/// What is left behind the items in the clear part.
+/// What is left after the items in the clear part.
 fn clear_items_room(
     room: usize,
     minor: u8,
@@ -164,14 +164,14 @@ fn clear_items_room(
     Some(left)
 }
 
-/// What is left behind the salt.
+/// What is left after the salt.
 fn salt_room(room: usize, salt: &[u8; 8]) -> Option<usize>
     ensures { Takes room (length salt.now) result }
 {
     room.checked_sub(salt.len())
 }
 
-/// What is left behind the clear part but for its items.
+/// What is left after the clear part without its items.
 #[tactic(auto, using(crate::proofs::RoomLemmas::sizes))]
 fn front_room(room: usize, clear: &Clear) -> Option<usize>
     ensures { Takes room (length (front_text clear.now) + 8) result }
@@ -180,15 +180,15 @@ fn front_room(room: usize, clear: &Clear) -> Option<usize>
     string_room(room, clear.name.as_bytes().len())?.checked_sub(72)
 }
 
-/// What is left behind the check of an area and its padding, where its items have so many bytes.
+/// What is left after the check of an area and its padding, if its items have `items` bytes.
 fn ending_room(room: usize, items: usize) -> Option<usize>
     ensures { Takes room (16 + padding items) result }
 {
     room.checked_sub(16 + (16 - items % 16) % 16)
 }
 
-/// How many bytes the area and the whole file of a content have. None where the file has more than there
-/// is room.
+/// The number of bytes of the area and of the whole file of a content. None if the file has more
+/// bytes than there is room for.
 #[tactic(auto, using(crate::proofs::RoomLemmas::sizes))]
 pub fn sizes(room: usize, content: &Content) -> Option<(usize, usize)>
     requires { length content.now.items ≡ length content.now.clear.items }
@@ -203,7 +203,7 @@ pub fn sizes(room: usize, content: &Content) -> Option<(usize, usize)>
     Some((behind_clear - end, room - end))
 }
 
-/// What is left behind the rows in the clear part.
+/// What is left after the rows in the clear part.
 fn clear_rows_room(room: usize, minor: u8, rows: &[(&ClearItem, &FullItem)]) -> Option<usize>
     ensures { Takes room
         (length (flat_map (λ row. row_text minor (row.0.now, row.1.now)) rows.now)) result }
@@ -215,7 +215,7 @@ fn clear_rows_room(room: usize, minor: u8, rows: &[(&ClearItem, &FullItem)]) -> 
     Some(left)
 }
 
-/// What is left behind the rows in the area.
+/// What is left after the rows in the area.
 fn full_rows_room(room: usize, rows: &[(&ClearItem, &FullItem)]) -> Option<usize>
     ensures { Takes room (length (flat_map (λ row. item_text row.1.now) rows.now)) result }
 {
@@ -226,8 +226,8 @@ fn full_rows_room(room: usize, rows: &[(&ClearItem, &FullItem)]) -> Option<usize
     Some(left)
 }
 
-/// How many bytes the area and the whole file of a front and rows have. None where the file has more than
-/// there is room.
+/// The number of bytes of the area and of the whole file of a front and rows. None if the file has
+/// more bytes than there is room for.
 #[tactic(auto, using(crate::proofs::RoomLemmas::sizes))]
 pub fn row_sizes(
     room: usize,

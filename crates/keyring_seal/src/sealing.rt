@@ -35,7 +35,7 @@ pub enum SealRefused {
     OutOfMemory,
 }
 
-/// The area of the items, encrypted under the key and the vector, in room for so many bytes.
+/// The area of the items, encrypted under the key and the vector. `room` is its length.
 fn encrypted_area(
     alloc: Global,
     room: usize,
@@ -54,7 +54,7 @@ fn encrypted_area(
     Ok(area)
 }
 
-/// The file of a content, given the length of its area and that of the whole file.
+/// The file of a content, given the lengths of its area and of the whole file.
 fn content_file(
     alloc: Global,
     content: &Content,
@@ -99,12 +99,13 @@ fn content_sealed(
     }
 }
 
-/// The file of a content under a key. Its items stand by rising number, with the hashes of their own
-/// attributes; salt, key and vector are the ones that are given.
+/// The file of a content under a key. Its items are by rising number, with the hashes of their own
+/// attributes; salt, key and vector are the given ones.
 ///
-/// Refused with `TooLarge` exactly where the file would have more than 67,108,864 bytes; that is
-/// measured before anything is built, so want of memory never comes in its place. Beside the content,
-/// memory is taken for the file, for the encrypted area, and for the order of the items.
+/// Refused with `TooLarge` exactly if the file would have more than 67,108,864 bytes; that
+/// is measured before anything is built, so lack of memory never comes in its place. In
+/// addition to the content, memory is taken for the file, for the encrypted area, and for
+/// the order of the items.
 pub fn seal(alloc: Global, content: &Content, key: &Derived) -> Result<Vec<u8>, SealRefused>
     requires { IsSealable content.now }
     ensures sealed { IfOk result (λ file. file.items
@@ -114,7 +115,7 @@ pub fn seal(alloc: Global, content: &Content, key: &Derived) -> Result<Vec<u8>, 
     ensures opens { IfOk result (λ file.
         opened file.items (key_of key.now) (vector_of key.now) ≡ Ok (arranged content.now)) }
 
-    // It is refused exactly where the file would be too large.
+    // It is refused exactly if the file would be too large.
     ensures fits { OnOk result
         (length (sealed content.now (key_of key.now) (vector_of key.now)) ≤ most_bytes) }
     ensures too_large { IsErrOf result SealRefused.TooLarge
@@ -128,7 +129,7 @@ pub fn seal(alloc: Global, content: &Content, key: &Derived) -> Result<Vec<u8>, 
     content_sealed(alloc, content, key.key(), key.vector())
 }
 
-/// What the types of rows that are lent keep of their values. The call does nothing but read them.
+/// What the types of borrowed rows guarantee of their values. The call does nothing but read them.
 fn known_rows(rows: &[(&ClearItem, &FullItem)])
     ensures { AllByRecursion IsKnownLent rows.now }
 {
@@ -138,7 +139,7 @@ fn known_rows(rows: &[(&ClearItem, &FullItem)])
     }
 }
 
-/// The file of a front and borrowed rows, given the length of its area and that of the whole file.
+/// The file of a front and borrowed rows, given the lengths of its area and of the whole file.
 fn rows_file(
     alloc: Global,
     front: &Clear,
@@ -195,7 +196,7 @@ fn rows_sealed(
 /// content, and it opens to just this content. The rows are in order of their numbers and have the hashes
 /// of their own attributes, which the caller keeps; the items of the front are ignored.
 ///
-/// Refused with `TooLarge` exactly where the file would have more bytes than there is room, or more than
+/// Refused with `TooLarge` exactly if the file would have more bytes than there is room, or more than
 /// 67,108,864; that is measured before anything is built. Items are copied only into the file.
 pub fn seal_rows(
     alloc: Global,
@@ -215,7 +216,7 @@ pub fn seal_rows(
     ensures opens { IfOk result (λ file.
         opened file.items key vector ≡ Ok (of_lent front.now rows.now)) }
 
-    // It is refused exactly where the file would be too large.
+    // It is refused exactly if the file would be too large.
     ensures fits { OnOk result
         (length (sealed (of_lent front.now rows.now) key vector) ≤ min room most_bytes) }
     ensures too_large { IsErrOf result SealRefused.TooLarge

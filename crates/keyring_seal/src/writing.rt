@@ -1,5 +1,5 @@
-// The items of a content are written as they are lent, in the order that the caller gives, each with the
-// hashes of its own attributes. Nothing is copied but into the file.
+// The items of a content are written as they are borrowed, in the order that the caller chooses,
+// each with the hashes of its own attributes. Nothing is copied except into the file.
 
 ghost use Rattle.std.specs.Prelude.{◌≡◌, ◌<◌, ◌^◌, [], ◌++◌, length, map, OnOk};
 ghost use Rattle.std.specs.List.{AllByRecursion, flat_map};

@@ -6,20 +6,20 @@ use std::alloc::{AllocError, AllocFailed};
 /// What may be wrong with the fields of a keyring file.
 #[derive(Clone, Copy, PartialEq, Eq)]
 pub enum FieldFault {
-    /// A field passes the end.
+    /// A field goes past the end.
     Short,
-    /// A text isn't UTF-8, or holds a zero byte.
+    /// A text isn't UTF-8, or contains a zero byte.
     BadText,
     /// A kind is neither 0 nor 1.
     BadKind,
-    /// A name stands twice among the attributes of one item.
+    /// A name occurs twice among the attributes of one item.
     DuplicateName,
 }
 
-/// Why bytes weren't read: the first fault from the left, or want of memory.
+/// Why bytes weren't read: the first fault from the left, or lack of memory.
 #[derive(Clone, Copy, Drop, PartialEq, Eq)]
 pub enum ReadRefused<F> {
-    /// The fault that was met.
+    /// The fault that was found.
     Fault(F),
     /// No memory was left.
     OutOfMemory,

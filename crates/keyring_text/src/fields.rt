@@ -7,12 +7,12 @@ use crate::{FieldFault, ReadRefused};
 use kr_base::{Bytes, OutOfMemory, Text};
 use std::alloc::Global;
 
-/// A law that the contract states: what the type of bytes keeps. The call does nothing.
+/// A law, stated by the contract: what the type of bytes guarantees. The call does nothing.
 pub fn known_bytes(_bytes: &[u8])
     ensures { IsBytes _bytes.now }
 {}
 
-/// So many bytes, and those behind them. `Short` where fewer are there.
+/// The next `len` bytes, and those after them. `Short` if there are fewer.
 pub fn span_at(bytes: &[u8], len: usize) -> Result<(&[u8], &[u8]), ReadRefused<FieldFault>>
     ensures read { Gives (λ x. (x.0.now, x.1.now)) result (reading.span_at len bytes.now) }
     ensures length { IfOk result (λ x. length x.0.now ≡ len) }
@@ -23,7 +23,7 @@ pub fn span_at(bytes: &[u8], len: usize) -> Result<(&[u8], &[u8]), ReadRefused<F
     Ok(bytes.split_at(len))
 }
 
-/// A number, and the bytes behind it. `Short` where fewer than four bytes are there.
+/// A number, and the bytes after it. `Short` if there are fewer than four bytes.
 #[tactic(auto, unfolding(crate::specs::Reading::number_at, crate::specs::Fields::number_of))]
 pub fn number_at(bytes: &[u8]) -> Result<(u32, &[u8]), ReadRefused<FieldFault>>
     ensures { Gives (λ x. (x.0, x.1.now)) result (reading.number_at bytes.now) }
@@ -36,7 +36,7 @@ pub fn number_at(bytes: &[u8]) -> Result<(u32, &[u8]), ReadRefused<FieldFault>>
     Ok((number, rest))
 }
 
-/// A time in seconds since 1970, and the bytes behind it. `Short` where fewer than eight bytes are there.
+/// A time in seconds since 1970, and the bytes after it. `Short` if there are fewer than eight bytes.
 #[tactic(auto, unfolding(crate::specs::Reading::time_at, crate::specs::Fields::time_of))]
 pub fn time_at(bytes: &[u8]) -> Result<(u64, &[u8]), ReadRefused<FieldFault>>
     ensures { Gives (λ x. (x.0, x.1.now)) result (reading.time_at bytes.now) }
@@ -51,7 +51,7 @@ pub fn time_at(bytes: &[u8]) -> Result<(u64, &[u8]), ReadRefused<FieldFault>>
     Ok((seconds, rest))
 }
 
-/// The bytes of a string, lent, and those behind it. None is read as no bytes.
+/// The bytes of a string, borrowed, and those after it. An absent string is read as no bytes.
 #[tactic(auto, unfolding(crate::specs::Reading::string_at))]
 pub fn slice_at(bytes: &[u8]) -> Result<(&[u8], &[u8]), ReadRefused<FieldFault>>
     ensures { Gives (λ x. (x.0.now, x.1.now)) result (reading.string_at bytes.now) }
@@ -63,7 +63,7 @@ pub fn slice_at(bytes: &[u8]) -> Result<(&[u8], &[u8]), ReadRefused<FieldFault>>
     span_at(rest, len as usize)
 }
 
-/// A string of any bytes, and the bytes behind it.
+/// A string of any bytes, and the bytes after it.
 pub fn string_at(alloc: Global, bytes: &[u8]) -> Result<(Bytes, &[u8]), ReadRefused<FieldFault>>
     ensures { Gives (λ x. (x.0, x.1.now)) result (reading.string_at bytes.now) }
 {
@@ -71,8 +71,8 @@ pub fn string_at(alloc: Global, bytes: &[u8]) -> Result<(Bytes, &[u8]), ReadRefu
     Ok((Bytes::from_slice(alloc, found)?, rest))
 }
 
-/// The text that the bytes are, copied. None where they aren't UTF-8 or hold a zero byte; no memory is
-/// taken then.
+/// A copy of the bytes as a text. None if they aren't UTF-8 or contain a zero byte; no memory
+/// is taken then.
 #[tactic(auto, unfolding(crate::specs::Reading::is_text))]
 fn text_of(alloc: Global, bytes: &[u8]) -> Result<Option<Text>, OutOfMemory>
     ensures { IfOk result (λ t. t ≡ (if is_text bytes.now then Some bytes.now else None)) }
@@ -83,8 +83,8 @@ fn text_of(alloc: Global, bytes: &[u8]) -> Result<Option<Text>, OutOfMemory>
     }
 }
 
-/// A text, its bytes as they lie in the file, and the bytes behind it. `BadText` where the string is
-/// there and is no text.
+/// A text, its bytes as they are in the file, and the bytes after it. `BadText` if the string is
+/// complete but isn't a text.
 #[tactic(auto, unfolding(crate::specs::Reading::text_at))]
 pub fn name_at(alloc: Global, bytes: &[u8]) -> Result<(Text, &[u8], &[u8]), ReadRefused<FieldFault>>
     ensures text { Gives (λ x. (x.0, x.2.now)) result (reading.text_at bytes.now) }
@@ -97,7 +97,7 @@ pub fn name_at(alloc: Global, bytes: &[u8]) -> Result<(Text, &[u8], &[u8]), Read
     }
 }
 
-/// A text, and the bytes behind it. `BadText` where the string is there and is no text.
+/// A text, and the bytes after it. `BadText` if the string is complete but isn't a text.
 pub fn text_at(alloc: Global, bytes: &[u8]) -> Result<(Text, &[u8]), ReadRefused<FieldFault>>
     ensures { Gives (λ x. (x.0, x.1.now)) result (reading.text_at bytes.now) }
 {

@@ -1,9 +1,9 @@
-//! The fields of keyring files (GNOME keyring file format): numbers, times, strings and texts are read
-//! from the left and written. A reader answers the value and the bytes behind it, or the first fault;
-//! its one clause says that it gives what a function on lists gives (`specs/Reading.antt`). That
-//! function is tied to the forms as sets of whole texts (`specs/Fields.antt`, `specs/Forms.antt`) by laws
-//! in both directions. Callers may rely on these: the readers that are given no allocator take no memory,
-//! and `slice_at` lends a string where it lies.
+//! The fields of keyring files (GNOME keyring file format): numbers, times, strings and texts are
+//! read from the left and written. A reader returns the value and the bytes after it, or the first
+//! fault; its one clause says that it returns what a function on lists does (`specs/Reading.antt`).
+//! Laws in both directions tie that function to the forms as sets of whole texts
+//! (`specs/Fields.antt`, `specs/Forms.antt`). Callers may rely on these: readers without an
+//! allocator among their arguments take no memory, and `slice_at` borrows a string in place.
 #![tactic(auto)]
 
 mod fault;

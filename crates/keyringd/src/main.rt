@@ -3,8 +3,8 @@
 //! folder, and serves one client on its standard streams: the handshake, and the calls Ping, OpenSession
 //! and Close.
 //!
-//! All that it does is `run` of keyring_program, a function of its words, its streams, its host and a
-//! seed. Here are only the real streams and the real host, and the code with which the process ends:
+//! All that it does is `run` of keyring_program, a function of its arguments, its streams, its host
+//! and a seed. Here are only the real streams and the real host, and the exit code of the process:
 //! the number of the run's status.
 #![tactic(auto)]
 
@@ -16,13 +16,13 @@ use keyring_program::{Status, run, words_of};
 use real_edges::{ReaderSource, RealHost, WriterSink};
 use std::process::ExitCode;
 
-/// The code with which a process ends that came to this status. Prints the text of any status but
+/// The exit code of a process that ended with this status. Prints the text of any status except
 /// `Done` on standard error.
 fn ended(rt: &HostRuntime, status: Status) -> ExitCode
     ensures number { exit_status result ≡ number_of status }
 {
     if status != Status::Done {
-        // There is nobody to tell where standard error fails too.
+        // If standard error fails too, there is nobody to tell.
         let _ = eprintln!(rt; "keyringd: {status}");
     }
     ExitCode::from(status.number())

@@ -11,17 +11,17 @@ use std::alloc::Global;
 use std::collections::BTreeMap;
 use std::marker::Model;
 
-/// The value of an attribute. A call gives texts alone; a keyring file may hold numbers too.
+/// The value of an attribute. A call has only texts; a keyring file may contain numbers too.
 #[derive(Drop, PartialEq, Eq, PartialOrd, Ord)]
 pub enum AttrValue {
-    /// A text, as a call gives it.
+    /// A text, as in a call.
     Text(Text),
-    /// A number, as a file may hold it.
+    /// A number, as a file may contain.
     Number(u32),
 }
 
 impl AttrValue {
-    /// A second value of the same.
+    /// A copy of the value.
     pub fn copy(&self) -> Result<AttrValue, OutOfMemory>
         ensures { IfOk result (λ copied. copied ≡ self.now) }
     {
@@ -34,7 +34,7 @@ impl AttrValue {
 
 /// The attributes of an item, or those that a search wants (Secret Service API, "Lookup
 /// Attributes"). A contract sees the list of names with their values, in byte order of names; no
-/// name stands twice.
+/// name occurs twice.
 #[derive(Drop)]
 pub struct Attributes {
     pairs: Vec<(Text, AttrValue)>,
@@ -52,7 +52,7 @@ impl Model for Attributes {
     ghost invariant = { λ a. IsInOrder a.pairs.items };
 }
 
-/// Second values of the same attributes.
+/// Copies of the pairs.
 fn copies(alloc: Global, pairs: &[(Text, AttrValue)]) -> Result<Vec<(Text, AttrValue)>, OutOfMemory>
     ensures { IfOk result (λ copied. copied.items ≡ pairs.now) }
 {
@@ -63,7 +63,7 @@ fn copies(alloc: Global, pairs: &[(Text, AttrValue)]) -> Result<Vec<(Text, AttrV
     Ok(copied)
 }
 
-/// Whether each name stands before the next one in byte order.
+/// Whether each name is less than the next one in byte order.
 fn is_in_order(pairs: &[(Text, AttrValue)]) -> bool
     ensures { IsTrue result → IsInOrder pairs.now }
 {
@@ -86,8 +86,8 @@ impl Attributes {
         }
     }
 
-    /// The attributes that the pairs are, in whatever order. Of equal names the later pair counts. Pairs
-    /// that stand in byte order of names take no memory.
+    /// The attributes given by these pairs, in any order. Of equal names the later pair counts.
+    /// Pairs that are in byte order of names already take no memory.
     pub fn from_values(
         alloc: Global,
         pairs: Vec<(Text, AttrValue)>,
@@ -103,7 +103,8 @@ impl Attributes {
         })
     }
 
-    /// The attributes of a call: all values are texts. Of equal names the later pair counts.
+    /// The attributes given by a call's pairs, whose values are all texts. Of equal names the
+    /// later pair counts.
     pub fn from_pairs(alloc: Global, pairs: Vec<(Text, Text)>) -> Result<Attributes, OutOfMemory>
         ensures { IfOk result (Gathers (map (λ p. (p.0, value.Text p.1)) pairs.items)) }
     {
@@ -114,7 +115,7 @@ impl Attributes {
         Attributes::from_values(alloc, values)
     }
 
-    /// The value at a name. None where the attributes don't have the name.
+    /// The value of a name, or None if the attributes don't have this name.
     pub fn get(&self, name: &str) -> Option<&AttrValue>
         ensures { option_copied result ≡ value_at name.now self.now }
     {
@@ -127,7 +128,7 @@ impl Attributes {
         }
     }
 
-    /// The attributes, lent in order.
+    /// The attributes in order, borrowed.
     pub fn as_slice(&self) -> &[(Text, AttrValue)]
         ensures value { result.now ≡ self.now }
         ensures ordered { IsInOrder self.now }
@@ -135,7 +136,7 @@ impl Attributes {
         self.pairs.as_slice()
     }
 
-    /// How many attributes there are.
+    /// The number of attributes.
     pub fn len(&self) -> usize
         ensures value { result ≡ length self.now }
         ensures ordered { IsInOrder self.now }
@@ -143,14 +144,14 @@ impl Attributes {
         self.pairs.len()
     }
 
-    /// Whether there is no attribute.
+    /// Whether there are no attributes.
     pub fn is_empty(&self) -> bool
         ensures { IsTrue result ↔ (self.now ≡ []) }
     {
         self.pairs.is_empty()
     }
 
-    /// A second value of the same attributes, on the allocator of this one.
+    /// A copy of the attributes, with the same allocator.
     pub fn copy(&self) -> Result<Attributes, OutOfMemory>
         ensures { IfOk result (λ copied. copied ≡ self.now) }
     {

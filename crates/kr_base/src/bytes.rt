@@ -11,7 +11,7 @@ use std::cmp::Ordering;
 use std::fmt;
 use std::marker::Model;
 
-/// Where bytes lie. Most passwords are short, and so is each hash in a keyring file.
+/// Where the bytes are kept. Most passwords are short, and so is each hash in a keyring file.
 #[derive(Drop)]
 enum Held {
     /// In the value itself: at most 32 bytes.
@@ -44,7 +44,7 @@ impl Bytes {
         }
     }
 
-    /// A copy of the bytes. It takes no memory where they are at most 32.
+    /// A copy of the bytes. It takes no memory if there are at most 32.
     pub fn from_slice(alloc: Global, bytes: &[u8]) -> Result<Bytes, OutOfMemory>
         ensures { IfOk result (λ made. made ≡ bytes.now) }
     {
@@ -56,7 +56,7 @@ impl Bytes {
         Ok(Bytes { held, alloc })
     }
 
-    /// The bytes, lent.
+    /// The bytes, borrowed.
     pub fn as_slice(&self) -> &[u8]
         ensures { result.now ≡ self.now }
     {
@@ -66,7 +66,7 @@ impl Bytes {
         }
     }
 
-    /// The bytes as a vector. It takes no memory where they lie in memory of their own.
+    /// The bytes as a vector. It takes no memory if they are in memory of their own.
     pub fn into_vec(self) -> Result<Vec<u8>, OutOfMemory>
         ensures { IfOk result (λ vec. vec.items ≡ self) }
     {
@@ -77,21 +77,21 @@ impl Bytes {
         }
     }
 
-    /// How many bytes there are.
+    /// The number of bytes.
     pub fn len(&self) -> usize
         ensures { result ≡ length self.now }
     {
         self.as_slice().len()
     }
 
-    /// Whether there is no byte.
+    /// Whether there are no bytes.
     pub fn is_empty(&self) -> bool
         ensures { IsTrue result ↔ (self.now ≡ []) }
     {
         self.as_slice().is_empty()
     }
 
-    /// A second value of the same bytes, on the allocator of this one.
+    /// A copy of the bytes, with the same allocator.
     pub fn copy(&self) -> Result<Bytes, OutOfMemory>
         ensures { IfOk result (λ copied. copied ≡ self.now) }
     {
@@ -137,7 +137,7 @@ impl Ord for Bytes {
     }
 }
 
-// Bytes may be a secret, so a message or a log is to tell no more than how many there are.
+// Bytes may be a secret, so a message or a log shows only how many there are.
 impl fmt::Debug for Bytes {
     ghost debug_output = { λ b. Some (decimal (length b) ++ codes " bytes") };
 

@@ -2,18 +2,18 @@ ghost use Rattle.std.specs.Prelude.{◌≡◌, IfOk};
 
 use crate::{Bytes, OutOfMemory, Text};
 
-/// What a keyring file's clear part tells of an attribute's value: the hash of the value, by which
+/// What a keyring file's clear part says of an attribute's value: the hash of the value, by which
 /// the attribute is found while the file is locked.
 #[derive(Drop, PartialEq, Eq, PartialOrd, Ord)]
 pub enum HashedValue {
-    /// The hash of a text: any bytes, as the file has them.
+    /// The hash of a text: any bytes, as they are in the file.
     Text(Bytes),
     /// The hash of a number.
     Number(u32),
 }
 
 impl HashedValue {
-    /// A second value of the same hash.
+    /// A copy of the hash.
     pub fn copy(&self) -> Result<HashedValue, OutOfMemory>
         ensures { IfOk result (λ copied. copied ≡ self.now) }
     {
@@ -27,14 +27,14 @@ impl HashedValue {
 /// One hashed attribute of a keyring file: a name, and the hash of its value.
 #[derive(Drop, PartialEq, Eq, PartialOrd, Ord)]
 pub struct HashedPair {
-    /// The attribute's name, as it is.
+    /// The attribute's name, which isn't hashed.
     pub name: Text,
     /// The hash of its value.
     pub value: HashedValue,
 }
 
 impl HashedPair {
-    /// A second value of the same pair.
+    /// A copy of the pair.
     pub fn copy(&self) -> Result<HashedPair, OutOfMemory>
         ensures { IfOk result (λ copied. copied ≡ self.now) }
     {

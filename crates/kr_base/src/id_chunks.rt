@@ -8,11 +8,11 @@ ghost use Rattle.kr_base.specs.IdLists.{IsCounted, IsFilled, IsLaid, has_id, ids
 use crate::OutOfMemory;
 use std::alloc::{AllocError, Global};
 
-/// How many ids a chunk has at most, except where no memory was left to split it.
+/// The most ids that a chunk has, unless no memory was left to split it.
 const MOST: usize = 512;
 
 /// Some ids of a list, one after the other, and how many ids come before them. A change in the middle of
-/// a long list moves the ids of one chunk alone.
+/// a long list moves only the ids of one chunk.
 #[derive(Drop)]
 pub struct Chunk {
     before: usize,
@@ -28,7 +28,7 @@ enum Key {
     Before,
 }
 
-/// The key of the chunk at a place.
+/// The key of the chunk at a position.
 fn key_at(chunks: &[Chunk], by: Key, place: usize) -> usize
     requires { place < length chunks.now }
     ensures { result ≡ slice_index (keys by chunks.now) place }
@@ -43,7 +43,7 @@ fn key_at(chunks: &[Chunk], by: Key, place: usize) -> usize
     }
 }
 
-/// The place of the last chunk whose key is at most the bound, or 0, where the keys rise.
+/// The position of the last chunk whose key is at most the bound, or 0, if the keys rise.
 fn last_up_to(chunks: &[Chunk], by: Key, bound: usize) -> usize
     requires { 0 < length chunks.now }
     ensures within { result < length chunks.now }
@@ -75,7 +75,7 @@ pub fn has_in(ids: &[u32], id: u32) -> bool
     }
 }
 
-/// Puts an id at its place.
+/// Inserts an id at its position in the order.
 fn put_in(ids: &mut Vec<u32>, id: u32) -> Result<(), OutOfMemory>
     requires { IsStrictlySortedBy nat_cmp ids.old.items }
     ensures put { OnOk result (ids.new.items ≡ with_id id ids.old.items) }
@@ -90,7 +90,7 @@ fn put_in(ids: &mut Vec<u32>, id: u32) -> Result<(), OutOfMemory>
     }
 }
 
-/// Takes an id out.
+/// Removes an id.
 fn take_in(ids: &mut Vec<u32>, id: u32)
     requires { IsStrictlySortedBy nat_cmp ids.old.items }
     ensures { ids.new.items ≡ without_id id ids.old.items }
@@ -103,7 +103,7 @@ fn take_in(ids: &mut Vec<u32>, id: u32)
     }
 }
 
-/// The ids of the chunk at a place.
+/// The ids of the chunk at a position.
 fn part_at(chunks: &[Chunk], place: usize) -> &[u32]
     requires { place < length chunks.now }
     ensures { result.now ≡ slice_index_or (parts chunks.now) place [] }
@@ -111,7 +111,7 @@ fn part_at(chunks: &[Chunk], place: usize) -> &[u32]
     chunks[place].ids.as_slice()
 }
 
-/// Puts an id into the chunk at a place.
+/// Inserts an id into the chunk at a position.
 fn put_at(chunks: &mut Vec<Chunk>, place: usize, id: u32) -> Result<(), OutOfMemory>
     requires within { place < length chunks.old.items }
     requires rising { IsStrictlySortedBy nat_cmp
@@ -124,7 +124,7 @@ fn put_at(chunks: &mut Vec<Chunk>, place: usize, id: u32) -> Result<(), OutOfMem
     put_in(&mut chunks[place].ids, id)
 }
 
-/// Takes an id out of the chunk at a place.
+/// Removes an id from the chunk at a position.
 fn take_at(chunks: &mut Vec<Chunk>, place: usize, id: u32)
     requires within { place < length chunks.old.items }
     requires rising { IsStrictlySortedBy nat_cmp
@@ -135,7 +135,7 @@ fn take_at(chunks: &mut Vec<Chunk>, place: usize, id: u32)
     take_in(&mut chunks[place].ids, id);
 }
 
-/// Splits the chunk at a place in two where it has too many ids. Where no memory is left it stays whole.
+/// Splits the chunk at a position in two if it has too many ids. If no memory is left, it stays whole.
 fn split(alloc: Global, chunks: &mut Vec<Chunk>, place: usize)
     requires within { place < length chunks.old.items }
     ensures ids { ids_in chunks.new.items ≡ ids_in chunks.old.items }
@@ -155,7 +155,7 @@ fn split(alloc: Global, chunks: &mut Vec<Chunk>, place: usize)
     chunks[place].ids.truncate(half);
 }
 
-/// Takes the chunk at a place away where it has no id.
+/// Removes the chunk at a position if it has no ids.
 fn close(chunks: &mut Vec<Chunk>, place: usize)
     requires within { place < length chunks.old.items }
     requires others { IsFilled (remove (parts chunks.old.items) place) }
@@ -167,7 +167,7 @@ fn close(chunks: &mut Vec<Chunk>, place: usize)
     }
 }
 
-/// Counts anew how many ids come before each chunk.
+/// Counts again how many ids come before each chunk.
 fn count(chunks: &mut Vec<Chunk>)
     requires { length (ids_in chunks.old.items) ≤ 4294967296 }
     ensures parts { parts chunks.new.items ≡ parts chunks.old.items }
@@ -181,7 +181,7 @@ fn count(chunks: &mut Vec<Chunk>)
     }
 }
 
-/// Puts an id at its place among the ids of the chunks, of which there is one at least.
+/// Inserts an id at its position among the ids of the chunks, of which there is at least one.
 pub fn put(alloc: Global, chunks: &mut Vec<Chunk>, id: u32) -> Result<(), OutOfMemory>
     requires laid { IsLaid chunks.old.items }
     requires some { 0 < length chunks.old.items }
@@ -196,7 +196,7 @@ pub fn put(alloc: Global, chunks: &mut Vec<Chunk>, id: u32) -> Result<(), OutOfM
     Ok(())
 }
 
-/// Takes an id out of the ids of the chunks. It takes no memory.
+/// Removes an id from the chunks. It takes no memory.
 pub fn take(chunks: &mut Vec<Chunk>, id: u32)
     requires { IsLaid chunks.old.items }
     ensures laid { IsLaid chunks.new.items }
@@ -211,7 +211,7 @@ pub fn take(chunks: &mut Vec<Chunk>, id: u32)
     count(chunks);
 }
 
-/// Whether the id is one of those of the chunks.
+/// Whether one of the chunks has the id.
 pub fn has(chunks: &[Chunk], id: u32) -> bool
     requires { IsLaid chunks.now }
     ensures { result ≡ has_id (ids_in chunks.now) id }
@@ -223,7 +223,7 @@ pub fn has(chunks: &[Chunk], id: u32) -> bool
     has_in(part_at(chunks, place), id)
 }
 
-/// The id at a place, counted over all chunks.
+/// The id at a position, counted over all chunks.
 pub fn at(chunks: &[Chunk], place: usize) -> u32
     requires laid { IsLaid chunks.now }
     requires within { place < length (ids_in chunks.now) }
@@ -234,7 +234,7 @@ pub fn at(chunks: &[Chunk], place: usize) -> u32
     part_at(chunks, chunk)[place - before]
 }
 
-/// How many ids the chunks have.
+/// The number of ids in all chunks.
 pub fn len(chunks: &[Chunk]) -> usize
     requires { IsLaid chunks.now }
     ensures { result ≡ length (ids_in chunks.now) }
@@ -246,7 +246,7 @@ pub fn len(chunks: &[Chunk]) -> usize
     key_at(chunks, Key::Before, last) + part_at(chunks, last).len()
 }
 
-/// Two ids in chunks.
+/// Chunks with two ids.
 pub fn of_two(alloc: Global, one: u32, other: u32) -> Result<Vec<Chunk>, OutOfMemory>
     requires { one < other }
     ensures laid { IfOk result (λ chunks. IsLaid chunks.items) }

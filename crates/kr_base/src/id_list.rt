@@ -7,7 +7,7 @@ use std::alloc::Global;
 use std::marker::Model;
 use std::sync::ledger::Ledger;
 
-/// Where the ids of a list lie. Most attributes of an item are its own alone.
+/// Where the ids of a list are kept. Most attributes of an item are shared with no other item.
 #[derive(Drop)]
 enum Held {
     /// One id, in the value itself.
@@ -51,7 +51,7 @@ impl IdList {
         IdList { held: one(id.0) }
     }
 
-    /// How many ids there are.
+    /// The number of ids.
     pub fn len(&self) -> usize
         ensures value { result ≡ length self.now }
         ensures rising { IsIdList self.now }
@@ -62,7 +62,7 @@ impl IdList {
         }
     }
 
-    /// The id at a place, counted from 0: one step.
+    /// The id at a position, counted from 0. This is one step.
     pub fn at<L: Ledger>(&self, place: usize, steps: &mut Steps<L>) -> ItemId
         requires { place < length self.now }
         ensures value { result.0 ≡ slice_index self.now place }
@@ -75,7 +75,7 @@ impl IdList {
         }
     }
 
-    /// Whether the id is one of them: one step.
+    /// Whether the list has the id. This is one step.
     pub fn has<L: Ledger>(&self, id: ItemId, steps: &mut Steps<L>) -> bool
         ensures value { result ≡ has_id self.now id.0 }
         ensures step { steps.new ≡ steps.old + 1 }
@@ -87,7 +87,7 @@ impl IdList {
         }
     }
 
-    /// Puts an id at its place. One that is there stays there once.
+    /// Inserts an id at its position in the order. An id that is in the list already stays there once.
     pub fn insert(&mut self, alloc: Global, id: ItemId) -> Result<(), OutOfMemory>
         ensures put { OnOk result (self.new ≡ with_id id.0 self.old) }
         ensures unchanged { OnErr result (self.new ≡ self.old) }
@@ -95,7 +95,7 @@ impl IdList {
         put(alloc, &mut self.held, id.0)
     }
 
-    /// Takes an id out, if it is there. It takes no memory.
+    /// Removes an id, if it is in the list. It takes no memory.
     pub fn remove(&mut self, alloc: Global, id: ItemId)
         ensures { self.new ≡ without_id id.0 self.old }
     {
@@ -111,7 +111,7 @@ fn one(id: u32) -> Held
     Held::One(id)
 }
 
-/// Puts an id at its place, wherever the ids lie.
+/// Inserts an id at its position in the order, wherever the ids are kept.
 fn put(alloc: Global, held: &mut Held, id: u32) -> Result<(), OutOfMemory>
     requires { IsHeld held.old }
     ensures held { IsHeld held.new }
@@ -138,7 +138,7 @@ fn put(alloc: Global, held: &mut Held, id: u32) -> Result<(), OutOfMemory>
     }
 }
 
-/// Takes an id out, wherever the ids lie.
+/// Removes an id, wherever the ids are kept.
 fn take(alloc: Global, held: &mut Held, id: u32)
     requires { IsHeld held.old }
     ensures held { IsHeld held.new }

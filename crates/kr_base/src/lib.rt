@@ -1,11 +1,11 @@
 //! The values that every other crate names: texts, bytes, the stems of keyring files, attributes, the
 //! numbers of connections, sessions, prompts and items, and lists of items' numbers. A text follows the
-//! D-Bus Specification, "Type System": it is UTF-8 and holds no zero byte. Contracts see a text, bytes, a
-//! stem and a list of items' numbers as lists of numbers, and attributes as the list of names with their
-//! values. Callers may rely on these: each text and stem was checked when it was made, attributes stand
-//! in byte order of names with no name twice, items' numbers rise, each one that is read or looked up in a
-//! list of them is counted, two values are equal exactly where contracts see the same, and of bytes, which
-//! may be a secret, nothing is ever printed but how many there are.
+//! D-Bus Specification, "Type System": it is UTF-8 and contains no zero byte. Contracts see a text,
+//! bytes, a stem and a list of items' numbers as lists of numbers, and attributes as the list of names
+//! with their values. Callers may rely on these: each text and stem was checked when it was made,
+//! attributes are in byte order of names with no name twice, items' numbers rise, each one that is read
+//! or looked up in a list of them is counted, two values are equal exactly if contracts see the same,
+//! and of bytes, which may be a secret, only their number is ever printed.
 #![tactic(auto)]
 
 mod attributes;
@@ -31,5 +31,5 @@ pub use stem::Stem;
 pub use steps::Steps;
 pub use text::Text;
 
-/// No memory was left for a call. It is the one refusal that may come at any time.
+/// No memory was left for a call. This refusal alone may come at any time.
 pub type OutOfMemory = std::alloc::AllocError;

@@ -16,7 +16,7 @@ use std::fmt;
 use std::hash::{Hash, Hasher};
 use std::marker::Model;
 
-/// A collection's stem: the name of its file without `.keyring`. It has 1 to 243 bytes and holds
+/// A collection's stem: the name of its file without `.keyring`. It has 1 to 243 bytes and contains
 /// no `/`. A contract sees the list of its bytes.
 #[derive(Drop)]
 pub struct Stem {
@@ -45,7 +45,7 @@ fn is_stem(text: &str) -> bool
 impl Stem {
     /// A copy of a string as a stem.
     ///
-    /// None where the string is empty, is longer than 243 bytes, or holds `/` or a zero byte; no
+    /// None if the string is empty, is longer than 243 bytes, or contains `/` or a zero byte; no
     /// memory is taken then.
     pub fn new(alloc: Global, text: &str) -> Result<Option<Stem>, OutOfMemory>
         ensures made { IfOk result (λ answer. IfSome answer (λ made. made ≡ text.now)) }
@@ -60,9 +60,9 @@ impl Stem {
         }
     }
 
-    /// The stem that a text is. It takes no memory.
+    /// A text as a stem. It takes no memory.
     ///
-    /// None where the text is empty, is longer than 243 bytes, or holds `/`.
+    /// None if the text is empty, is longer than 243 bytes, or contains `/`.
     pub fn from_text(text: Text) -> Option<Stem>
         ensures made { IfSome result (λ made. made ≡ text) }
         ensures no_stem { IsNone result ↔ IsNoStem text }
@@ -73,7 +73,7 @@ impl Stem {
         Some(Stem { text })
     }
 
-    /// The stem, lent as a string.
+    /// The stem, borrowed as a string slice.
     pub fn as_str(&self) -> &str
         ensures value { result.now ≡ self.now }
         ensures stem { IsStem self.now }
@@ -81,7 +81,7 @@ impl Stem {
         self.text.as_str()
     }
 
-    /// The stem, lent as a text.
+    /// The stem, borrowed as a text.
     pub fn as_text(&self) -> &Text
         ensures value { result.now ≡ self.now }
         ensures stem { IsStem self.now }
@@ -97,7 +97,7 @@ impl Stem {
         self.text
     }
 
-    /// A second value of the same stem, on the allocator of this one.
+    /// A copy of the stem, with the same allocator.
     pub fn copy(&self) -> Result<Stem, OutOfMemory>
         ensures { IfOk result (λ copied. copied ≡ self.now) }
     {

@@ -3,8 +3,8 @@ ghost use Rattle.std.specs.Prelude.{◌≡◌, ◌+◌, ◌<◌};
 use std::marker::Model;
 use std::sync::ledger::{Blank, Book, Ledger, Share};
 
-/// How many ids were read out of lists of ids or looked up in one. It takes no memory, and counting
-/// costs nothing when it runs. A contract sees the number.
+/// A count of the ids that were read from lists of ids, or looked up in one. It takes no memory,
+/// and counting costs nothing at run time. A contract sees the number.
 #[derive(Drop)]
 pub struct Steps<L: Ledger> {
     book: Book<L>,
@@ -33,7 +33,7 @@ impl<L: Ledger> Steps<L> {
         Steps { book, share }
     }
 
-    /// One step more.
+    /// Counts one more step.
     pub(crate) fn tick(&mut self)
         ensures { self.new ≡ self.old + 1 }
     {

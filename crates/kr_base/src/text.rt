@@ -18,8 +18,8 @@ use std::fmt;
 use std::hash::{Hash, Hasher};
 use std::marker::Model;
 
-/// Where the bytes of a text lie. Most names, labels and content types are short, and a keyring file holds
-/// tens of thousands of them.
+/// Where the bytes of a text are kept. Most names, labels and content types are short, and a
+/// keyring file contains tens of thousands of them.
 #[derive(Drop)]
 enum Held {
     /// In the value itself: at most 24 bytes.
@@ -46,7 +46,7 @@ impl Model for Text {
 impl Text {
     /// The text of a string. It takes no memory.
     ///
-    /// None where a zero byte stands in the string.
+    /// None if the string contains a zero byte.
     pub fn new(text: String) -> Option<Text>
         ensures made { IfSome result (λ made. made ≡ string_bytes text) }
         ensures zero { IsNone result ↔ HasZero (string_bytes text) }
@@ -60,9 +60,9 @@ impl Text {
         })
     }
 
-    /// A copy of a string as a text. It takes no memory where the string has at most 24 bytes.
+    /// A copy of a string as a text. It takes no memory if the string has at most 24 bytes.
     ///
-    /// None where a zero byte stands in the string; no memory is taken then.
+    /// None if the string contains a zero byte; no memory is taken then.
     pub fn from_str(alloc: Global, text: &str) -> Result<Option<Text>, OutOfMemory>
         ensures made { IfOk result (λ answer. IfSome answer (λ made. made ≡ text.now)) }
         ensures zero { (result ≡ Ok None) ↔ HasZero text.now }
@@ -91,9 +91,9 @@ impl Text {
         }
     }
 
-    /// The text that the bytes are. It takes no memory.
+    /// The bytes as a text. It takes no memory.
     ///
-    /// None where the bytes are not UTF-8 or a zero byte stands among them.
+    /// None if the bytes aren't UTF-8 or contain a zero byte.
     pub fn from_utf8(bytes: Vec<u8>) -> Option<Text>
         ensures made { IfSome result (λ made. made ≡ bytes.items) }
         ensures text { IsSome result ↔ IsText bytes.items }
@@ -104,7 +104,7 @@ impl Text {
         }
     }
 
-    /// The text, lent as a string.
+    /// The text, borrowed as a string slice.
     pub fn as_str(&self) -> &str
         ensures value { result.now ≡ self.now }
         ensures text { IsText self.now }
@@ -115,7 +115,7 @@ impl Text {
         }
     }
 
-    /// The bytes of the text, lent.
+    /// The bytes of the text, borrowed.
     pub fn as_bytes(&self) -> &[u8]
         ensures value { result.now ≡ self.now }
         ensures text { IsText self.now }
@@ -123,22 +123,22 @@ impl Text {
         self.as_str().as_bytes()
     }
 
-    /// How many bytes the text has.
+    /// The number of bytes of the text.
     pub fn len(&self) -> usize
         ensures { result ≡ length self.now }
     {
         self.as_str().len()
     }
 
-    /// Whether the text has no byte.
+    /// Whether the text has no bytes.
     pub fn is_empty(&self) -> bool
         ensures { IsTrue result ↔ (self.now ≡ []) }
     {
         self.as_str().is_empty()
     }
 
-    /// A second value of the same text, on the allocator of this one. It takes no memory where the text
-    /// lies in the value itself.
+    /// A copy of the text, with the same allocator. It takes no memory if the text is kept in
+    /// the value itself.
     pub fn copy(&self) -> Result<Text, OutOfMemory>
         ensures { IfOk result (λ copied. copied ≡ self.now) }
     {
@@ -208,7 +208,7 @@ impl fmt::Display for Text {
     }
 }
 
-// A text may be a client's, so a message or a log is to tell no more than how long it is.
+// A text may be a client's, so a message or a log shows only how long it is.
 impl fmt::Debug for Text {
     ghost debug_output = { λ t. Some (decimal (length t) ++ codes " bytes") };
 

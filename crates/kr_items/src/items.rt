@@ -40,29 +40,28 @@ impl<T> Items<T> {
         self.elements
     }
 
-    /// The elements, lent in order.
+    /// The elements in order, borrowed.
     pub fn as_slice(&self) -> &[T]
         ensures { result.now ≡ self.now }
     {
         self.elements.as_slice()
     }
 
-    /// How many elements there are.
+    /// The number of elements.
     pub fn len(&self) -> usize
         ensures { result ≡ length self.now }
     {
         self.elements.len()
     }
 
-    /// Whether there is no element.
+    /// Whether there are no elements.
     pub fn is_empty(&self) -> bool
         ensures { IsTrue result ↔ (self.now ≡ []) }
     {
         self.elements.is_empty()
     }
 
-    /// Puts an element behind the last one. Where no memory is left the element comes back, and the
-    /// list is as before.
+    /// Appends an element. If no memory is left, the element is handed back, and the list is as before.
     pub fn push(&mut self, element: T) -> Result<(), AllocFailed<T>>
         ensures items { self.new ≡ (if is_ok result then self.old ++ element ∷ [] else self.old) }
         ensures value_returned { IfErr result (λ failed. failed.value ≡ element) }

@@ -6,7 +6,7 @@ ghost use Rattle.kr_memory.specs.Clock.{moment_at};
 use kr_outside::Clock;
 use std::marker::Model;
 
-/// A clock that gives listed moments in their order, and then the last one for ever. It is steady.
+/// A clock that returns listed moments in order, and then keeps returning the last one. It is steady.
 #[derive(Drop)]
 pub struct ListedClock {
     moments: Vec<u64>,
@@ -24,8 +24,8 @@ impl Model for ListedClock {
 }
 
 impl ListedClock {
-    /// A clock that gives these moments, in seconds since 1970-01-01 00:00:00 UTC. Where none is
-    /// listed, it gives 0 for ever.
+    /// A clock that returns these moments, in seconds since 1970-01-01 00:00:00 UTC. If none is
+    /// listed, it always returns 0.
     pub fn new(moments: Vec<u64>) -> ListedClock
         ensures { result ≡ moments.items }
     {
@@ -45,14 +45,14 @@ impl Clock for ListedClock {
     ghost steady_below = { Prim.search rules };
 
     /// The first of the moments left, which is used up unless it is the last, in seconds since
-    /// 1970-01-01 00:00:00 UTC; 0 where none was listed.
+    /// 1970-01-01 00:00:00 UTC; 0 if none was listed.
     fn now(&mut self) -> u64
         // What the trait says.
         ensures first { GivesFirst (Some (moment_at self.old)) result (Some (moment_at self.new)) }
         ensures later { 0 ≤ 0 }
         ensures steady { KeepsSteady true true 0 0 }
 
-        // A moment is used up, but for the last one.
+        // Each moment is used up, except the last one.
         ensures moment { result ≡ slice_index self.old 0 }
         ensures used { 1 < length self.old → self.new ≡ drop 1 self.old }
         ensures last { length self.old ≤ 1 → self.new ≡ self.old }

@@ -5,7 +5,7 @@ ghost use Rattle.kr_memory.specs.Plan.{pieces_at_start, plan_at_start, piece_of,
 use kr_outside::Failed;
 use std::marker::Model;
 
-/// How many bytes each call of a stream moves, by the call's number, which counts all calls from 0.
+/// How many bytes each call of a stream moves, by the call's number; all calls are counted from 0.
 #[derive(Drop)]
 pub struct Pieces {
     lengths: Vec<usize>,
@@ -28,14 +28,14 @@ impl Pieces {
         Pieces { lengths, calls: 0 }
     }
 
-    /// The number of the call that comes. It stands still at 2^64 - 1.
+    /// The number of the next call. Once it is 2^64 - 1, it stays there.
     pub fn number(&self) -> u64
         ensures { result ≡ self.now.calls }
     {
         self.calls
     }
 
-    /// How many of this many bytes the call that comes moves.
+    /// How many of `bytes` bytes the next call moves.
     pub fn piece(&self, bytes: usize) -> usize
         ensures planned { result ≡ piece_of self.now bytes }
         ensures within { result ≤ bytes }
@@ -55,7 +55,7 @@ impl Pieces {
     }
 }
 
-/// The pieces of a stream, the calls that are to fail, and how many have failed.
+/// The pieces of a stream, the calls that should fail, and how many have failed.
 #[derive(Drop)]
 pub struct Plan {
     pieces: Pieces,
@@ -87,14 +87,14 @@ impl Plan {
         }
     }
 
-    /// Whether the call that comes is to fail.
+    /// Whether the next call should fail.
     pub fn fails_now(&self) -> bool
         ensures { IsTrue result ↔ FailsNow self.now }
     {
         self.failing.contains(&self.pieces.number())
     }
 
-    /// How many of this many bytes the call that comes moves, if it does not fail.
+    /// How many of `bytes` bytes the next call moves, if it doesn't fail.
     pub fn piece(&self, bytes: usize) -> usize
         ensures planned { result ≡ piece_of self.now.pieces bytes }
         ensures within { result ≤ bytes }
@@ -103,7 +103,7 @@ impl Plan {
         self.pieces.piece(bytes)
     }
 
-    /// Counts a call that does not fail.
+    /// Counts a call that doesn't fail.
     pub fn succeed(&mut self)
         ensures { self.new ≡ after_success self.old }
     {

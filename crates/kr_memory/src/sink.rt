@@ -30,10 +30,10 @@ impl Model for MemorySink {
 }
 
 impl MemorySink {
-    /// A sink that has no bytes yet. Its writes are numbered from 0, and those that fail are
-    /// numbered too. The write of number k fails where k is among `failing`, and else takes at most
-    /// `pieces[k]` bytes; 0 counts as 1 there, since a write takes at least one. Behind the list of
-    /// pieces a write takes all. From the 2^64th write on, all have the number 2^64 - 1.
+    /// A sink that has no bytes yet. Its writes are numbered from 0, including those that fail.
+    /// Write number k fails if k is in `failing`; otherwise it takes at most `pieces[k]` bytes,
+    /// where 0 counts as 1, since a write takes at least one byte. After the list of pieces a write
+    /// takes everything. From the 2^64th write on, all have the number 2^64 - 1.
     pub fn new(alloc: Global, pieces: Vec<usize>, failing: Vec<u64>) -> MemorySink
         ensures { result ≡ record {
           kept = [];
@@ -66,9 +66,9 @@ impl Sink for MemorySink {
 
     ghost steady_below = { Prim.search rules };
 
-    /// Keeps as many bytes of the front of the piece as the plan allows.
+    /// Keeps as many of the first bytes of the piece as the plan allows.
     ///
-    /// Refused with `Failed` at the calls that the plan lists, and where memory for the bytes is
+    /// Refused with `Failed` at the calls that the plan lists, and if memory for the bytes is
     /// refused. Both count as a fault.
     fn write(&mut self, piece: &[u8]) -> Result<usize, Failed>
         // What the trait says.
@@ -78,7 +78,7 @@ impl Sink for MemorySink {
         ensures cause { HasCause self.old.plan.faults self.new.plan.faults result }
         ensures steady { KeepsSteady false false self.old.plan.faults self.new.plan.faults }
 
-        // The planned calls fail, and another only where memory for its bytes was refused.
+        // The planned calls fail, and other calls only if memory for their bytes was refused.
         ensures fails { FailsNow self.old.plan → IsErr result }
         ensures only { OnErr result (FailsNow self.old.plan
             ⊎ (self.old.room < piece_of self.old.plan.pieces (length piece.now))) }
@@ -93,7 +93,7 @@ impl Sink for MemorySink {
         }) }
         ensures room { IfOk result (λ count. self.old.room ≤ self.new.room + count) }
 
-        // After a failure only the counts have changed.
+        // After a failure only the counts are different.
         ensures failed { OnErr result (self.new ≡ record {
           kept = self.old.kept;
           room = self.new.room;
@@ -113,7 +113,7 @@ impl Sink for MemorySink {
     }
 }
 
-// Appends the bytes as far as the room reaches, for which memory is there.
+// Appends as many of the bytes as there is room for; the memory for the room is there already.
 fn fill(kept: &mut Vec<u8>, room: usize, bytes: &[u8])
     requires within { vec_len kept.old ≤ room }
     requires reserved { room ≤ vec_capacity kept.old }
@@ -126,7 +126,7 @@ fn fill(kept: &mut Vec<u8>, room: usize, bytes: &[u8])
 }
 
 /// A sink that never fails. It keeps the first bytes that are written, as many as it has room for,
-/// and drops what is behind them.
+/// and drops those after them.
 #[derive(Drop)]
 pub struct SteadySink {
     kept: Vec<u8>,
@@ -147,10 +147,10 @@ impl Model for SteadySink {
 
 impl SteadySink {
     /// A sink that keeps the first `room` bytes; its memory is taken here. Its writes are numbered
-    /// from 0. The write of number k takes at most `pieces[k]` bytes; 0 counts as 1 there. Behind
-    /// the list of pieces a write takes all.
+    /// from 0. Write number k takes at most `pieces[k]` bytes, where 0 counts as 1. After the list
+    /// of pieces a write takes everything.
     ///
-    /// Refused with `AllocError` where there is no memory for the room; a room of 0 takes none.
+    /// Refused with `AllocError` if there is no memory for the room; a room of 0 takes none.
     pub fn new(alloc: Global, room: usize, pieces: Vec<usize>) -> Result<SteadySink, AllocError>
         ensures fresh { IfOk result (λ sink. sink ≡ record {
           kept = [];
@@ -186,7 +186,7 @@ impl Sink for SteadySink {
 
     ghost steady_below = { Prim.search rules };
 
-    /// Takes as many bytes of the front of the piece as the plan allows, and keeps those for which
+    /// Takes as many of the first bytes of the piece as the plan allows, and keeps those for which
     /// there is room. It is never refused.
     fn write(&mut self, piece: &[u8]) -> Result<usize, Failed>
         // What the trait says.

@@ -8,7 +8,7 @@ use crate::plan::{Pieces, Plan};
 use kr_outside::{Failed, Source};
 use std::marker::Model;
 
-// The bytes that are left of those that a source was made with.
+// The bytes that a source was made with, and how many of them have been read.
 #[derive(Drop)]
 struct Unread {
     bytes: Vec<u8>,
@@ -38,7 +38,7 @@ impl Unread {
         self.bytes.len() - self.read
     }
 
-    // Moves this many bytes to the front of the buffer.
+    // Moves this many bytes to the start of the buffer.
     fn give(&mut self, buffer: &mut [u8], count: usize)
         requires there { count ≤ length self.old }
         requires fits { count ≤ length buffer.old }
@@ -51,7 +51,7 @@ impl Unread {
     }
 }
 
-/// A source over bytes in memory, which gives them in planned pieces and fails at planned calls.
+/// A source over bytes in memory, which returns them in planned pieces and fails at planned calls.
 #[derive(Drop)]
 pub struct MemorySource {
     left: Unread,
@@ -67,11 +67,10 @@ impl Model for MemorySource {
 }
 
 impl MemorySource {
-    /// A source of these bytes. Its reads are numbered from 0, and those that fail are numbered
-    /// too. The read of number k fails where k is among `failing`, and else gives at most
-    /// `pieces[k]` bytes; 0 counts as 1 there, since a read of 0 bytes is the end of the input.
-    /// Behind the list of pieces a read gives as much as fits. From the 2^64th read on, all have
-    /// the number 2^64 - 1.
+    /// A source of these bytes. Its reads are numbered from 0, including those that fail. Read
+    /// number k fails if k is in `failing`; otherwise it returns at most `pieces[k]` bytes, where 0
+    /// counts as 1, since a read of 0 bytes is the end of the input. After the list of pieces a
+    /// read returns as much as fits. From the 2^64th read on, all have the number 2^64 - 1.
     pub fn new(bytes: Vec<u8>, pieces: Vec<usize>, failing: Vec<u64>) -> MemorySource
         ensures { result ≡ record {
           left = bytes.items;
@@ -96,7 +95,7 @@ impl Source for MemorySource {
 
     ghost steady_below = { Prim.search rules };
 
-    /// Gives as many of the bytes left as the plan and the buffer allow, in place.
+    /// Reads as many of the bytes left as the plan and the buffer allow, into the start of the buffer.
     ///
     /// Refused with `Failed` at the calls that the plan lists, and at no other.
     fn read(&mut self, buffer: &mut [u8]) -> Result<usize, Failed>
@@ -118,7 +117,7 @@ impl Source for MemorySource {
           plan = after_success self.old.plan;
         }) }
 
-        // After a failure only the counts have changed.
+        // After a failure only the counts are different.
         ensures failed { OnErr result (self.new ≡
             record self.old { plan = after_failure self.old.plan }) }
         ensures untouched { OnErr result (buffer.new ≡ buffer.old) }
@@ -133,7 +132,7 @@ impl Source for MemorySource {
     }
 }
 
-/// A source over bytes in memory, which gives them in planned pieces and never fails.
+/// A source over bytes in memory, which returns them in planned pieces and never fails.
 #[derive(Drop)]
 pub struct SteadySource {
     left: Unread,
@@ -149,8 +148,8 @@ impl Model for SteadySource {
 }
 
 impl SteadySource {
-    /// A source of these bytes. Its reads are numbered from 0. The read of number k gives at most
-    /// `pieces[k]` bytes; 0 counts as 1 there. Behind the list a read gives as much as fits.
+    /// A source of these bytes. Its reads are numbered from 0. Read number k returns at most
+    /// `pieces[k]` bytes, where 0 counts as 1. After the list a read returns as much as fits.
     pub fn new(bytes: Vec<u8>, pieces: Vec<usize>) -> SteadySource
         ensures { result ≡ record {
           left = bytes.items;
@@ -175,8 +174,8 @@ impl Source for SteadySource {
 
     ghost steady_below = { Prim.search rules };
 
-    /// Gives as many of the bytes left as the plan and the buffer allow, in place. It is never
-    /// refused.
+    /// Reads as many of the bytes left as the plan and the buffer allow, into the start of the
+    /// buffer. It is never refused.
     fn read(&mut self, buffer: &mut [u8]) -> Result<usize, Failed>
         // What the trait says.
         ensures within { ReadsAtMost result buffer.new }

@@ -47,9 +47,9 @@ impl Files {
         }
     }
 
-    /// From now on the name stands for this image: the bytes of a file, or no file.
+    /// Makes the name stand for this image: the bytes of a file, or no file.
     ///
-    /// Refused where no memory was left.
+    /// Refused if no memory was left.
     pub fn set(&mut self, name: Text, image: Option<Bytes>) -> Result<(), OutOfMemory>
         ensures set { OnOk result (image_in self.new name ≡ image) }
         ensures others { (other : List ℕ) → ¬ (other ≡ name)
@@ -91,7 +91,7 @@ impl Files {
         names_in(self.alloc, &self.files)
     }
 
-    /// A second value of the same files.
+    /// A copy of the files.
     pub fn copy(&self) -> Result<Files, OutOfMemory>
         ensures { IfOk result (λ copied. copied ≡ self.now) }
     {
@@ -142,7 +142,7 @@ fn copies(alloc: Global, files: &[MemoryFile]) -> Result<Vec<MemoryFile>, OutOfM
     Ok(copied)
 }
 
-// Adds a file, for which there is room.
+// Appends a file; there is room for it.
 fn add(files: &mut Vec<MemoryFile>, name: Text, bytes: Bytes)
     requires { vec_len files.old < vec_capacity files.old }
     ensures { files.new.items
@@ -151,7 +151,7 @@ fn add(files: &mut Vec<MemoryFile>, name: Text, bytes: Bytes)
     files.push(MemoryFile { name, bytes }).unwrap();
 }
 
-// Takes the file of this name out, if there is one.
+// Removes the file of this name, if there is one.
 fn take_out(files: &mut Vec<MemoryFile>, name: &Text)
     ensures others { files.new.items
         ≡ filter (λ file. not (pointwise nat_eq file.name name.now)) files.old.items }

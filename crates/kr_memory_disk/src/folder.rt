@@ -14,19 +14,19 @@ use kr_outside::{Failed, Folder, OutsideRefused};
 use std::alloc::Global;
 use std::marker::Model;
 
-/// Which calls of the slot of a name are to fail.
+/// Which calls of the slot of a name should fail.
 #[derive(Drop)]
 pub struct SlotPlan {
     /// The name.
     pub name: Text,
-    /// The numbers of the calls that fail, from 0.
+    /// The numbers of the calls that fail, counted from 0.
     pub failing: Vec<u64>,
-    /// Those of them that the disk does all the same.
+    /// Those of them that the disk performs nevertheless.
     pub done: Vec<u64>,
 }
 
 /// A folder in memory: names and bytes. Its calls `sync` and `names` are numbered from 0, and fail
-/// where they are to. It is an honest folder.
+/// as planned. It is an honest folder.
 #[derive(Drop)]
 pub struct MemoryFolder {
     alloc: Global,
@@ -51,7 +51,7 @@ impl Model for MemoryFolder {
 }
 
 impl MemoryFolder {
-    /// A folder with no files, whose calls of these numbers fail.
+    /// A folder without files, whose calls with these numbers fail.
     pub fn new(alloc: Global, failing: Vec<u64>) -> MemoryFolder
         ensures { result ≡ record {
           files = [];
@@ -69,10 +69,10 @@ impl MemoryFolder {
         }
     }
 
-    /// From now on the name stands for this image for good: the bytes of a file, or no file. A slot of
-    /// it that was made before doesn't see that.
+    /// Makes the name stand for this image, which no crash undoes: the bytes of a file, or no file.
+    /// A slot of it that was made before doesn't see that.
     ///
-    /// Refused where no memory was left.
+    /// Refused if no memory was left.
     pub fn set(&mut self, name: Text, image: Option<Bytes>) -> Result<(), OutOfMemory>
         ensures set { OnOk result (image_in self.new.files name ≡ image) }
         ensures others { (other : List ℕ) → ¬ (other ≡ name)
@@ -83,9 +83,9 @@ impl MemoryFolder {
         self.files.set(name, image)
     }
 
-    /// The slot that will be made of this plan's name fails by it.
+    /// Adds a plan. The slot that will be made of its name fails by it.
     ///
-    /// Refused where no memory was left.
+    /// Refused if no memory was left.
     pub fn plan(&mut self, plan: SlotPlan) -> Result<(), OutOfMemory>
         ensures planned { OnOk result
             (self.new ≡ record self.old { plans = self.old.plans ++ plan ∷ [] }) }
@@ -97,7 +97,7 @@ impl MemoryFolder {
         }
     }
 
-    /// What the name stands for, as far as no slot of it was made.
+    /// What the name stands for, leaving aside what was done through a slot of it.
     pub fn image(&self, name: &str) -> Option<&[u8]>
         ensures file { IfSome result (λ bytes. image_in self.now.files name.now ≡ Some bytes.now) }
         ensures none { IsNone result → image_in self.now.files name.now ≡ None }
@@ -105,13 +105,14 @@ impl MemoryFolder {
         self.files.image(name)
     }
 
-    /// The folder after a crash of the machine. Each slot that was made is given back, so that the folder
-    /// sees what was done through it: its name stands for an image that the crash may leave of it, and
-    /// every other name for what it stood for. The number picks the images: the first slot's is the one
-    /// that `left` of it picks, and the number divided by how many there were (`count_left`) picks those
-    /// of the slots after it. So each combination of images comes, as the numbers go up from 0.
+    /// The folder after a crash of the machine. Each slot that was made is handed back, so that the
+    /// folder sees what was done through it: its name then stands for an image that the crash may
+    /// leave of it, and every other name for what it stood for. The number picks the images: the
+    /// first slot's is the one that `left` returns for this number, and the number divided by how
+    /// many there were (`count_left`) picks those of the slots after it. So each combination of
+    /// images occurs as the numbers go up from 0.
     ///
-    /// Refused where no memory was left.
+    /// Refused if no memory was left.
     pub fn crash(
         self,
         slots: Vec<(Text, MemorySlot)>,
@@ -140,7 +141,7 @@ impl MemoryFolder {
     }
 }
 
-// The files behind a crash.
+// The files after a crash.
 fn crashed(files: Files, slots: Vec<(Text, MemorySlot)>, choice: u64) -> Result<Files, OutOfMemory>
     ensures picked { IfOk result (λ after. IsPicked files slots.items choice after) }
     ensures left { IfOk result (λ after. IsCrashed files slots.items after) }
@@ -155,8 +156,8 @@ fn crashed(files: Files, slots: Vec<(Text, MemorySlot)>, choice: u64) -> Result<
     Ok(files)
 }
 
-// The plan of the slot of this name: the calls that fail, and those done all the same. None of a name
-// without a plan.
+// The plan of the slot of this name: the calls that fail, and those of them that are performed
+// nevertheless. Both are empty for a name without a plan.
 fn plan_of(
     alloc: Global,
     plans: &[SlotPlan],
@@ -240,7 +241,7 @@ impl Folder for MemoryFolder {
     }
 }
 
-/// The names of these files, as a folder that has them gives them.
+/// The names of these files, as a folder of them returns them.
 pub fn names_of(files: &Files) -> Result<Vec<Text>, OutsideRefused>
     ensures listed { (made : List (List ℕ)) → IfOk result (λ names.
         Lists made (λ name. image_in files.now name) names.items) }

@@ -17,9 +17,9 @@ use std::alloc::Global;
 use std::marker::Model;
 use std::mem;
 
-/// A host in memory. It has one folder, at one path, which it gives away once; a folder at another
-/// path isn't there. Its calls `folder` are numbered from 0, and fail where they are to. It is an
-/// honest host, and counts the folders that it gives.
+/// A host in memory. It has one folder, at one path, and opens it once; at another path there is no
+/// folder. Its calls `folder` are numbered from 0, and fail as planned. It is an honest host, and
+/// counts the folders that it opens.
 #[derive(Drop)]
 pub struct MemoryHost {
     alloc: Global,
@@ -47,8 +47,8 @@ impl Model for MemoryHost {
 }
 
 impl MemoryHost {
-    /// A host with this folder at the path, whose clock gives these moments, and whose calls `folder`
-    /// of these numbers fail.
+    /// A host with this folder at the path, whose clock returns these moments, and whose calls
+    /// `folder` with these numbers fail.
     pub fn new(
         alloc: Global,
         path: Text,
@@ -113,7 +113,7 @@ impl Host for MemoryHost {
 }
 
 /// A host that never fails. At every path it has a folder with the same files. It counts the folders
-/// that it gives.
+/// that it opens.
 #[derive(Drop)]
 pub struct SteadyHost {
     alloc: Global,
@@ -137,8 +137,8 @@ impl Model for SteadyHost {
 }
 
 impl SteadyHost {
-    /// A host whose folders have these files, and whose clock gives these moments. A slot of such a
-    /// folder keeps so many bytes of a file as there is room.
+    /// A host whose folders have these files, and whose clock returns these moments. A slot of such
+    /// a folder keeps as many bytes of a file as there is room for.
     pub fn new(alloc: Global, files: Files, room: usize, clock: ListedClock) -> SteadyHost
         ensures { result ≡ record { files = files; room = room; clock = clock; given = 0 } }
     {

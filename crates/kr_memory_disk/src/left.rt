@@ -7,9 +7,9 @@ use crate::slot::{CallEnd, CallRecord, SlotCall};
 use kr_base::{Bytes, OutOfMemory};
 use std::alloc::Global;
 
-/// Where the image lies which this number picks of those that a crash may leave after these calls.
+/// The place of the image that this number picks, among those that a crash may leave after these calls.
 ///
-/// Refused where no memory was left.
+/// Refused if no memory was left.
 pub fn place_left(alloc: Global, calls: &[CallRecord], choice: u64) -> Result<Place, OutOfMemory>
     ensures { (image : Option (List ℕ)) → IfOk result (λ place.
         image_there image calls.now place ≡ image_picked (disk_at image calls.now) choice) }
@@ -18,9 +18,9 @@ pub fn place_left(alloc: Global, calls: &[CallRecord], choice: u64) -> Result<Pl
     Ok(picked(&places, choice))
 }
 
-/// Where the images lie of which a crash may leave one after these calls, in their order.
+/// The places of the images that a crash may leave after these calls, in order.
 ///
-/// Refused where no memory was left.
+/// Refused if no memory was left.
 pub fn places_left(alloc: Global, calls: &[CallRecord]) -> Result<Vec<Place>, OutOfMemory>
     ensures lie { IfOk result (λ places. LieAt calls.now places.items) }
     ensures some { IfOk result (λ places. 0 < vec_len places) }
@@ -38,7 +38,7 @@ pub fn places_left(alloc: Global, calls: &[CallRecord]) -> Result<Vec<Place>, Ou
     Ok(places)
 }
 
-// The place that this number picks: behind the last one it begins again with the first.
+// The place that this number picks; after the last one it starts again with the first.
 fn picked(places: &[Place], choice: u64) -> Place
     requires { 0 < length places.now }
     ensures { result ≡ get_or places.now (choice % length places.now) Place.Missing }
@@ -46,9 +46,9 @@ fn picked(places: &[Place], choice: u64) -> Place
     places[(choice % places.len() as u64) as usize]
 }
 
-// Adds the place of what else counts as having stood from this call on: what the name stood for before,
-// or what it would stand for if the call hadn't failed. Behind a sync of the folder there is nothing
-// else.
+// Adds the place of what else the name may have stood for from this call on: what it stood for
+// before, or what it would stand for if the call hadn't failed. After a sync of the folder there
+// is nothing else.
 fn count(places: &mut Vec<Place>, call: &CallRecord, standing: Standing) -> Result<(), OutOfMemory>
     ensures { OnOk result (places.new.items
         ≡ others_after call.now.call call.now.end standing places.old.items) }
@@ -67,7 +67,7 @@ fn count(places: &mut Vec<Place>, call: &CallRecord, standing: Standing) -> Resu
     }
 }
 
-// Adds the place, where there is a temporary file.
+// Adds the place, if there is a temporary file.
 fn add_if_file(places: &mut Vec<Place>, temporary: Place, place: Place) -> Result<(), OutOfMemory>
     ensures { OnOk result (places.new.items ≡ with_if_file temporary place places.old.items) }
 {

@@ -5,20 +5,20 @@ ghost use Rattle.kr_memory_disk.specs.Slot.{image_stood};
 use crate::slot::{CallEnd, CallRecord, SlotCall};
 use kr_base::Bytes;
 
-/// Where the bytes of a file stand in a record of calls.
+/// Where the bytes of a file are in a record of calls.
 #[derive(Clone, Copy, PartialEq, Eq)]
 pub enum Place {
     /// The image that the name began with.
     Start,
     /// There is no file.
     Missing,
-    /// The bytes that the call of this number put, which weren't synced.
+    /// The bytes that the call with this number put; they weren't synced.
     Unsynced(usize),
-    /// The bytes that the call of this number put, which were synced.
+    /// The bytes that the call with this number put; they were synced.
     Synced(usize),
 }
 
-/// Where a name and its temporary file stand.
+/// The places of a name and of its temporary file.
 #[derive(Clone, Copy, PartialEq, Eq)]
 pub struct Standing {
     /// What the name stands for.
@@ -27,7 +27,7 @@ pub struct Standing {
     pub temporary: Place,
 }
 
-/// What the name stands for after these calls, and the temporary file.
+/// The places of the name and of the temporary file after these calls.
 pub fn standing_of(calls: &[CallRecord]) -> Standing
     ensures { StandsAt calls.now result }
 {
@@ -41,7 +41,7 @@ pub fn standing_of(calls: &[CallRecord]) -> Standing
     standing
 }
 
-/// Where they stand after the call of this number.
+/// These places after the call with this number.
 pub fn after(record: &CallRecord, number: usize, standing: Standing) -> Standing
     ensures { result ≡ standing_after record.now.call record.now.end number standing }
 {
@@ -99,7 +99,7 @@ fn taken(standing: Standing) -> Standing
     }
 }
 
-/// The bytes at a place; None where there is no file.
+/// The bytes at a place; None if there is no file.
 pub fn image_at<'a>(
     image: &'a Option<Bytes>,
     calls: &'a [CallRecord],
@@ -119,7 +119,7 @@ pub fn image_at<'a>(
     }
 }
 
-// The bytes that the call of this number put; none where it put none.
+// The bytes that the call with this number put, or no bytes if it put none.
 fn bytes_put(calls: &[CallRecord], number: usize) -> &[u8]
     ensures { result.now ≡ bytes_at calls.now number }
 {

@@ -1,4 +1,4 @@
-// Which calls of a folder or host in memory are to fail.
+// Which calls of a folder or host in memory should fail.
 ghost use Rattle.std.specs.Prelude.{◌≡◌, ◌≤◌, OnOk, OnErr};
 ghost use Rattle.kr_outside.specs.Faults.{Rose, HasCause};
 ghost use Rattle.kr_memory_disk.specs.Plan.{calls_at_start, FailsNow, after_success, after_failure};
@@ -6,7 +6,7 @@ ghost use Rattle.kr_memory_disk.specs.Plan.{calls_at_start, FailsNow, after_succ
 use kr_outside::Failed;
 use std::marker::Model;
 
-/// Which calls are to fail, by the call's number, which counts all calls from 0.
+/// Which calls should fail, by the call's number; all calls are counted from 0.
 #[derive(Drop)]
 pub struct CallPlan {
     failing: Vec<u64>,
@@ -34,7 +34,7 @@ impl CallPlan {
         }
     }
 
-    /// Counts a call, and a fault where it is to fail.
+    /// Counts a call, and a fault if it should fail.
     pub fn call(&mut self) -> Result<(), Failed>
         ensures done { OnOk result (¬ (FailsNow self.old) × (self.new ≡ after_success self.old)) }
         ensures failed { OnErr result (FailsNow self.old × (self.new ≡ after_failure self.old)) }

@@ -33,7 +33,7 @@ pub enum SlotCall {
 }
 
 impl SlotCall {
-    /// The call of the device that is recorded.
+    /// The kind of this call, without its bytes.
     pub fn device_call(&self) -> DeviceCall
         ensures { result ≡ device_call self.now }
     {
@@ -52,24 +52,24 @@ impl SlotCall {
 /// How a call of a slot ended.
 #[derive(Clone, Copy, PartialEq, Eq)]
 pub enum CallEnd {
-    /// It did what it is for.
+    /// It was performed.
     Done,
     /// It failed.
     Failed,
-    /// It failed, and of a rename or a removal the disk did all the same what it is for.
+    /// It failed, but a rename or a removal was performed on the disk nevertheless.
     FailedDone,
 }
 
-/// A call of a slot, with its end.
+/// A call of a slot, with how it ended.
 #[derive(Drop)]
 pub struct CallRecord {
     /// The call.
     pub call: SlotCall,
-    /// Its end.
+    /// How it ended.
     pub end: CallEnd,
 }
 
-/// A slot in memory, which records its calls and fails those that it is told to.
+/// A slot in memory, which records its calls and fails those that its plan lists.
 #[derive(Drop)]
 pub struct MemorySlot {
     alloc: Global,
@@ -101,9 +101,9 @@ impl Model for MemorySlot {
 }
 
 impl MemorySlot {
-    /// A slot of a name that stands for this image for good. Its calls are numbered from 0. The call
-    /// of number k fails where k is among `failing`; a rename or a removal is done all the same where
-    /// k is among `done` too, and a read then gives the new image.
+    /// A slot of a name that stands for this image, which no crash undoes. Its calls are numbered
+    /// from 0. Call number k fails if k is in `failing`; if k is also in `done`, a rename or a
+    /// removal is performed nevertheless, and a read then returns the new image.
     pub fn new(alloc: Global, image: Option<Bytes>, failing: Vec<u64>, done: Vec<u64>) -> MemorySlot
         ensures { result ≡ record {
           image = image;
@@ -128,15 +128,15 @@ impl MemorySlot {
         }
     }
 
-    /// The record of the calls, the first of them first.
+    /// The record of the calls, the first one first.
     pub fn calls(&self) -> &[CallRecord]
         ensures { result.now ≡ self.now.calls }
     {
         &self.calls
     }
 
-    /// Takes back every call after the first ones, as if the machine had stopped there. The count of
-    /// faults stays.
+    /// Undoes every call after the first ones, as if the machine had stopped there. The count
+    /// of faults stays.
     pub fn cut(&mut self, calls: usize)
         ensures { self.new ≡ record self.old {
           calls = take calls self.old.calls;
@@ -146,21 +146,22 @@ impl MemorySlot {
         self.calls.truncate(calls);
     }
 
-    /// How many images a crash now leaves one of: what the name stands for, and what else counts as
-    /// having stood since the folder was synced.
+    /// The number of images of which a crash now leaves one: what the name stands for, and what
+    /// else it counts as having stood for since the folder was synced.
     ///
-    /// Refused where no memory was left.
+    /// Refused if no memory was left.
     pub fn count_left(&self) -> Result<usize, OutOfMemory>
         ensures { IfOk result (λ count. count ≡ slot_count_left self.now) }
     {
         Ok(places_left(self.alloc, &self.calls)?.len())
     }
 
-    /// A copy of an image that a crash now may leave, picked by a number: these images stand in the
-    /// order in which they came to count, with what the name stands for last, and the numbers go
-    /// through them from 0, again and again. Of a file that wasn't synced it is with all its bytes.
+    /// A copy of an image that a crash now may leave, picked by a number: these images are in
+    /// the order in which they came to count, with what the name stands for last, and the
+    /// numbers go through them from 0, again and again. Of a file that wasn't synced the image
+    /// has all its bytes.
     ///
-    /// Refused where no memory was left.
+    /// Refused if no memory was left.
     pub fn left(&self, choice: u64) -> Result<Option<Bytes>, OutOfMemory>
         ensures picked { IfOk result (λ image. image ≡ slot_left self.now choice) }
         ensures may { IfOk result (λ image. slot_may_leave self.now image) }
@@ -191,7 +192,7 @@ impl MemorySlot {
         Failed
     }
 
-    // How the call that comes is to end.
+    // How the next call should end.
     fn end(&self) -> CallEnd
         ensures { IsPlanned self.now result }
     {
@@ -206,7 +207,7 @@ impl MemorySlot {
         }
     }
 
-    // Records a call with its planned end. It fails also where there is no memory for the record.
+    // Records a call with its planned end. It also fails if there is no memory for the record.
     fn note(&mut self, call: SlotCall) -> Result<(), Failed>
         ensures noted { IsNoted self.old call self.new result }
         ensures cause { HasCause self.old.faults self.new.faults result }
@@ -395,7 +396,7 @@ impl Slot for MemorySlot {
     }
 }
 
-/// Reads the bytes of a file to the front of a buffer.
+/// Reads the bytes of a file to the start of a buffer.
 pub fn fill(bytes: &[u8], buffer: &mut [u8]) -> Seen
     ensures fits { FitsIn (length buffer.new) result }
     ensures reads { Reads (Some bytes.now) buffer.new result }

@@ -1,5 +1,5 @@
-// A folder that never fails, and its slots. They tell the trait nothing of crashes: keeping the bytes of
-// every file takes memory, which may be refused, so a slot that never fails can't be an honest one.
+// A folder that never fails, and its slots. They say nothing of crashes to the trait: keeping the bytes
+// of every file takes memory, which may be refused, so a slot that never fails can't be an honest one.
 ghost use Rattle.std.specs.Prelude.{◌≡◌, ◌<◌, ◌≤◌, ◌∷◌, [], Ok, None, Some, IfOk, IfErr, OnOk, OnErr, IsOk, length, max, take, true, false, vec_len, vec_capacity};
 ghost use Rattle.std.proofs.Common.{rules};
 ghost use Rattle.kr_outside.specs.Folder.{Lists};
@@ -17,7 +17,7 @@ use std::marker::Model;
 use std::mem;
 
 /// A slot that never fails. It keeps the first bytes of a file that is put, as many as it has room
-/// for, and drops what is behind them.
+/// for, and drops those after them.
 #[derive(Drop)]
 pub struct SteadySlot {
     file: Vec<u8>,
@@ -46,9 +46,10 @@ impl Model for SteadySlot {
 }
 
 impl SteadySlot {
-    /// A slot of a name that stands for this image, with memory for so many bytes of a file to come.
+    /// A slot of a name that stands for this image, with memory for `room` bytes of a
+    /// file written later.
     ///
-    /// Refused where there is no memory for the room.
+    /// Refused if there is no memory for the room.
     pub fn new(alloc: Global, image: Option<Bytes>, room: usize) -> Result<SteadySlot, OutOfMemory>
         ensures { IfOk result (λ slot. slot ≡ record {
           image = image;
@@ -175,8 +176,8 @@ impl Slot for SteadySlot {
     }
 }
 
-// Keeps the first of these bytes in the place of others, as far as the room reaches, for which memory
-// is there.
+// Replaces the kept bytes by the first of these, as many as there is room for; the memory for the
+// room is there already.
 fn keep(kept: &mut Vec<u8>, room: usize, bytes: &[u8])
     requires { room ≤ vec_capacity kept.old }
     ensures front { kept.new.items ≡ take room bytes.now }
@@ -210,7 +211,7 @@ impl Model for SteadyFolder {
 }
 
 impl SteadyFolder {
-    /// A folder of these files, whose slots have memory for so many bytes of a file to come.
+    /// A folder of these files, whose slots have memory for `room` bytes of a file written later.
     pub fn new(alloc: Global, files: Files, room: usize) -> SteadyFolder
         ensures { result ≡ record { files = files; room = room; made = [] } }
     {

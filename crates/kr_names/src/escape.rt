@@ -30,7 +30,7 @@ fn hex_value(digit: u8) -> u8
     }
 }
 
-/// The bytes as they stand in a path.
+/// The bytes as a path spells them.
 fn escape(alloc: Global, bytes: &[u8]) -> Result<Vec<u8>, OutOfMemory>
     ensures { IfOk result (λ text. text.items ≡ escaped bytes.now) }
 {
@@ -46,7 +46,7 @@ fn escape(alloc: Global, bytes: &[u8]) -> Result<Vec<u8>, OutOfMemory>
     Ok(text)
 }
 
-/// The bytes that stand so in a path, whether or not the text is what they are escaped as.
+/// The bytes that a path spells like this, whether or not the text is the one that they are escaped to.
 fn unescape(alloc: Global, text: &[u8]) -> Result<Vec<u8>, OutOfMemory>
     ensures { IfOk result (λ bytes. bytes.items ≡ unescaped text.now) }
 {
@@ -64,8 +64,8 @@ fn unescape(alloc: Global, text: &[u8]) -> Result<Vec<u8>, OutOfMemory>
     Ok(bytes)
 }
 
-/// The stem as it stands in a path: each byte that is no letter or digit is `_` and two lower-case
-/// hex digits.
+/// The stem as a path spells it: each byte that isn't a letter or digit becomes `_` and two
+/// lower-case hex digits.
 pub fn escaped_stem(alloc: Global, stem: &Stem) -> Result<Text, OutOfMemory>
     ensures { IfOk result (λ text. IsEscapeOf stem.now text) }
 {
@@ -75,9 +75,10 @@ pub fn escaped_stem(alloc: Global, stem: &Stem) -> Result<Text, OutOfMemory>
     }
 }
 
-/// The stem that stands so in a path.
+/// The stem that a path spells like this.
 ///
-/// None where no stem does: the text isn't in that form, or what it stands for is no stem.
+/// None if no stem is spelled so: the text isn't in that form, or the bytes that it spells
+/// aren't a stem.
 pub fn stem_of_escaped(alloc: Global, text: &str) -> Result<Option<Stem>, OutOfMemory>
     ensures { IfOk result (Reads (λ stem. IsEscapeOf stem text.now)) }
 {
@@ -87,7 +88,7 @@ pub fn stem_of_escaped(alloc: Global, text: &str) -> Result<Option<Stem>, OutOfM
     let Some(stem) = Stem::from_text(read) else {
         return Ok(None);
     };
-    // Of the texts that are read as this stem, one is its spelling.
+    // Several texts are read as this stem, but only one is its spelling.
     let spelled = escape(alloc, stem.as_str().as_bytes())?;
     if spelled.as_slice() == text.as_bytes() {
         Ok(Some(stem))

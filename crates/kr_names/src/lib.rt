@@ -1,8 +1,8 @@
 //! Names and paths: which object of the service an object path names (Secret Service API, "Object
-//! Paths"; docs/SERVICE.md, "Names and paths"). A name is a value, and what it names need not be there.
-//! Contracts see a path as the list of its bytes. Callers may rely on these: `path_of` gives the one
-//! path that `parse_path` reads as the name, `parse_path` answers None exactly where a path is that of
-//! no name, and a path is that of one name at most.
+//! Paths"; docs/SERVICE.md, "Names and paths"). A name is a value, and what it names need not exist.
+//! Contracts see a path as the list of its bytes. Callers may rely on these: `path_of` returns the one
+//! path that `parse_path` reads as the name, `parse_path` returns None exactly if no name has the
+//! path, and a path belongs to one name at most.
 #![tactic(auto)]
 
 mod escape;

@@ -3,7 +3,7 @@ ghost use Rattle.kr_names.specs.Path.{IsAliasName, HasPath};
 
 use kr_base::{ItemId, OutOfMemory, PromptId, SessionId, Stem, Text};
 
-/// What a path names: an object of the service, which need not be there.
+/// What a path names: an object of the service, which need not exist.
 #[derive(Debug, Drop, PartialEq, Eq, PartialOrd, Ord)]
 pub enum ObjectName {
     /// No object: the path `/`.
@@ -24,7 +24,7 @@ pub enum ObjectName {
     Prompt(PromptId),
 }
 
-/// Whether the text is the name of an alias: 1 to 64 letters, digits and `_`.
+/// Whether the text can be the name of an alias: 1 to 64 letters, digits and `_`.
 pub fn is_alias_name(name: &str) -> bool
     ensures { IsTrue result ↔ IsAliasName name.now }
 {
@@ -37,8 +37,8 @@ pub fn is_alias_name(name: &str) -> bool
 }
 
 impl ObjectName {
-    /// Whether the name has a path: a session's and a prompt's number isn't 0, and an alias has the
-    /// name of an alias.
+    /// Whether the name has a path: the number of a session or a prompt isn't 0, and an alias has
+    /// the name of an alias.
     pub fn has_path(&self) -> bool
         ensures { IsTrue result ↔ HasPath self.now }
     {
@@ -50,7 +50,7 @@ impl ObjectName {
         }
     }
 
-    /// A second value of the same name.
+    /// A copy of the name.
     pub fn copy(&self) -> Result<ObjectName, OutOfMemory>
         ensures { IfOk result (λ copied. copied ≡ self.now) }
     {

@@ -54,7 +54,7 @@ fn spelled(alloc: Global, name: &ObjectName) -> Result<String, OutOfMemory>
     }
 }
 
-/// The name of no parts whose path this is.
+/// The name with this path, among those that have no parts.
 #[tactic(auto, unfolding(crate::specs::Path::service, crate::specs::Path::agent))]
 fn whole(path: &str) -> Option<ObjectName>
     ensures { MatchOption result (IsNoWhole path.now) (λ name. IsPathOf name path.now) }
@@ -70,7 +70,7 @@ fn whole(path: &str) -> Option<ObjectName>
     }
 }
 
-/// What stands behind a front of the path.
+/// What follows a prefix of the path.
 fn behind<'a>(path: &'a str, front: &str) -> Option<&'a str>
     ensures { MatchOption result ((rest : List ℕ) → path.now ≡ front.now ++ rest → ⊥)
         (λ rest. path.now ≡ front.now ++ rest.now) }
@@ -78,7 +78,7 @@ fn behind<'a>(path: &'a str, front: &str) -> Option<&'a str>
     path.strip_prefix(front)
 }
 
-/// The number that the text spells in decimal digits, with no sign and no leading zero.
+/// The number that the text spells in decimal digits, without a sign or a leading zero.
 fn number_of(text: &str) -> Option<u64>
     ensures { Reads (λ number. IsNumber number text.now) result }
 {
@@ -95,7 +95,7 @@ fn number_of(text: &str) -> Option<u64>
     }
 }
 
-/// The number from 1 up that stands in decimal digits behind a front of the path.
+/// The number, at least 1, whose decimal digits follow a prefix of the path.
 fn numbered(path: &str, front: &str) -> Option<u64>
     ensures { Reads (IsNumbered front.now path.now) result }
 {
@@ -111,7 +111,7 @@ fn numbered(path: &str, front: &str) -> Option<u64>
     Some(number)
 }
 
-/// What stands before the first slash, and what stands behind it.
+/// What comes before the first slash, and what comes after it.
 fn cut(text: &str) -> Option<(&str, &str)>
     ensures { MatchOption result (All (λ byte. byte ≢ 47) text.now)
         (λ parts. IsCut text.now parts.0.now parts.1.now) }
@@ -119,7 +119,7 @@ fn cut(text: &str) -> Option<(&str, &str)>
     text.split_once('/')
 }
 
-/// The alias whose path this is.
+/// The alias with this path.
 fn alias_of(alloc: Global, path: &str) -> Result<Option<Text>, OutOfMemory>
     ensures { IfOk result (Reads (λ alias. IsPathOf (ObjectName.Alias alias) path.now)) }
 {
@@ -132,7 +132,7 @@ fn alias_of(alloc: Global, path: &str) -> Result<Option<Text>, OutOfMemory>
     Text::from_str(alloc, name)
 }
 
-/// The collection whose path this is.
+/// The collection with this path.
 fn collection_of(alloc: Global, path: &str) -> Result<Option<Stem>, OutOfMemory>
     ensures { IfOk result (Reads (λ stem. IsPathOf (ObjectName.Collection stem) path.now)) }
 {
@@ -142,7 +142,7 @@ fn collection_of(alloc: Global, path: &str) -> Result<Option<Stem>, OutOfMemory>
     }
 }
 
-/// The item whose path this is: its collection, and its number there.
+/// The item with this path: its collection, and its number there.
 fn item_of(alloc: Global, path: &str) -> Result<Option<(Stem, ItemId)>, OutOfMemory>
     ensures { IfOk result (Reads (λ it. IsPathOf (ObjectName.Item it.0 it.1) path.now)) }
 {
@@ -164,10 +164,10 @@ fn item_of(alloc: Global, path: &str) -> Result<Option<(Stem, ItemId)>, OutOfMem
     }
 }
 
-/// The name whose path this is.
+/// The name with this path.
 ///
-/// None exactly where no name has the path: it isn't of one of the forms, its stem isn't spelled in
-/// the one way or isn't a stem, or a number has a sign, a leading zero or too many digits.
+/// None exactly if no name has the path: it has none of the forms, its stem isn't spelled in the
+/// one way or isn't a stem, or a number has a sign, a leading zero or too many digits.
 pub fn parse_path(alloc: Global, path: &str) -> Result<Option<ObjectName>, OutOfMemory>
     ensures read { IfOk result (Reads (λ name. IsPathOf name path.now)) }
     ensures named { IfOk result (λ answer. answer ≡ name_of_path path.now) }

@@ -20,13 +20,13 @@ pub enum OutsideRefused {
 
 /// A folder of files, each under a name of its own.
 ///
-/// What is said of names and content holds of an honest folder, and of the names of which no slot
-/// was made: what is made of a name is told by its slot.
+/// What the clauses say of names and content is about an honest folder, and about the names of
+/// which no slot was made: once a slot is made of a name, the slot says what happens to it.
 pub trait Folder: Drop {
     /// The slot of a name.
     type Cell: Slot;
 
-    /// What a slot that is made of a name would read: the bytes of a file, or no file.
+    /// What a slot made of a name would read: the bytes of a file, or no file.
     ghost images: { Self → List ℕ → Option (List ℕ) };
 
     /// The images that a crash at this moment may leave under a name.
@@ -35,18 +35,18 @@ pub trait Folder: Drop {
     /// The names of which slots were made.
     ghost made: { Self → List (List ℕ) };
 
-    /// How often the folder has failed. The count never falls, and stands still at 2^64 - 1.
+    /// How often the folder has failed. The count never falls, and stays at 2^64 - 1.
     ghost faults: { Self → ℕ };
 
     /// Whether the folder behaves as the rename disk does, and nobody else writes it.
     ghost is_honest: { Self → Bool };
 
-    /// Whether the folder never fails, and so its count stands still at every call.
+    /// Whether the folder never fails, so that its count never rises.
     ghost is_steady: { Self → Bool };
 
-    /// Puts on the disk what each name stands for: from then on a crash leaves what a read gives.
+    /// Puts on the disk what each name stands for: from then on a crash leaves what a read returns.
     ///
-    /// Refused with `Failed` only where the count of faults rose.
+    /// Refused with `Failed` only if the count of faults rose.
     fn sync(&mut self) -> Result<(), Failed>
         ensures settled { IsTrue (is_honest self.old)
             → OnOk result (IsSettled (made self.old) (images self.new) (may_leave self.new)) }
@@ -60,7 +60,8 @@ pub trait Folder: Drop {
 
     /// The names of all files, each once, in any order.
     ///
-    /// Refused with `Failed` only where the count of faults rose, and with `OutOfMemory`.
+    /// Refused with `Failed` only if the count of faults rose, and with `OutOfMemory` if no
+    /// memory was left.
     fn names(&mut self) -> Result<Vec<Text>, OutsideRefused>
         ensures listed { IsTrue (is_honest self.old)
             → IfOk result (λ names. Lists (made self.old) (images self.old) names.items) }
@@ -72,12 +73,12 @@ pub trait Folder: Drop {
         ensures steady { KeepsSteady (is_steady self.old) (is_steady self.new)
             (faults self.old) (faults self.new) };
 
-    /// The slot of a name, with no fault counted yet, and of whose temporary file nothing is known. Of
-    /// a name that `names` didn't give, it stands for no file. At no moment of the slot's clock so far
-    /// might a crash have left what it may not leave now. It is made once of each name: of a second
-    /// slot nothing is known.
+    /// The slot of a name, with no fault counted yet; nothing is known of its temporary file. A
+    /// name that `names` didn't return stands for no file. At no earlier moment of the slot's clock
+    /// might a crash have left what it may not leave now. A slot is made once of each name: nothing
+    /// is known of a second one.
     ///
-    /// Refused where no memory was left; no slot was made then.
+    /// Refused if no memory was left; no slot was made then.
     fn slot(&mut self, name: &str) -> Result<Self::Cell, OutOfMemory>
         ensures seen { IsTrue (is_honest self.old) → ¬ (Contains (made self.old) name.now)
             → IfOk result (λ cell. Self.Cell.seen cell ≡ images self.old name.now) }
@@ -100,6 +101,6 @@ pub trait Folder: Drop {
         ensures count { faults self.new ≡ faults self.old }
         ensures steady { is_steady self.new ≡ is_steady self.old };
 
-    /// The count of a steady folder could still rise: since it stands still, no call has failed.
+    /// The count of a steady folder isn't at its maximum: as it never rises, no call fails.
     ghost steady_below: { (folder : Self) → IsBelowLast (is_steady folder) (faults folder) };
 }

@@ -7,33 +7,34 @@ use crate::{Clock, Folder, OutsideRefused};
 
 /// The machine on which the program runs: it opens folders and has a clock.
 pub trait Host {
-    /// What a folder of it is.
+    /// The type of its folders.
     type Dir: Folder;
 
-    /// What a clock of it is.
+    /// The type of its clock.
     type Time: Clock;
 
-    /// What the names of the folder at a path stand for, where the host tells it.
+    /// What the names of the folder at a path stand for, if the host reports it.
     ghost told: { Self → List ℕ → Option (List ℕ → Option (List ℕ)) };
 
-    /// The moments that its clock is to give, where the host tells them.
+    /// The moments that its clock is going to return, if the host reports them.
     ghost coming: { Self → Option (ℕ → ℕ) };
 
-    /// How often the host has failed. The count never falls, and stands still at 2^64 - 1.
+    /// How often the host has failed. The count never falls, and stays at 2^64 - 1.
     ghost faults: { Self → ℕ };
 
-    /// How many folders the host has given. The count never falls, and stays at 2^64 - 1.
+    /// How many folders the host has opened. The count never falls, and stays at 2^64 - 1.
     ghost given: { Self → ℕ };
 
     /// Whether its folders behave as the rename disk does, and nobody else writes them.
     ghost is_honest: { Self → Bool };
 
-    /// Whether neither the host nor what it gives ever fails.
+    /// Whether neither the host nor its folders and its clock ever fail.
     ghost is_steady: { Self → Bool };
 
     /// The folder at a path, of which no slot was made yet. It is counted.
     ///
-    /// Refused with `Failed` only where the count of faults rose, and with `OutOfMemory`.
+    /// Refused with `Failed` only if the count of faults rose, and with `OutOfMemory` if no
+    /// memory was left.
     fn folder(&mut self, path: &str) -> Result<Self::Dir, OutsideRefused>
         ensures told { IfOk result (λ folder.
             AreTold (told self.old path.now) (Self.Dir.images folder)) }
@@ -59,6 +60,6 @@ pub trait Host {
         ensures count { faults self.new ≡ faults self.old }
         ensures steady { is_steady self.new ≡ is_steady self.old };
 
-    /// The count of a steady host could still rise: since it stands still, no call has failed.
+    /// The count of a steady host isn't at its maximum: as it never rises, no call fails.
     ghost steady_below: { (host : Self) → IsBelowLast (is_steady host) (faults host) };
 }

@@ -1,10 +1,10 @@
 //! What the program asks of the world outside it, as traits: streams of bytes that come in and go
-//! out, the clock, folders, and the slots of their names, by which a file is replaced. Contracts see
-//! an object of the outside by ghost meanings: the bytes that a source has left, the bytes that a
-//! sink has taken, what a slot reads and what a crash at any moment may leave of it, how often an
-//! object has failed, and whether it ever will. Callers may rely on these: a failure stands only
-//! where the count of faults rose in that very call, a steady object never fails, and an honest slot
-//! behaves as the rename disk does.
+//! out, the clock, folders, and the slots of their names, by which a file is replaced. Contracts
+//! see an object of the outside by ghost meanings: the bytes that a source has left, the bytes that
+//! a sink has taken, what a slot reads and what a crash at any moment may leave of it, how often an
+//! object has failed, and whether it ever will. Callers may rely on these: a call fails only if the
+//! count of faults rose in that very call, a steady object never fails, and an honest slot behaves
+//! as the rename disk does.
 #![tactic(auto)]
 
 mod clock;

@@ -8,20 +8,19 @@ use crate::Failed;
 
 /// A stream of bytes that goes out.
 pub trait Sink {
-    /// The bytes that were written so far, in order, where the sink tells them.
+    /// The bytes that were written so far, in order, if the sink reports them.
     ghost written: { Self → Option (List ℕ) };
 
-    /// How often the sink has failed. The count never falls, and stands still at 2^64 - 1.
+    /// How often the sink has failed. The count never falls, and stays at 2^64 - 1.
     ghost faults: { Self → ℕ };
 
-    /// Whether the sink never fails, and so its count stands still at every call.
+    /// Whether the sink never fails, so that its count never rises.
     ghost is_steady: { Self → Bool };
 
-    /// Writes some bytes of the front of the piece, and answers how many: at least one, where the
-    /// piece has any. A stream that takes none of them has failed.
+    /// Writes the first bytes of the piece, and returns how many: at least one, if the piece has
+    /// any. A stream that takes none of them has failed.
     ///
-    /// Refused with `Failed` only where the count of faults rose; the bytes written are then as
-    /// before.
+    /// Refused with `Failed` only if the count of faults rose; the bytes written are then as before.
     fn write(&mut self, piece: &[u8]) -> Result<usize, Failed>
         ensures within { WritesAtMost result piece.now }
         ensures some { IfOk result (λ count. 0 < length piece.now → 0 < count) }
@@ -30,14 +29,14 @@ pub trait Sink {
         ensures steady { KeepsSteady (is_steady self.old) (is_steady self.new)
             (faults self.old) (faults self.new) };
 
-    /// The count of a steady sink could still rise: since it stands still, no call has failed.
+    /// The count of a steady sink isn't at its maximum: as it never rises, no call fails.
     ghost steady_below: { (sink : Self) → IsBelowLast (is_steady sink) (faults sink) };
 }
 
 /// Writes the whole piece, by as many calls as the sink needs.
 ///
-/// Refused with `Failed` at the first call that fails; a front of the piece is then written, perhaps
-/// none of it.
+/// Refused with `Failed` at the first call that fails; a prefix of the piece is then written,
+/// perhaps an empty one.
 pub fn write_all<O: Sink>(output: &mut O, piece: &[u8]) -> Result<(), Failed>
     ensures whole { OnOk result (Appends (O.written output.old) (O.written output.new) piece.now) }
     ensures front { OnErr result

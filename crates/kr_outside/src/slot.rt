@@ -10,7 +10,7 @@ use crate::Failed;
 pub enum Seen {
     /// The name stands for no file.
     Missing,
-    /// The file has this many bytes, and they are the front of the buffer.
+    /// The file has this many bytes, and they are at the start of the buffer.
     Whole(usize),
     /// The file is longer than the buffer.
     Longer,
@@ -37,13 +37,13 @@ pub enum DeviceCall {
 
 /// One name of a folder, and the temporary file beside it that may take the name.
 ///
-/// What is said of content, time and crashes holds of an honest slot, one that behaves as the rename
-/// disk does. No call takes memory.
+/// What the clauses say of content, time and crashes is about an honest slot, one that behaves as
+/// the rename disk does. No call takes memory.
 pub trait Slot: Drop {
     ghost use Rattle.kr_outside.specs.declared.slot.DeviceCall.{DeviceCall};
     ghost use Rattle.kr_outside.specs.declared.slot.Seen.{Seen};
 
-    /// What a read gives: the bytes of a file, or no file.
+    /// What a read returns: the bytes of a file, or no file.
     ghost seen: { Self → Option (List ℕ) };
 
     /// What is known of the temporary file.
@@ -52,29 +52,29 @@ pub trait Slot: Drop {
     /// The images that a crash at this moment may leave under the name.
     ghost may_leave: { Self → Option (List ℕ) → Type 0 };
 
-    /// The moment, as a number of the slot's own clock.
+    /// The present moment, as a number of the slot's own clock.
     ghost moment: { Self → ℕ };
 
-    /// The images that a crash at some moment from that one on might have left, within a call or
-    /// between two.
+    /// The images that a crash at some moment from the given one on might have left, within a call
+    /// or between two.
     ghost left_since: { Self → ℕ → Option (List ℕ) → Type 0 };
 
-    /// How often the slot has failed. The count never falls, and stands still at 2^64 - 1.
+    /// How often the slot has failed. The count never falls, and stays at 2^64 - 1.
     ghost faults: { Self → ℕ };
 
-    /// The call that was made last, if it failed.
+    /// The last call, if it failed.
     ghost failed: { Self → Option DeviceCall };
 
-    /// What the last read that succeeded has answered.
+    /// What the last successful read returned.
     ghost answered: { Self → Option Seen };
 
     /// Whether the slot behaves as the rename disk does, and nobody else writes its folder.
     ghost is_honest: { Self → Bool };
 
-    /// Whether the slot never fails, and so its count stands still at every call.
+    /// Whether the slot never fails, so that its count never rises.
     ghost is_steady: { Self → Bool };
 
-    /// How many bytes the file has; None where the name stands for no file.
+    /// The number of bytes of the file, or None if the name stands for no file.
     fn size(&mut self) -> Result<Option<u64>, Failed>
         ensures answer { IsTrue (is_honest self.old)
             → IfOk result (λ size. size ≡ size_of (seen self.old)) }
@@ -91,10 +91,10 @@ pub trait Slot: Drop {
         ensures steady { KeepsSteady (is_steady self.old) (is_steady self.new)
             (faults self.old) (faults self.new) };
 
-    /// Reads the file to the front of the buffer. The answer is `Longer` exactly where the file is
-    /// longer than the buffer.
+    /// Reads the file to the start of the buffer. It returns `Longer` exactly if the file is longer
+    /// than the buffer.
     ///
-    /// Refused with `Failed` only where the count of faults rose; nothing is known of the buffer then.
+    /// Refused with `Failed` only if the count of faults rose; nothing is known of the buffer then.
     fn read(&mut self, buffer: &mut [u8]) -> Result<Seen, Failed>
         ensures fits { IfOk result (FitsIn (length buffer.new)) }
         ensures answer { IsTrue (is_honest self.old)
@@ -113,10 +113,10 @@ pub trait Slot: Drop {
         ensures steady { KeepsSteady (is_steady self.old) (is_steady self.new)
             (faults self.old) (faults self.new) };
 
-    /// Makes the temporary file anew with these bytes. Until a sync of it succeeds, a crash may leave
-    /// any bytes in it.
+    /// Makes the temporary file anew with these bytes. Until a sync of it succeeds, a crash may
+    /// leave any bytes in it.
     ///
-    /// Refused with `Failed` only where the count of faults rose; nothing of the name has changed.
+    /// Refused with `Failed` only if the count of faults rose; what the name stands for is unchanged.
     fn put_temp(&mut self, bytes: &[u8]) -> Result<(), Failed>
         ensures put { IsTrue (is_honest self.old)
             → OnOk result (temporary self.new ≡ Unsynced bytes.now) }
@@ -133,7 +133,7 @@ pub trait Slot: Drop {
 
     /// Puts the bytes of the temporary file on the disk, so that a crash leaves them in it.
     ///
-    /// Refused with `Failed` only where the count of faults rose; nothing of the name has changed.
+    /// Refused with `Failed` only if the count of faults rose; what the name stands for is unchanged.
     fn sync_temp(&mut self) -> Result<(), Failed>
         ensures synced { IsTrue (is_honest self.old)
             → OnOk result (temporary self.new ≡ synced (temporary self.old)) }
@@ -151,7 +151,7 @@ pub trait Slot: Drop {
     /// Makes the name stand for the temporary file. Until a sync of the folder succeeds, a crash may
     /// leave what the name stood for before or what it stands for now.
     ///
-    /// Refused with `Failed` only where the count of faults rose; a read from then on gives the old
+    /// Refused with `Failed` only if the count of faults rose; a read from then on returns the old
     /// image or the new one, as the disk chose, and a crash may leave either.
     fn rename(&mut self) -> Result<(), Failed>
         ensures renamed { IsTrue (is_honest self.old)
@@ -168,11 +168,11 @@ pub trait Slot: Drop {
         ensures steady { KeepsSteady (is_steady self.old) (is_steady self.new)
             (faults self.old) (faults self.new) };
 
-    /// Puts on the disk what this name stands for; it says nothing of another name. After it a crash
-    /// leaves what a read gives, unless the name stands for a file whose bytes weren't synced.
+    /// Puts on the disk what this name stands for; nothing is said of other names. After it a crash
+    /// leaves what a read returns, unless the name stands for a file whose bytes weren't synced.
     ///
-    /// Refused with `Failed` only where the count of faults rose; a crash may leave what it could
-    /// leave before.
+    /// Refused with `Failed` only if the count of faults rose; a crash may leave only what it
+    /// could leave before.
     fn sync_folder(&mut self) -> Result<(), Failed>
         ensures settled { IsTrue (is_honest self.old)
             → OnOk result (LeavesAnyBytes (may_leave self.old)
@@ -193,7 +193,7 @@ pub trait Slot: Drop {
     /// Makes the name stand for no file. Until a sync of the folder succeeds, a crash may leave what
     /// the name stood for before, or no file.
     ///
-    /// Refused with `Failed` only where the count of faults rose; a read from then on gives the old
+    /// Refused with `Failed` only if the count of faults rose; a read from then on returns the old
     /// image or no file, as the disk chose, and a crash may leave either.
     fn remove(&mut self) -> Result<(), Failed>
         ensures removed { IsTrue (is_honest self.old) → OnOk result (seen self.new ≡ None) }
@@ -209,17 +209,17 @@ pub trait Slot: Drop {
         ensures steady { KeepsSteady (is_steady self.old) (is_steady self.new)
             (faults self.old) (faults self.new) };
 
-    /// What a read gives is one of the images that a crash now may leave.
+    /// What a read returns is one of the images that a crash now may leave.
     ghost may_leave_seen: { (slot : Self) → IsTrue (is_honest slot) → may_leave slot (seen slot) };
 
-    /// This moment is one of those since an earlier one.
+    /// What a crash now may leave is among what it might have left since any moment up to now.
     ghost counts_now: { (slot : Self) (t : ℕ) (image : Option (List ℕ)) → IsTrue (is_honest slot)
         → t ≤ moment slot → may_leave slot image → left_since slot t image };
 
-    /// Since this moment there is no other.
+    /// What a crash might have left since the present moment is what it may leave now.
     ghost only_now: { (slot : Self) (image : Option (List ℕ)) → IsTrue (is_honest slot)
         → left_since slot (moment slot) image → may_leave slot image };
 
-    /// The count of a steady slot could still rise: since it stands still, no call has failed.
+    /// The count of a steady slot isn't at its maximum: as it never rises, no call fails.
     ghost steady_below: { (slot : Self) → IsBelowLast (is_steady slot) (faults slot) };
 }

@@ -5,26 +5,26 @@ ghost use Rattle.kr_outside.specs.Faults.{HasCause, KeepsSteady, IsBelowLast};
 
 use thiserror::Error;
 
-/// A device or a stream failed in this call. What the system said of the cause is not passed on.
+/// A device or a stream failed in this call. The system's own error isn't passed on.
 #[derive(Clone, Copy, Debug, PartialEq, Eq, Error)]
 #[error("the device or stream failed")]
 pub struct Failed;
 
 /// A stream of bytes that comes in.
 pub trait Source {
-    /// The bytes that are left to be read, in order, where the source tells them.
+    /// The bytes that are left to be read, in order, if the source reports them.
     ghost left: { Self → Option (List ℕ) };
 
-    /// How often the source has failed. The count never falls, and stands still at 2^64 - 1.
+    /// How often the source has failed. The count never falls, and stays at 2^64 - 1.
     ghost faults: { Self → ℕ };
 
-    /// Whether the source never fails, and so its count stands still at every call.
+    /// Whether the source never fails, so that its count never rises.
     ghost is_steady: { Self → Bool };
 
-    /// Reads some of the bytes that are left to the front of the buffer, takes them away, and answers
-    /// how many. Of a buffer that has room, 0 is the end of the input: no bytes are left.
+    /// Reads some of the bytes that are left to the start of the buffer, consumes them, and returns
+    /// how many. If the buffer has room, 0 means the end of the input: no bytes are left.
     ///
-    /// Refused with `Failed` only where the count of faults rose, which it does at no other read; the
+    /// Refused with `Failed` only if the count of faults rose, which it does at no other read; the
     /// bytes left are then as before, and nothing is known of the buffer.
     fn read(&mut self, buffer: &mut [u8]) -> Result<usize, Failed>
         ensures within { ReadsAtMost result buffer.new }
@@ -34,6 +34,6 @@ pub trait Source {
         ensures steady { KeepsSteady (is_steady self.old) (is_steady self.new)
             (faults self.old) (faults self.new) };
 
-    /// The count of a steady source could still rise: since it stands still, no call has failed.
+    /// The count of a steady source isn't at its maximum: as it never rises, no call fails.
     ghost steady_below: { (source : Self) → IsBelowLast (is_steady source) (faults source) };
 }

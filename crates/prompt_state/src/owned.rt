@@ -1,12 +1,13 @@
-// Whose the prompts are: pairs of an owner's and a prompt's number, in order. What a connection does to its
-// own prompts takes steps by their number and by the logarithm of all.
+// Who owns which prompt: pairs of an owner's and a prompt's number, in order. The time that a
+// connection's calls take grows with the number of its own prompts, and with the logarithm of the
+// number of all prompts.
 ghost use Rattle.std.specs.Prelude.{◌≡◌, ℕ, ◌+◌, ◌^◌, ◌++◌, ◌∷◌, [], not, nat_eq, length, filter, if◌then◌else◌, IfSome, IfNone, OnOk, OnErr};
 ghost use Rattle.prompt_state.specs.Kept.{numbers_at, AreInOrder, AreBelow, IsFirst};
 
 use kr_base::OutOfMemory;
 use std::collections::BTreeSet;
 
-/// How many prompts an owner has.
+/// The number of prompts of an owner.
 pub fn count_of(pairs: &BTreeSet<(u64, u64)>, owner: u64) -> usize
     requires { AreBelow (2 ^ 64) pairs.now.keys }
     ensures { result ≡ length (numbers_at owner pairs.now.keys) }
@@ -14,7 +15,7 @@ pub fn count_of(pairs: &BTreeSet<(u64, u64)>, owner: u64) -> usize
     pairs.range((owner, 0)..=(owner, u64::MAX)).count()
 }
 
-/// An owner's prompt of the least number.
+/// An owner's prompt with the least number.
 pub fn first_of(pairs: &BTreeSet<(u64, u64)>, owner: u64) -> Option<u64>
     requires { AreBelow (2 ^ 64) pairs.now.keys }
     ensures found { IfSome result (λ number. IsFirst number (numbers_at owner pairs.now.keys)) }
@@ -26,7 +27,7 @@ pub fn first_of(pairs: &BTreeSet<(u64, u64)>, owner: u64) -> Option<u64>
     }
 }
 
-/// Adds a prompt, whose number is above all that were given.
+/// Adds a prompt. Its number is above all that were used before.
 pub fn add(pairs: &mut BTreeSet<(u64, u64)>, owner: u64, next: u64) -> Result<(), OutOfMemory>
     requires ordered { AreInOrder pairs.old.keys }
     requires given { AreBelow next pairs.old.keys }
@@ -40,7 +41,7 @@ pub fn add(pairs: &mut BTreeSet<(u64, u64)>, owner: u64, next: u64) -> Result<()
     Ok(())
 }
 
-/// Takes a prompt of an owner away.
+/// Removes a prompt of an owner.
 pub fn take(pairs: &mut BTreeSet<(u64, u64)>, owner: u64, number: u64)
     requires { AreInOrder pairs.old.keys }
     ensures others { (other : ℕ) → numbers_at other pairs.new.keys

@@ -9,9 +9,9 @@ use kr_items::Items;
 /// What a prompt is for.
 #[derive(Drop)]
 pub enum PromptKind {
-    /// It unlocks the collections of the targets, one after the other.
+    /// It unlocks the collections of these targets, one after the other.
     Unlock(Targets),
-    /// It makes a collection.
+    /// It creates a collection.
     Create {
         /// The label of the new collection.
         label: Text,
@@ -33,7 +33,7 @@ impl PromptKind {
         }
     }
 
-    /// A second value of the same kind.
+    /// A copy of the kind.
     pub fn copy(&self) -> Result<PromptKind, OutOfMemory>
         ensures { IfOk result (λ copied. copied ≡ self.now) }
     {
@@ -48,7 +48,7 @@ impl PromptKind {
     }
 }
 
-/// Where a prompt is on its way. Each time that it is asked it is in a new round, counted from 1.
+/// How far a prompt has come. Each time that it is asked it is in a new round, counted from 1.
 #[derive(Clone, Copy, Debug, PartialEq, Eq)]
 pub enum Stage {
     /// Its owner hasn't called Prompt yet.
@@ -60,7 +60,7 @@ pub enum Stage {
 }
 
 impl Stage {
-    /// The round that the stage is in, 0 before the first.
+    /// The round of this state; 0 before the first.
     pub fn round(self) -> u64
         ensures { result ≡ round_of self }
     {
@@ -114,14 +114,14 @@ pub struct PromptRow {
     pub owner: ConnId,
     /// What it is for, with its targets.
     pub kind: PromptKind,
-    /// Where it is on its way.
+    /// How far it has come.
     pub stage: Stage,
     /// How many wrong passwords were given for its first target that is left.
     pub wrong: u32,
 }
 
 impl PromptRow {
-    /// A second value of the same row.
+    /// A copy of the row.
     pub fn copy(&self) -> Result<PromptRow, OutOfMemory>
         ensures { IfOk result (λ copied. copied ≡ self.now) }
     {
@@ -146,7 +146,7 @@ pub struct Prompts {
     pub next: u64,
 }
 
-/// What the agent is sent when a prompt is asked: the signal Ask, to it alone.
+/// What the agent is sent when a prompt is asked: the signal Ask, which goes to it alone.
 #[derive(Clone, Copy, Debug, PartialEq, Eq)]
 pub struct Ask {
     /// The agent.
@@ -155,12 +155,12 @@ pub struct Ask {
     pub prompt: PromptId,
     /// The round in which an answer counts.
     pub round: u64,
-    /// How many wrong passwords were given for the target that is asked for.
+    /// How many wrong passwords were given for the target that it is asked for.
     pub wrong: u32,
 }
 
-/// What is left of a prompt that ended: the signal Completed is made of it, and goes to its owner alone. Only
-/// a call that ends a prompt makes one.
+/// What is left of a prompt that ended: the signal Completed is made of it, and goes only to its
+/// owner. Only a call that ends a prompt makes one.
 #[derive(Drop)]
 pub struct Ended {
     /// The prompt, which isn't there any more.

@@ -13,14 +13,14 @@ use std::alloc::{AllocError, Global};
 use std::collections::BTreeMap;
 use std::ops::Bound;
 
-/// The row of a number.
+/// The row with a number.
 pub fn at(rows: &BTreeMap<u64, PromptRow>, number: u64) -> Option<&PromptRow>
     ensures { option_copied result ≡ entry_at number rows.now.entries }
 {
     rows.get(&number)
 }
 
-/// Puts a row after all others.
+/// Appends a row after all others.
 pub fn put_last(
     rows: &mut BTreeMap<u64, PromptRow>,
     number: u64,
@@ -36,7 +36,7 @@ pub fn put_last(
     }
 }
 
-/// Takes a row out.
+/// Removes a row, and returns it.
 pub fn take_out(rows: &mut BTreeMap<u64, PromptRow>, number: u64) -> Option<PromptRow>
     ensures value { result ≡ entry_at number rows.old.entries }
     ensures taken { rows.new.entries ≡ entries_without number rows.old.entries }
@@ -45,7 +45,7 @@ pub fn take_out(rows: &mut BTreeMap<u64, PromptRow>, number: u64) -> Option<Prom
     rows.remove(&number)
 }
 
-/// Sets the stage of a prompt, if it is there.
+/// Sets how far a prompt has come, if it is there.
 pub fn set_stage(rows: &mut BTreeMap<u64, PromptRow>, number: u64, stage: Stage)
     ensures { rows.new.entries
         ≡ entries_changed number (λ row. record row { stage = stage }) rows.old.entries }
@@ -56,7 +56,7 @@ pub fn set_stage(rows: &mut BTreeMap<u64, PromptRow>, number: u64, stage: Stage)
     }
 }
 
-/// Counts one wrong answer more, and returns how many there are. None if the prompt isn't there.
+/// Counts one more wrong answer, and returns how many there are. None if the prompt isn't there.
 pub fn add_wrong(rows: &mut BTreeMap<u64, PromptRow>, number: u64) -> Option<u32>
     ensures added { rows.new.entries
         ≡ entries_changed number (λ row. record row { wrong = one_more row.wrong })
@@ -73,7 +73,7 @@ pub fn add_wrong(rows: &mut BTreeMap<u64, PromptRow>, number: u64) -> Option<u32
     }
 }
 
-/// Forgets the wrong answers of a prompt, if it is there.
+/// Sets the number of wrong answers of a prompt to 0, if it is there.
 pub fn clear_wrong(rows: &mut BTreeMap<u64, PromptRow>, number: u64)
     ensures { rows.new.entries
         ≡ entries_changed number (λ row. record row { wrong = 0 }) rows.old.entries }
@@ -84,7 +84,7 @@ pub fn clear_wrong(rows: &mut BTreeMap<u64, PromptRow>, number: u64)
     }
 }
 
-// The first target of a row that is left is done.
+// Marks a row's first target that is left as done.
 fn finish_first(row: &mut PromptRow)
     ensures { row.new ≡ record row.old { kind = kind_with first_done row.old.kind } }
 {
@@ -93,7 +93,7 @@ fn finish_first(row: &mut PromptRow)
     }
 }
 
-// The first target of a row that is left is dropped.
+// Drops a row's first target that is left.
 fn drop_first(row: &mut PromptRow)
     ensures { row.new ≡ record row.old { kind = kind_with first_dropped row.old.kind } }
 {
@@ -102,7 +102,7 @@ fn drop_first(row: &mut PromptRow)
     }
 }
 
-/// The first target of a prompt that is left is done, if there is one.
+/// Marks a prompt's first target that is left as done, if there is one.
 pub fn finish_target(rows: &mut BTreeMap<u64, PromptRow>, number: u64)
     ensures { rows.new.entries
         ≡ entries_changed number (λ row. record row { kind = kind_with first_done row.kind })
@@ -114,7 +114,7 @@ pub fn finish_target(rows: &mut BTreeMap<u64, PromptRow>, number: u64)
     }
 }
 
-/// The first target of a prompt that is left is dropped, if there is one.
+/// Drops a prompt's first target that is left, if there is one.
 pub fn drop_target(rows: &mut BTreeMap<u64, PromptRow>, number: u64)
     ensures { rows.new.entries
         ≡ entries_changed number (λ row. record row { kind = kind_with first_dropped row.kind })
@@ -126,7 +126,7 @@ pub fn drop_target(rows: &mut BTreeMap<u64, PromptRow>, number: u64)
     }
 }
 
-// The stage of a prompt once there is no agent.
+// How far a prompt has come once there is no agent.
 fn unanswered(stage: Stage) -> Stage
     ensures { result ≡ unanswered_within stage }
 {
@@ -137,7 +137,7 @@ fn unanswered(stage: Stage) -> Stage
     }
 }
 
-/// Each prompt whose key is being derived is asked in its next round.
+/// Puts each prompt whose key is being derived into its next round, to be asked again.
 pub fn wait_again(rows: &mut BTreeMap<u64, PromptRow>)
     ensures { rows.new.entries
         ≡ map (λ e. (e.0, record e.1 { stage = unanswered_within e.1.stage })) rows.old.entries }
@@ -148,7 +148,7 @@ pub fn wait_again(rows: &mut BTreeMap<u64, PromptRow>)
     });
 }
 
-/// The row of the least number above this one.
+/// The row with the least number above this one.
 fn first_above(rows: &BTreeMap<u64, PromptRow>, number: u64) -> Option<&PromptRow>
     ensures { option_copied result ≡ lookup (nat_lt number) rows.now.entries }
 {

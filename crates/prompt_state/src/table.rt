@@ -15,7 +15,7 @@ use std::collections::{BTreeMap, BTreeSet};
 use std::marker::Model;
 use thiserror::Error;
 
-/// How many prompts a connection may have at once.
+/// The most prompts that a connection may have at once.
 const MOST: usize = 64;
 
 /// Why a call about a prompt or the agent is refused.
@@ -66,7 +66,8 @@ impl Model for PromptState {
 }
 
 impl PromptState {
-    /// No prompt and no agent; the first prompt gets the number 1. It takes no memory.
+    /// A state without prompts and without an agent; the first prompt gets the number 1. It
+    /// takes no memory.
     pub fn new(alloc: Global) -> PromptState
         ensures { result ≡ no_prompts }
     {
@@ -79,8 +80,8 @@ impl PromptState {
         }
     }
 
-    /// Begins a prompt of the connection, and gives it the next number. It isn't asked yet. It alone of the
-    /// calls that change something takes memory.
+    /// Begins a prompt of the connection, and gives it the next number. It isn't asked yet. Of the
+    /// calls that change something, only this one takes memory.
     ///
     /// Refused with `TooMany` if the connection has 64 prompts or no number is left.
     pub fn begin(&mut self, owner: ConnId, kind: PromptKind) -> Result<PromptId, PromptRefused>
@@ -88,7 +89,7 @@ impl PromptState {
         ensures begun { OnOk result (self.new ≡ begun owner kind self.old) }
         ensures room { OnOk result (is_full owner self.old ≡ false) }
 
-        // After a refusal nothing has changed.
+        // Nothing has changed after a refusal.
         ensures too_many { IsErrOf result PromptRefused.TooMany → is_full owner self.old ≡ true }
         ensures cause { OnErr result (IsErrOf result PromptRefused.TooMany
             ⊎ IsErrOf result PromptRefused.OutOfMemory) }
@@ -130,7 +131,7 @@ impl PromptState {
         }
     }
 
-    /// Whether the connection can begin no further prompt.
+    /// Whether the connection can't begin another prompt.
     pub fn is_full(&self, owner: ConnId) -> bool
         ensures { result ≡ is_full owner self.now }
     {
@@ -176,8 +177,8 @@ impl PromptState {
         Ok(())
     }
 
-    /// What the agent is sent when the prompt is asked: Ask, to the agent alone. None without an agent, and
-    /// unless the prompt is asked.
+    /// What the agent is sent when the prompt is asked: Ask, which goes to the agent alone. None if
+    /// there is no agent or the prompt isn't asked.
     pub fn ask_of(&self, prompt: PromptId) -> Option<Ask>
         ensures { result ≡ ask_at prompt self.now }
     {
@@ -190,9 +191,10 @@ impl PromptState {
         }
     }
 
-    /// The first Ask of a prompt after this one, in order of their numbers. A caller that begins after prompt 0
-    /// and goes on after each answer has asked every prompt again, as Register does. None without an agent,
-    /// and if no later prompt is asked. It takes steps by the prompts that it passes over.
+    /// The first Ask of a prompt after this one, in order of their numbers. A caller that starts
+    /// after prompt 0 and continues after each prompt that is returned asks every prompt again, as
+    /// Register does. None if there is no agent or no later prompt is asked. Its time grows with
+    /// the number of prompts that it passes over.
     pub fn next_ask(&self, after: PromptId) -> Option<Ask>
         ensures { result ≡ ask_after after self.now }
     {
@@ -225,7 +227,7 @@ impl PromptState {
     }
 
     /// The agent answers a prompt in a round: the key is derived in that round. In the greatest round, after
-    /// which none could be given, the prompt ends dismissed, and what is left of it is returned.
+    /// which there is no other, the prompt ends dismissed, and what is left of it is returned.
     ///
     /// Refused as `refusal` says.
     pub fn answer(
@@ -279,7 +281,8 @@ impl PromptState {
         Ok(self.end(prompt))
     }
 
-    /// Whether the prompt's key is being derived in this round. Of a key that comes late, nothing is known.
+    /// Whether the prompt's key is being derived in this round. It is false for a key that
+    /// comes too late.
     pub fn derived(&self, prompt: PromptId, round: u64) -> bool
         ensures { result ≡ derives_in round (row_at prompt self.now) }
     {
@@ -310,7 +313,8 @@ impl PromptState {
         Ok(self.end(prompt))
     }
 
-    /// The connection becomes the agent, or stays it. What each prompt that is asked sends it, `next_ask` says.
+    /// The connection becomes the agent, or remains it. What it is sent for each prompt that is
+    /// asked is returned by `next_ask`.
     ///
     /// Refused with `AgentTaken` if another connection is the agent.
     pub fn register(&mut self, conn: ConnId) -> Result<(), PromptRefused>
@@ -329,8 +333,8 @@ impl PromptState {
         Ok(())
     }
 
-    /// The agent leaves: each prompt whose key is being derived is asked in its next round, and waits. It takes
-    /// steps by the number of all prompts.
+    /// The agent leaves: each prompt whose key is being derived is asked in its next round, and waits.
+    /// Its time grows with the number of all prompts.
     ///
     /// Refused with `NotAgent` if the connection isn't the agent.
     pub fn unregister(&mut self, conn: ConnId) -> Result<(), PromptRefused>
@@ -349,7 +353,7 @@ impl PromptState {
         Ok(())
     }
 
-    /// The first target of the prompt that is left.
+    /// The prompt's first target that is left.
     pub fn first_open(&self, prompt: PromptId) -> Option<&Target>
         ensures { option_copied result ≡ first_of_row (row_at prompt self.now) }
     {
@@ -359,23 +363,23 @@ impl PromptState {
         }
     }
 
-    /// The first target of the prompt that is left is done: its collection is unlocked. Nothing changes if
-    /// there is none.
+    /// The prompt's first target that is left is done: its collection is unlocked. Nothing changes
+    /// if no target is left.
     pub fn done(&mut self, prompt: PromptId)
         ensures { self.new ≡ targeted prompt first_done self.old }
     {
         rows::finish_target(&mut self.rows, prompt.0);
     }
 
-    /// The first target of the prompt that is left is dropped: its collection is gone. Nothing changes if
-    /// there is none.
+    /// The prompt's first target that is left is dropped: its collection is gone. Nothing changes
+    /// if no target is left.
     pub fn drop_target(&mut self, prompt: PromptId)
         ensures { self.new ≡ targeted prompt first_dropped self.old }
     {
         rows::drop_target(&mut self.rows, prompt.0);
     }
 
-    /// Counts one wrong answer more to the prompt, at most 4294967295, and returns how many there are.
+    /// Counts one more wrong answer to the prompt, up to 4294967295, and returns how many there are.
     pub fn wrong(&mut self, prompt: PromptId) -> u32
         requires { is_some (row_at prompt self.old) ≡ true }
         ensures counted { self.new ≡ wronged prompt self.old }
@@ -388,7 +392,7 @@ impl PromptState {
         }
     }
 
-    /// Sets the wrong answers of the prompt to 0.
+    /// Sets the number of wrong answers of the prompt to 0.
     pub fn clear_wrong(&mut self, prompt: PromptId)
         ensures { self.new ≡ cleared prompt self.old }
     {
@@ -422,8 +426,8 @@ impl PromptState {
         }
     }
 
-    /// A connection is gone: its prompts end, and nothing is sent of them. If it was the agent, its leaving is
-    /// that of `unregister`, and takes steps by the number of all prompts.
+    /// A connection is gone: its prompts end, and nothing is sent for them. If it was the agent, it
+    /// leaves as by `unregister`, whose time grows with the number of all prompts.
     pub fn gone(&mut self, owner: ConnId)
         ensures { self.new ≡ abandoned owner self.old }
     {
@@ -433,7 +437,7 @@ impl PromptState {
         }
     }
 
-    /// The prompts as plain rows. One pass over them; it takes memory.
+    /// The prompts as plain rows. It takes memory and one pass over all of them.
     pub fn rows(&self) -> Result<Prompts, OutOfMemory>
         ensures rows { IfOk result (λ prompts. prompts ≡ self.now) }
         ensures sound { AreSound self.now }
@@ -445,7 +449,7 @@ impl PromptState {
         })
     }
 
-    // The round that a prompt is asked in next.
+    // The next round in which a prompt is asked.
     fn next_round(&self, prompt: PromptId) -> u64
         requires { next_round (row_at prompt self.now) ≤ last_round }
         ensures round { result ≡ next_round (row_at prompt self.now) }
@@ -467,7 +471,7 @@ impl PromptState {
         }
     }
 
-    // Puts the prompt at a stage, if it is there.
+    // Sets how far the prompt has come, if it is there.
     fn set_stage(&mut self, prompt: PromptId, stage: Stage)
         requires { IsStage stage }
         ensures { self.new ≡ staged prompt stage self.old }

@@ -6,17 +6,17 @@ use kr_base::{OutOfMemory, Stem, Text};
 use std::alloc::Global;
 use std::marker::Model;
 
-/// An object that is to be unlocked: a collection, or an item of one.
+/// An object to be unlocked: a collection, or an item of one.
 #[derive(Drop)]
 pub struct Target {
-    /// The object's path, as it was given.
+    /// The object's path, as the caller gave it.
     pub given: Text,
     /// The stem of its collection.
     pub stem: Stem,
 }
 
 impl Target {
-    /// A second value of the same target.
+    /// A copy of the target.
     pub fn copy(&self) -> Result<Target, OutOfMemory>
         ensures { IfOk result (λ copied. copied ≡ self.now) }
     {
@@ -27,11 +27,13 @@ impl Target {
     }
 }
 
-/// The objects that a prompt is to unlock, in the order in which they were given. A contract sees those that
-/// are done and those that are left. One that is done or dropped changes places alone, so neither takes memory.
+/// The objects that a prompt should unlock, in the order in which they were given. A contract sees
+/// those that are done and those that are left. A target that is done or dropped only changes its
+/// position, so neither takes memory.
 #[derive(Drop)]
 pub struct Targets {
-    // First those that are done, from `next` on those that are left, and between them those that were dropped.
+    // First those that are done; from `next` on those that are left; between them those
+    // that were dropped.
     list: Vec<Target>,
     done: usize,
     next: usize,
@@ -80,8 +82,8 @@ impl Targets {
         &self.list[self.next..]
     }
 
-    /// The first target that is left becomes the last one that is done. Nothing changes where none is left.
-    /// It takes no memory.
+    /// The first target that is left becomes the last one that is done. Nothing changes if none is
+    /// left. It takes no memory.
     pub fn finish_first(&mut self)
         ensures { self.new ≡ first_done self.old }
     {
@@ -92,7 +94,7 @@ impl Targets {
         }
     }
 
-    /// The first target that is left is dropped. Nothing changes where none is left. It takes no memory.
+    /// The first target that is left is dropped. Nothing changes if none is left. It takes no memory.
     pub fn drop_first(&mut self)
         ensures { self.new ≡ first_dropped self.old }
     {
@@ -101,7 +103,7 @@ impl Targets {
         }
     }
 
-    /// A second value of the same targets.
+    /// A copy of the targets.
     pub fn copy(&self) -> Result<Targets, OutOfMemory>
         ensures { IfOk result (λ copied. copied ≡ self.now) }
     {

@@ -5,8 +5,8 @@ use crate::faults::count;
 use kr_outside::Clock;
 use std::time;
 
-/// The system's clock. Where the system refuses the time it gives the moment that it gave last, 0 at
-/// first, and counts a fault.
+/// The system's clock. If the system can't tell the time, it returns the moment that it returned
+/// last, or 0 at first, and counts a fault.
 #[derive(Drop)]
 pub struct SystemClock<R: time::Clock + Copy> {
     rt: R,
@@ -26,7 +26,7 @@ impl<R: time::Clock + Copy> SystemClock<R> {
         }
     }
 
-    /// How often the system refused the time.
+    /// How often the system couldn't tell the time.
     pub fn faults(&self) -> u64
         ensures { result ≡ self.now.faults }
     {

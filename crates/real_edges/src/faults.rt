@@ -5,7 +5,7 @@ ghost use Rattle.kr_outside.specs.Faults.{Rose, HasCause};
 use kr_outside::Failed;
 use std::io;
 
-/// What the system answered; an error is counted, and nothing else of it is passed on.
+/// What the system returned; an error is counted, and nothing else of it is passed on.
 pub fn counted<T>(faults: &mut u64, answer: io::Result<T>) -> Result<T, Failed>
     ensures passed { IfOk result (λ value. answer ≡ Ok value) }
     ensures cause { HasCause faults.old faults.new result }
@@ -20,7 +20,7 @@ pub fn counted<T>(faults: &mut u64, answer: io::Result<T>) -> Result<T, Failed>
     }
 }
 
-/// One more error.
+/// Counts one more error.
 pub fn count(faults: &mut u64)
     ensures rose { Rose faults.old faults.new }
     ensures later { faults.old ≤ faults.new }

@@ -32,7 +32,7 @@ impl<R: Files + AllocGlobal + Copy> RealFolder<R> {
         }
     }
 
-    /// How often the system answered an error.
+    /// How often the system returned an error.
     pub fn faults(&self) -> u64
         ensures { result ≡ self.now.faults }
     {
@@ -97,8 +97,8 @@ fn path_in(alloc: Global, folder: &str, name: &str, ending: &str) -> Result<Stri
     Ok(path)
 }
 
-// The names in the folder at this path, whatever they stand for: a folder that has the name of a keyring
-// file takes that name too.
+// The names in the folder at this path, whatever they stand for: a folder with the name of a
+// keyring file takes up that name too.
 fn listed<R: Files + AllocGlobal + Copy>(rt: &R, path: &str) -> io::Result<Vec<Text>> {
     let mut names = Vec::new(rt.alloc());
     for entry in fs::read_dir(rt, path)? {

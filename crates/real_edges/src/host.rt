@@ -18,7 +18,7 @@ pub struct RealHost<R: Files + time::Clock + AllocGlobal + Copy> {
 }
 
 impl<R: Files + time::Clock + AllocGlobal + Copy> RealHost<R> {
-    /// The machine, with no fault so far, and no folder given.
+    /// The machine, with no fault so far, and no folder opened.
     pub fn new(rt: R) -> Self
         ensures faults { result.faults ≡ 0 }
         ensures given { result.given ≡ 0 }
@@ -30,7 +30,7 @@ impl<R: Files + time::Clock + AllocGlobal + Copy> RealHost<R> {
         }
     }
 
-    /// How often the system answered an error.
+    /// How often the system returned an error.
     pub fn faults(&self) -> u64
         ensures { result ≡ self.now.faults }
     {
@@ -78,7 +78,7 @@ impl<R: Files + time::Clock + AllocGlobal + Copy> Host for RealHost<R> {
     }
 }
 
-// A copy of the path, where a folder is there that can be read.
+// A copy of the path, if there is a folder at it that can be read.
 fn opened<R: Files + AllocGlobal>(rt: &R, path: &str) -> io::Result<String> {
     if !fs::metadata(rt, path)?.is_dir() {
         return Err(ErrorKind::NotADirectory.into());

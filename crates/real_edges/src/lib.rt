@@ -1,8 +1,8 @@
 //! The outside on the system: files and folders, standard streams, the clock. These adapters are the
-//! trusted edge. They meet the traits of kr_outside and tell nothing of content, so that no contract
-//! claims what a real disk or terminal holds; that a real folder behaves as the rename disk does is a
-//! premise of every crash claim (docs/PROOFS.md). Callers may rely on this: a call is refused only
-//! where the system answered an error, and each error raises the adapter's count by one.
+//! trusted edge. They meet the traits of kr_outside and say nothing of content, so that no contract
+//! claims what a real disk or terminal contains; that a real folder behaves as the rename disk does
+//! is a premise of every crash claim (docs/PROOFS.md). Callers may rely on this: a call is refused
+//! only if the system returned an error, and each error raises the adapter's count by one.
 #![tactic(auto)]
 
 mod clock;

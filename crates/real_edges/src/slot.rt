@@ -41,14 +41,14 @@ impl<R: Files + Copy> RealSlot<R> {
         }
     }
 
-    /// How often the system answered an error.
+    /// How often the system returned an error.
     pub fn faults(&self) -> u64
         ensures { result ≡ self.now.faults }
     {
         self.faults
     }
 
-    // What the system answered to this call; an error is counted, and nothing else of it is passed on.
+    // What the system returned for this call; an error is counted, and nothing else of it is passed on.
     fn ended<T>(&mut self, call: DeviceCall, answer: io::Result<T>) -> Result<T, Failed>
         ensures passed { IfOk result (λ value. answer ≡ Ok value) }
         ensures cause { HasCause self.old.faults self.new.faults result }
@@ -105,7 +105,8 @@ impl<R: Files + Copy> Slot for RealSlot<R> {
     }
 
     fn put_temp(&mut self, bytes: &[u8]) -> Result<(), Failed> {
-        // A file that an earlier call wrote isn't this one: where this call fails, nothing can be synced.
+        // A file that an earlier call wrote isn't this one: if this call fails, there is
+        // nothing to sync.
         self.written = None;
         let written = write_anew(&self.rt, &self.temporary, bytes);
         self.written = Some(self.ended(DeviceCall::PutTemp, written)?);
@@ -141,8 +142,8 @@ pub fn sync_folder<R: Files>(rt: &R, path: &str) -> io::Result<()> {
     fs::open(rt, path)?.sync_all()
 }
 
-// How many bytes the file at this path has; None where there is none. What is no file, as a folder or a
-// pipe, counts as none: to open a pipe would wait for its writer.
+// The number of bytes of the file at this path, or None if there is none. Anything but a file, such
+// as a folder or a pipe, counts as none: opening a pipe would wait for its writer.
 fn size_of<R: Files>(rt: &R, path: &str) -> io::Result<Option<u64>> {
     match fs::metadata(rt, path) {
         Ok(found) => Ok(if found.is_file() {
@@ -160,7 +161,7 @@ fn size_of<R: Files>(rt: &R, path: &str) -> io::Result<Option<u64>> {
     }
 }
 
-// Reads the file at this path to the front of the buffer.
+// Reads the file at this path to the start of the buffer.
 fn read_file<R: Files>(rt: &R, path: &str, buffer: &mut [u8]) -> io::Result<Seen>
     ensures { IfOk result (FitsIn (length buffer.new)) }
 {
@@ -182,7 +183,7 @@ fn read_file<R: Files>(rt: &R, path: &str, buffer: &mut [u8]) -> io::Result<Seen
     }
 }
 
-// Reads until the buffer is full or the input ends, and says how many bytes were read.
+// Reads until the buffer is full or the input ends, and returns how many bytes were read.
 fn fill<I: Source>(input: &mut I, buffer: &mut [u8]) -> Result<usize, Failed>
     ensures { IfOk result (λ count. count ≤ length buffer.new) }
 {
@@ -197,8 +198,8 @@ fn fill<I: Source>(input: &mut I, buffer: &mut [u8]) -> Result<usize, Failed>
     Ok(count)
 }
 
-// Makes the file at this path anew, for its owner alone, and writes the bytes. One that a run before
-// left over is removed first.
+// Makes the file at this path anew, for its owner alone, and writes the bytes. One that an earlier
+// run left over is removed first.
 fn write_anew<R: Files>(rt: &R, path: &str, bytes: &[u8]) -> io::Result<R::File> {
     let file = match new_file(rt, path) {
         Err(error) => {

@@ -1,5 +1,5 @@
 // The standard streams as a source and a sink: any reader and writer of std, with a count of their
-// errors. A call that a signal interrupted is made again.
+// errors. A call that a signal interrupts is made again.
 ghost use Rattle.std.specs.Prelude.{◌≡◌, ◌^◌, ◌-◌, false};
 ghost use Rattle.std.proofs.Common.{rules};
 ghost use Rattle.std.proofs.lemmas.Bool.{false≢true};
@@ -23,7 +23,7 @@ impl<S: Read> ReaderSource<S> {
         ReaderSource { reader, faults: 0 }
     }
 
-    /// How often the reader answered an error.
+    /// How often the reader returned an error.
     pub fn faults(&self) -> u64
         ensures { result ≡ self.now.faults }
     {
@@ -56,8 +56,8 @@ impl<S: Read> Source for ReaderSource<S> {
     }
 }
 
-/// A writer as a sink. It counts the writer's errors, and passes on nothing else of them. Taking none
-/// of a piece is an error.
+/// A writer as a sink. It counts the writer's errors, and passes on nothing else of them. A write
+/// that takes none of a piece is an error.
 #[derive(Drop)]
 pub struct WriterSink<S: Write> {
     writer: S,
@@ -80,7 +80,7 @@ impl<S: Write> WriterSink<S> {
         self.writer
     }
 
-    /// How often the writer answered an error.
+    /// How often the writer returned an error.
     pub fn faults(&self) -> u64
         ensures { result ≡ self.now.faults }
     {

@@ -28,7 +28,7 @@ pub enum ReplaceFault {
 /// Why a file wasn't removed.
 #[derive(Clone, Copy, Debug, PartialEq, Eq, Error)]
 pub enum RemoveFault {
-    /// The name couldn't be taken away, or the folder couldn't be synced. The file is in doubt.
+    /// The name couldn't be removed, or the folder couldn't be synced. The file is in doubt.
     #[error("the file was removed or it was not")]
     FaultUnsure,
 }
@@ -57,7 +57,7 @@ impl<S: Slot> Model for FileCell<S> {
 }
 
 impl<S: Slot> FileCell<S> {
-    /// A cell whose file is known to have this image, or to be none.
+    /// A cell whose file is known to have this image, or not to exist.
     pub fn known(slot: S, image: Option<Image>) -> FileCell<S>
         requires { IsTrue (S.is_honest slot) → Only image (S.may_leave slot) }
         ensures { result ≡ record { slot = slot; file = Known image } }
@@ -77,7 +77,7 @@ impl<S: Slot> FileCell<S> {
         self.file.is_known()
     }
 
-    /// How many bytes the longest image has; 0 for no file.
+    /// The number of bytes of the longest image; 0 for no file.
     pub fn longest(&self) -> usize
         ensures { result ≡ longest_of self.now.file }
     {
@@ -99,7 +99,7 @@ impl<S: Slot> FileCell<S> {
     }
 
     /// A law: while nothing is done with the cell, a crash leaves one of the file's images at each
-    /// moment, and of a known file just its image. It does nothing.
+    /// moment, and if the file is known, exactly its image. The call does nothing.
     pub fn untouched(&self)
         ensures any_moment { IsTrue (S.is_honest self.now.slot)
             → LeavesOnly S.moment S.left_since self.now.slot self.now.slot
@@ -109,7 +109,7 @@ impl<S: Slot> FileCell<S> {
         let _known = self.is_known();
     }
 
-    /// The slot alone. What is known of its file is lost.
+    /// The slot. What is known of its file is lost.
     pub fn into_slot(self) -> S
         ensures slot { result ≡ self.slot }
         ensures crash { IsTrue (S.is_honest self.slot)
@@ -121,8 +121,8 @@ impl<S: Slot> FileCell<S> {
     /// Replaces the file: the new bytes go into the temporary file, which is synced and takes the
     /// name, and the folder is synced. At `Ok` each crash leaves the new image. It takes no memory.
     ///
-    /// Refused with `FaultBefore` where the temporary file couldn't be written or synced, and with
-    /// `FaultUnsure` where it couldn't take the name or the folder couldn't be synced.
+    /// Refused with `FaultBefore` if the temporary file couldn't be written or synced, and with
+    /// `FaultUnsure` if it couldn't take the name or the folder couldn't be synced.
     pub fn replace(&mut self, image: Image) -> Result<(), ReplaceFault>
         requires { IsKnown self.old.file }
 
@@ -131,8 +131,8 @@ impl<S: Slot> FileCell<S> {
         ensures unsure { IsErrOf result ReplaceFault.FaultUnsure
             → self.new.file ≡ Doubt (old_image self.old.file) (Some image) }
 
-        // A crash leaves one of the file's images afterwards, and the old one or the new one at each
-        // moment of the call: none but the old one up to `FaultBefore`.
+        // A crash afterwards leaves one of the file's images, and a crash at any moment of the call
+        // the old one or the new one: only the old one if the call ends with `FaultBefore`.
         ensures crash { IsTrue (S.is_honest self.new.slot)
             → LeavesFile self.new.file (S.may_leave self.new.slot) }
         ensures any_moment { IsTrue (S.is_honest self.old.slot)
@@ -144,7 +144,7 @@ impl<S: Slot> FileCell<S> {
             (IsOneOf self.old.file) }
 
         // Each fault has its cause, which is a call of the device, and two calls succeed before one
-        // that leaves a doubt.
+        // that leaves the file in doubt.
         ensures cause { HasCause (S.faults self.old.slot) (S.faults self.new.slot) result }
         ensures before_call { IsErrOf result ReplaceFault.FaultBefore
             → FailedBefore (S.failed self.new.slot) }
@@ -173,19 +173,18 @@ impl<S: Slot> FileCell<S> {
         }
     }
 
-    /// Removes the file: the name is taken away, and the folder is synced. At `Ok` each crash leaves
+    /// Removes the file: the name is removed, and the folder is synced. At `Ok` each crash leaves
     /// no file. It takes no memory.
     ///
-    /// Refused with `FaultUnsure` where the name couldn't be taken away or the folder couldn't be
-    /// synced.
+    /// Refused with `FaultUnsure` if the name couldn't be removed or the folder couldn't be synced.
     pub fn remove(&mut self) -> Result<(), RemoveFault>
         requires { HasFile self.old.file }
 
         ensures removed { OnOk result (self.new.file ≡ Known None) }
         ensures unsure { OnErr result (self.new.file ≡ Doubt (old_image self.old.file) None) }
 
-        // A crash leaves one of the file's images afterwards, and the old one or none at each moment
-        // of the call.
+        // A crash afterwards leaves one of the file's images, and a crash at any moment of the call
+        // the old one or none.
         ensures crash { IsTrue (S.is_honest self.new.slot)
             → LeavesFile self.new.file (S.may_leave self.new.slot) }
         ensures any_moment { IsTrue (S.is_honest self.old.slot)
@@ -209,11 +208,11 @@ impl<S: Slot> FileCell<S> {
         }
     }
 
-    /// Ends a doubt: the folder is synced and the file read into the buffer. The file is then known
-    /// to have the image that was found, and the old one where neither was. It takes no memory.
+    /// Ends a doubt: the folder is synced, and the file is read into the buffer. The file is then
+    /// known to have the image that was found, or the old one if neither was. It takes no memory.
     ///
-    /// Refused with `FaultRead` where the folder couldn't be synced or the file couldn't be read; the
-    /// doubt stays.
+    /// Refused with `FaultRead` if the folder couldn't be synced or the file couldn't be read;
+    /// the doubt stays.
     pub fn resolve(&mut self, buffer: &mut [u8]) -> Result<Found, FaultRead>
         requires doubt { ¬ (IsKnown self.old.file) }
         requires room { longest_of self.old.file < length buffer.old }
@@ -226,7 +225,8 @@ impl<S: Slot> FileCell<S> {
             → IfOk result (λ found. found ≢ Found.Other) }
         ensures unchanged { OnErr result (self.new.file ≡ self.old.file) }
 
-        // A crash leaves the image that was found, and one of the two at each moment of the call.
+        // A crash afterwards leaves the image that was found, and a crash at any moment of the call
+        // one of the two.
         ensures crash { IsTrue (S.is_honest self.new.slot)
             → LeavesFile self.new.file (S.may_leave self.new.slot) }
         ensures any_moment { IsTrue (S.is_honest self.old.slot)

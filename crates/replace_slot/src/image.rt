@@ -29,9 +29,9 @@ impl Image {
         Ok(Image { bytes })
     }
 
-    /// One more owner of the same bytes. It takes no memory.
+    /// Another owner of the same bytes. It takes no memory.
     ///
-    /// Refused with `OutOfMemory` only where there are 2^63 - 1 owners.
+    /// Refused with `OutOfMemory` only if there are 2^63 - 1 owners.
     pub fn share(&self) -> Result<Image, OutOfMemory>
         ensures { IfOk result (λ image. image ≡ self.now) }
     {

@@ -15,11 +15,11 @@ pub enum Found {
     Old,
     /// The newer of the two.
     New,
-    /// Neither. An honest slot never shows that.
+    /// Neither. This never happens with an honest slot.
     Other,
 }
 
-/// What is known of a file: its image, or the older and the newer of which it has one.
+/// What is known of a file: its image, or an older and a newer image of which it has one.
 #[derive(Drop)]
 pub struct Images {
     image: Option<Image>,
@@ -49,7 +49,7 @@ impl Images {
         self.newer.is_none()
     }
 
-    /// How many bytes the longest image has; 0 for no file.
+    /// The number of bytes of the longest image; 0 for no file.
     pub fn longest(&self) -> usize
         ensures { result ≡ longest_of self.now }
     {
@@ -76,14 +76,14 @@ impl Images {
         }
     }
 
-    /// From now on the file has this image.
+    /// The file is now known to have this image.
     pub fn set(&mut self, image: Option<Image>)
         ensures { self.new ≡ Known image }
     {
         *self = Images::known(image);
     }
 
-    /// From now on it has the known image or this newer one.
+    /// The file now has the known image or this newer one.
     pub fn doubt(&mut self, newer: Option<Image>)
         requires { IsKnown self.old }
         ensures { self.new ≡ Doubt (old_image self.old) newer }
@@ -91,7 +91,7 @@ impl Images {
         self.newer = Some(newer);
     }
 
-    /// Ends a doubt by what the read with this answer left in the buffer.
+    /// Ends a doubt by what a read returned and left in the buffer.
     pub fn find(&mut self, seen: Seen, buffer: &[u8]) -> Found
         requires doubt { ¬ (IsKnown self.old) }
         requires fits { FitsIn (length buffer.now) seen }
@@ -111,7 +111,7 @@ impl Images {
     }
 }
 
-// Whether the read with this answer, into this buffer, gave the image.
+// Whether the read that returned `seen` left this image in the buffer.
 fn gave(seen: Seen, buffer: &[u8], image: &Option<Image>) -> bool
     requires { FitsIn (length buffer.now) seen }
     ensures { IsTrue result ↔ Gave seen buffer.now image.now }
@@ -123,7 +123,7 @@ fn gave(seen: Seen, buffer: &[u8], image: &Option<Image>) -> bool
     }
 }
 
-// How many bytes an image has.
+// The number of bytes of an image; 0 for no file.
 fn length(image: &Option<Image>) -> usize
     ensures { result ≡ length_of image.now }
 {

@@ -1,10 +1,10 @@
-//! A file that is replaced whole: it has the image that it had or the new one, whenever the machine
-//! stops. The new bytes go into a temporary file, which is synced and then takes the name, and the
-//! folder is synced; a step that fails where the disk may have gone either way leaves the file in
-//! doubt, until it is read again. Callers may rely on these: at `Ok` each crash leaves the new image,
-//! within a call it leaves the old one or the new one, a file that is known has just the known image,
-//! and one in doubt has one of the two. They hold of honest slots. Images are shared and not copied, and
-//! no call takes memory but the one that makes an image.
+//! A file that is replaced whole: it has the old image or the new one, whenever the machine stops.
+//! The new bytes go into a temporary file, which is synced and then takes the name, and the folder
+//! is synced; if a step fails after which the disk may have either image, the file is in doubt
+//! until it is read again. Callers may rely on these: at `Ok` each crash leaves the new image, a
+//! crash within a call leaves the old one or the new one, a known file has exactly the known image,
+//! and one in doubt has one of the two. All this is about honest slots. Images are shared and not
+//! copied, and no call takes memory except the one that makes an image.
 #![tactic(auto)]
 
 mod cell;

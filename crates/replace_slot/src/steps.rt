@@ -6,12 +6,12 @@ ghost use Rattle.kr_outside.specs.RenameDisk.{Synced, GivesTemporary, Only, Leav
 
 use kr_outside::{DeviceCall, Failed, Seen, Slot};
 
-/// Puts the bytes into the temporary file, and the temporary file on the disk.
+/// Writes the bytes into the temporary file, and syncs it.
 pub fn prepare<S: Slot>(slot: &mut S, bytes: &[u8]) -> Result<(), Failed>
     ensures staged { IsTrue (S.is_honest slot.old)
         → OnOk result (S.temporary slot.new ≡ Synced bytes.now) }
 
-    // Nothing of the name changes, at any moment.
+    // What the name stands for doesn't change, at any moment.
     ensures crash { IsTrue (S.is_honest slot.old)
         → LeavesNoMore (S.may_leave slot.old) (S.may_leave slot.new) }
     ensures any_moment { IsTrue (S.is_honest slot.old)
@@ -29,7 +29,7 @@ pub fn prepare<S: Slot>(slot: &mut S, bytes: &[u8]) -> Result<(), Failed>
     slot.sync_temp()
 }
 
-/// Makes the name stand for the temporary file, for good.
+/// Makes the name stand for the temporary file, so that no crash undoes it.
 pub fn publish<S: Slot>(slot: &mut S) -> Result<(), Failed>
     ensures stored { (old : Option (List ℕ)) (bytes : List ℕ) → IsTrue (S.is_honest slot.old)
         → Only old (S.may_leave slot.old) → S.temporary slot.old ≡ Synced bytes
@@ -56,7 +56,7 @@ pub fn publish<S: Slot>(slot: &mut S) -> Result<(), Failed>
     slot.sync_folder()
 }
 
-/// Makes the name stand for no file, for good.
+/// Makes the name stand for no file, so that no crash undoes it.
 pub fn retire<S: Slot>(slot: &mut S) -> Result<(), Failed>
     ensures removed { (old : Option (List ℕ)) → IsTrue (S.is_honest slot.old)
         → Only old (S.may_leave slot.old) → OnOk result (Only None (S.may_leave slot.new)) }
@@ -94,7 +94,7 @@ pub fn settle<S: Slot>(slot: &mut S, buffer: &mut [u8]) -> Result<Seen, Failed>
         → OnOk result (LeavesAnyBytes (S.may_leave slot.old)
         ⊎ Only (S.seen slot.new) (S.may_leave slot.new)) }
 
-    // At each moment a crash leaves what it might have left before.
+    // At each moment a crash leaves only what it might have left before.
     ensures crash { IsTrue (S.is_honest slot.old)
         → LeavesNoMore (S.may_leave slot.old) (S.may_leave slot.new) }
     ensures any_moment { IsTrue (S.is_honest slot.old)

@@ -1,5 +1,6 @@
-// The sessions as pairs of numbers in order, the owner's and the session's. What a connection does to its
-// own sessions takes steps by their number and by the logarithm of all.
+// The sessions as pairs of numbers in order, the owner's and the session's. The time that a
+// connection's calls take grows with the number of its own sessions, and with the logarithm of the
+// number of all sessions.
 ghost use Rattle.std.specs.Prelude.{◌≡◌, ◌==◌, ◌&&◌, [], ◌∷◌, ◌++◌, not, nat_le, nat_lt, length, filter, map, IsTrue, IfSome, IfNone, OnOk, OnErr, IfOk};
 ghost use Rattle.std.specs.List.{list_any};
 ghost use Rattle.session_table.specs.Keys.{is_pair, row_of, AreInOrder, AreGiven, AreNumbers};
@@ -9,7 +10,7 @@ use kr_base::{ConnId, OutOfMemory, SessionId};
 use std::alloc::Global;
 use std::collections::BTreeSet;
 
-/// How many sessions an owner has.
+/// The number of sessions of an owner.
 pub fn count_of(keys: &BTreeSet<(u64, u64)>, owner: u64) -> usize
     requires { AreNumbers keys.now.keys }
     ensures { result ≡ length (filter (λ key. key.0 == owner) keys.now.keys) }
@@ -17,7 +18,7 @@ pub fn count_of(keys: &BTreeSet<(u64, u64)>, owner: u64) -> usize
     keys.range((owner, 0)..=(owner, u64::MAX)).count()
 }
 
-/// An owner's session of the least number.
+/// An owner's session with the least number.
 fn first_of(keys: &BTreeSet<(u64, u64)>, owner: u64) -> Option<u64>
     requires { AreNumbers keys.now.keys }
     ensures found { IfSome result (λ session.
@@ -37,7 +38,7 @@ pub fn has(keys: &BTreeSet<(u64, u64)>, owner: u64, session: u64) -> bool
     keys.contains(&(owner, session))
 }
 
-/// Adds a session, whose number is above all that were given.
+/// Adds a session. Its number is above all that were used before.
 pub fn add(keys: &mut BTreeSet<(u64, u64)>, owner: u64, next: u64) -> Result<(), OutOfMemory>
     requires ordered { AreInOrder keys.old.keys }
     requires given { AreGiven next keys.old.keys }
@@ -51,7 +52,7 @@ pub fn add(keys: &mut BTreeSet<(u64, u64)>, owner: u64, next: u64) -> Result<(),
     Ok(())
 }
 
-/// Takes a session of an owner away, and tells whether it was there.
+/// Removes a session of an owner, and returns whether it was there.
 pub fn take(keys: &mut BTreeSet<(u64, u64)>, owner: u64, session: u64) -> bool
     requires { AreInOrder keys.old.keys }
     ensures was_there { result ≡ list_any (is_pair owner session) keys.old.keys }
@@ -61,7 +62,7 @@ pub fn take(keys: &mut BTreeSet<(u64, u64)>, owner: u64, session: u64) -> bool
     keys.remove(&(owner, session))
 }
 
-/// Takes all sessions of an owner away.
+/// Removes all sessions of an owner.
 pub fn take_all(keys: &mut BTreeSet<(u64, u64)>, owner: u64)
     requires ordered { AreInOrder keys.old.keys }
     requires numbers { AreNumbers keys.old.keys }

@@ -9,7 +9,7 @@ use std::collections::BTreeSet;
 use std::marker::Model;
 use thiserror::Error;
 
-/// How many sessions a connection may have at once.
+/// The most sessions that a connection may have at once.
 const MOST: usize = 64;
 
 /// Why a session wasn't opened or closed.
@@ -48,7 +48,7 @@ impl Model for SessionTable {
 }
 
 impl SessionTable {
-    /// No session is open, and the first gets the number 1. It takes no memory.
+    /// A table without sessions; the first session gets the number 1. It takes no memory.
     pub fn new(alloc: Global) -> SessionTable
         ensures { result ≡ no_sessions }
     {
@@ -61,13 +61,13 @@ impl SessionTable {
 
     /// Opens a session of the connection, and gives it the next number.
     ///
-    /// Refused with `TooMany` where the connection has 64 sessions or no number is left.
+    /// Refused with `TooMany` if the connection has 64 sessions or no number is left.
     pub fn open(&mut self, owner: ConnId) -> Result<SessionId, SessionRefused>
         ensures number { IfOk result (λ session. session.0 ≡ self.old.next) }
         ensures opened { OnOk result (self.new ≡ opened owner self.old) }
         ensures room { OnOk result (is_full owner self.old ≡ false) }
 
-        // After a refusal nothing has changed.
+        // Nothing has changed after a refusal.
         ensures too_many { IsErrOf result SessionRefused.TooMany → is_full owner self.old ≡ true }
         ensures no_other { IsErrOf result SessionRefused.NoSession → ⊥ }
         ensures unchanged { OnErr result (self.new ≡ self.old) }
@@ -85,7 +85,7 @@ impl SessionTable {
 
     /// Closes a session of the connection. It takes no memory.
     ///
-    /// Refused with `NoSession` where the connection owns no such session: another connection's
+    /// Refused with `NoSession` if the connection owns no such session: another connection's
     /// session is refused like one that was never opened.
     pub fn close(&mut self, session: SessionId, owner: ConnId) -> Result<(), SessionRefused>
         ensures owned { OnOk result (owns owner session self.old ≡ true) }
@@ -109,7 +109,7 @@ impl SessionTable {
         keys::has(&self.keys, owner.0, session.0)
     }
 
-    /// Whether the connection can open no further session. It takes no memory.
+    /// Whether the connection can't open another session. It takes no memory.
     pub fn is_full(&self, owner: ConnId) -> bool
         ensures { result ≡ is_full owner self.now }
     {
@@ -123,7 +123,7 @@ impl SessionTable {
         keys::take_all(&mut self.keys, owner.0);
     }
 
-    /// The sessions as plain rows. One pass over them.
+    /// The sessions as plain rows. It takes memory and one pass over all of them.
     pub fn rows(&self) -> Result<Sessions, OutOfMemory>
         ensures { IfOk result (λ sessions. sessions ≡ self.now) }
     {

@@ -8,7 +8,7 @@ pub trait Chronicle: Drop {
     /// What is recorded.
     type Event;
 
-    /// What the value keeps as the start of its history: the events that it still has led on from there.
+    /// The start of the history that the value keeps; the events that it still has follow it.
     ghost start: { Self → Self.Start };
 
     /// How many events the run had before that start.
@@ -17,9 +17,10 @@ pub trait Chronicle: Drop {
     /// The events that it still has, in order.
     ghost events: { Self → List Self.Event };
 
-    /// The value is what a run becomes that began so, after so many events, and had these events since.
+    /// The value is what results from a run that began with this start, had this many events before
+    /// it, and these events since.
     ghost stands: { Self → Self.Start → ℕ → List Self.Event → Type 0 };
 
-    /// The last event that was recorded, alone in a list.
+    /// The event that was recorded last, alone in a list.
     ghost newest: { Self → List Self.Event };
 }

@@ -13,9 +13,9 @@ pub struct Known<B, E> {
     pub before: u64,
     /// The events since then, as far as they were seen.
     pub seen: LinkedList<E>,
-    /// The places of its own among them.
+    /// The positions of its own events among them.
     pub own: LinkedList<u64>,
-    /// What a seat had seen that was joined to this one, and where its run began.
+    /// What another seat that was joined to this one had seen, and where its run began.
     pub met: LinkedList<E>,
     pub met_start: Option<B>,
     pub met_before: u64,
@@ -25,7 +25,7 @@ pub struct Known<B, E> {
     pub has_turn: bool,
 }
 
-/// The rule of the table: one history, of which each seat has seen a beginning, and one turn.
+/// The rule of the table: there is one history, of which each seat has seen a beginning, and one turn.
 pub(crate) struct OneHistory;
 
 impl<C: Chronicle> TableRule<Option<C>, Known<C::Start, C::Event>, Snapshot<C>> for OneHistory {
@@ -47,7 +47,7 @@ pub(crate) type Board<C: Chronicle> = Table<
 
 pub(crate) type Place<C: Chronicle> = Seat<Option<C>, Known<C::Start, C::Event>>;
 
-/// A new seat has seen the same, and recorded nothing.
+/// A new seat is made, which has seen the same and recorded nothing.
 pub(crate) struct Note;
 
 impl<B, E> Split<Known<B, E>> for Note {
@@ -58,7 +58,7 @@ impl<B, E> Split<Known<B, E>> for Note {
     ghost right = { noted };
 }
 
-/// One seat has the longer history, and the own places of both.
+/// Two seats become one, which has the longer history and the own positions of both.
 pub(crate) struct Gather;
 
 impl<B, E> Join<Known<B, E>> for Gather {

@@ -1,4 +1,4 @@
-// What each step on the table tells the thread that takes it.
+// What a thread learns from each step that it takes on the table.
 use crate::chronicle::Chronicle;
 use crate::known::Known;
 use atomic_table::Play;
@@ -35,7 +35,7 @@ impl<C: Chronicle> Play<Option<C>, Known<C::Start, C::Event>> for Count<C> {
     ghost then = { counted C.newest };
 }
 
-/// The turn is given on.
+/// The turn is passed on.
 pub(crate) struct Hand;
 
 impl<S, B, E> Play<S, Known<B, E>> for Hand {

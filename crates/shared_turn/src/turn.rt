@@ -19,10 +19,10 @@ const EVENTS: usize = 0;
 // Word 1: the tickets that were drawn.
 const DRAWN: usize = 1;
 
-// Word 2: the ticket whose turn it is.
+// Word 2: the ticket that is served.
 const SERVED: usize = 2;
 
-/// A value that threads use by turns. A contract sees which one it is.
+/// A value that threads use by turns. A contract sees which table it is.
 #[derive(Drop)]
 pub struct Turn<C: Chronicle> {
     board: Board<C>,
@@ -41,10 +41,10 @@ impl<C: Chronicle> Model for Turn<C> {
 }
 
 impl<C: Chronicle> Turn<C> {
-    /// Puts a value behind a turn, and gives the first pass, which has seen the events that the value
+    /// Makes a turn over a value, and the first pass, which has seen the events that the value
     /// still has. `count` is the number of all events of the run.
     ///
-    /// Refused with `AllocError` where no memory is left; the value is dropped then.
+    /// Refused with `AllocError` if no memory is left; the value is dropped then.
     pub fn open(alloc: Global, value: C, count: u64) -> Result<(Turn<C>, Pass<C>), AllocError>
         requires stands { C.stands value (C.start value) (C.before value) (C.events value) }
         requires count { count ≡ C.before value + length (C.events value) }
@@ -61,7 +61,7 @@ impl<C: Chronicle> Turn<C> {
         }
     }
 
-    // Draws the next ticket. Once the last one is drawn there is none, and it goes on trying.
+    // Draws the next ticket. Once the last ticket is drawn there is no other, and it tries forever.
     fn draw<R: Wait>(&self, rt: &R, place: &mut Place<C>) -> u64
         requires table { place.old.table_id ≡ self.now }
         requires known { IsWithoutTicket place.old.me.0 }
@@ -83,8 +83,8 @@ impl<C: Chronicle> Turn<C> {
         unreachable!()
     }
 
-    /// Waits for the turn, and gives the value, as all that was recorded left it. Until the pass gives
-    /// it back, nobody else gets it.
+    /// Waits for the turn, and returns the value as all that was recorded left it. Until the pass
+    /// gives it back, nobody else gets it.
     pub fn enter<R: Wait>(&self, rt: &R, pass: &mut Pass<C>) -> C
         requires table { pass.old.table ≡ self.now }
         requires outside { pass.old.has_turn ≡ false }
@@ -107,7 +107,7 @@ impl<C: Chronicle> Turn<C> {
         unreachable!()
     }
 
-    // Gives the turn on. The slot has its value back.
+    // Passes the turn on. The value is back in its slot.
     fn hand(&self, place: &mut Place<C>)
         requires table { place.old.table_id ≡ self.now }
         requires ready { (value : C) × HasSlot C.stands value place.old.me }
@@ -118,8 +118,8 @@ impl<C: Chronicle> Turn<C> {
         self.board.shared.wake_all(SERVED);
     }
 
-    /// Gives the value back, in which one event more was recorded, and the turn on. All who sleep until
-    /// there is another event are woken.
+    /// Gives back the value, in which one more event was recorded, and passes the turn on. All
+    /// threads that sleep until there is another event are woken.
     pub fn record(&self, pass: &mut Pass<C>, value: C)
         requires table { pass.old.table ≡ self.now }
         requires inside { pass.old.has_turn ≡ true }
@@ -138,7 +138,7 @@ impl<C: Chronicle> Turn<C> {
         self.hand(&mut pass.place);
     }
 
-    /// Gives the value back, in which nothing more was recorded, and the turn on.
+    /// Gives back the value, in which nothing more was recorded, and passes the turn on.
     pub fn give_back(&self, pass: &mut Pass<C>, value: C)
         requires table { pass.old.table ≡ self.now }
         requires inside { pass.old.has_turn ≡ true }
@@ -151,8 +151,8 @@ impl<C: Chronicle> Turn<C> {
         self.hand(&mut pass.place);
     }
 
-    /// Sleeps while the run has just so many events, as far as the lower 32 bits of the number tell. It
-    /// may also return for no reason.
+    /// Sleeps while the run has exactly `count` events, as far as the lower 32 bits of the number
+    /// show. It may also return for no reason.
     pub fn sleep<R: Wait>(&self, rt: &R, count: u64) {
         self.board
             .shared
@@ -170,7 +170,7 @@ impl<C: Chronicle> Turn<C> {
         Pass { place }
     }
 
-    /// The pass learns what another has seen, and takes over what it recorded.
+    /// The pass learns what another one has seen, and takes over what it recorded.
     pub fn gather(&self, pass: &mut Pass<C>, other: Pass<C>)
         requires table { pass.old.table ≡ self.now }
         requires other_table { other.table ≡ self.now }

@@ -9,8 +9,8 @@ use std::fmt::Display;
 use std::process::Abort;
 use std::test::Fail;
 
-// Bytes in hexadecimal digits, and whether they are a text: the Unicode Standard, table 3-7
-// (well-formed UTF-8), and D-Bus Specification, "Type System".
+// Bytes in hex, and whether they are a text: the Unicode Standard, table 3-7 (well-formed UTF-8),
+// and D-Bus Specification, "Type System".
 const TEXTS: &str = "\
 |text
 706c61696e|text
@@ -28,7 +28,7 @@ eda080|no text
 f4908080|no text
 ";
 
-// Which text the bytes make.
+// What the bytes are made into.
 fn made_of(alloc: Global, bytes: &[u8]) -> Result<&'static str, Fail> {
     match Text::from_utf8(bytes.to_vec(alloc)?) {
         Some(text) if text.as_bytes() == bytes => Ok("text"),
@@ -48,7 +48,7 @@ fn a_text_is_utf8_without_a_zero_byte(rt: HostRuntime) -> Result<(), Fail> {
     Ok(())
 }
 
-// Texts, and how many bytes each has.
+// Texts, and the number of bytes of each.
 const MADE: &str = "\
 |0
 plain|5
@@ -59,7 +59,7 @@ fn new_text(alloc: Global, text: &str) -> Result<Option<Text>, Fail> {
     Ok(Text::new(String::from_str(alloc, text)?))
 }
 
-// Whether the made text is this one, and so is its copy.
+// Whether the text that was made is this one, and so is its copy.
 fn is_text(made: &Text, text: &str, alloc: Global) -> Result<bool, Fail> {
     let is_same = made.copy()? == text_of(alloc, text)?;
     Ok(is_same && made.as_str() == text)
@@ -86,7 +86,7 @@ fn a_text_is_made_and_read(rt: HostRuntime) -> Result<(), Fail> {
     Ok(())
 }
 
-// A text of 24 bytes lies in the value itself, and one of 25 in memory of its own.
+// A text of 24 bytes is kept in the value itself, and one of 25 in memory of its own.
 #[test]
 fn a_text_is_the_same_wherever_it_lies(rt: HostRuntime) -> Result<(), Fail> {
     let short = text_of(rt.alloc(), "org.freedesktop.Secrets.")?;
@@ -100,7 +100,7 @@ fn a_text_is_the_same_wherever_it_lies(rt: HostRuntime) -> Result<(), Fail> {
     Ok(())
 }
 
-// The byte, so many times.
+// The byte, repeated `count` times.
 fn repeated(alloc: Global, count: u32, byte: u8) -> Result<Vec<u8>, Fail> {
     let mut bytes = Vec::new(alloc);
     for _ in 0..count {
@@ -109,19 +109,20 @@ fn repeated(alloc: Global, count: u32, byte: u8) -> Result<Vec<u8>, Fail> {
     Ok(bytes)
 }
 
-// The bytes of a row: how many there are, and which one each is.
+// The bytes of a row, which gives their number and the one byte that they all are.
 fn bytes_in(alloc: Global, row: &str) -> Result<Vec<u8>, Fail> {
     let count = number(cell(row, 0))?;
     let byte = number(cell(row, 1))?;
     repeated(alloc, count, u8::try_from(byte).ok().ok_or("a byte")?)
 }
 
-// The bytes, copied and taken apart.
+// The bytes, copied and made anew from their vector.
 fn copy_of(made: &Bytes) -> Result<Bytes, Fail> {
     Ok(Bytes::new(made.copy()?.into_vec()?))
 }
 
-// The bytes of a row are above the last ones, and equal to their copy, which is returned.
+// Asserts that the bytes of a row are above the last ones and equal to their copy, and
+// returns the copy.
 fn copy_above(rt: &(impl AllocGlobal + Abort), last: &Bytes, row: &str) -> Result<Bytes, Fail> {
     let bytes = bytes_in(rt.alloc(), row)?;
     let made = Bytes::from_slice(rt.alloc(), bytes.as_slice())?;
@@ -133,7 +134,7 @@ fn copy_above(rt: &(impl AllocGlobal + Abort), last: &Bytes, row: &str) -> Resul
     Ok(copy)
 }
 
-// 32 bytes lie in the value itself, and 33 in memory of their own.
+// 32 bytes are kept in the value itself, and 33 in memory of their own.
 #[test]
 fn bytes_are_the_same_wherever_they_lie(rt: HostRuntime) -> Result<(), Fail> {
     let mut last = Bytes::from_slice(rt.alloc(), &[])?;
@@ -189,7 +190,7 @@ fn value_of(alloc: Global, text: &str) -> Result<AttrValue, Fail> {
     Ok(AttrValue::Text(text_of(alloc, text)?))
 }
 
-// A text is below another, and that below a number.
+// Whether a text is below another one, and that one below a number.
 fn are_in_order(alloc: Global, row: &str) -> Result<bool, Fail> {
     let low = cell(row, 0);
     let high = cell(row, 1);
@@ -198,7 +199,8 @@ fn are_in_order(alloc: Global, row: &str) -> Result<bool, Fail> {
     Ok(low < high && high < AttrValue::Number(0))
 }
 
-// By the first byte that differs, and a text before each longer one that begins with it.
+// Texts are ordered by the first byte that differs, and a text comes before each longer one that
+// begins with it.
 #[test]
 fn texts_are_in_order(rt: HostRuntime) -> Result<(), Fail> {
     for row in "|Z\nZ|a\na|ab\nab|\u{e9}\n".lines() {
@@ -207,7 +209,7 @@ fn texts_are_in_order(rt: HostRuntime) -> Result<(), Fail> {
     Ok(())
 }
 
-// Texts, and whether they are stems; so many letters are meant by a number.
+// Texts, and whether they are stems; a number means so many letters.
 const STEMS: &str = "\
 a|stem
 My Keys|stem
@@ -220,7 +222,7 @@ a\0|no stem
 244|no stem
 ";
 
-// So many letters, or the word itself.
+// As many letters as the number says, or the word itself.
 fn word_of(alloc: Global, word: &str) -> Result<String, Fail> {
     match word.parse::<u32>() {
         Ok(count) => letters(alloc, count),
@@ -228,7 +230,7 @@ fn word_of(alloc: Global, word: &str) -> Result<String, Fail> {
     }
 }
 
-// Whether the stem is this text, and is copied and given back.
+// Whether the stem is this text, and so is its copy, and its text makes a stem again.
 fn is_stem_of(stem: Stem, text: &str) -> Result<bool, Fail> {
     let is_same = stem.as_text().as_str() == text && stem.copy()? == stem;
     Ok(is_same && Stem::from_text(stem.into_text()).is_some())
@@ -288,7 +290,7 @@ fn told(alloc: Global, attributes: &Attributes) -> Result<String, Fail> {
     Ok(told)
 }
 
-// Pairs, and the attributes that they are.
+// Pairs, and the attributes that they make.
 const GATHERED: &str = "\
 |
 a=b,|a=b,
@@ -353,7 +355,7 @@ fn a_value_is_found_by_its_name(rt: HostRuntime) -> Result<(), Fail> {
     Ok(())
 }
 
-// Whether a pair of the copy of this value has this value, and is its own copy.
+// Whether a pair with a copy of this value has this value, and equals its own copy.
 fn is_copied(alloc: Global, value: HashedValue) -> Result<bool, Fail> {
     let name = text_of(alloc, "a")?;
     let value_copy = value.copy()?;

@@ -23,17 +23,17 @@ pub fn holds(rt: &impl Abort, fact: bool, at: &str) {
     assert!(rt; fact, "at {at}");
 }
 
-/// The part of a text at this place, where this sign is between the parts.
+/// The part of a text at this index; this sign separates the parts.
 pub fn part(text: &str, sign: char, place: usize) -> &str {
     text.split(sign).nth(place).unwrap_or("no such part")
 }
 
-/// The cell of a row at this place, where bars are between the cells.
+/// The cell of a row at this index; bars separate the cells.
 pub fn cell(row: &str, place: usize) -> &str {
     part(row, '|', place)
 }
 
-/// The number that a text is.
+/// The number that a text spells.
 pub fn number(text: &str) -> Result<u32, Fail> {
     Ok(text.parse::<u32>().ok().ok_or("a number")?)
 }

@@ -1,6 +1,6 @@
-//! Tests of the crates of the base layer: of kr_base, kr_names and kr_items. They show what no clause
-//! of those crates says: worked examples of the standards, printed texts, and that each public function
-//! returns a value where there is memory.
+//! Tests of the crates of the base layer: kr_base, kr_names and kr_items. They show what no clause
+//! of those crates says: worked examples of the standards, printed texts, and that each public
+//! function returns a value if there is memory.
 #![tactic(auto)]
 
 #[cfg(test)]

@@ -15,7 +15,7 @@ Default keyring|Default_20keyring
 ~|_7e
 ";
 
-// No stem is spelled so.
+// Texts that spell no stem.
 const NO_STEMS: &str = "
 
 a_b
@@ -50,7 +50,7 @@ fn a_stem_is_spelled_in_one_way(rt: HostRuntime) -> Result<(), Fail> {
     Ok(())
 }
 
-// Whether the path of the name is this one again.
+// Whether the name's path is this one.
 fn is_path_of(alloc: Global, name: &ObjectName, path: &str) -> Result<bool, Fail> {
     let copy = name.copy()?;
     if !copy.has_path() {
@@ -72,7 +72,7 @@ fn debug_told(alloc: Global, name: &ObjectName) -> Result<String, Fail> {
     Ok(format!(in alloc; "{name:?}")?)
 }
 
-// A name with its texts, which its Debug doesn't print.
+// A name with its texts, which `Debug` doesn't print.
 fn shown(alloc: Global, name: &ObjectName) -> Result<String, Fail> {
     match name {
         ObjectName::Collection(stem) => {
@@ -84,7 +84,7 @@ fn shown(alloc: Global, name: &ObjectName) -> Result<String, Fail> {
     }
 }
 
-// Prints the name that has this path, if the path of that name is this one again.
+// Prints the name that has this path, if the path of that name is the same.
 fn read(alloc: Global, path: &str) -> Result<String, Fail> {
     let Some(name) = parse_path(alloc, path)? else {
         return Ok(String::from_str(alloc, "no name")?);
@@ -106,7 +106,7 @@ fn is_read_below(rt: &(impl AllocGlobal + Abort), row: &str) -> Result<(), Fail>
     is_read(rt, path.as_str(), cell(row, 1))
 }
 
-// What follows the root of a path, and the name.
+// What follows the root of a path, and its name.
 const NAMES: &str = "\
 |Service
 /agent|Agent
@@ -173,7 +173,7 @@ fn a_path_is_that_of_one_name_or_of_none(rt: HostRuntime) -> Result<(), Fail> {
     Ok(())
 }
 
-// How long a stem and an alias may be.
+// Lengths of a stem and an alias, and whether they may be so long.
 const LENGTHS: &str = "\
 collection/243|true
 collection/244|false
@@ -181,7 +181,7 @@ aliases/64|true
 aliases/65|false
 ";
 
-// The path of a name of this kind with so many letters.
+// The path of a name of this kind with this many letters.
 fn long_path(alloc: Global, kind: &str, count: u32) -> Result<String, Fail> {
     let name = letters(alloc, count)?;
     joined(

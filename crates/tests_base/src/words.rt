@@ -1,4 +1,4 @@
-// Values of words, and parts in one text.
+// Values from words, and parts joined to one text.
 
 use kr_base::Text;
 use std::alloc::Global;
@@ -9,7 +9,7 @@ pub fn text_of(alloc: Global, text: &str) -> Result<Text, Fail> {
     Ok(Text::from_str(alloc, text)?.ok_or("a zero byte")?)
 }
 
-/// The parts in one text.
+/// The parts as one text.
 pub fn joined(alloc: Global, parts: &[&str]) -> Result<String, Fail> {
     let mut text = String::new(alloc);
     for part in parts {
@@ -18,7 +18,7 @@ pub fn joined(alloc: Global, parts: &[&str]) -> Result<String, Fail> {
     Ok(text)
 }
 
-/// So many letters.
+/// This many letters.
 pub fn letters(alloc: Global, count: u32) -> Result<String, Fail> {
     let mut text = String::new(alloc);
     for _ in 0..count {

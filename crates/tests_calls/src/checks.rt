@@ -18,12 +18,12 @@ pub fn holds(rt: &impl Abort, fact: bool, at: &str) {
     assert!(rt; fact, "at {at}");
 }
 
-/// The cell of a row at this place, where bars are between the cells.
+/// The cell of a row at this index; bars separate the cells.
 pub fn cell(row: &str, place: usize) -> &str {
     row.split('|').nth(place).unwrap_or("no such cell")
 }
 
-/// The number that a text is.
+/// The number that a text spells.
 pub fn number(text: &str) -> Result<u32, Fail> {
     Ok(text.parse::<u32>().ok().ok_or("a number")?)
 }

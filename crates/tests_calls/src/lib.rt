@@ -1,6 +1,6 @@
-//! The tests of calls and outputs, over what their crates give to all: sizes of outputs, and messages to calls
-//! and outputs to messages beside those of other programs. They are in a crate of their own so that no crate is
-//! proved again for its tests.
+//! The tests of calls and outputs, through the public items of their crates: the sizes of outputs,
+//! and messages to calls and outputs to messages compared with those of other programs. They are in
+//! a crate of their own so that no crate is proved again for its tests.
 #![tactic(auto)]
 
 #[cfg(test)]

@@ -8,7 +8,7 @@ const FIRST: Serial = Serial { number: 1 };
 
 const LAST: Serial = Serial { number: u32::MAX };
 
-// A reply of this session is so long.
+// Asserts the length of a reply with this session.
 fn session_has(rt: &impl Abort, number: u64, want: u64, at: &str) {
     let body = Body::Session(SessionId(number));
     same_number(rt, body_size(&body) + 32, want, at);
@@ -19,7 +19,7 @@ fn is_copied(out: &Out) -> Result<bool, Fail> {
     Ok(out.copy()? == *out)
 }
 
-// A reply of this error is so long, and its copy is the same.
+// Asserts the length of a reply with this error, and that its copy is the same.
 fn error_has(rt: &impl Abort, name: ErrorName, want: u64) -> Result<(), Fail> {
     let out = Out::Error { to: FIRST, name };
     same_number(rt, size_of_out(&out), want, name.as_str());

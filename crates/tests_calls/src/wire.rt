@@ -10,7 +10,7 @@ use std::alloc::{AllocGlobal, Global};
 use std::process::Abort;
 use std::test::Fail;
 
-// A call that opens a session, with its algorithm, which its Debug doesn't print.
+// A call that opens a session, with its algorithm, which `Debug` doesn't print.
 fn opening_told(alloc: Global, algorithm: &str) -> Result<String, Fail> {
     joined(
         alloc,
@@ -34,7 +34,7 @@ fn wish_told(wants_reply: bool) -> &'static str {
     if wants_reply { " true " } else { " false " }
 }
 
-// A request by its serial, whether a reply is wanted, its length, and the call or its fault.
+// A request as its serial, whether a reply is wanted, its length, and the call or its fault.
 fn request_told(alloc: Global, request: &Request) -> Result<String, Fail> {
     let serial = decimal(alloc, u64::from(request.serial.number))?;
     let wish = wish_told(request.wants_reply);
@@ -55,8 +55,8 @@ fn told(alloc: Global, message: &Message) -> Result<String, Fail> {
     request_told(alloc, &request)
 }
 
-// A message in a row, and what is told of it. Those in little-endian are as libdbus 1.14 marshals them,
-// and it reads the others as the same calls.
+// A message in a row, and its description. Those in little-endian order are as libdbus 1.14
+// marshals them, and it reads the others as the same calls.
 const MESSAGES: &str = "\
 6c01000115000000010000007000000001016f00180000002f6f72672f667265656465736b746f702f736563726574730000000000000000020173001e0000006f72672e667265656465736b746f702e5365637265742e536572766963650000030173000b0000004f70656e53657373696f6e0000000000080167000273760005000000706c61696e000173000000000000000000|1 true 149 Ok(OpenSession { algorithm: \"plain\" })
 4201000100000015000000010000007001016f00000000182f6f72672f667265656465736b746f702f736563726574730000000000000000020173000000001e6f72672e667265656465736b746f702e5365637265742e536572766963650000030173000000000b4f70656e53657373696f6e0000000000080167000273760000000005706c61696e000173000000000000000000|1 true 149 Ok(OpenSession { algorithm: \"plain\" })
@@ -101,7 +101,8 @@ fn messages_of_other_programs_are_read(rt: HostRuntime) -> Result<(), Fail> {
     Ok(())
 }
 
-// In a row a call's path, interface (`-` for none), member, signature and body, and what it is read as.
+// In a row, a call's path, interface (`-` for none), member, signature and body, and what it
+// is read as.
 const CALLS: &str = "\
 /com/example|org.freedesktop.DBus.Peer|Ping|||Ok(Ping)
 /org/freedesktop/secrets|org.freedesktop.DBus.Peer|Ping|||Ok(Ping)
@@ -146,7 +147,7 @@ fn text(alloc: Global, text: &str) -> Result<Option<Text>, Fail> {
     Ok(Text::from_str(alloc, text)?)
 }
 
-// Whom a call is for.
+// What a call is addressed to.
 #[derive(Drop)]
 struct Names {
     path: Option<Text>,
@@ -216,8 +217,8 @@ fn calls_are_those_of_the_table_or_the_first_fault(rt: HostRuntime) -> Result<()
     Ok(())
 }
 
-// An output in a row: the number of the session that it returns, `empty`, or the name of an error; the
-// serial that it answers; its own serial; and the message, as libdbus 1.14 marshals it.
+// In a row, an output: the number of the session that it returns, `empty`, or the name of an error;
+// the serial that it answers; its own serial; and the message, as libdbus 1.14 marshals it.
 const OUTPUTS: &str = "\
 1|1|1|6c02010134000000010000001000000005017500010000000801670002766f00017300000000000000000000230000002f6f72672f667265656465736b746f702f736563726574732f73657373696f6e2f733100
 10|2|3|6c02010135000000030000001000000005017500020000000801670002766f00017300000000000000000000240000002f6f72672f667265656465736b746f702f736563726574732f73657373696f6e2f73313000
@@ -280,7 +281,7 @@ fn output_in(text: &str, to: Serial) -> Result<Out, Fail> {
     }
 }
 
-// The digits of the output's message.
+// The output's message in hex.
 fn written(alloc: Global, out: &Out, serial: Serial) -> Result<String, Fail> {
     let bytes = message_of(alloc, out, serial.number)?;
     Ok(hex::encode(alloc, bytes.as_slice())?)

@@ -1,14 +1,14 @@
-// Values in words, and the values of words.
+// Values in words, and values from words.
 
 use std::alloc::Global;
 use std::test::Fail;
 
-/// The bytes of these digits.
+/// The bytes with these digits.
 pub fn bytes_of(alloc: Global, digits: &str) -> Result<Vec<u8>, Fail> {
     Ok(hex::decode(alloc, digits).ok().ok_or("no hex")?)
 }
 
-/// The parts in one text.
+/// The parts as one text.
 pub fn joined(alloc: Global, parts: &[&str]) -> Result<String, Fail> {
     let mut text = String::new(alloc);
     for part in parts {

@@ -18,12 +18,12 @@ pub fn same_number(rt: &impl Abort, found: u64, want: u64, at: &str) {
     assert_eq!(rt; found, want, "at {at}");
 }
 
-/// The cell of a row at this place, where bars are between the cells.
+/// The cell of a row at this index; bars separate the cells.
 pub fn cell(row: &str, place: usize) -> &str {
     row.split('|').nth(place).unwrap_or("no such cell")
 }
 
-/// The length that a text is.
+/// The length that a text spells.
 pub fn length(text: &str) -> Result<usize, Fail> {
     Ok(text.parse::<usize>().ok().ok_or("a length")?)
 }

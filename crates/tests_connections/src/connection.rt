@@ -20,7 +20,7 @@ fn guid() -> [u8; 32] {
 }
 
 // The name, what the client sends, the words of the answers, and how the handshake ends. `^` stands for
-// a zero byte, `~` for CR LF, `#` for a line feed. An open one tells how many bytes stand behind BEGIN.
+// a zero byte, `~` for CR LF, `#` for a line feed. An open one says how many bytes come after BEGIN.
 const CONVERSATIONS: &str = "\
 nothing comes|||EndedEarly
 no zero byte|A||NoZero
@@ -95,7 +95,7 @@ fn open_told(alloc: Global, rest: usize) -> Result<String, Fail> {
     Ok(format!(in alloc; "open {rest}")?)
 }
 
-// How a handshake of the user 1000 ends.
+// How a handshake for the user 1000 ends.
 fn ended<R: AllocGlobal + Wait, I: Source, O: Sink>(
     rt: &R,
     input: &mut I,
@@ -107,7 +107,7 @@ fn ended<R: AllocGlobal + Wait, I: Source, O: Sink>(
     }
 }
 
-// So many pieces of one byte.
+// This many pieces of one byte.
 fn bytes_alone(alloc: Global, count: usize) -> Result<Vec<usize>, Fail> {
     let mut pieces = Vec::new(alloc);
     for _ in 0..count {
@@ -116,7 +116,7 @@ fn bytes_alone(alloc: Global, count: usize) -> Result<Vec<usize>, Fail> {
     Ok(pieces)
 }
 
-// A source of these bytes, cut into pieces of one byte where `is_cut` says so.
+// A source of these bytes, cut into pieces of one byte if `is_cut`.
 fn source_of(alloc: Global, input: Vec<u8>, is_cut: bool) -> Result<MemorySource, Fail> {
     let count = if is_cut { input.len() } else { 0 };
     let pieces = bytes_alone(alloc, count)?;
@@ -127,7 +127,7 @@ fn plain_sink(alloc: Global) -> MemorySink {
     MemorySink::new(alloc, Vec::new(alloc), Vec::new(alloc))
 }
 
-// Asserts that the input ends a handshake so, and that so much is written before.
+// Asserts how the input ends a handshake, and what is written before.
 fn ends_so<R: AllocGlobal + Wait + Abort>(
     rt: &R,
     source: &mut MemorySource,
@@ -149,7 +149,7 @@ fn is_answered<R: AllocGlobal + Wait + Abort>(rt: &R, row: &str) -> Result<(), F
     ends_so(rt, &mut source, cell(row, 2), cell(row, 3), row)
 }
 
-// What stands behind BEGIN is in the framer as far as it was read.
+// What comes after BEGIN is in the framer as far as it was read.
 fn end_if_cut(end: &str) -> &str {
     if end == "open 4" { "open 0" } else { end }
 }
@@ -204,13 +204,13 @@ fn name(alloc: Global) -> Result<Vec<u8>, Fail> {
     bytes_of(alloc, "^AUTH EXTERNAL 31303030~")
 }
 
-// A source of the name alone, whose call of the number 1 fails.
+// A source of the name alone, whose call number 1 fails.
 fn failing_source(alloc: Global) -> Result<MemorySource, Fail> {
     let failing = Vec::from_slice(alloc, &[1u64])?;
     Ok(MemorySource::new(name(alloc)?, Vec::new(alloc), failing))
 }
 
-// A sink that takes 3 bytes, and whose call of the number 1 fails.
+// A sink that takes 3 bytes, and whose call number 1 fails.
 fn failing_sink(alloc: Global) -> Result<MemorySink, Fail> {
     let pieces = Vec::from_slice(alloc, &[3usize])?;
     let failing = Vec::from_slice(alloc, &[1u64])?;
@@ -277,19 +277,19 @@ const OPEN_SESSION: &str = "\
 766963650000030173000b0000004f70656e53657373696f6e0000000000080167000273760005000000706c61\
 696e000173000000000000000000";
 
-// Its reply as the first output, with session 1.
+// The reply to it as the first output, with session 1.
 const SESSION: &str = "\
 6c02010134000000010000001000000005017500010000000801670002766f0001730000000000000000000023\
 0000002f6f72672f667265656465736b746f702f736563726574732f73657373696f6e2f733100";
 
-// Appends the bytes of these digits.
+// Appends the bytes with these digits.
 fn push_digits(bytes: &mut Vec<u8>, alloc: Global, digits: &str) -> Result<(), Fail> {
     let message = hex::decode(alloc, digits).ok().ok_or("hex")?;
     bytes.extend_from_slice(message.as_slice())?;
     Ok(())
 }
 
-// A client that shakes hands and opens a session.
+// What a client sends that does the handshake and opens a session.
 fn client(alloc: Global) -> Result<Vec<u8>, Fail> {
     let mut input = bytes_of(alloc, "^AUTH EXTERNAL~DATA~NEGOTIATE_UNIX_FD~BEGIN~")?;
     push_digits(&mut input, alloc, OPEN_SESSION)?;
@@ -303,7 +303,7 @@ fn written(alloc: Global) -> Result<Vec<u8>, Fail> {
     Ok(output)
 }
 
-// Serves the first connection at a desk; how it ended.
+// Serves the first connection at a desk, and returns how it ended.
 fn served<R: AllocGlobal + Wait, I: Source, O: Sink, D: ReadDesk + WriteDesk>(
     rt: &R,
     input: &mut I,
@@ -323,7 +323,7 @@ fn stored(desk: LoneDesk) -> u64 {
     desk.into_service().events().len() as u64
 }
 
-// Serves the first connection of a service; the events, once it is done.
+// Serves the first connection of a service, and returns the events once it is done.
 fn events_of<R: AllocGlobal + Wait + Abort, I: Source, O: Sink>(
     rt: &R,
     input: &mut I,

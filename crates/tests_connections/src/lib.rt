@@ -1,5 +1,6 @@
-//! The tests of a connection, over what `connection_worker` gives to all: the handshake, the salts, and one call
-//! on one thread. They are in a crate of their own so that the crate isn't proved again for its tests.
+//! The tests of a connection, through the public items of `connection_worker`: the handshake, the
+//! salts, and one call on one thread. They are in a crate of their own so that the crate isn't
+//! proved again for its tests.
 #![tactic(auto)]
 
 #[cfg(test)]

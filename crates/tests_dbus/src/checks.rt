@@ -20,7 +20,7 @@ pub fn holds(rt: &impl Abort, fact: bool, at: &str) {
     assert!(rt; fact, "at {at}");
 }
 
-// The cell at this place of a row; one that isn't there is empty.
+// The cell of a row at this index, or an empty text if there is none.
 pub fn cell(row: &str, place: usize) -> &str {
     row.split('|').nth(place).unwrap_or("")
 }

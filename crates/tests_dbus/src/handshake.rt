@@ -6,9 +6,9 @@ use std::test::Fail;
 
 const GUID: [u8; 32] = *b"0123456789abcdef0123456789abcdef";
 
-// Who speaks, behind `>` and the user id that is awaited, and line after line with its answer, by the table of
-// the server's states (D-Bus Specification, "Authentication Protocol"). A line behind `#` is in hex. `open` is
-// the step `Begin`.
+// Who speaks, after `>` and the user id that is awaited; then line after line with its answer, by
+// the table of the server's states (D-Bus Specification, "Authentication Protocol"). A line after
+// `#` is in hex. `open` is the step `Begin`.
 const CONVERSATIONS: &str = "\
 > 1000 libdbus
 AUTH EXTERNAL 31303030|OK
@@ -180,7 +180,7 @@ fn line_of(alloc: Global, line: &str) -> Result<Vec<u8>, Fail> {
     }
 }
 
-// What a line of the table is answered with.
+// The answer to a line of the table.
 fn answer(alloc: Global, auth: &mut Auth, line: &str) -> Result<Vec<u8>, Fail> {
     let bytes = line_of(alloc, line)?;
     shown(alloc, &auth.line(bytes.as_slice()))
@@ -202,7 +202,7 @@ fn is_answered(
     Ok(())
 }
 
-// The server at the start of a conversation, by its first line behind the `>`.
+// The server at the start of a conversation, made from the first line after its `>`.
 fn server(head: &str) -> Result<Auth, Fail> {
     let (uid, _) = head.split_once(' ').ok_or("row")?;
     Ok(Auth::new(number(uid)?, GUID))

@@ -1,5 +1,6 @@
-//! The tests of the D-Bus crates: tables of texts, bytes and conversations that come from the standard and from
-//! other programs, and calls of each public function. They call what the crates give to all.
+//! The tests of the D-Bus crates: tables of texts, bytes and conversations that come from the
+//! standard and from other programs, and calls of each public function. They use only the public
+//! items of the crates.
 #![tactic(auto)]
 
 #[cfg(test)]

@@ -11,10 +11,10 @@ use std::fmt::Display;
 use std::process::Abort;
 use std::test::Fail;
 
-// What GLib 2.74.4 (GDBusMessage) marshals as a message's body, which stands at a multiple of 8: a
-// signature, the bytes in little-endian order, and those in big-endian order. The rows of `foo`, `+`
-// and `bar`, of an array of one int64 5 and of a variant of a uint32 5 are examples of the D-Bus
-// Specification, "Marshaling".
+// What GLib 2.74.4 (GDBusMessage) marshals as a message's body, at a multiple of 8: a
+// signature, the bytes in little-endian order, and those in big-endian order. The rows of
+// `foo`, `+` and `bar`, of an array of one int64 5 and of a variant of a uint32 5 are examples
+// of the D-Bus Specification, "Marshaling".
 const VECTORS: &str = "\
 y|07|07
 y|ff|ff
@@ -90,8 +90,9 @@ ybnqiuxtd|0100000001000000feff0300fcffffff0500000000000000faffffffffffffff070000
 yyyyuua(yv)|6c01000100000000010000001700000001016f00020000002f6100000000000008016700017300|6c01000100000000000000010000001701016f00000000022f6100000000000008016700017300
 ";
 
-// A signature, a place, the bytes in both orders, and how the values print: spellings computed from the
-// rules by another program. A dict may have a key twice, and all its entries are read.
+// A signature, a position, the bytes in both orders, and how the values are shown: spellings
+// computed from the rules by another program. A dict may have a key twice, and all its
+// entries are read.
 const VALUES: &str = "\
 a{ss}|0|0000000000000000|0000000000000000|[Array(DictEntry(String, Basic(String)), [])]
 a{ss}|4|00000000|00000000|[Array(DictEntry(String, Basic(String)), [])]
@@ -108,8 +109,9 @@ aa(b)|2|0000180000000c0000000000000000000000000000000100000000000000|00000000001
 a{yu}|4|1000000001000000020000000100000003000000|0000001001000000000000020100000000000003|[Array(DictEntry(Byte, Basic(Uint32)), [DictEntry(DictEntry { key: Byte(1), value: Uint32(2) }), DictEntry(DictEntry { key: Byte(1), value: Uint32(3) })])]
 ";
 
-// A signature, a place, bytes in little-endian order, and the fault or how the values print. A byte of
-// padding that is there comes before the end, and a length that passes the end before what it counts.
+// A signature, a position, bytes in little-endian order, and the fault or how the values are shown.
+// A byte of padding that is there comes before the end, and a length that passes the end before
+// what it counts.
 const FAULTS: &str = "\
 b|0|02000000|BadBool
 a{ss}|0|0000000000000001|Padding
@@ -152,9 +154,9 @@ at|0|0800000001000000|Padding
 a{ys}|0|0800000000000000017f000000000000|Padding
 ";
 
-// A signature, bytes of arrays, structs and variants inside each other in little-endian order, and the
-// bytes in big-endian order where 64 containers are open at most, else the fault. Another program computed
-// the bytes from the rules.
+// A signature, bytes of arrays, structs and variants inside each other in little-endian order, and
+// the bytes in big-endian order if at most 64 containers are open, or else the fault. Another
+// program computed the bytes from the rules.
 const NESTED: &str = "\
 v|04286176290000004401000004286176290000000000000034010000042861762900000000000000240100000428617629000000000000001401000004286176290000000000000004010000042861762900000000000000f4000000042861762900000000000000e4000000042861762900000000000000d4000000042861762900000000000000c4000000042861762900000000000000b4000000042861762900000000000000a40000000428617629000000000000009400000004286176290000000000000084000000042861762900000000000000740000000428617629000000000000006400000004286176290000000000000054000000042861762900000000000000440000000428617629000000000000003400000004286176290000000000000024000000042861762900000000000000140000000428617629000000000000000400000001790007|04286176290000000000014404286176290000000000000000000134042861762900000000000000000001240428617629000000000000000000011404286176290000000000000000000104042861762900000000000000000000f4042861762900000000000000000000e4042861762900000000000000000000d4042861762900000000000000000000c4042861762900000000000000000000b4042861762900000000000000000000a40428617629000000000000000000009404286176290000000000000000000084042861762900000000000000000000740428617629000000000000000000006404286176290000000000000000000054042861762900000000000000000000440428617629000000000000000000003404286176290000000000000000000024042861762900000000000000000000140428617629000000000000000000000401790007
 v|04286176290000004501000004286176290000000000000035010000042861762900000000000000250100000428617629000000000000001501000004286176290000000000000005010000042861762900000000000000f5000000042861762900000000000000e5000000042861762900000000000000d5000000042861762900000000000000c5000000042861762900000000000000b5000000042861762900000000000000a5000000042861762900000000000000950000000428617629000000000000008500000004286176290000000000000075000000042861762900000000000000650000000428617629000000000000005500000004286176290000000000000045000000042861762900000000000000350000000428617629000000000000002500000004286176290000000000000015000000052861617929000000000000050000000100000007|04286176290000000000014504286176290000000000000000000135042861762900000000000000000001250428617629000000000000000000011504286176290000000000000000000105042861762900000000000000000000f5042861762900000000000000000000e5042861762900000000000000000000d5042861762900000000000000000000c5042861762900000000000000000000b5042861762900000000000000000000a5042861762900000000000000000000950428617629000000000000000000008504286176290000000000000000000075042861762900000000000000000000650428617629000000000000000000005504286176290000000000000000000045042861762900000000000000000000350428617629000000000000000000002504286176290000000000000000000015052861617929000000000000000000050000000107
@@ -169,7 +171,7 @@ a(a(a(a(a(a(a(a(a(a(a(a(a(a(a(a(a(a(a(a(a(a(a(a(a(a(a(a(a(a(a(v)))))))))))))))))
 a(a(a(a(a(a(a(a(a(a(a(a(a(a(a(a(a(a(a(a(a(a(a(a(a(a(a(a(a(a(a(v)))))))))))))))))))))))))))))))|0101000000000000f900000000000000f100000000000000e900000000000000e100000000000000d900000000000000d100000000000000c900000000000000c100000000000000b900000000000000b100000000000000a900000000000000a1000000000000009900000000000000910000000000000089000000000000008100000000000000790000000000000071000000000000006900000000000000610000000000000059000000000000005100000000000000490000000000000041000000000000003900000000000000310000000000000029000000000000002100000000000000190000000000000011000000000000000361617900000000050000000100000007|TooDeep
 ";
 
-// A signature of the tables.
+// The types of a signature in the tables.
 fn types_of(alloc: Global, signature: &str) -> Result<Signature, Fail> {
     Ok(
         Signature::parse(alloc, signature.as_bytes())
@@ -182,7 +184,7 @@ fn fault_text(alloc: Global, fault: ValueFault) -> Result<String, Fail> {
     Ok(format!(in alloc; "{fault:?}")?)
 }
 
-// The digits of the values' spelling, or the fault.
+// The values' spelling in hex, or the fault.
 fn digits_of(alloc: Global, values: &[Value], to: Endian) -> Result<String, Fail>
     requires { HaveSpelling (values_of values.now) }
 {
@@ -192,7 +194,7 @@ fn digits_of(alloc: Global, values: &[Value], to: Endian) -> Result<String, Fail
     }
 }
 
-// The values that the bytes are in one order, written in another, or the fault.
+// The values that the bytes spell in one order, written in the other, or the fault.
 fn turned(
     alloc: Global,
     signature: &str,
@@ -207,7 +209,7 @@ fn turned(
     }
 }
 
-// The values of a row, spelled so in one order, are spelled as is wanted in another.
+// Asserts that the values of a row, spelled in one order, are spelled as wanted in the other.
 fn is_turned(
     rt: &(impl AllocGlobal + Abort),
     row: &str,
@@ -238,7 +240,7 @@ fn what_another_program_marshals_is_read_and_written(rt: HostRuntime) -> Result<
     Ok(())
 }
 
-// The bytes up to a place are short.
+// Asserts that the bytes up to a position are refused as Short.
 fn is_short(
     rt: &(impl AllocGlobal + Abort),
     row: &str,
@@ -251,7 +253,7 @@ fn is_short(
     Ok(())
 }
 
-// With a byte behind them the bytes have a rest.
+// Asserts that with one byte more the bytes are refused as Rest.
 fn has_a_rest(rt: &(impl AllocGlobal + Abort), row: &str) -> Result<(), Fail> {
     let longer = format!(in rt.alloc(); "{}00", cell(row, 1))?;
     is_turned(
@@ -288,7 +290,7 @@ fn values_text(alloc: Global, values: &[Value]) -> Result<String, Fail> {
     Ok(out)
 }
 
-// What the values print, or the fault.
+// How the values are shown, or the fault.
 fn read(
     alloc: Global,
     signature: &str,
@@ -303,7 +305,7 @@ fn read(
     }
 }
 
-// A name, and what it is of in brackets.
+// Appends a name, with a number in brackets.
 fn put(out: &mut String, name: &str, number: &impl Display) -> Result<(), Fail> {
     Ok(write!(out, "{name}({number})")?)
 }
@@ -340,7 +342,7 @@ fn show_bytes(out: &mut String, count: usize) -> Result<(), Fail> {
     Ok(write!(out, "Bytes({count} bytes)")?)
 }
 
-// A value that holds no other one.
+// Shows a value that contains no other one.
 fn show_leaf(out: &mut String, value: &Value) -> Result<(), Fail> {
     match value {
         Value::String(it) => show_string(out, it.as_str()),
@@ -351,7 +353,7 @@ fn show_leaf(out: &mut String, value: &Value) -> Result<(), Fail> {
     }
 }
 
-// A value that lies where its type is known, as a text.
+// Shows a value whose type is known from where it is.
 #[cycle(shown)]
 fn show(out: &mut String, value: &Value, known: &CompleteType) -> Result<(), Fail> {
     let mut around = 0usize;
@@ -450,7 +452,7 @@ fn show_fields(out: &mut String, fields: &[Value], known: &CompleteType) -> Resu
     Ok(out.push_str("]")?)
 }
 
-// Bytes in digits are values that print so, or the fault.
+// Asserts that bytes in hex are values that are shown like this, or the fault.
 fn prints(
     rt: &(impl AllocGlobal + Abort),
     row: &str,
@@ -504,7 +506,7 @@ fn sixty_four_containers_of_any_kinds_are_read_and_one_more_is_too_deep(
     Ok(())
 }
 
-// A variant of a variant, so many times, around a byte.
+// This many variants, each inside another one, around a byte.
 fn variants(alloc: Global, count: usize) -> Result<Vec<u8>, Fail> {
     let mut bytes = Vec::new(alloc);
     for _ in 0..count {
@@ -514,7 +516,7 @@ fn variants(alloc: Global, count: usize) -> Result<Vec<u8>, Fail> {
     Ok(bytes)
 }
 
-// "read", or the fault, of so many variants around a byte.
+// "read", or the fault, for this many variants around a byte.
 fn variants_told(alloc: Global, count: usize) -> Result<String, Fail> {
     let types = types_of(alloc, "v")?;
     let bytes = variants(alloc, count)?;
@@ -533,8 +535,9 @@ fn sixty_four_variants_are_read_and_one_more_is_too_deep(rt: HostRuntime) -> Res
     Ok(())
 }
 
-// A signature of an array whose elements are of numbers of 32 bits alone, how many bytes of padding stand
-// behind the array's length, and how many numbers are in it. Each array has 100,000 elements.
+// A signature of an array whose elements consist of numbers of 32 bits alone, how many
+// bytes of padding come after the array's length, and how many numbers it has. Each array
+// has 100,000 elements.
 const LONG: &str = "\
 au|0|100000
 a(uu)|4|200000
@@ -565,7 +568,7 @@ fn array_in(alloc: Global, row: &str, endian: Endian) -> Result<Vec<u8>, Fail> {
     long_array(alloc, endian, padding, number(cell(row, 2))?)
 }
 
-// Little-endian bytes that are written in big-endian order again; none where they are refused.
+// Little-endian bytes written again in big-endian order, or None if they are refused.
 fn big_of(alloc: Global, types: &Signature, little: &[u8]) -> Option<Vec<u8>> {
     let values = unmarshal(alloc, types, Endian::Little, 0, little).ok()?;
     marshal(alloc, values.as_slice(), Endian::Big, 0).ok()

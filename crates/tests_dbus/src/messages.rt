@@ -5,7 +5,8 @@ use std::alloc::{AllocGlobal, Global};
 use std::process::Abort;
 use std::test::Fail;
 
-// The message's type, serial and member, how many values its body has, and how many bytes it has.
+// Appends the message's type, serial and member, the number of values in its body, and the number
+// of its bytes.
 fn tell(text: &mut String, message: &Message) -> Result<(), Fail> {
     let (kind, serial) = (message.kind, message.serial);
     let (count, length) = (message.body.len(), message.length);
@@ -20,7 +21,7 @@ fn tell_violation(text: &mut String, cause: Violation) -> Result<(), Fail> {
     Ok(write!(text, "{cause};")?)
 }
 
-// Whether the framer answers a message, told of in the text as a violation is.
+// Whether the framer returns a message. It, or a violation, is described in the text.
 fn answer(framer: &mut Framer, text: &mut String) -> Result<bool, Fail> {
     match framer.next() {
         Ok(Some(message)) => tell(text, &message)?,
@@ -34,7 +35,7 @@ fn answer(framer: &mut Framer, text: &mut String) -> Result<bool, Fail> {
     Ok(true)
 }
 
-// What the framer answers, up to None or a violation.
+// Appends what the framer returns, up to None or a violation.
 fn answers(framer: &mut Framer, text: &mut String) -> Result<(), Fail> {
     for _ in 0..1000 {
         if !answer(framer, text)? {
@@ -59,15 +60,15 @@ fn in_two(alloc: Global, most: u32, front: &[u8], back: &[u8]) -> Result<String,
 
 const MOST: u32 = 1_048_576;
 
-// A call of OpenSession of 149 bytes, and what is told of it.
+// A call of OpenSession of 149 bytes, and its description.
 const OPEN_SESSION: &str =
     "6c01000115000000010000007000000001016f00180000002f6f72672f667265656465736b746f702f736563726574730000000000000000020173001e0000006f72672e667265656465736b746f702e5365637265742e536572766963650000030173000b0000004f70656e53657373696f6e0000000000080167000273760005000000706c61696e000173000000000000000000";
 
 const OPENED: &str = "1 1 OpenSession 2 149;";
 
-// A message in a row, and what is told of it. The first eight but those of types 5 and 200, which are left
-// out, are as GLib 2.74 marshals them, in both byte orders. Behind them stand one with an unknown field, and
-// one with all fields.
+// A message in a row, and its description. The first eight, except those of types 5 and 200, which
+// are skipped, are as GLib 2.74 marshals them, in both byte orders. After them come one with an
+// unknown field, and one with all fields.
 const STREAM: &str = "\
 6c01000115000000010000006c00000001016f00180000002f6f72672f667265656465736b746f702f736563726574730000000000000000020173001e0000006f72672e667265656465736b746f702e5365637265742e5365727669636500000801670002737600030173000b0000004f70656e53657373696f6e000000000005000000706c61696e000173000000000000000000|1 1 OpenSession 2 149;
 6c050001000000000400000000000000|
@@ -81,7 +82,7 @@ const STREAM: &str = "\
 6c01000101000000010000008000000001016f00020000002f610000000000000201730003000000612e620000000000030173000100000043000000000000000401730005000000612e5f623900000005017500090000000601730008000000616e7920746578740000000000000000070173000000000000000000000000000801670001790000090175000300000005|1 1 C 1 145;
 ";
 
-// The messages, one behind the other.
+// The messages, one after the other.
 fn stream(alloc: Global) -> Result<Vec<u8>, Fail> {
     let mut stream = Vec::new(alloc);
     for row in STREAM.lines() {
@@ -90,7 +91,7 @@ fn stream(alloc: Global) -> Result<Vec<u8>, Fail> {
     Ok(stream)
 }
 
-// What is told of them.
+// Their descriptions.
 fn stream_told(alloc: Global) -> Result<String, Fail> {
     let mut told = String::new(alloc);
     for row in STREAM.lines() {
@@ -99,7 +100,7 @@ fn stream_told(alloc: Global) -> Result<String, Fail> {
     Ok(told)
 }
 
-// How many bytes are left of the stream that is fed in pieces.
+// Feeds the stream in pieces, and returns how many bytes are left.
 fn in_pieces(alloc: Global, size: usize, stream: &[u8], text: &mut String) -> Result<usize, Fail> {
     let mut framer = Framer::new(alloc, MOST);
     for piece in stream.chunks(size.max(1)) {
@@ -153,7 +154,7 @@ fn a_stream_in_any_two_pieces_is_the_same_messages(rt: HostRuntime) -> Result<()
     Ok(())
 }
 
-// What is answered where two bytes more are fed behind a call and the message.
+// What is returned when two more bytes are fed after a call and the message.
 fn behind_a_call(alloc: Global, message: &[u8]) -> Result<String, Fail> {
     let mut stream = bytes_of(alloc, OPEN_SESSION)?;
     stream.extend_from_slice(message)?;
@@ -172,7 +173,7 @@ fn breaks_behind_a_call(
     Ok(())
 }
 
-// What breaks a rule, the message, and the cause. libdbus 1.14 refuses each.
+// What breaks a rule, the message, and the violation. libdbus 1.14 refuses each.
 const BROKEN: &str = "\
 A second PATH|6c01000100000000010000002a00000001016f00010000002f00000000000000030173000400000050696e670000000001016f00010000002f00000000000000|BadHeader
 PATH of type s|6c01000100000000010000001d00000001017300010000002f00000000000000030173000400000050696e6700000000|BadHeader
@@ -220,8 +221,8 @@ fn a_rule_is_broken_for_ever(rt: HostRuntime) -> Result<(), Fail> {
     Ok(())
 }
 
-// A place in the call of OpenSession, the bytes that stand there in place of its own, and the cause. Where
-// several rules are broken it is the first in order.
+// A position in the call of OpenSession, the bytes that replace its own there, and the violation.
+// If several rules are broken it is the first in order.
 const CHANGED: &str = "\
 0|41|Endian
 1|00|InvalidType
@@ -240,7 +241,7 @@ const CHANGED: &str = "\
 12|f0ffffff|TooLarge
 ";
 
-// The bytes with others from this place on.
+// Replaces the bytes from this position on.
 fn changed(bytes: &mut Vec<u8>, place: usize, others: &[u8]) {
     for (at, byte) in others.iter().enumerate() {
         if let Some(cell) = bytes.get_mut(place.saturating_add(at)) {
@@ -273,7 +274,7 @@ fn is_left(rt: &(impl AllocGlobal + Abort), front: &[u8], size: usize) -> Result
     Ok(())
 }
 
-// The input may end inside a message: then some bytes are left, and no violation is answered.
+// The input may end inside a message: then some bytes are left, and no violation is returned.
 #[test]
 fn a_front_of_a_message_is_left(rt: HostRuntime) -> Result<(), Fail> {
     let bytes = bytes_of(rt.alloc(), OPEN_SESSION)?;
@@ -285,14 +286,16 @@ fn a_front_of_a_message_is_left(rt: HostRuntime) -> Result<(), Fail> {
     Ok(())
 }
 
-// A call of Ping with a body of type `ay`, up to the bytes of the array, which make it as long as may be.
+// A call of Ping with a body of type `ay`, without the bytes of the array, which make it as long as a
+// message may be.
 const LONGEST: &str =
     "6c010001c8ff0f00010000002800000001016f00010000002f00000000000000030173000400000050696e67000000000801670002617900c4ff0f00";
 
 // The first 16 bytes of a call that is one byte longer.
 const TOO_LONG: &str = "6c010001c9ff0f000100000028000000";
 
-// What is told of a message of these bytes and so many more, where a message may have so many.
+// Asserts how a message of these bytes and so many more is described, if a message may
+// have `most` bytes.
 fn is_told_of(
     rt: &(impl AllocGlobal + Abort),
     most: u32,
@@ -345,7 +348,7 @@ a.b.|false false
 é|false false
 ";
 
-// Whether the name is a member name and an interface name, as the table says it.
+// Whether the name is a member name and an interface name, in the table's words.
 fn kinds(name: &str) -> &'static str {
     match (
         is_member_name(name.as_bytes()),

@@ -42,7 +42,7 @@ fn types_of(alloc: Global, signature: &str) -> Result<Signature, Fail> {
     )
 }
 
-// The values that the bytes are in little-endian order at a multiple of 8.
+// The values that the bytes spell in little-endian order at a multiple of 8.
 fn read(alloc: Global, signature: &str, bytes: &[u8]) -> Result<Vec<Value>, Fail>
     ensures { IfOk result (λ values. HaveSpelling (values_of values.items)) }
 {
@@ -104,10 +104,11 @@ fn what_is_marshalled_at_any_place_is_the_plain_spelling(rt: HostRuntime) -> Res
     Ok(())
 }
 
-// A signature, a place, some bytes, and how many of them are put together in every way. Then, for
-// little-endian and big-endian order together, of how many of these strings values are read, and how
-// many are refused with Short, Padding, BadBool, BadText, BadPath, BadSignature, ArrayTooLong, TooDeep
-// and Rest: counted by another program, which follows the rules with their first fault from the left.
+// A signature, a position, some bytes, and how many of them are put together in every way. Then,
+// for little-endian and big-endian order together, from how many of these strings values are read,
+// and how many are refused with Short, Padding, BadBool, BadText, BadPath, BadSignature,
+// ArrayTooLong, TooDeep and Rest: counted by another program, which follows the rules with their
+// first fault from the left.
 const STRINGS: &str = "\
 b|0|000102|4| 4 0 0 158 0 0 0 0 0 0
 yb|2|000102|6| 12 0 972 474 0 0 0 0 0 0
@@ -130,7 +131,7 @@ a{yy}|0|0002|10| 8 112 1920 0 0 0 0 0 0 8
 (y)y|3|0001|7| 8 0 248 0 0 0 0 0 0 0
 ";
 
-// One of the strings of so many of the letters.
+// One of the strings of this many of the letters.
 fn string_of(alloc: Global, letters: &[u8], length: u32, number: u64) -> Result<Vec<u8>, Fail> {
     let count = letters.len() as u64;
     let mut left = number;
@@ -143,7 +144,7 @@ fn string_of(alloc: Global, letters: &[u8], length: u32, number: u64) -> Result<
     Ok(bytes)
 }
 
-// The column of a fault; that of what is read is 0.
+// The column of a fault; that of values that are read is 0.
 fn column(fault: ValueFault) -> usize
     ensures { result < 10 }
 {
@@ -161,7 +162,7 @@ fn column(fault: ValueFault) -> usize
     }
 }
 
-// Whether the values are plainly spelled so.
+// Whether the plain program spells the values like this.
 fn is_spelled(
     alloc: Global,
     values: &[Value],
@@ -173,7 +174,8 @@ fn is_spelled(
     Ok(plain.as_slice() == bytes)
 }
 
-// Which column the bytes count in. What is read of them is plainly spelled so.
+// The column in which the bytes count. Values read from them must be spelled like this by
+// the plain program.
 fn answer_to(
     alloc: Global,
     types: &Signature,
@@ -218,7 +220,7 @@ fn counts_text(alloc: Global, counts: [u32; 10]) -> Result<String, Fail> {
     Ok(told)
 }
 
-// The columns of a row.
+// The counts of a row's strings, by column.
 fn counts_of(
     alloc: Global,
     types: &Signature,
@@ -234,7 +236,7 @@ fn counts_of(
     counts_text(alloc, counts)
 }
 
-// The columns of a row, counted.
+// The counts of a row as a text.
 fn columns(alloc: Global, row: &str) -> Result<String, Fail> {
     let types = types_of(alloc, cell(row, 0))?;
     let place = (number(cell(row, 1))? % 8) as u8;
@@ -259,8 +261,8 @@ fn of_all_small_strings_those_are_read_that_are_plainly_spelled(
     Ok(())
 }
 
-// An `av` of 67,108,864 bytes at a multiple of 8: variants of many bytes, of a number of 64 bits, and
-// of a byte. Where it stands 4 bytes further, there are 4 more bytes of padding in it.
+// An `av` of 67,108,864 bytes at a multiple of 8: variants of many bytes, of a number of 64 bits,
+// and of a byte. At a position 4 bytes further on it has 4 more bytes of padding.
 fn longest_array(alloc: Global) -> Result<Vec<u8>, Fail> {
     let mut bytes = Vec::new(alloc);
     bytes.extend_from_slice(b"\0\0\0\x04\x02ay\0\xe9\xff\xff\x03")?;
@@ -279,7 +281,7 @@ fn is_written_so(alloc: Global, values: &[Value], bytes: &[u8]) -> bool
     }
 }
 
-// Whether the values are too long where they stand 4 bytes further.
+// Whether the values are too long at a position 4 bytes further on.
 fn is_too_long(alloc: Global, values: &[Value]) -> bool
     requires { HaveSpelling (values_of values.now) }
 {

@@ -58,7 +58,7 @@ fn signatures_are_read_or_refused_with_their_first_fault(rt: HostRuntime) -> Res
     Ok(())
 }
 
-// How many times a code stands in front of an ending, and whether that is read or how it is refused.
+// How many times a code is repeated before an ending, and whether that is read or how it is refused.
 const REPEATED: &str = "\
 32|a|y|read
 33|a|y|TooDeep
@@ -72,7 +72,7 @@ const REPEATED: &str = "\
 32|a|((((((((((((((((((((((((((((((((y))))))))))))))))))))))))))))))))|read
 ";
 
-// The code, so many times, and the ending.
+// The code, repeated this many times, and the ending.
 fn repeated(alloc: Global, count: u32, code: &str, ending: &str) -> Result<Vec<u8>, Fail> {
     let mut text = Vec::new(alloc);
     for _ in 0..count {
@@ -109,7 +109,7 @@ fn all_shown(alloc: Global, made: &Signature) -> Result<String, Fail> {
     Ok(format!(in alloc; "{:?}", made.types())?)
 }
 
-// The first type, copied.
+// The first type, copied and shown.
 fn first_shown(alloc: Global, made: &Signature) -> Result<String, Fail> {
     let first = made.types().first().ok_or("no type")?;
     let copied = first.copy(alloc)?;
@@ -150,7 +150,7 @@ fn made_of(alloc: Global, path: &str) -> Result<Option<ObjectPath>, Fail> {
     Ok(ObjectPath::new(text))
 }
 
-// An object path is its text, and so is its copy.
+// Asserts that an object path is its text, and so is its copy.
 fn is_its_text(rt: &(impl AllocGlobal + Abort), made: ObjectPath, path: &str) -> Result<(), Fail> {
     let copied = made.copy()?;
     same_text(rt, copied.as_str(), path, path);

@@ -4,7 +4,8 @@ use alias_text::read_aliases;
 use std::alloc::Global;
 use std::test::Fail;
 
-// The byte that a sign means: `;` is a line ending, `^` a carriage return, `~` a byte that no UTF-8 has.
+// The byte that a sign means: `;` is a line ending, `^` a carriage return, `~` a byte that isn't
+// in any UTF-8.
 fn byte_of(sign: u8) -> u8 {
     match sign {
         b';' => b'\n',
@@ -14,7 +15,7 @@ fn byte_of(sign: u8) -> u8 {
     }
 }
 
-// The bytes that a row means.
+// The bytes that a row stands for.
 fn bytes_of(alloc: Global, row: &str) -> Result<Vec<u8>, Fail> {
     let mut bytes = Vec::new(alloc);
     for sign in row.as_bytes() {
@@ -23,7 +24,7 @@ fn bytes_of(alloc: Global, row: &str) -> Result<Vec<u8>, Fail> {
     Ok(bytes)
 }
 
-// The pairs that the bytes give, each as `A=STEM;`.
+// The pairs that are read from the bytes, each as `A=STEM;`.
 fn read(alloc: Global, bytes: &[u8]) -> Result<String, Fail> {
     let mut told = String::new(alloc);
     for (name, stem) in &read_aliases(alloc, bytes)? {
@@ -33,8 +34,8 @@ fn read(alloc: Global, bytes: &[u8]) -> Result<String, Fail> {
     Ok(told)
 }
 
-// The bytes of the file, and the aliases: names come in byte order, of equal names the later counts, and
-// what no line ending ends is no line.
+// The bytes of the file, and the aliases: names come in byte order, of equal names the later one
+// counts, and what isn't ended by a line ending is not a line.
 const TEXTS: &str = "\
 |
 default=login;|default=login;
@@ -63,7 +64,7 @@ fn a_line_gives_an_alias_or_is_skipped(rt: HostRuntime) -> Result<(), Fail> {
     Ok(())
 }
 
-// What a file with one alias and so many bytes gives.
+// What is read from a file with one alias and this many bytes.
 fn long_read(alloc: Global, len: usize) -> Result<String, Fail> {
     let mut bytes = b"a=x\n".as_slice().to_vec(alloc)?;
     bytes.resize(len, b'\n')?;

@@ -14,12 +14,12 @@ pub fn same_text(rt: &impl Abort, found: &str, want: &str, at: &str) {
     assert_eq!(rt; found, want, "at {at}");
 }
 
-/// The cell of a row at this place, where this sign is between the cells.
+/// The cell of a row at this index; this sign separates the cells.
 pub fn cell(row: &str, sign: char, place: usize) -> &str {
     row.split(sign).nth(place).unwrap_or("no such cell")
 }
 
-/// The number that a text is.
+/// The number that a text spells.
 pub fn number(text: &str) -> Result<u64, Fail> {
     Ok(text.parse::<u64>().ok().ok_or("a number")?)
 }

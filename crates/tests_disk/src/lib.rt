@@ -1,6 +1,6 @@
-//! Tests of the crates of the disk layer: of alias_text, replace_slot and folder_store, over the disk in
-//! memory. They show worked files of aliases, what each fault of a device call comes to, what a crash
-//! leaves at each moment, and which files a load lists.
+//! Tests of the crates of the disk layer: alias_text, replace_slot and folder_store, over the disk
+//! in memory. They show worked files of aliases, what each fault of a device call leads to, what a
+//! crash leaves at each moment, and which files a load lists.
 #![tactic(auto)]
 
 #[cfg(test)]

@@ -8,8 +8,8 @@ use replace_slot::{FaultRead, FileCell, Found, Image, RemoveFault, ReplaceFault}
 use std::alloc::Global;
 use std::test::Fail;
 
-// The cell of a file `old`, over a slot that fails the calls of a row; those that the row names again
-// the disk does all the same.
+// The cell of a file `old`, over a slot that fails the calls of a row; those that the row names
+// again are performed by the disk nevertheless.
 fn cell_of_old(alloc: Global, row: &str) -> Result<FileCell<MemorySlot>, Fail>
     ensures { IfOk result (λ cell. HasFile cell.file) }
 {
@@ -43,7 +43,7 @@ fn replaced(alloc: Global, cell: &mut FileCell<MemorySlot>) -> Result<u8, Fail>
     })
 }
 
-// Replaces the file, or removes it, and gives what was answered.
+// Replaces the file, or removes it, and returns the letter of the result.
 fn changed(alloc: Global, cell: &mut FileCell<MemorySlot>, is_replaced: bool) -> Result<u8, Fail>
     requires { HasFile cell.old.file }
 {
@@ -53,7 +53,7 @@ fn changed(alloc: Global, cell: &mut FileCell<MemorySlot>, is_replaced: bool) ->
     Ok(removed(cell))
 }
 
-// Resolves what is in doubt: o, n, x for Old, New, Other, ! for FaultRead, or None where nothing is.
+// Resolves a doubt: o, n, x for Old, New, Other, ! for FaultRead, or None if nothing is.
 fn resolved(cell: &mut FileCell<MemorySlot>) -> Option<u8> {
     let mut buffer = [0; 8];
     if cell.is_known() || cell.longest() >= buffer.len() {
@@ -67,9 +67,10 @@ fn resolved(cell: &mut FileCell<MemorySlot>) -> Option<u8> {
     })
 }
 
-// The calls that fail, those of them done all the same, and what a replacement answers, then what
-// resolving answers, twice at most, and ? where a doubt is left. The calls are put_temp 0, sync_temp 1,
-// rename 2, sync_folder 3; of a resolve after a failed rename they are sync_folder 3 and read 4.
+// The calls that fail, those of them performed nevertheless, the result of a replacement, and then
+// the results of resolving, at most two, with ? if a doubt is left. The calls are put_temp 0,
+// sync_temp 1, rename 2, sync_folder 3; those of a resolve after a failed rename are sync_folder 3
+// and read 4.
 const REPLACEMENTS: &str = "\
 ;;k
 0;;b
@@ -82,7 +83,7 @@ const REPLACEMENTS: &str = "\
 2 3 4;;u!!?
 ";
 
-// The same of a removal. The calls are remove 0, sync_folder 1.
+// The same for a removal. The calls are remove 0, sync_folder 1.
 const REMOVALS: &str = "\
 ;;k
 0;;ro
@@ -92,7 +93,7 @@ const REMOVALS: &str = "\
 0 1 2;;r!!?
 ";
 
-// Appends what resolving answers, twice at most, and ? where a doubt is left.
+// Appends the results of resolving, at most two, and ? if a doubt is left.
 fn resolve(cell: &mut FileCell<MemorySlot>, told: &mut Vec<u8>) -> Result<(), Fail> {
     for _ in 0..2 {
         if let Some(letter) = resolved(cell) {
@@ -144,8 +145,8 @@ fn add_letter(letter: u8, letters: &mut Vec<u8>) -> Result<(), Fail> {
     Ok(())
 }
 
-// What a crash leaves of the slot where the machine stopped after so many of its calls: o for the old
-// image, n for the new one, . for no file, x for another.
+// What a crash leaves of the slot if the machine stopped after this many of its calls: o for the
+// old image, n for the new one, . for no file, x for another one.
 fn left_at(alloc: Global, slot: &mut MemorySlot, calls: usize) -> Result<Vec<u8>, Fail> {
     slot.cut(calls);
     let mut left = Vec::new(alloc);
@@ -155,10 +156,10 @@ fn left_at(alloc: Global, slot: &mut MemorySlot, calls: usize) -> Result<Vec<u8>
     Ok(left)
 }
 
-// The calls that fail, those of them done all the same, and what a crash leaves after all calls, then
-// after one fewer, down to none: before the rename the old image, from it on the old or the new, and
-// after a sync of the folder the new. Of a rename that failed and did nothing the new one counts as
-// having stood.
+// The calls that fail, those of them performed nevertheless, and what a crash leaves after all
+// calls, then after one fewer, down to none: before the rename the old image, from it on the old or
+// the new one, and after a sync of the folder the new one. If a rename failed and did nothing, the
+// name still counts as having stood for the new one.
 const LEFT_OF_REPLACEMENTS: &str = "\
 ;;n|on|o|o|o|
 0;;o|o|
@@ -168,7 +169,7 @@ const LEFT_OF_REPLACEMENTS: &str = "\
 3;;on|on|o|o|o|
 ";
 
-// The same of a removal.
+// The same for a removal.
 const LEFT_OF_REMOVALS: &str = "\
 ;;.|o.|o|
 0;;.o|o|

@@ -13,7 +13,7 @@ use kr_outside::{Failed, Folder, OutsideRefused, Slot};
 use std::alloc::Global;
 use std::test::Fail;
 
-// The front of a keyring file up to its name.
+// The start of a keyring file, up to its name.
 fn front_of(alloc: Global, name: &str) -> Result<Vec<u8>, Fail> {
     let mut file = b"GnomeKeyring\n\r\0\n\0\0\0\0".as_slice().to_vec(alloc)?;
     let len = u32::try_from(name.len()).ok().ok_or("a long name")?;
@@ -30,7 +30,8 @@ fn add_items(file: &mut Vec<u8>, items: u8) -> Result<(), Fail> {
     Ok(())
 }
 
-// A keyring file with this name and so many items, of 100 bytes, those of the name, and 12 for each item.
+// A keyring file with this name and this many items. It has 100 bytes, those of the name, and 12
+// for each item.
 fn keyring(alloc: Global, name: &str, items: u8) -> Result<Vec<u8>, Fail> {
     let mut file = front_of(alloc, name)?;
     file.resize(file.len().saturating_add(52), 0)?;
@@ -40,7 +41,7 @@ fn keyring(alloc: Global, name: &str, items: u8) -> Result<Vec<u8>, Fail> {
     Ok(file)
 }
 
-// The bytes of a word, in which `;` is a line ending.
+// The bytes of a word, in which `;` stands for a line ending.
 fn lines_of(alloc: Global, word: &str) -> Result<Vec<u8>, Fail> {
     let mut file = Vec::new(alloc);
     for byte in word.as_bytes() {
@@ -49,8 +50,8 @@ fn lines_of(alloc: Global, word: &str) -> Result<Vec<u8>, Fail> {
     Ok(file)
 }
 
-// The file that a word means: `k:NAME` is a keyring file with that name, `k2:NAME` one with two items; of
-// other words the file is the bytes.
+// The file that a word means: `k:NAME` is a keyring file with that name, `k2:NAME` one with two items;
+// any other word is the file's bytes.
 fn file_of(alloc: Global, word: &str) -> Result<Vec<u8>, Fail> {
     if let Some(name) = word.strip_prefix("k:") {
         return keyring(alloc, name, 0);
@@ -66,7 +67,7 @@ fn temporary_name(alloc: Global, front: &str) -> Result<Text, Fail> {
     text_of(alloc, name.as_str())
 }
 
-// The name that a word means: where it ends in `+`, that of a temporary file.
+// The name that a word means: if it ends in `+`, that of a temporary file.
 fn name_of(alloc: Global, word: &str) -> Result<Text, Fail> {
     match word.strip_suffix('+') {
         Some(front) => temporary_name(alloc, front),
@@ -81,7 +82,8 @@ fn named_file(alloc: Global, file: &str) -> Result<(Text, Bytes), Fail> {
     Ok((name, Bytes::new(file_of(alloc, word)?)))
 }
 
-// A folder with these files, each `NAME=WORD` and a space, whose calls of these numbers fail.
+// A folder with these files, each given as `NAME=WORD` and a space, whose calls with
+// these numbers fail.
 fn folder_of(alloc: Global, files: &str, failing: Vec<u64>) -> Result<MemoryFolder, Fail>
     ensures { IfOk result (λ folder. folder.made ≡ []) }
 {
@@ -127,7 +129,7 @@ fn aliases_told<S: Slot>(alloc: Global, loaded: &Loaded<S>) -> Result<String, Fa
     Ok(told)
 }
 
-// What was loaded: of each ring its stem, name and length, then the used stems, then the aliases.
+// What was loaded: each ring's stem, name and length, then the used stems, then the aliases.
 fn told<S: Slot>(alloc: Global, loaded: &Loaded<S>) -> Result<String, Fail> {
     let rings = rings_told(alloc, loaded.rings.as_slice())?;
     let used = used_told(alloc, loaded)?;
@@ -136,7 +138,7 @@ fn told<S: Slot>(alloc: Global, loaded: &Loaded<S>) -> Result<String, Fail> {
     joined(alloc, &parts)
 }
 
-// The files, and what is loaded of them.
+// The files, and what is loaded from them.
 const FOLDERS: &str = "\
 |/ /
 x.keyring=abc|/ x /
@@ -166,7 +168,7 @@ fn a_folder_is_listed_in_order(rt: HostRuntime) -> Result<(), Fail> {
     Ok(())
 }
 
-// How many collections of a folder are listed, and how many stems are used.
+// The number of listed collections of a folder, and of used stems.
 fn counts_told(alloc: Global, files: &str) -> Result<String, Fail> {
     let mut folder = folder_of(alloc, files, Vec::new(alloc))?;
     let loaded = load(alloc, &mut folder)?;
@@ -175,7 +177,7 @@ fn counts_told(alloc: Global, files: &str) -> Result<String, Fail> {
     joined(alloc, &[listed.as_str(), " ", used.as_str()])
 }
 
-// The counts of a folder with one keyring file, whose stem has so many letters.
+// The counts of a folder with one keyring file, whose stem has this many letters.
 fn long_stem_told(alloc: Global, letters: u32) -> Result<String, Fail> {
     let mut name = String::new(alloc);
     for _ in 0..letters {
@@ -194,7 +196,7 @@ fn a_stem_that_is_too_long_is_ignored(rt: HostRuntime) -> Result<(), Fail> {
     Ok(())
 }
 
-// The limits (one file, collections, items, all files), the files, and what is loaded of them.
+// The limits (one file, collections, items, all files), the files, and what is loaded from them.
 const LIMITED: &str = "\
 101 9 9 999|a.keyring=k:A b.keyring=k:BB c.keyring=k:C|a:A:101 c:C:101 / a b c /
 999 2 9 999|a.keyring=k:A b.keyring=x c.keyring=k:C d.keyring=k:D|a:A:101 c:C:101 / a b c d /
@@ -248,8 +250,8 @@ fn a_file_after_1024_collections_is_left_alone(rt: HostRuntime) -> Result<(), Fa
     Ok(())
 }
 
-// The folder's call that fails, or the slot and its call, of a folder with two keyring files; a call that
-// isn't made doesn't fail.
+// The call of the folder that fails, or the slot and its call, in a folder with two keyring files; a
+// call that isn't made doesn't fail.
 const FAULTS: &str = "\
 0|fault
 1|fault
@@ -314,7 +316,7 @@ fn letter_of(call: &SlotCall) -> char {
     }
 }
 
-// The calls that were made of a slot, and a space.
+// The calls that were made on a slot, and a space.
 fn calls_of(alloc: Global, slot: &MemorySlot) -> Result<String, Fail> {
     let mut told = String::new(alloc);
     for record in slot.calls() {
@@ -324,7 +326,7 @@ fn calls_of(alloc: Global, slot: &MemorySlot) -> Result<String, Fail> {
     Ok(told)
 }
 
-// The slot of the file of the aliases.
+// The slot of the file `aliases`.
 fn alias_slot(aliases: FoundAliases<MemorySlot>) -> MemorySlot {
     match aliases {
         FoundAliases::Read(file) => {
@@ -362,8 +364,8 @@ fn left_alone_calls(alloc: Global, files: Vec<LeftAlone<MemorySlot>>) -> Result<
     Ok(told)
 }
 
-// The calls that were made of the slots of a folder: of the files that are left alone, of those that are
-// listed, and of the aliases.
+// The calls that were made on the slots of a folder: of the files that are left alone, of those
+// that are listed, and of the aliases.
 fn all_calls(alloc: Global, files: &str) -> Result<String, Fail> {
     let mut folder = folder_of(alloc, files, Vec::new(alloc))?;
     let loaded = load(alloc, &mut folder)?;
@@ -380,7 +382,7 @@ fn each_file_is_settled_and_read_once(rt: HostRuntime) -> Result<(), Fail> {
     Ok(())
 }
 
-// A folder whose file of the aliases has so many bytes, of which a line gives one alias.
+// A folder whose file `aliases` has this many bytes; one line of it gives an alias.
 fn long_aliases(alloc: Global, count: usize) -> Result<MemoryFolder, Fail>
     ensures { IfOk result (λ folder. folder.made ≡ []) }
 {
@@ -391,7 +393,7 @@ fn long_aliases(alloc: Global, count: usize) -> Result<MemoryFolder, Fail>
     Ok(folder)
 }
 
-// How many aliases a file of so many bytes gives, and the calls that were made of its slot.
+// The number of aliases in a file of this many bytes, and the calls that were made on its slot.
 fn aliases_told_of(alloc: Global, count: usize) -> Result<String, Fail> {
     let mut folder = long_aliases(alloc, count)?;
     let loaded = load(alloc, &mut folder)?;
@@ -400,7 +402,7 @@ fn aliases_told_of(alloc: Global, count: usize) -> Result<String, Fail> {
     joined(alloc, &[given.as_str(), " ", calls.as_str()])
 }
 
-// A file of 1,048,576 bytes gives its aliases, and one of a byte more is measured, left alone and not read.
+// A file of 1,048,576 bytes is read, and one with one byte more is measured and left alone, unread.
 #[test]
 fn a_longer_file_of_aliases_is_not_read(rt: HostRuntime) -> Result<(), Fail> {
     let read = aliases_told_of(rt.alloc(), 1_048_576)?;
@@ -410,7 +412,8 @@ fn a_longer_file_of_aliases_is_not_read(rt: HostRuntime) -> Result<(), Fail> {
     Ok(())
 }
 
-// A folder that gives no names before it was synced. It isn't honest: one that is gives the same names.
+// A folder that returns no names before it is synced. It isn't honest: an honest one returns
+// the same names.
 #[derive(Drop)]
 struct LateFolder {
     alloc: Global,

@@ -9,7 +9,7 @@ pub fn text_of(alloc: Global, text: &str) -> Result<Text, Fail> {
     Ok(Text::from_str(alloc, text)?.ok_or("a zero byte")?)
 }
 
-/// The parts in one text.
+/// The parts as one text.
 pub fn joined(alloc: Global, parts: &[&str]) -> Result<String, Fail> {
     let mut text = String::new(alloc);
     for part in parts {

@@ -18,17 +18,17 @@ pub fn holds(rt: &impl Abort, fact: bool, at: &str) {
     assert!(rt; fact, "at {at}");
 }
 
-/// The cell of a row at this place, where bars are between the cells, without spaces around it.
+/// The cell of a row at this index, without spaces around it; bars separate the cells.
 pub fn cell(row: &str, place: usize) -> &str {
     row.split('|').nth(place).unwrap_or("no such cell").trim()
 }
 
-/// The number that a text is.
+/// The number that a text spells.
 pub fn number(text: &str) -> Result<u32, Fail> {
     Ok(text.parse::<u32>().ok().ok_or("a number")?)
 }
 
-/// The count that a text is.
+/// The count that a text spells.
 pub fn count(text: &str) -> Result<usize, Fail> {
     Ok(text.parse::<usize>().ok().ok_or("a count")?)
 }

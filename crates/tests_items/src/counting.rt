@@ -1,6 +1,6 @@
-// How many steps a search takes. What `find` counts is seen by contracts alone: so its bound is evaluated
-// for a thousand items by a contract, and a plain program, which searches lists as `find` does, counts
-// them as it runs.
+// How many steps a search takes. Only contracts see what `find` counts. So a contract evaluates its
+// bound for a thousand items, and a plain program, which searches lists as `find` does, counts its
+// steps as it runs.
 ghost use Rattle.std.specs.Prelude.{◌≡◌, ◌+◌, ◌<◌, ◌≤◌, []};
 ghost use Rattle.attribute_match.specs.Match.{texts_of};
 ghost use Rattle.tests_items.specs.Thousand.{IsThousand, tenth_group, third_group, thirteenth};
@@ -14,8 +14,8 @@ use std::marker::Brand;
 use std::sync::ledger::{Blank, Ledger};
 use std::test::Fail;
 
-// What is wanted among the thousand items: how many ids `find` returns, how many the plain program finds,
-// and in how many steps.
+// What is wanted among the thousand items; then how many ids `find` returns, how many the plain program
+// finds, and in how many steps.
 const ROWS: &str = "\
 group=3 number=13: 1 1 2
 group=3: 100 100 100
@@ -25,7 +25,7 @@ group=4 number=13: 0 0 2
 group=3 number=1000: 0 0 0
 ";
 
-// What is found among the thousand items, and the steps that it takes at most.
+// What is found among the thousand items; the contract bounds the steps.
 fn found_in<L: Ledger>(
     items: &ItemStore,
     wanted: &Attributes,
@@ -42,7 +42,7 @@ fn found_in<L: Ledger>(
     items.find(wanted, steps)
 }
 
-// The same, on a count of its own.
+// The same, with a count of its own.
 fn found_by<L: Ledger>(
     items: &ItemStore,
     wanted: &Attributes,
@@ -56,7 +56,7 @@ fn found_by<L: Ledger>(
     found_in(items, wanted, &mut steps)
 }
 
-// How many ids are found, the steps counted by nobody.
+// How many ids are found, with a count of steps that nobody reads.
 fn found_by_nobody(items: &ItemStore, wanted: &Attributes) -> Result<usize, Fail> {
     Ok(found_by::<Brand>(items, wanted, Blank::new(1))?.len())
 }
@@ -74,7 +74,7 @@ fn thousand(alloc: Global) -> Result<ItemStore, Fail> {
     Ok(items)
 }
 
-// The numbers of the items that have what the words are, in rising order.
+// The numbers of the items that have the attributes of these words, in rising order.
 fn numbers(alloc: Global, items: &ItemStore, words: &str) -> Result<Vec<u32>, Fail> {
     let wanted = attributes_of(alloc, words)?;
     let mut numbers = Vec::new(alloc);
@@ -98,7 +98,7 @@ fn lists(alloc: Global, items: &ItemStore, words: &str) -> Result<Vec<Vec<u32>>,
     Ok(lists)
 }
 
-// The place of the shortest list.
+// The index of the shortest list.
 fn shortest(lists: &[Vec<u32>]) -> usize {
     let mut best = 0usize;
     let mut least = usize::MAX;
@@ -111,7 +111,7 @@ fn shortest(lists: &[Vec<u32>]) -> usize {
     best
 }
 
-// Whether each list but one has a number: a step for each list that is looked at.
+// Whether each list except one has a number. Each list that is looked at is one step.
 fn all_have(lists: &[Vec<u32>], but: usize, number: u32, steps: &mut usize) -> bool {
     for (place, list) in lists.iter().enumerate() {
         if place == but {
@@ -125,7 +125,7 @@ fn all_have(lists: &[Vec<u32>], but: usize, number: u32, steps: &mut usize) -> b
     true
 }
 
-// How many numbers all lists have: a step for each that is read, besides.
+// How many numbers all lists have in common. Each number that is read is one more step.
 fn in_all(lists: &[Vec<u32>], steps: &mut usize) -> usize {
     let least = shortest(lists);
     let mut found = 0usize;

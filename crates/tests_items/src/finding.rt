@@ -11,8 +11,8 @@ use std::process::Abort;
 use std::sync::ledger::{Blank, Ledger};
 use std::test::Fail;
 
-// What is wanted among 1,000 items i from 0, where `group` is i modulo 10 and `number` is i: how many ids
-// are found, and how many steps there may be at most.
+// What is wanted among 1,000 items i from 0, where `group` is i modulo 10 and `number` is i; then
+// how many ids are found, and how many steps that may take at most.
 const ROWS: &str = "\
 group=3 number=13|1|2
 group=3|100|100
@@ -22,7 +22,7 @@ number=999|1|1
 group=4 number=13|0|2
 ";
 
-// What is found, its steps counted by nobody.
+// What is found, with a count of its own.
 fn found<L: Ledger>(
     items: &ItemStore,
     wanted: &Attributes,
@@ -36,7 +36,7 @@ fn found<L: Ledger>(
     items.find(wanted, &mut steps)
 }
 
-// What is found.
+// What is found, with a count that nobody reads.
 fn found_by_nobody(items: &ItemStore, wanted: &Attributes) -> Result<Vec<ItemId>, OutOfMemory> {
     found::<Brand>(items, wanted, Blank::new(1))
 }
@@ -47,7 +47,7 @@ fn count_found(alloc: Global, items: &ItemStore, words: &str) -> Result<usize, F
     Ok(found_by_nobody(items, &wanted)?.len())
 }
 
-// How many of the rows have the pair that a word is.
+// How many of the rows have the pair of a word.
 fn count_having(alloc: Global, items: &ItemStore, word: &str) -> Result<usize, Fail> {
     let pair = attributes_of(alloc, word)?;
     let mut have = 0usize;
@@ -59,8 +59,9 @@ fn count_having(alloc: Global, items: &ItemStore, word: &str) -> Result<usize, F
     Ok(have)
 }
 
-// How many steps the clause of `find` allows: as many as items have the rarest wanted pair, times the
-// number of pairs, and with none wanted as many as there are items. Counted over the rows themselves.
+// How many steps the clause of `find` allows: the number of items with the rarest wanted pair
+// times the number of pairs, and the number of items if none is wanted. They are counted over
+// the rows themselves.
 fn most_steps(alloc: Global, items: &ItemStore, words: &str) -> Result<usize, Fail> {
     let mut least = items.rows().len();
     let mut pairs = 0usize;
@@ -83,7 +84,7 @@ fn words_of_thousand(alloc: Global, number: u32) -> Result<String, Fail> {
     joined(alloc, &[group.as_str(), " ", number.as_str()])
 }
 
-// These 1,000 items.
+// The 1,000 items.
 fn thousand(alloc: Global) -> Result<ItemStore, Fail> {
     let mut items = ItemStore::new(alloc);
     for number in 0..1000u32 {
@@ -127,7 +128,7 @@ fn set(items: &mut ItemStore, id: ItemId, attributes: Attributes) -> Result<(), 
     Ok(items.set_attributes(id, attributes, 2).ok().ok_or("set")?)
 }
 
-// A third are taken out again and a third get other attributes.
+// Removes a third of the items again, and gives a third other attributes.
 fn change(alloc: Global, items: &mut ItemStore, number: u32) -> Result<(), Fail> {
     let id = ItemId(number.saturating_add(1));
     if number % 3 == 1 {
@@ -140,7 +141,7 @@ fn change(alloc: Global, items: &mut ItemStore, number: u32) -> Result<(), Fail>
     Ok(())
 }
 
-// Some hundred items, of which two thirds were changed.
+// Three hundred items, of which two thirds were changed.
 fn some_hundred(alloc: Global) -> Result<ItemStore, Fail> {
     let mut items = ItemStore::new(alloc);
     for number in 0..300u32 {

@@ -25,8 +25,8 @@ fn rows_told(alloc: Global, items: &ItemStore) -> Result<String, Fail> {
     Ok(told)
 }
 
-// What is asked of the items in turn, of which id and with which attributes, and the answer. Items 3 and 5
-// have k=v, as in the first rows.
+// What is called in turn, with which id and which attributes, and the result. Items 3 and 5 have k=v,
+// as in the first rows.
 const CONVERSATION: &str = "\
 add|||1
 add|||2
@@ -138,7 +138,7 @@ fn added(alloc: Global, items: &mut ItemStore, words: &str) -> Result<String, Fa
     added_told(alloc, add(items, item))
 }
 
-// What the items answer.
+// The result of a row's call.
 fn answer(alloc: Global, items: &mut ItemStore, row: &str) -> Result<String, Fail> {
     match cell(row, 0) {
         "add" => added(alloc, items, cell(row, 2)),
@@ -149,7 +149,7 @@ fn answer(alloc: Global, items: &mut ItemStore, row: &str) -> Result<String, Fai
     }
 }
 
-// The items answer what the rows say.
+// Asserts that the calls of the rows have their results.
 fn answer_rows(
     rt: &(impl AllocGlobal + Abort),
     items: &mut ItemStore,
@@ -168,7 +168,7 @@ fn items_are_added_found_changed_and_removed(rt: HostRuntime) -> Result<(), Fail
     answer_rows(&rt, &mut items, CONVERSATION)
 }
 
-// What is asked of items 7, 3 and 5, which were loaded in that order.
+// What is called on items 7, 3 and 5, which were loaded in that order, and the result.
 const LOADED: &str = "\
 rows|||3:0 5:2 7:1
 search||k=v|3 7
@@ -211,7 +211,7 @@ fn given_rows_are_loaded_by_rising_id(rt: HostRuntime) -> Result<(), Fail> {
     answer_rows(&rt, &mut items, LOADED)
 }
 
-// What is asked of one item with the greatest id that there can be.
+// What is called when one item has the greatest id that there is, and the result.
 const REFUSALS: &str = "\
 add||*257|IdsSpent
 add|||IdsSpent

@@ -1,5 +1,6 @@
-//! The tests of matching, of the index and of the items of a collection, over what their crates give to
-//! all. They are in a crate of their own so that none of these is proved again for its tests.
+//! The tests of matching, of the index and of the items of a collection, through the public
+//! items of their crates. They are in a crate of their own so that none of these is proved
+//! again for its tests.
 #![tactic(auto)]
 
 #[cfg(test)]

@@ -6,7 +6,7 @@ use kr_base::{AttrValue, Attributes, Bytes, HashedPair, HashedValue, Text};
 use std::alloc::Global;
 use std::test::Fail;
 
-// What an item has, what is wanted of it, and whether it matches. A value that begins with # is a number.
+// What an item has, what is wanted, and whether it matches. A value that begins with # is a number.
 const ROWS: &str = "\
 a=1 b=2 | a=1 b=2 | yes
 a=1 b=2 | b=2 | yes
@@ -30,7 +30,7 @@ a= | a= | yes
 =x | =y | no
 ";
 
-// The value that a word is: a number behind #, else a text.
+// The value of a word: a number after #, otherwise a text.
 fn value_of(alloc: Global, word: &str) -> Result<AttrValue, Fail> {
     match word.strip_prefix('#') {
         Some(digits) => Ok(AttrValue::Number(number(digits)?)),
@@ -38,14 +38,14 @@ fn value_of(alloc: Global, word: &str) -> Result<AttrValue, Fail> {
     }
 }
 
-// The pair that a word is.
+// The pair of a word.
 fn pair_of(alloc: Global, word: &str) -> Result<(Text, AttrValue), Fail> {
     let (name, shown) = word.split_once('=').ok_or("pair")?;
     let name = text_of(alloc, name)?;
     Ok((name, value_of(alloc, shown)?))
 }
 
-// The attributes that the words are.
+// The attributes of the words.
 fn attributes_of(alloc: Global, words: &str) -> Result<Attributes, Fail> {
     let mut pairs = Vec::new(alloc);
     for word in words.split_whitespace() {
@@ -71,7 +71,7 @@ fn hashed_pair(alloc: Global, name: &Text, value: &AttrValue) -> Result<HashedPa
     Ok(HashedPair { name, value })
 }
 
-// The attributes by their hashes.
+// The hashes of the attributes.
 fn hashed_of(alloc: Global, attributes: &Attributes) -> Result<Vec<HashedPair>, Fail> {
     let mut pairs = Vec::new(alloc);
     for (name, value) in attributes.as_slice() {
@@ -106,7 +106,7 @@ fn an_item_matches_by_its_texts_and_by_their_hashes(rt: HostRuntime) -> Result<(
     Ok(())
 }
 
-// Whether a=abc is wanted of an item that has `a` with this hash, and it matches.
+// Whether an item that has `a` with this hash matches, if a=abc is wanted.
 fn matches_hash(alloc: Global, digits: &[u8]) -> Result<bool, Fail> {
     let wanted = attributes_of(alloc, "a=abc")?;
     let name = text_of(alloc, "a")?;
@@ -123,7 +123,7 @@ fn a_hash_of_the_same_length_is_another(rt: HostRuntime) -> Result<(), Fail> {
     Ok(())
 }
 
-// Two lists of attributes, and whether they show the same. A value that begins with # is a number.
+// Two lists of attributes, and whether they are shown alike. A value that begins with # is a number.
 const EQUALS: &str = "\
 a=1 b=2 | a=1 b=2 | yes
 b=2 a=1 | a=1 b=2 | yes

@@ -1,4 +1,4 @@
-// Values in words, and the values of words.
+// Values in words, and values from words.
 
 use keyring_file::FullItem;
 use kr_base::{Attributes, Bytes, ItemId, Text};
@@ -6,7 +6,7 @@ use kr_items::Items;
 use std::alloc::Global;
 use std::test::Fail;
 
-/// The text that the string is.
+/// The string as a text.
 pub fn text_of(alloc: Global, string: &str) -> Result<Text, Fail> {
     Ok(Text::from_str(alloc, string)?.ok_or("a zero byte")?)
 }
@@ -16,7 +16,7 @@ pub fn decimal(alloc: Global, number: u32) -> Result<String, Fail> {
     Ok(format!(in alloc; "{number}")?)
 }
 
-/// The parts in one text.
+/// The parts as one text.
 pub fn joined(alloc: Global, parts: &[&str]) -> Result<String, Fail> {
     let mut text = String::new(alloc);
     for part in parts {
@@ -25,13 +25,13 @@ pub fn joined(alloc: Global, parts: &[&str]) -> Result<String, Fail> {
     Ok(text)
 }
 
-/// The words `a=4`, say, of a name and a number.
+/// A name and a number as a word, such as `a=4`.
 pub fn numbered(alloc: Global, name: &str, number: u32) -> Result<String, Fail> {
     let number = decimal(alloc, number)?;
     joined(alloc, &[name, "=", number.as_str()])
 }
 
-/// The ids in one text, each and a space.
+/// The ids as one text, each followed by a space.
 pub fn ids_told(alloc: Global, ids: &[ItemId]) -> Result<String, Fail> {
     let mut told = String::new(alloc);
     for id in ids {
@@ -46,7 +46,7 @@ fn numbered_pair(alloc: Global, number: u32) -> Result<(Text, Text), Fail> {
     Ok((Text::of_number(number), text_of(alloc, "v")?))
 }
 
-// As many pairs, each with a name of its own.
+// Appends this many pairs, each with a name of its own.
 fn many(alloc: Global, pairs: &mut Vec<(Text, Text)>, count: u32) -> Result<(), Fail> {
     for number in 0..count {
         pairs.push(numbered_pair(alloc, number)?)?;
@@ -54,7 +54,7 @@ fn many(alloc: Global, pairs: &mut Vec<(Text, Text)>, count: u32) -> Result<(), 
     Ok(())
 }
 
-// The pair that a word is.
+// The pair of a word.
 fn pair_of(alloc: Global, word: &str) -> Result<(Text, Text), Fail> {
     let (name, value) = word.split_once('=').ok_or("pair")?;
     let name = text_of(alloc, name)?;
@@ -76,7 +76,7 @@ fn pairs_of(alloc: Global, words: &str) -> Result<Vec<(Text, Text)>, Fail> {
     Ok(pairs)
 }
 
-/// The attributes that the words are; *N is N attributes, each with a name of its own.
+/// The attributes of the words; *N stands for N attributes, each with a name of its own.
 pub fn attributes_of(alloc: Global, words: &str) -> Result<Attributes, Fail> {
     let pairs = pairs_of(alloc, words)?;
     Ok(Attributes::from_pairs(alloc, pairs)?)

@@ -26,7 +26,7 @@ fn blocks_of(alloc: Global, digits: &str) -> Result<Vec<u8>, Fail>
     Ok(blocks)
 }
 
-/// The encrypted blocks of a row by its clear ones.
+/// A row's clear blocks, encrypted.
 fn encrypted(alloc: Global, row: &str) -> Result<String, Fail> {
     let key = Key::new(sixteen(cell(row, 0))?);
     let vector = sixteen(cell(row, 1))?;
@@ -35,7 +35,7 @@ fn encrypted(alloc: Global, row: &str) -> Result<String, Fail> {
     digits_of(alloc, blocks.as_slice())
 }
 
-/// The clear blocks of a row by its encrypted ones.
+/// A row's encrypted blocks, decrypted.
 fn decrypted(alloc: Global, row: &str) -> Result<String, Fail> {
     let key = Key::new(sixteen(cell(row, 0))?);
     let vector = sixteen(cell(row, 1))?;

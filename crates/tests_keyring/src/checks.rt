@@ -13,17 +13,17 @@ pub fn same_bytes(rt: &impl Abort, found: &[u8], want: &[u8], at: &str) {
     assert_eq!(rt; found, want, "at {at}");
 }
 
-/// The cell of a row at this place, where bars are between the cells.
+/// The cell of a row at this index; bars separate the cells.
 pub fn cell(row: &str, place: usize) -> &str {
     row.split('|').nth(place).unwrap_or("no such cell")
 }
 
-/// The number that a text is.
+/// The number that a text spells.
 pub fn number(text: &str) -> Result<u32, Fail> {
     Ok(text.parse::<u32>().ok().ok_or("a number")?)
 }
 
-/// The byte that a text is.
+/// The byte that a text spells.
 pub fn byte(text: &str) -> Result<u8, Fail> {
     Ok(text.parse::<u8>().ok().ok_or("a byte")?)
 }

@@ -7,9 +7,9 @@ use kr_base::Bytes;
 use std::alloc::Global;
 use std::test::Fail;
 
-// The password, the salt, the iterations, and the key with the vector after it, all but the iterations in
-// hex. The first row's text is an example of FIPS 180-4 for SHA-256; the values are those of Python's
-// hashlib over OpenSSL 3.0.19.
+// The password, the salt, the iterations, and the key followed by the vector, all in hex except the
+// iterations. The first row's text is an example of FIPS 180-4 for SHA-256; the values are those of
+// Python's hashlib over OpenSSL 3.0.19.
 const ROWS: &str = "\
 6162636462636465636465666465666765666768666768696768696a68696a6b696a6b6c6a6b6c6d6b6c6d6e6c6d6e6f|6\
     d6e6f706e6f7071|1|\
@@ -34,7 +34,7 @@ const ROWS: &str = "\
     605df9aaba153f731da1732f443cc06bfeac01c9fafb27dce700cb0c5233860e
 ";
 
-// The function hands the rows on, so that no proof looks into the text.
+// This function returns the rows, so that no proof looks into the text.
 fn rows() -> &'static str {
     ROWS
 }

@@ -1,5 +1,5 @@
 // keyring_text. GNOME keyring file format: numbers are big-endian, a string is its length and its bytes,
-// and the length ffffffff is no string.
+// and the length ffffffff means no string.
 
 use crate::checks::{cell, same_text};
 use crate::words::{decimal, digits_of, joined, spaced};

@@ -1,10 +1,10 @@
-// Whole files that other programs wrote: GNOME keyring 42.1 the first; GNOME keyring 42.1 the second,
-// which it read from a program in Python and wrote with one more item; the third is of version 0.1
-// and by that program alone, with reserved values, none strings and more padding than is needed; the
+// Whole files that other programs wrote: the first by GNOME keyring 42.1; the second also, which
+// read it from a program in Python and wrote it with one more item; the third, of version 0.1, by
+// that program alone, with reserved values, absent strings and more padding than is needed; the
 // last two have no items, in both versions. A file to a line: the password and the salt in hex, the
 // iterations, the length of the sealed content and its MD5, the clear part and the items in words,
-// and the file in hex. The values are those that the program in Python reads and writes (cryptography
-// 48.0.0 over OpenSSL).
+// and the file in hex. The values are those that the program in Python reads and writes
+// (cryptography 48.0.0 over OpenSSL).
 const FILES: &str = "\
 746573742070617373776f7264|81a159afb873e00e|1264|\
     873 1482a72fdd43401fcaf3cc2bafd8fa8a|\
@@ -99,7 +99,7 @@ const FILES: &str = "\
     424136f88fb9b0b8c15f7d2256
 ";
 
-/// The rows. The function hands them on, so that no proof looks into the text.
+/// The rows. This function returns them, so that no proof looks into the text.
 pub fn whole_files_of_others() -> &'static str {
     FILES
 }

@@ -1,6 +1,6 @@
-//! Tests of the crates of crypto and keyring files: aes_cbc, attribute_hash, key_derivation, keyring_text,
-//! keyring_file and keyring_seal. Expected values are those of the standards, of GNOME keyring, or of a
-//! program in Python. A table is one text, with a row to a line.
+//! Tests of the crates of crypto and keyring files: aes_cbc, attribute_hash, key_derivation,
+//! keyring_text, keyring_file and keyring_seal. Expected values are those of the standards, of
+//! GNOME keyring, or of a program in Python. A table is one text, with a row on each line.
 #![tactic(auto)]
 
 #[cfg(test)]

@@ -24,7 +24,7 @@ const FRONT: &[u8; 81] =
 
 const BACK: &[u8; 20] = b"\0\0\0\x10AAAAAAAAAAAAAAAA";
 
-// The functions hand the bytes on, so that no proof looks into them.
+// These functions return the bytes, so that no proof looks into them.
 fn front() -> &'static [u8] {
     FRONT
 }
@@ -104,7 +104,8 @@ fn each_part_of_a_file_is_short_and_a_longer_one_trails(rt: HostRuntime) -> Resu
     Ok(())
 }
 
-// A place in the file of no items, the byte that is put there, and the fault; none is told as nothing.
+// A position in the file without items, the byte that is put there, and the fault, which is empty if
+// there is none.
 const BYTES: &str = "\
 0|0|Magic
 15|0|Magic
@@ -131,7 +132,7 @@ const BYTES: &str = "\
 88|32|Short
 ";
 
-// The function hands the rows on, so that no proof looks into the text.
+// This function returns the rows, so that no proof looks into the text.
 fn changed_bytes() -> &'static str {
     BYTES
 }
@@ -159,8 +160,8 @@ fn one_changed_byte_is_its_fault(rt: HostRuntime) -> Result<(), Fail> {
     Ok(())
 }
 
-// The version's minor number, the items of the clear part in hex, and what is read of them, or the fault. A
-// program in Python wrote the bytes.
+// The version's minor number, the items of the clear part in hex, and what is read from them, or the
+// fault. A program in Python wrote the bytes.
 const CLEAR: &str = "\
 0|00000000|
 0|000000010000000100000000000000010000000475736572000000000000002039303031353039383363643234666230\
@@ -276,8 +277,8 @@ fn a_collection_without_items_is_written(rt: HostRuntime) -> Result<(), Fail> {
     Ok(())
 }
 
-// How many items the clear part tells, what follows the check of an area in hex, and what is read of it, or the
-// fault. A program in Python wrote the bytes.
+// How many items the clear part has, what follows the check of an area in hex, and what is read
+// from it, or the fault. A program in Python wrote the bytes.
 const AREAS: &str = "\
 0||
 0|010203|

@@ -1,5 +1,5 @@
 // Examples of the standards: FIPS 197 in its appendices B and C.1, SP 800-38A in F.2.1 and F.2.2, and no
-// block at all. Each row has the key, the vector, the clear blocks and the encrypted ones, in hex.
+// blocks at all. Each row has the key, the vector, the clear blocks and the encrypted ones, in hex.
 const EXAMPLES: &str = "\
 2b7e151628aed2a6abf7158809cf4f3c|00000000000000000000000000000000|\
     3243f6a8885a308d313198a2e0370734\
@@ -248,7 +248,7 @@ b9e01642a07286d0a7bf87d42d31b804|3707dc491f8f667b08780acb86f52363|\
     90a0db747dc2e3dec0e945d1
 ";
 
-/// The standards' rows. The function hands them on, so that no proof looks into the text.
+/// The standards' rows. This function returns them, so that no proof looks into the text.
 pub fn examples() -> &'static str {
     EXAMPLES
 }

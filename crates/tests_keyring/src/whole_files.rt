@@ -88,7 +88,7 @@ fn fault_told(alloc: Global, fault: OpenFault) -> Result<String, Fail> {
     }
 }
 
-/// The content of a file under a key in words, or its fault.
+/// The content of a file under a key, in words, or its fault.
 fn opened(alloc: Global, file: &[u8], key: &Derived) -> Result<String, Fail> {
     match open(alloc, file, key) {
         Ok(content) => content_told(alloc, &content),
@@ -112,7 +112,7 @@ fn files_of_other_programs_open_item_by_item(rt: HostRuntime) -> Result<(), Fail
     Ok(())
 }
 
-/// What is sealed of the content of a file.
+/// The content of a file, opened and sealed again.
 fn sealed_again(alloc: Global, file: &[u8], key: &Derived) -> Result<Vec<u8>, Fail> {
     let content = open(alloc, file, key).ok().ok_or("open")?;
     Ok(seal(alloc, &content, key).ok().ok_or("seal")?)
@@ -181,7 +181,7 @@ fn front_of(alloc: Global) -> Result<Clear, Fail>
     })
 }
 
-/// An attribute of each kind.
+/// One attribute of each kind.
 fn note_attributes(alloc: Global) -> Result<Attributes, Fail> {
     let port = text_of(alloc, "port")?;
     let host = text_of(alloc, "host")?;
@@ -221,7 +221,7 @@ fn password_key(alloc: Global) -> Result<Derived, Fail> {
     Ok(derive(password, *b"saltsalt", 3))
 }
 
-/// What was sealed, or no bytes where it would be too large.
+/// What was sealed, or no bytes if it would be too large.
 fn sealed_bytes(alloc: Global, sealed: Result<Vec<u8>, SealRefused>) -> Result<Vec<u8>, Fail> {
     match sealed {
         Ok(file) => Ok(file),
@@ -242,7 +242,7 @@ fn rows_sealed(alloc: Global, room: usize, key: &Derived) -> Result<Vec<u8>, Fai
 const NOTE: &str =
     "rows 1 2 0 0 3 0.1~7 1 'note' 736563726574 3 4 [host=abc;port=#1;] [] text/html";
 
-// The length of the file and its MD5, by a program in Python that writes the format anew.
+// The length of the file and its MD5, by a program in Python that writes the format independently.
 const NOTE_FILE: &str = "305 f987f4d4a303a1d0d612e00f90c1e67e";
 
 #[test]

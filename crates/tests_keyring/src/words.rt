@@ -10,19 +10,19 @@ pub fn text_of(alloc: Global, text: &str) -> Result<Text, Fail> {
     Ok(Text::from_str(alloc, text)?.ok_or("a zero byte")?)
 }
 
-/// The digits of bytes.
+/// Bytes in hex.
 pub fn digits_of(alloc: Global, bytes: &[u8]) -> Result<String, Fail> {
     Ok(hex::encode(alloc, bytes)?)
 }
 
-/// The salt of these digits.
+/// The salt with these digits.
 pub fn salt_of(digits: &str) -> Result<[u8; 8], Fail> {
     let mut salt = [0; 8];
     hex::decode_to_slice(digits, &mut salt)?;
     Ok(salt)
 }
 
-/// The parts in one text.
+/// The parts as one text.
 pub fn joined(alloc: Global, parts: &[&str]) -> Result<String, Fail> {
     let mut text = String::new(alloc);
     for part in parts {
@@ -31,7 +31,7 @@ pub fn joined(alloc: Global, parts: &[&str]) -> Result<String, Fail> {
     Ok(text)
 }
 
-/// The parts in one text, with a space between two of them.
+/// The parts as one text, separated by spaces.
 pub fn spaced(alloc: Global, parts: &[&str]) -> Result<String, Fail> {
     let mut text = String::new(alloc);
     for part in parts {

@@ -24,17 +24,17 @@ pub fn holds(rt: &impl Abort, fact: bool, at: &str) {
     assert!(rt; fact, "at {at}");
 }
 
-/// The cell of a row at this place, where semicolons are between the cells.
+/// The cell of a row at this index; semicolons separate the cells.
 pub fn cell(row: &str, place: usize) -> &str {
     row.split(';').nth(place).unwrap_or("no such cell")
 }
 
-/// The number that a text is.
+/// The number that a text spells.
 pub fn number(text: &str) -> Result<u64, Fail> {
     Ok(text.parse::<u64>().ok().ok_or("a number")?)
 }
 
-/// The length that a text is.
+/// The length that a text spells.
 pub fn length(text: &str) -> Result<usize, Fail> {
     Ok(text.parse::<usize>().ok().ok_or("a length")?)
 }

@@ -1,6 +1,6 @@
-//! Tests of the outside in memory and of the real one: of kr_memory, kr_memory_disk and real_edges.
-//! They show what plans of pieces and faults come to when they are run, and that the adapters of the
-//! system do to files, streams and the clock what the traits of kr_outside mean.
+//! Tests of the outside in memory and of the real one: kr_memory, kr_memory_disk and real_edges.
+//! They show what plans of pieces and faults come to when they are run, and that the adapters of
+//! the system do to files, streams and the clock what the traits of kr_outside mean.
 #![tactic(auto)]
 
 #[cfg(test)]

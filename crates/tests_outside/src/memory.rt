@@ -14,7 +14,8 @@ fn lengths(alloc: Global, cell: &str) -> Result<Vec<usize>, Fail> {
     Ok(lengths)
 }
 
-// What a read into a buffer of this length, 8 at most, returns: bytes and a bar, or ! for a failure.
+// Appends what a read into a buffer of this length, at most 8, returns: bytes and a bar, or !
+// for a failure.
 fn read_once<S: Source>(source: &mut S, length: usize, given: &mut Vec<u8>) -> Result<(), Fail> {
     let mut buffer = [b'.'; 8];
     match source.read(&mut buffer[..length.min(8)]) {
@@ -37,7 +38,7 @@ fn given<S: Source>(alloc: Global, source: &mut S, buffers: &str) -> Result<Vec<
 }
 
 // The lengths of the pieces of a source of the bytes `abcdef`, the calls that fail, the lengths of the
-// buffers, and what is read. A call that fails uses up its length, and so does a read with no room.
+// buffers, and what is read. A call that fails uses up its length, and so does a read without room.
 const READS: &str = "\
 ;;4 4 4;abcd|ef||
 1 0 9;;4 4 3 4;a|b|cde|f|
@@ -81,7 +82,7 @@ fn reads_follow_the_plan(rt: HostRuntime) -> Result<(), Fail> {
     Ok(())
 }
 
-// How many bytes of a word, in which - is no byte, a write takes, as a digit, or ! for a failure.
+// How many bytes of a word a write takes, as a digit, or ! for a failure; - means no bytes.
 fn taken_of<S: Sink>(sink: &mut S, word: &str) -> u8 {
     let bytes = if word == "-" { "" } else { word };
     match sink.write(bytes.as_bytes()) {
@@ -101,7 +102,7 @@ fn taken<S: Sink>(alloc: Global, sink: &mut S, words: &str) -> Result<Vec<u8>, F
 }
 
 // The lengths of the pieces of a sink, the calls that fail, the words that are written, and what is
-// taken and kept. A call that fails uses up its length.
+// taken and kept. A call that fails uses up its length too.
 const WRITES: &str = "\
 ;;ab - cd;202|abcd
 1 0 9;;abc bc cd;112|abcd
@@ -143,7 +144,7 @@ fn writes_follow_the_plan(rt: HostRuntime) -> Result<(), Fail> {
     Ok(())
 }
 
-// The room, and what is taken and kept of 6 bytes.
+// The room, and how much of 6 bytes is taken and kept.
 const ROOMS: &str = "\
 9;222|abcdef
 3;222|abc
@@ -160,7 +161,7 @@ fn a_steady_sink_drops_what_exceeds_its_room(rt: HostRuntime) -> Result<(), Fail
     Ok(())
 }
 
-// The moments that are listed, and those that the clock gives.
+// The moments that are listed, and those that the clock returns.
 const MOMENTS: &str = "\
 ;0 0 0 0
 7;7 7 7 7

@@ -15,7 +15,7 @@ fn name_of(alloc: Global, name: &str) -> Result<Text, Fail> {
     Ok(Text::from_str(alloc, name)?.ok_or("a zero byte")?)
 }
 
-// Files of these names, each with its name as its bytes.
+// Files with these names, each with its name as its bytes.
 fn files_of(alloc: Global, names: &str) -> Result<Files, Fail> {
     let mut files = Files::new(alloc);
     for name in names.split_whitespace() {
@@ -25,7 +25,7 @@ fn files_of(alloc: Global, names: &str) -> Result<Files, Fail> {
     Ok(files)
 }
 
-// The same as a folder, whose calls of these numbers fail.
+// A folder of such files, whose calls with these numbers fail.
 fn folder_of(alloc: Global, names: &str, failing: &str) -> Result<MemoryFolder, Fail>
     ensures { IfOk result (λ folder. folder.made ≡ []) }
 {
@@ -37,7 +37,7 @@ fn folder_of(alloc: Global, names: &str, failing: &str) -> Result<MemoryFolder, 
     Ok(folder)
 }
 
-// Appends the names, and a bar, or ! for a failure.
+// Appends the names and a bar, or ! for a failure.
 fn name_told(
     names: Result<Vec<Text>, OutsideRefused>,
     told: &mut Vec<u8>,
@@ -53,8 +53,8 @@ fn name_told(
     Ok(())
 }
 
-// What a folder answers to sync, names, sync and names: s for a sync, the names and a bar, or ! for a
-// failure.
+// What a folder returns for sync, names, sync and names: s for a sync, the names and a bar, or !
+// for a failure.
 fn answered<F: Folder>(alloc: Global, folder: &mut F) -> Result<Vec<u8>, AllocError> {
     let mut told = Vec::new(alloc);
     for _ in 0..2 {
@@ -64,7 +64,7 @@ fn answered<F: Folder>(alloc: Global, folder: &mut F) -> Result<Vec<u8>, AllocEr
     Ok(told)
 }
 
-// The names, the calls that fail, and what is answered.
+// The names, the calls that fail, and what is returned.
 const FOLDERS: &str = "\
 ;;s|s|
 a b a;;sba|sba|
@@ -108,14 +108,14 @@ fn plan_of(alloc: Global, name: &str, failing: &str) -> Result<SlotPlan, Fail> {
     })
 }
 
-// Replaces what a slot stands for by `!` as far as the calls that fail let it.
+// Replaces what a slot stands for by `!`, as far as the failing calls allow it.
 fn mark(slot: &mut MemorySlot) {
     if slot.put_temp(b"!").is_ok() && slot.sync_temp().is_ok() && slot.rename().is_ok() {
         let _ = slot.sync_folder();
     }
 }
 
-// The slot of this name, which fails in these calls, after it was marked.
+// The slot of this name, which fails in these calls, after `mark`.
 fn replaced(
     alloc: Global,
     folder: &mut MemoryFolder,
@@ -132,8 +132,8 @@ fn replaced(
     Ok((named, slot))
 }
 
-// The folder of `a` and `b` after a crash, where both were replaced as far as the calls that fail let
-// them, and this number picks the images.
+// The folder of `a` and `b` after a crash; both were replaced as far as the failing calls allowed
+// it, and this number picks the images.
 fn crashed(alloc: Global, failing: &str, choice: u64) -> Result<MemoryFolder, Fail> {
     let mut folder = folder_of(alloc, "a b", "")?;
     let mut slots = Vec::new(alloc);
@@ -152,9 +152,9 @@ fn left_by_crash(alloc: Global, row: &str) -> Result<Vec<u8>, Fail> {
     Ok(left)
 }
 
-// The calls that fail, the number, and what is left. Where no sync of the folder came after the rename,
-// both images may be left; so they may where the rename failed, and what the name stands for then comes
-// last.
+// The calls that fail, the number, and what is left. If no sync of the folder came after the
+// rename, both images may be left; the same is true if the rename failed, and what the name stands
+// for then comes last.
 const CRASHES: &str = "\
 ;0;!!.
 ;7;!!.
@@ -178,7 +178,7 @@ fn a_crash_leaves_each_combination_of_images(rt: HostRuntime) -> Result<(), Fail
     Ok(())
 }
 
-// Appends what the folder at this path answers, or ? where it isn't given.
+// Appends what the folder at this path returns, or ? if it can't be opened.
 fn folder_told<H: Host>(
     alloc: Global,
     host: &mut H,
@@ -192,7 +192,7 @@ fn folder_told<H: Host>(
     Ok(())
 }
 
-// What the folders at these paths answer, and then the moment.
+// What the folders at these paths return, and then the moment.
 fn given<H: Host>(alloc: Global, host: &mut H, paths: &str) -> Result<Vec<u8>, AllocError> {
     let mut told = Vec::new(alloc);
     for path in paths.split_whitespace() {
@@ -203,7 +203,7 @@ fn given<H: Host>(alloc: Global, host: &mut H, paths: &str) -> Result<Vec<u8>, A
     Ok(told)
 }
 
-// The calls that fail, the paths, and what is answered.
+// The calls that fail, the paths, and what is returned.
 const HOSTS: &str = "\
 ;/k;sa|sa|7
 ;/x /k /k;?sa|sa|?7

@@ -19,7 +19,7 @@ fn read<S: Slot>(alloc: Global, slot: &mut S) -> Result<Vec<u8>, Fail> {
     })
 }
 
-// The size of a slot's file in words: None where there is none.
+// The size of a slot's file in words: None if there is none.
 fn size_told<S: Slot>(alloc: Global, slot: &mut S) -> Result<String, Fail> {
     match slot.size()? {
         Some(size) => Ok(format!(in alloc; "{size}")?),
@@ -27,7 +27,7 @@ fn size_told<S: Slot>(alloc: Global, slot: &mut S) -> Result<String, Fail> {
     }
 }
 
-// The names of a folder, each with a space after it.
+// The names in a folder, each followed by a space.
 fn names_told<F: Folder>(alloc: Global, folder: &mut F) -> Result<String, Fail> {
     let names = folder.names().ok().ok_or("names")?;
     let mut told = String::new(alloc);
@@ -55,7 +55,8 @@ fn folder_at(rt: HostRuntime, path: &str) -> Result<RealFolder<HostRuntime>, Fai
     Ok(RealHost::new(rt).folder(path).ok().ok_or("a folder")?)
 }
 
-// Replaces the file of a slot over a temporary file that was left over, and tells its size and mode.
+// Replaces the file of a slot despite a temporary file that was left over, and returns its
+// size and mode.
 fn replaced(
     rt: &HostRuntime,
     slot: &mut RealSlot<HostRuntime>,
@@ -117,7 +118,7 @@ fn a_file_in_a_real_folder_is_replaced_whole(rt: HostRuntime) -> Result<(), Fail
     Ok(())
 }
 
-// What a folder and its slot `x.keyring` tell: the names, the size, and the bytes.
+// What a folder and its slot `x.keyring` return: the names, the size, and the bytes.
 fn nested(
     alloc: Global,
     folder: &mut RealFolder<HostRuntime>,
@@ -128,7 +129,7 @@ fn nested(
     Ok(format!(in alloc; "{names}{size}")?)
 }
 
-// A folder that has the name of a file is among the names, and no file.
+// A folder that has the name of a file is among the names, but isn't a file.
 #[test]
 fn a_folder_in_a_folder_takes_its_name(rt: HostRuntime) -> Result<(), Fail> {
     fs::create_dir(&rt, "nest")?;
@@ -171,8 +172,8 @@ fn after_a_failed_put_nothing_can_be_synced(rt: HostRuntime) -> Result<(), Fail>
     Ok(())
 }
 
-// Makes a file and a folder that its user may not open; whether that one can't be opened, since a folder
-// that its user may not open is open to root.
+// Makes a file, and a folder that its user may not open. Returns whether the folder can't be
+// opened, since root can open it all the same.
 fn is_closed(rt: &HostRuntime) -> Result<bool, Fail> {
     fs::write(rt, "file", b"no folder")?;
     fs::create_dir(rt, "closed")?;
@@ -221,7 +222,7 @@ fn a_folder_that_went_away_is_a_fault(rt: HostRuntime) -> Result<(), Fail> {
     Ok(())
 }
 
-// The bytes that a read gives, or ! for a failure.
+// The bytes that a read returns, or ! for a failure.
 fn source_told<S: Source>(source: &mut S, told: &mut Vec<u8>) -> Result<(), Fail> {
     let mut buffer = [0; 8];
     match source.read(&mut buffer) {
@@ -239,7 +240,7 @@ fn taken<S: Sink>(sink: &mut S, bytes: &[u8]) -> u8 {
     }
 }
 
-// What a read gives, what a write takes, and what another read gives.
+// What a read returns, what a write takes, and what another read returns.
 fn streams_told<I: Source, O: Sink>(
     alloc: Global,
     input: &mut I,
@@ -256,7 +257,7 @@ fn digit(number: u64) -> u8 {
     b'0'.saturating_add(number.min(9) as u8)
 }
 
-// The same of two files that are created, of which the one can't be read, and the faults.
+// The same for two files that are created, one of which can't be read, and the faults.
 fn created_told(rt: &HostRuntime) -> Result<Vec<u8>, Fail> {
     let mut output = WriterSink::new(fs::create(rt, "stream")?);
     let mut wrong = ReaderSource::new(fs::create(rt, "other")?);
@@ -266,7 +267,7 @@ fn created_told(rt: &HostRuntime) -> Result<Vec<u8>, Fail> {
     Ok(told)
 }
 
-// The same of a file that is opened twice, and can't be written.
+// The same for a file that is opened twice, and can't be written.
 fn opened_told(rt: &HostRuntime) -> Result<Vec<u8>, Fail> {
     let mut input = ReaderSource::new(fs::open(rt, "stream")?);
     let mut wrong = WriterSink::new(fs::open(rt, "stream")?);

@@ -10,7 +10,7 @@ pub fn same_text(rt: &impl Abort, found: &str, want: &str, at: &str) {
     assert_eq!(rt; found, want, "at {at}");
 }
 
-/// Asserts that a text begins so; `at` says where.
+/// Asserts that a text begins like this; `at` says where.
 pub fn begins(rt: &impl Abort, found: &str, want: &str, at: &str) {
     assert!(rt; found.starts_with(want), "at {at}: {found}");
 }
@@ -42,7 +42,7 @@ pub fn ends(
     Ok(())
 }
 
-/// The cell of a row at this place, where bars are between the cells.
+/// The cell of a row at this index; bars separate the cells.
 pub fn cell(row: &str, place: usize) -> &str {
     row.split('|').nth(place).unwrap_or("no such cell")
 }

@@ -1,6 +1,6 @@
-//! Tests of the programs, over what their crates give to all: whole conversations over streams and hosts in
-//! memory, and each way in which a run ends early. Expected bytes are those of another program. A table is
-//! one text, with a row to a line.
+//! Tests of the programs, through the public items of their crates: whole conversations over
+//! streams and hosts in memory, and each way in which a run ends early. Expected bytes are those of
+//! another program. A table is one text, with a row on each line.
 #![tactic(auto)]
 
 #[cfg(test)]

@@ -17,7 +17,7 @@ use std::process::Abort;
 use std::sync::Wait;
 use std::test::Fail;
 
-// Parts of conversations: bytes in hex stand in brackets, all else is ASCII.
+// Parts of conversations: bytes in hex are in brackets, everything else is ASCII.
 const PARTS: &str = "\
 HELLO [00]AUTH[20]EXTERNAL[20]31303030[0d0a]BEGIN[0d0a]
 ASKED [00]AUTH[20]EXTERNAL[0d0a]DATA[0d0a]NEGOTIATE_UNIX_FD[0d0a]BEGIN[0d0a]
@@ -84,8 +84,8 @@ SESSION65 [6c02010135000000430000001000000005017500430000000801670002766f0001730
 NOARGUMENTS [6c0301010000000004000000380000000401730026000000]org.freedesktop.DBus.Error.InvalidArg\
 s[00000501750007000000]";
 
-// The name of each, what the client sends, what is told of the end, and what is written. A part may be
-// changed: behind `@` stand a place in it and the bytes there.
+// The name of each, what the client sends, the text of the end, and what is written. A part may be
+// changed: after `@` come a position in it and the bytes there.
 const CONVERSATIONS: &str = "\
 nothing comes||handshake refused: EndedEarly|
 no zero byte|[41]|handshake refused: NoZero|
@@ -117,7 +117,7 @@ field 0|HELLO PLAIN@16:00|bad message: BadHeader|OK
 no path|HELLO PLAIN@16:14|bad message: MissingField|OK
 a text that doesn't end|HELLO PLAIN@148:01|bad message: BadBody|OK";
 
-// Bytes in hex up to `]`, and ASCII behind it.
+// Bytes in hex up to `]`, and ASCII after it.
 fn put_piece(alloc: Global, bytes: &mut Vec<u8>, piece: &str) -> Result<(), Fail> {
     match piece.split_once(']') {
         Some((digits, plain)) => {
@@ -137,7 +137,7 @@ fn spelled(alloc: Global, text: &str) -> Result<Vec<u8>, Fail> {
     Ok(bytes)
 }
 
-// How the part of this name is spelled; a text that names none is its own spelling.
+// How the part with this name is spelled; any other text is its own spelling.
 fn part(name: &str) -> &str {
     for row in PARTS.lines() {
         if let Some((found, text)) = row.split_once(' ') {
@@ -149,7 +149,7 @@ fn part(name: &str) -> &str {
     name
 }
 
-// The bytes with others from this place on.
+// Replaces the bytes from this position on.
 fn change(bytes: &mut Vec<u8>, place: usize, others: &[u8]) {
     for (at, byte) in others.iter().enumerate() {
         if let Some(cell) = bytes.get_mut(place.saturating_add(at)) {
@@ -158,7 +158,7 @@ fn change(bytes: &mut Vec<u8>, place: usize, others: &[u8]) {
     }
 }
 
-// The bytes with those of a change, a place and digits behind it.
+// Changes the bytes as a word says: a position, and the digits of the bytes there.
 fn change_by(alloc: Global, bytes: &mut Vec<u8>, word: &str) -> Result<(), Fail> {
     let (place, digits) = word.split_once(':').ok_or("a place")?;
     let others = hex::decode(alloc, digits)?;
@@ -166,7 +166,7 @@ fn change_by(alloc: Global, bytes: &mut Vec<u8>, word: &str) -> Result<(), Fail>
     Ok(())
 }
 
-// The bytes of a part, changed at some places.
+// The bytes of a part, changed at some positions.
 fn changed(alloc: Global, name: &str, changes: &str) -> Result<Vec<u8>, Fail> {
     let mut bytes = spelled(alloc, part(name))?;
     for word in changes.split('@') {
@@ -183,7 +183,7 @@ fn word_of(alloc: Global, word: &str) -> Result<Vec<u8>, Fail> {
     }
 }
 
-// The bytes of these words, one behind the other.
+// The bytes of these words, one after the other.
 fn bytes_of(alloc: Global, words: &str) -> Result<Vec<u8>, Fail> {
     let mut bytes = Vec::new(alloc);
     for word in words.split(' ') {
@@ -196,7 +196,7 @@ fn text_of(alloc: Global, text: &str) -> Result<Text, Fail> {
     Ok(Text::from_str(alloc, text)?.ok_or("a zero byte")?)
 }
 
-// The words of a command line, one behind a `/` each.
+// The arguments of a command line, each after a `/`.
 fn words_of(alloc: Global, line: &str) -> Result<Vec<Text>, Fail> {
     let mut texts = Vec::new(alloc);
     for word in line.split('/').skip(1) {
@@ -223,7 +223,7 @@ fn run_on<R: AllocGlobal + Wait, I: Source, O: Sink, H: Host>(
     Ok(run(rt, words.as_slice(), input, output, host, [0; 32]))
 }
 
-// Runs `stdio . 1000` where the folders are empty.
+// Runs `stdio . 1000` on a host whose folders are empty.
 fn stdio<R: AllocGlobal + Wait, I: Source, O: Sink>(
     rt: &R,
     input: &mut I,
@@ -233,7 +233,7 @@ fn stdio<R: AllocGlobal + Wait, I: Source, O: Sink>(
     run_on(rt, "/stdio/./1000", input, output, &mut host)
 }
 
-// This input in pieces of these lengths; these reads fail, counted from 0.
+// A source of this input in pieces of these lengths; these reads fail, counted from 0.
 fn source_of(
     alloc: Global,
     input: &[u8],
@@ -245,12 +245,12 @@ fn source_of(
     Ok(MemorySource::new(input, pieces, failing))
 }
 
-// A sink of which these writes fail, counted from 0.
+// A sink; these writes fail, counted from 0.
 fn sink_of(alloc: Global, failing: Vec<u64>) -> MemorySink {
     MemorySink::new(alloc, Vec::new(alloc), failing)
 }
 
-// The run of this source ends so and writes this to the sink.
+// Asserts how the run over this source ends, and what it writes to the sink.
 fn plays<R: Abort + AllocGlobal + Wait>(
     rt: &R,
     name: &str,
@@ -265,7 +265,7 @@ fn plays<R: Abort + AllocGlobal + Wait>(
     Ok(())
 }
 
-// The run of this input ends so and writes this, in these pieces.
+// Asserts how the run over this input, in these pieces, ends, and what it writes.
 fn answers<R: Abort + AllocGlobal + Wait>(
     rt: &R,
     name: &str,
@@ -279,7 +279,7 @@ fn answers<R: Abort + AllocGlobal + Wait>(
     plays(rt, name, &mut source, &mut sink, told, wanted)
 }
 
-// The input is answered as one piece and byte by byte.
+// Asserts the same for the input in one piece and byte by byte.
 fn answers_both<R: Abort + AllocGlobal + Wait>(
     rt: &R,
     name: &str,
@@ -318,7 +318,7 @@ fn a_call_cut_after_every_byte_is_answered_once(rt: HostRuntime) -> Result<(), F
     Ok(())
 }
 
-// The input without its last bytes, so many.
+// Asserts how the run over the input without this many last bytes ends.
 fn ends_inside<R: Abort + AllocGlobal + Wait>(
     rt: &R,
     input: &[u8],
@@ -340,7 +340,7 @@ fn a_call_that_ends_early_is_told(rt: HostRuntime) -> Result<(), Fail> {
     Ok(())
 }
 
-// A call of Ping with a body of type `ay` that brings it to a mebibyte, and so many bytes more.
+// A call of Ping with a body of type `ay` that fills it up to a mebibyte, and this many bytes more.
 fn long_call(alloc: Global, more: u8) -> Result<Vec<u8>, Fail> {
     let mut call = spelled(alloc, LONG_CALL)?;
     call.resize(1_048_576usize.saturating_add(more as usize), 0)?;
@@ -349,12 +349,12 @@ fn long_call(alloc: Global, more: u8) -> Result<Vec<u8>, Fail> {
     Ok(call)
 }
 
-// The front of such a call, up to the bytes of its array.
+// The start of such a call, up to the bytes of its array.
 const LONG_CALL: &str = "\
 [6c010001c8ff0f00020000002800000001016f00010000002f00000000000000030173000400000050696e670000000008\
 01670002617900c4ff0f00]";
 
-// The handshake, and so many bytes of a call that is so many bytes longer than a mebibyte.
+// The handshake, and the first `count` bytes of a call that is `more` bytes longer than a mebibyte.
 fn long_input(alloc: Global, more: u8, count: usize) -> Result<Vec<u8>, Fail> {
     let mut input = bytes_of(alloc, "HELLO")?;
     let mut call = long_call(alloc, more)?;
@@ -384,14 +384,14 @@ fn a_mebibyte_is_a_call_and_one_byte_more_is_too_large(rt: HostRuntime) -> Resul
     long_is_told(&rt, "a byte more", front.as_slice(), told, "OK")
 }
 
-// A call of OpenSession with this serial, behind others.
+// Appends a call of OpenSession with this serial.
 fn put_call(alloc: Global, input: &mut Vec<u8>, serial: u8) -> Result<(), Fail> {
     let mut call = bytes_of(alloc, "PLAIN")?;
     change(&mut call, 8, &[serial]);
     Ok(input.extend_from_slice(call.as_slice())?)
 }
 
-// 65 calls of OpenSession, then the first session is closed and a further one opened.
+// 65 calls of OpenSession; then the first session is closed and another one opened.
 fn many_calls(alloc: Global) -> Result<Vec<u8>, Fail> {
     let mut input = bytes_of(alloc, "HELLO")?;
     for serial in 1..66u8 {
@@ -418,7 +418,7 @@ fn a_65th_session_is_one_too_many(rt: HostRuntime) -> Result<(), Fail> {
     let wanted = bytes_of(rt.alloc(), "FULL PONG@8:42@20:42 SESSION65")?;
     let ends_so = written.as_slice().ends_with(wanted.as_slice());
     holds(&rt, ends_so, "the end of what is written");
-    // The line OK, 9 and 55 sessions with one digit and with two, and these three.
+    // The line OK, 9 sessions with one digit and 55 with two, and the last three answers.
     let length = (37usize + 9 * 84 + 55 * 85).saturating_add(wanted.len());
     same_number(&rt, written.len(), length, "the length of what is written");
     Ok(())
@@ -434,7 +434,7 @@ const FAULTS: &str = "\
 |1|output failed|OK
 ";
 
-// The input of a row comes in pieces of 60 bytes.
+// Asserts how the run of a row ends. Its input comes in pieces of 60 bytes.
 fn fails<R: Abort + AllocGlobal + Wait>(rt: &R, row: &str) -> Result<(), Fail> {
     let input = bytes_of(rt.alloc(), "HELLO PLAIN")?;
     let reads = numbers(rt.alloc(), cell(row, 0))?;
@@ -460,7 +460,7 @@ fn a_stream_that_fails_ends_the_run(rt: HostRuntime) -> Result<(), Fail> {
     Ok(())
 }
 
-// A source of what these words spell, which never fails.
+// A source that never fails, of what these words spell.
 fn steady_source(alloc: Global, words: &str) -> Result<SteadySource, Fail> {
     Ok(SteadySource::new(bytes_of(alloc, words)?, Vec::new(alloc)))
 }
@@ -476,7 +476,7 @@ fn steady_streams_see_the_run_to_its_end(rt: HostRuntime) -> Result<(), Fail> {
     Ok(())
 }
 
-// The words of a command line, one behind a `/` each, and how the run over the handshake alone ends.
+// The arguments of a command line, each after a `/`, and how the run over the handshake alone ends.
 const COMMANDS: &str = "\
 /stdio/./1000 done
 /stdio/-/0 handshake refused: BeginTooSoon
@@ -501,7 +501,7 @@ fn is_command<R: Abort + AllocGlobal + Wait>(rt: &R, row: &str) -> Result<(), Fa
     let (line, want) = row.split_once(' ').ok_or("an end")?;
     let mut host = empty_host(rt.alloc());
     let told = ended(rt, line, &mut host)?.to_string(rt.alloc())?;
-    // After a usage the commands are printed.
+    // The text of Usage goes on with the commands.
     begins(rt, told.as_str(), want, row);
     Ok(())
 }
@@ -533,7 +533,7 @@ fn memory_host(alloc: Global, row: &str) -> Result<MemoryHost, Fail> {
     Ok(MemoryHost::new(alloc, path, folder, clock, host_fails))
 }
 
-// The run of a command line over the handshake alone ends so on this host.
+// Asserts how the run of a command line over the handshake alone ends on this host.
 fn opens_on<R: Abort + AllocGlobal + Wait, H: Host>(
     rt: &R,
     line: &str,

@@ -40,7 +40,7 @@ fn outs_told(outs: &[Out]) -> &'static str {
     }
 }
 
-// What a desk gives, in words.
+// What a desk returns, in words.
 fn taken_told(taken: Taken) -> &'static str {
     match taken {
         Taken::Outs(outs) => outs_told(outs.as_slice()),
@@ -51,7 +51,7 @@ fn taken_told(taken: Taken) -> &'static str {
     }
 }
 
-// What is answered to a request, in words.
+// The result of a request, in words.
 fn arrived_told(arrived: Result<(), Refused>) -> &'static str {
     match arrived {
         Ok(()) => "taken",
@@ -79,14 +79,14 @@ fn gone<D: WriteDesk>(desk: &mut D) -> &'static str {
     ""
 }
 
-// The request of a row arrives.
+// Records the request of a row.
 fn ask<D: ReadDesk>(alloc: Global, desk: &mut D, row: &str) -> Result<&'static str, Fail> {
     let request = request(cell(row, 0), call_of(alloc, row)?)?;
     Ok(arrive(desk, request, number(cell(row, 3))?))
 }
 
-// What a desk does over the traits: takes, leaves, goes or asks. A request has a serial, a call with its
-// argument, and a moment; what is answered comes last.
+// What is done through the traits of a desk: take, leave, gone or a request. A request has a serial, a
+// call with its argument, and a moment; the result comes last.
 const CONVERSATION: &str = "\
 1|open|plain|1700000000|taken
 |take|||a session

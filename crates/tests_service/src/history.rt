@@ -8,7 +8,7 @@ use std::alloc::Global;
 use std::process::Abort;
 use std::test::Fail;
 
-// The first connection joins; its number.
+// Lets the first connection join, and returns its number.
 fn join(service: &mut Service) -> Result<u64, Fail> {
     match service.event(Incoming::Connect)? {
         Output::Joined(conn) => Ok(conn.0),
@@ -16,7 +16,7 @@ fn join(service: &mut Service) -> Result<u64, Fail> {
     }
 }
 
-// The first connection asks, with a request of this length.
+// Records a request of the first connection, which has this length.
 fn ask(service: &mut Service, length: u32, call: Result<Call, CallFault>) -> Result<(), Fail> {
     let request = Request {
         serial: Serial { number: 9 },
@@ -50,7 +50,7 @@ fn stored(service: &Service) -> u64 {
     service.events().len() as u64
 }
 
-// The era after so many requests of a mebibyte.
+// The era after this many requests of a mebibyte.
 fn era_after(number: u64) -> u64 {
     match number {
         0..=256 => 0,
@@ -85,7 +85,7 @@ fn a_cut_is_made_once_the_events_cost_much(rt: HostRuntime) -> Result<(), Fail> 
     Ok(())
 }
 
-// What is answered to the call of a row.
+// The answer to the call of a row.
 fn answer(alloc: Global, service: &mut Service, row: &str) -> Result<String, Fail> {
     ask(service, 149, call_of(alloc, row)?)?;
     match take(service) {
@@ -101,7 +101,7 @@ fn opens(rt: &impl Abort, alloc: Global, service: &mut Service, number: u64) -> 
     Ok(())
 }
 
-// What the connection does when it has 64 sessions, and what it is answered.
+// What the connection does when it has 64 sessions, and the answer.
 const FULL: &str = "\
 1|open|plain|LimitsExceeded
 1|close|7|done
@@ -132,7 +132,7 @@ fn taken_told(taken: Taken) -> &'static str {
     }
 }
 
-// What the first connection does, and what is answered.
+// What the first connection does, and the result.
 const LIFE: &str = "\
 take|missing
 join|joined

@@ -8,9 +8,9 @@ use std::alloc::Global;
 use std::process::Abort;
 use std::test::Fail;
 
-// Two connections, 1 and 2; a connection that is gone isn't there. In a row a connection and what it does:
-// it pings, opens a session with an algorithm, closes one, calls no method or is gone; and what it is
-// answered: a return, the number of a session, an error or nothing.
+// Two connections, 1 and 2; a connection that is gone isn't there. In a row, a connection and what
+// it does: it pings, opens a session with an algorithm, closes one, calls no method or is gone; and
+// what it gets: a return, the number of a session, an error or nothing.
 const CONVERSATION: &str = "\
 1|ping||done
 1|open|dh-ietf1024-sha256-aes128-cbc-pkcs7|NotSupported
@@ -27,7 +27,7 @@ const CONVERSATION: &str = "\
 2|close|3|NoSession
 ";
 
-// A connection joins; its number.
+// Lets a connection join, and returns its number.
 fn join(machine: &mut Machine) -> Result<u64, ApplyRefused> {
     let (output, _) = machine.apply(Incoming::Connect)?;
     match output {
@@ -62,7 +62,7 @@ fn gone(machine: &mut Machine, conn: ConnId) -> Result<(), ApplyRefused> {
     Ok(())
 }
 
-// All that waits, taken; nothing where nothing waits.
+// Takes everything that waits; None if nothing waits.
 fn taken(machine: &mut Machine, conn: ConnId) -> Option<Items<Out>> {
     let desk = machine.desk(conn)?;
     if !desk.waits {
@@ -87,7 +87,7 @@ fn does(
     }
 }
 
-// Takes all that waits, and says what the last of it is.
+// Takes everything that waits, and returns the last of it in words.
 fn answer(alloc: Global, machine: &mut Machine, conn: ConnId) -> Result<String, Fail> {
     match taken(machine, conn) {
         Some(outs) => last_told(alloc, outs.as_slice()),
@@ -95,7 +95,7 @@ fn answer(alloc: Global, machine: &mut Machine, conn: ConnId) -> Result<String, 
     }
 }
 
-// Whether an event was taken, or its connection isn't there.
+// Whether an event was performed, or its connection isn't there.
 fn is_taken_or_of_none(applied: Result<(), ApplyRefused>) -> bool {
     matches!(applied, Ok(()) | Err(ApplyRefused::NoConnection))
 }
@@ -114,7 +114,7 @@ fn is_answered(
     Ok(())
 }
 
-// The second connection is left, with one session.
+// Asserts that only the second connection is left, with one session.
 fn are_left(rt: &impl Abort, rows: &Rows) {
     let connections = rows.connections.rows.len() as u64;
     same_number(rt, connections, 1, "the connections");
@@ -160,7 +160,7 @@ fn count_taken(machine: &mut Machine, conn: ConnId) -> Result<u64, Fail> {
 fn a_connection_that_takes_nothing_is_overrun(rt: HostRuntime) -> Result<(), Fail> {
     let mut machine = Machine::open(rt.alloc());
     let conn = ConnId(join(&mut machine)?);
-    // 371,370 returns of 24 bytes are 8,912,880 bytes, and the next one is over 8,912,896.
+    // 371,370 returns of 24 bytes are 8,912,880 bytes, and the next one would exceed 8,912,896.
     for _ in 0..371_371u32 {
         ping(&rt, &mut machine, conn)?;
     }

@@ -1,5 +1,6 @@
-// One service for many threads: what each thread recorded is in the history that the service is given back
-// with, in the thread's own order and each once; a thread that takes waits for what another brings.
+// One service for many threads: what each thread recorded is in the history of the service that
+// is given back, in the thread's own order and each once; a thread that takes waits for what
+// another one brings.
 ghost use Rattle.std.specs.Prelude.{◌≡◌, IfOk};
 ghost use Rattle.std.specs.Arc.{arc_value};
 
@@ -45,7 +46,7 @@ fn ping(number: u32, wants_reply: bool) -> Option<Request> {
     })
 }
 
-// Brings one request more, and says whether it was recorded.
+// Brings one more request, and returns whether it was recorded.
 fn asks<D: ReadDesk>(desk: &mut D, serial: u32, wants_reply: bool) -> bool {
     match ping(serial, wants_reply) {
         Some(request) => desk.arrive(request, 0, [0; 8]).is_ok(),
@@ -53,7 +54,7 @@ fn asks<D: ReadDesk>(desk: &mut D, serial: u32, wants_reply: bool) -> bool {
     }
 }
 
-// Brings so many requests, and leaves.
+// Brings all requests, and leaves.
 fn asks_all<D: ReadDesk>(desk: &mut D) {
     for serial in 1..REQUESTS + 1 {
         asks(desk, serial, false);
@@ -61,7 +62,7 @@ fn asks_all<D: ReadDesk>(desk: &mut D) {
     desk.leave();
 }
 
-// The serial of the request, where the event is one of this connection.
+// The serial of the request, if the event is one of this connection.
 fn serial_of(event: &Event, conn: ConnId) -> Option<u32> {
     match event {
         Event::Arrive(arrival) if arrival.conn == conn => Some(arrival.request.serial.number),
@@ -69,7 +70,7 @@ fn serial_of(event: &Event, conn: ConnId) -> Option<u32> {
     }
 }
 
-// How many requests of the connection there are, where their serials are 1, 2 and so on; else 0.
+// How many requests of the connection there are, if their serials are 1, 2 and so on; otherwise 0.
 fn requests_of(events: &[Event], conn: ConnId) -> u32 {
     let mut last = 0u32;
     for event in events {
@@ -83,7 +84,7 @@ fn requests_of(events: &[Event], conn: ConnId) -> u32 {
     last
 }
 
-// The desk of a connection's reader, for one more connection.
+// The desk of the reader of one more connection.
 fn reader<R: Wait + Copy>(
     rt: R,
     service: &Arc<SharedService, Global>,
@@ -96,7 +97,7 @@ fn reader<R: Wait + Copy>(
     Ok(SharedDesk::new(rt, Arc::try_clone(service)?, reader, conn))
 }
 
-// So many of them.
+// This many of them.
 fn readers<R: Wait + Copy + Drop>(
     rt: R,
     alloc: Global,
@@ -146,7 +147,7 @@ fn what_eight_threads_recorded_is_in_one_history(rt: HostRuntime) -> Result<(), 
     Ok(())
 }
 
-// Takes what waits, and says whether outputs did.
+// Takes what waits, and returns whether there were outputs.
 fn takes<D: WriteDesk>(desk: &mut D) -> bool {
     matches!(desk.take(), Taken::Outs(_))
 }
@@ -169,7 +170,7 @@ fn a_thread_that_takes_waits_for_what_another_brings(rt: HostRuntime) -> Result<
     Ok(())
 }
 
-// What a desk gives once its connection is left, and once more.
+// Whether a desk whose connection leaves returns Closed, and then Missing.
 fn ends<D: ReadDesk + WriteDesk>(desk: &mut D) -> bool {
     desk.leave();
     matches!(desk.take(), Taken::Closed) && matches!(desk.take(), Taken::Missing)

@@ -1,4 +1,4 @@
-// Calls of words, and outputs in words.
+// Calls from words, and outputs in words.
 
 use crate::checks::{cell, number};
 use kr_base::{SessionId, Text};
@@ -16,7 +16,7 @@ fn closing(session: &str) -> Result<Call, Fail> {
     Ok(Call::CloseSession { session })
 }
 
-/// The call of a row: what it does, and with what, are its second and third cell.
+/// The call of a row: its second cell says what it does, and its third with what.
 pub fn call_of(alloc: Global, row: &str) -> Result<Result<Call, CallFault>, Fail> {
     match cell(row, 1) {
         "open" => Ok(Ok(opening(alloc, cell(row, 2))?)),

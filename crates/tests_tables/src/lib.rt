@@ -1,5 +1,5 @@
-//! The tests of the tables, over what their crates give to all. They are in a crate of their own so that a
-//! table isn't proved again for its tests.
+//! The tests of the tables, through the public items of their crates. They are in a crate of their
+//! own so that a table isn't proved again for its tests.
 #![tactic(auto)]
 
 #[cfg(test)]

@@ -5,9 +5,9 @@ use prompt_state::{Ended, PromptRefused, PromptState};
 use std::alloc::Global;
 use std::test::Fail;
 
-// An owner 1, an agent 2 and a third connection 3. A row has who calls, the call, the prompt, the round or what
-// the prompt is for, the answer, and the prompt afterwards with its stage, round, targets done and left, and
-// wrong answers.
+// An owner 1, an agent 2 and a third connection 3. A row has who calls, the call, the prompt, the
+// round or what the prompt is for, the answer, and the prompt afterwards with its stage, round,
+// targets done and left, and wrong answers.
 const HISTORY: &str = "\
 1|begin|1|a b c|1|made 0 /abc 0
 3|ask|1||no prompt|made 0 /abc 0
@@ -79,7 +79,7 @@ const HISTORY: &str = "\
 1|begin|7|c|7|made 0 /c 0
 ";
 
-// What a call that only succeeds or not returned.
+// The result of a call that only succeeds or is refused.
 fn outcome(answer: Result<(), PromptRefused>) -> &'static str {
     match answer {
         Ok(()) => "ok",
@@ -87,7 +87,7 @@ fn outcome(answer: Result<(), PromptRefused>) -> &'static str {
     }
 }
 
-// What a call that ends a prompt returned.
+// The result of a call that ends a prompt.
 fn left(alloc: Global, answer: Result<Ended, PromptRefused>) -> Result<String, Fail> {
     match answer {
         Ok(left) => ended(alloc, &left),
@@ -95,7 +95,7 @@ fn left(alloc: Global, answer: Result<Ended, PromptRefused>) -> Result<String, F
     }
 }
 
-// A prompt is begun.
+// Begins a prompt.
 fn begun(alloc: Global, table: &mut PromptState, who: ConnId, words: &str) -> Result<String, Fail> {
     match table.begin(who, kind(alloc, words)?) {
         Ok(prompt) => decimal(alloc, prompt.0),
@@ -103,7 +103,7 @@ fn begun(alloc: Global, table: &mut PromptState, who: ConnId, words: &str) -> Re
     }
 }
 
-// A prompt is answered.
+// Answers a prompt.
 fn answered(
     alloc: Global,
     table: &mut PromptState,
@@ -118,7 +118,7 @@ fn answered(
     }
 }
 
-// One wrong answer more.
+// Counts one more wrong answer.
 fn wrong(table: &mut PromptState, prompt: PromptId) -> u64 {
     if table.row(prompt).is_none() {
         return 0;
@@ -126,7 +126,7 @@ fn wrong(table: &mut PromptState, prompt: PromptId) -> u64 {
     u64::from(table.wrong(prompt))
 }
 
-// The next round.
+// Asks the prompt in its next round.
 fn again(table: &mut PromptState, prompt: PromptId) -> u64 {
     match table.row(prompt) {
         Some(row) if row.stage.round() < u64::MAX => {}
@@ -135,7 +135,7 @@ fn again(table: &mut PromptState, prompt: PromptId) -> u64 {
     table.again(prompt)
 }
 
-// A prompt ends.
+// Ends a prompt.
 fn end(alloc: Global, table: &mut PromptState, prompt: PromptId) -> Result<String, Fail> {
     if table.row(prompt).is_none() {
         return spaced(alloc, &["gone"]);
@@ -181,7 +181,7 @@ fn first(alloc: Global, table: &PromptState, prompt: PromptId) -> Result<String,
     }
 }
 
-// What a call that answers nothing did.
+// Makes a call that returns nothing.
 fn changed(table: &mut PromptState, who: ConnId, call: &str, prompt: PromptId) -> &'static str {
     match call {
         "done" => table.done(prompt),
@@ -202,7 +202,7 @@ fn derived(table: &PromptState, prompt: PromptId, round: u64) -> &'static str {
     }
 }
 
-// The answer to a call of an owner.
+// The answer to an owner's call.
 fn of_owner(
     alloc: Global,
     table: &mut PromptState,
@@ -224,7 +224,7 @@ fn of_owner(
     }
 }
 
-// The answer to a call of an agent, or of one that would be it.
+// The answer to a call of an agent, or of one that wants to be the agent.
 fn of_agent(
     alloc: Global,
     table: &mut PromptState,
@@ -278,7 +278,7 @@ fn an_owner_an_agent_and_a_third_share_the_prompts(rt: HostRuntime) -> Result<()
     Ok(())
 }
 
-// How many prompts the connection may begin, of this many that it tries.
+// The number of prompts that the connection can begin, if it tries this many.
 fn begun_of(alloc: Global, table: &mut PromptState, who: ConnId, tries: u64) -> Result<u64, Fail> {
     let mut count: u64 = 0;
     for _ in 0..tries {

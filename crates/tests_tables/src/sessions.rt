@@ -2,8 +2,8 @@ use kr_base::{ConnId, SessionId};
 use session_table::{SessionRefused, SessionTable};
 use std::test::Fail;
 
-// Two connections, 3 and 8. In a row a connection, what it asks of the table, and the answer: the number of
-// a session, or 0 for a refusal; a connection that leaves is answered its own number.
+// Two connections, 3 and 8. A row has a connection, what it asks of the table, and the answer: the
+// number of a session, or 0 for a refusal; a connection that leaves gets its own number.
 const CONVERSATION: &str = "\
 8 open 0: 1
 3 open 0: 2

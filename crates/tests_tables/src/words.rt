@@ -1,11 +1,11 @@
-// What a table of prompts answered, as texts.
+// What a table of prompts returns, as texts.
 
 use kr_base::{Stem, Text};
 use prompt_state::{Ask, Ended, PromptKind, PromptRefused, PromptRow, Stage, Target, Targets};
 use std::alloc::Global;
 use std::test::Fail;
 
-/// The parts, with a blank between two of them.
+/// The parts, separated by spaces.
 pub fn spaced(alloc: Global, parts: &[&str]) -> Result<String, Fail> {
     let mut text = String::new(alloc);
     for part in parts {
@@ -34,14 +34,14 @@ pub fn name_of(refused: PromptRefused) -> &'static str {
     }
 }
 
-/// A target of this name, in a collection of the same one.
+/// A target with this name, in a collection with the same name.
 pub fn target(alloc: Global, name: &str) -> Result<Target, Fail> {
     let given = Text::from_str(alloc, name)?.ok_or("a text")?;
     let stem = Stem::new(alloc, name)?.ok_or("a stem")?;
     Ok(Target { given, stem })
 }
 
-/// A kind of prompt: `new` makes a collection, other words are the targets to unlock.
+/// A kind of prompt: `new` creates a collection, other words are the targets to unlock.
 pub fn kind(alloc: Global, words: &str) -> Result<PromptKind, Fail> {
     if words == "new" {
         let label = Text::from_str(alloc, "label")?.ok_or("a text")?;
@@ -121,7 +121,7 @@ pub fn ask(alloc: Global, ask: &Ask) -> Result<String, Fail> {
     )
 }
 
-/// What is left of a prompt that ended, and whose it was.
+/// What is left of a prompt that ended, and who owned it.
 pub fn ended(alloc: Global, ended: &Ended) -> Result<String, Fail> {
     let owner = decimal(alloc, ended.owner.0)?;
     let prompt = decimal(alloc, ended.prompt.0)?;
