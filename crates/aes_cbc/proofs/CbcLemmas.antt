@@ -1,4 +1,4 @@
--- Chained blocks: one more of them, and that the two directions undo each other.
+-- Chained blocks: one more block, and that the two directions undo each other.
 use Rattle.std.proofs.Common.{◌≡◌, ℕ, zero, suc, ◌+◌, ◌-◌, ◌*◌, ◌/◌, ◌%◌, ◌<◌, List, ◌++◌, length, take, drop, ap, sym, ◌∙◌, arith, refl}
 use Rattle.std.proofs.lemmas.List.{append_assoc, drop-drop, drop_at, length-append, length-drop, length-take-le, nil_from_length, take-append-drop, take_at}
 use Rattle.aes_cbc.specs.Aes.{added, cipher, inverse_cipher, key_schedule}
@@ -6,7 +6,7 @@ use Rattle.aes_cbc.specs.Cbc.{deciphered, decrypted, enciphered, encrypted}
 use Rattle.aes_cbc.proofs.StateLemmas.{IsSmall, IsState, IsState-added, drop_small, take_small}
 use Rattle.aes_cbc.proofs.UndoLemmas.{IsState-cipher, IsState-inverse_cipher, added-added, cipher-inverse_cipher, inverse_cipher-cipher}
 
--- ---- one block more, for a loop: `blocks` are the bytes before it is stored, and `stored` after it
+-- ---- one more block, for a loop: `blocks` are the bytes before it is stored, and `stored` after it
 
 next_place : (i : ℕ) (blocks stored : List ℕ)
     → drop (16 * i + 16) stored ≡ drop (16 * i + 16) blocks

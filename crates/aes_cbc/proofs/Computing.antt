@@ -1,4 +1,4 @@
--- A fact of each number below a numeral, as of every byte, is proved by computing it at all of them.
+-- A fact about each number below a numeral, as about every byte, is proved by computing it for all of them.
 use Rattle.std.proofs.Common.{◌≡◌, ℕ, ◌<◌, true, eqb, ltb}
 use Rattle.std.proofs.lemmas.Bool.{agree_below, agree_below_at, eqb-true, ltb-true}
 
@@ -8,7 +8,7 @@ pub each_below : (n : ℕ) (f g : ℕ → ℕ) → agree_below (λ x. eqb (f x) 
 each_below n f g computed x lt =
     eqb-true (f x) (g x) (agree_below_at (λ y. eqb (f y) (g y)) (λ _. true) n x computed lt)
 
--- a function that computes to bytes below n gives bytes there
+-- a function that computes to bytes below n has bytes as its values there
 pub each_is_byte : (n : ℕ) (f : ℕ → ℕ) → agree_below (λ x. ltb (f x) 256) (λ _. true) n ≡ true
     → (x : ℕ) → x < n → f x < 256
 each_is_byte n f computed x lt =

@@ -26,7 +26,7 @@ INVERSE_SBOX-SBOX = each_below 256 (λ x. slice_index INVERSE_SBOX (slice_index 
 SBOX-INVERSE_SBOX : (y : ℕ) → y < 256 → slice_index SBOX (slice_index INVERSE_SBOX y) ≡ y
 SBOX-INVERSE_SBOX = each_below 256 (λ y. slice_index SBOX (slice_index INVERSE_SBOX y)) (λ y. y) refl
 
--- the S-box takes no two bytes to one
+-- the S-box takes no two bytes to the same byte
 sbox_injective : (x y : ℕ) → x < 256 → y < 256 → sbox x ≡ sbox y → x ≡ y
 sbox_injective x y lx ly e =
     sym (INVERSE_SBOX-SBOX x lx)

@@ -16,14 +16,14 @@ take_sixteen at xs =
     (λ i. take 4 (sym (drop-drop 4 at xs) i) ++ take 8 (sym (drop-drop 4 4 ys) i)) ∙ sym (take-add 4 8 (drop 4 ys)) in
     (λ i. take 4 ys ++ (take 4 (drop (at + 4) xs) ++ two i)) ∙ (λ i. take 4 ys ++ three i) ∙ sym (take-add 4 12 ys)
 
--- what two lists share from a place on they share from each later place on
+-- two lists with the same elements from a position on have the same elements from each later position on
 pub drop_later : (m n : ℕ) (xs ys : List ℕ) → m ≤ n → drop m xs ≡ drop m ys → drop n xs ≡ drop n ys
 drop_later m n xs ys le same =
     let e : n ≡ m + (n - m) = omega arith in
     ap (λ k. drop k xs) e ∙ sym (drop-drop (n - m) m xs) ∙ ap (drop (n - m)) same
     ∙ drop-drop (n - m) m ys ∙ ap (λ k. drop k ys) (sym e)
 
--- four parts, each written behind the one before
+-- four parts, each written after the one before
 pub take_written : (at : ℕ) (b₀ b₁ b₂ b₃ b₄ w₀ w₁ w₂ w₃ : List ℕ)
     → take (at + 4) b₁ ≡ take at b₀ ++ w₀
     → take (at + 4 + 4) b₂ ≡ take (at + 4) b₁ ++ w₁

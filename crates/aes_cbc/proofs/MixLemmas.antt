@@ -1,5 +1,5 @@
--- InvMixColumns undoes MixColumns, and the other way round: the products of their rows with each byte
--- are computed, and the rest is the order in which a sum is taken.
+-- InvMixColumns undoes MixColumns, and vice versa: the products of their rows with each byte are computed, and the
+-- rest is the order in which a sum is taken.
 use Rattle.std.proofs.Common.{◌≡◌, ℕ, ◌+◌, ◌-◌, ◌*◌, ◌%◌, List, [], ◌∷◌, ◌++◌, true, ◌∙◌, refl, bit_xor, eqb, nat_eq, slice_index, if◌then◌else◌}
 use Rattle.std.proofs.lemmas.Bool.{agree_below}
 use Rattle.std.specs.Int.Bits.{xor_zero_r}
@@ -51,7 +51,7 @@ mixed_byte-mixed_column n m a r small zeroth first second third =
     ∙ sum4-sum4 (λ j k. part n m r j (slice_index a j) k)
     ∙ (λ i. bit_xor (bit_xor (row 0 zeroth i) (row 1 first i)) (bit_xor (row 2 second i) (row 3 third i)))
 
--- what is kept of a column is the column
+-- the kept bytes of a column are the column
 kept_column : (a b c d : ℕ) (s : List ℕ)
     → s ≡ bit_xor (bit_xor a 0) 0 ∷ bit_xor b 0 ∷ bit_xor c 0 ∷ d ∷ [] → s ≡ a ∷ b ∷ c ∷ d ∷ []
 kept_column a b c d s is =

@@ -1,4 +1,4 @@
--- The product of bytes is linear in its second factor, and gives a byte.
+-- The product of bytes is linear in its second factor, and is a byte.
 use Rattle.std.proofs.Common.{◌≡◌, ℕ, zero, suc, ◌+◌, ◌-◌, ◌*◌, ◌/◌, ◌%◌, ◌^◌, ◌<◌, ◌≤◌, bit_xor, refl, ap, ◌∙◌, sym, arith, add-zero, zero-mul, mod-lt, pow_pos, pow-add}
 use Rattle.std.proofs.Math.Nat.{le-mul_of_pos_right}
 use Rattle.std.proofs.lemmas.Nat.{shl_below, shr_below, shr_split, xor_block, xor_comm, xor_lt}
@@ -14,7 +14,7 @@ xor_swap a b c d =
     ∙ ap (bit_xor a) (sym (xor_assoc b c d) ∙ ap (λ x. bit_xor x d) (xor_comm b c) ∙ xor_assoc c b d)
     ∙ sym (xor_assoc a c (bit_xor b d))
 
--- sums of two, added four times
+-- four sums of two terms, added
 pub xor_four : (a b c d w x y z : ℕ)
     → bit_xor (bit_xor (bit_xor a w) (bit_xor b x)) (bit_xor (bit_xor c y) (bit_xor d z))
     ≡ bit_xor (bit_xor (bit_xor a b) (bit_xor c d)) (bit_xor (bit_xor w x) (bit_xor y z))
@@ -22,7 +22,7 @@ xor_four a b c d w x y z =
     (λ i. bit_xor (xor_swap a w b x i) (xor_swap c y d z i))
     ∙ xor_swap (bit_xor a b) (bit_xor w x) (bit_xor c d) (bit_xor y z)
 
--- what is added twice is gone
+-- a term that is added twice cancels
 pub xor_twice : (a b : ℕ) → bit_xor (bit_xor a b) b ≡ a
 xor_twice a b = xor_assoc a b b ∙ ap (bit_xor a) (xor_self b) ∙ xor_zero_r a
 
@@ -91,7 +91,7 @@ terms_small (suc n) c b lb le =
     xor_lt 15 (terms n c b) (bit_at c n * (b * 2 ^ n)) (terms_small n c b lb (omega arith))
     (bit_times_small (bit_at c n) (b * 2 ^ n) (2 ^ 15) (bit_at-lt c n) (shifted_small b n lb (omega arith)))
 
--- to take 2 ^ k and some lower powers away where 2 ^ k is there leaves none of it
+-- subtracting 2 ^ k and some lower powers, if 2 ^ k is there, leaves no 2 ^ k
 reduced_by : (p k m h : ℕ) → h ≡ p / 2 ^ k → h < 2 → m < 2 ^ k
     → bit_xor p (h % 2 * (2 ^ k + m)) < 2 ^ k
 reduced_by p k m zero is lt lm =

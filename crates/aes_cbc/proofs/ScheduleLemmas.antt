@@ -47,7 +47,7 @@ unfolding next_word
 next_word-other w i x other is =
     is ∙ ap (bit_xor (slice_index w (i - 4))) (sym (cond-false (nat_eq (i % 4) 0) _ _ (ne_eqb _ _ other)))
 
--- a word rests on those before it alone
+-- a word depends only on those before it
 pub next_word-take : (w : List ℕ) (i : ℕ) → 4 ≤ i → next_word (take i w) i ≡ next_word w i
 unfolding next_word
 next_word-take w i le =
@@ -57,7 +57,7 @@ next_word-take w i le =
     then bit_xor (sub_word (rotated_word (near j))) (round_constant (i / 4))
     else near j)
 
--- one word more
+-- one more word
 pub words_through_more : (key w : List ℕ) (i : ℕ) → 4 ≤ i → take i w ≡ words_through key (i - 4)
     → take i w ++ next_word w i ∷ [] ≡ words_through key (i + 1 - 4)
 unfolding words_through

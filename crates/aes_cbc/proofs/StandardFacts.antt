@@ -1,5 +1,4 @@
--- The standard's own examples, computed from the definitions, so that a slip in a definition does not
--- check.
+-- The standard's own examples, computed from the definitions, so that a definition with a slip doesn't check.
 use Rattle.std.proofs.Common.{◌≡◌, ℕ, ◌<◌, List, [], ◌∷◌, refl, nat_eq, slice_index, if◌then◌else◌}
 use Rattle.aes_cbc.specs.Field.{terms, remainder, product, inverse_below, inverse, affine, sbox}
 use Rattle.aes_cbc.specs.Aes.{added, cipher, key_schedule, mix_columns, next_word, power_of_x, rounds, shift_rows, sub_bytes, words_through}
@@ -10,7 +9,7 @@ product_example : product 0x57 0x83 ≡ 0xc1
 unfolding terms remainder product
 product_example = refl
 
--- each byte but 0 has an inverse, and 0 is taken to 0 (4.4, 5.1.1)
+-- each byte except 0 has an inverse, and 0 is taken to 0 (4.4, 5.1.1)
 inverse_found : (b : ℕ) → b < 256 → product b (inverse b) ≡ (if nat_eq b 0 then 0 else 1)
 unfolding terms remainder product inverse_below inverse
 inverse_found = each_below 256 (λ b. product b (inverse b)) (λ b. if nat_eq b 0 then 0 else 1) refl

@@ -1,4 +1,4 @@
--- States are lists of 16 bytes, and each step of a round gives one.
+-- States are lists of 16 bytes, and each step of a round returns one.
 use Rattle.std.proofs.Common.{◌≡◌, ℕ, zero, suc, ◌+◌, ◌-◌, ◌*◌, ◌/◌, ◌%◌, ◌^◌, ◌<◌, ◌≤◌, List, [], ◌∷◌, ◌++◌, length, take, drop, ap, sym, ◌∙◌, inl, inr, arith, refl, bit_xor, slice_index, w32, mod-lt}
 use Rattle.std.proofs.lemmas.Bool.{cases_lt}
 use Rattle.std.proofs.lemmas.List.{drop_more, get_or-drop, get_or-take, get_or_past, length-take, take_all}
@@ -69,7 +69,7 @@ IsState-round_key w n =
 
 -- ---- the cells of a state
 
--- n elements from a place on
+-- n elements from a position on
 entries : ℕ → ℕ → List ℕ → List ℕ
 entries zero at s = []
 entries (suc n) at s = slice_index s at ∷ entries n (at + 1) s
@@ -85,7 +85,7 @@ pub cells_of-cell : (s : List ℕ) → length s ≡ 16 → cells_of (cell s) ≡
 unfolding entries
 cells_of-cell s shape = entries_take 16 0 s (omega arith) ∙ take_all 16 s (omega arith)
 
--- ---- each step gives a state
+-- ---- each step returns a state
 
 pub IsState-added : (s k : List ℕ) → IsSmall s → IsSmall k → IsState (added s k)
 unfolding added

@@ -1,4 +1,4 @@
--- The inverse cipher undoes the cipher, and the other way round.
+-- The inverse cipher undoes the cipher, and vice versa.
 use Rattle.std.proofs.Common.{◌≡◌, ℕ, zero, suc, ◌+◌, ◌-◌, ◌*◌, List, length, ap, sym, ◌∙◌, arith}
 use Rattle.aes_cbc.specs.Aes.{added, cell, cells_of, cipher, inverse_cipher, inverse_mix_columns, inverse_rounds, inverse_shift_rows, inverse_sub_bytes, mix_columns, round_key, rounds, shift_rows, sub_bytes}
 use Rattle.aes_cbc.proofs.FieldFacts.{inverse_sbox-sbox, sbox-inverse_sbox}
@@ -8,7 +8,7 @@ use Rattle.aes_cbc.proofs.StateLemmas.{IsState, IsState-added, IsState-inverse_m
 
 -- ---- one step
 
--- what is added twice is gone
+-- a term that is added twice cancels
 pub added-added : (s k : List ℕ) → length s ≡ 16 → added (added s k) k ≡ s
 unfolding added
 added-added s k shape = (λ i. cells_of (λ r c. xor_twice (cell s r c) (cell k r c) i)) ∙ cells_of-cell s shape

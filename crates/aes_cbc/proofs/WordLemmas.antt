@@ -41,7 +41,7 @@ SBOX_word a b c d la lb lc ld =
     to_be_bytes-from_be_bytes _ _ _ _ (SBOX_small a la) (SBOX_small b lb) (SBOX_small c lc) (SBOX_small d ld)
     ∙ (λ i. sbox_at a la i ∷ sbox_at b lb i ∷ sbox_at c lc i ∷ sbox_at d ld i ∷ [])
 
--- and likewise of the inverse S-box
+-- and likewise for the inverse S-box
 pub INVERSE_SBOX_word : (a b c d : ℕ) → a < 256 → b < 256 → c < 256 → d < 256
     → to_be_bytes w32 (from_be_bytes w32
     (slice_index INVERSE_SBOX a ∷ slice_index INVERSE_SBOX b ∷ slice_index INVERSE_SBOX c ∷ slice_index INVERSE_SBOX d ∷ []))

@@ -33,8 +33,8 @@ sub_bytes s = cells_of (λ r c. sbox (cell s r c))
 unfoldable pub shift_rows : List ℕ → List ℕ
 shift_rows s = cells_of (λ r c. cell s r ((c + r) % 4))
 
--- row r of a column times the matrix whose first row is m, and each further row the one above it,
--- turned by one to the right (4.3)
+-- row r of a column times the matrix whose first row is m, and each further row the one above it, rotated by one to
+-- the right (4.3)
 abbrev pub mixed_byte : List ℕ → List ℕ → ℕ → ℕ
 mixed_byte m a r = bit_xor
     (bit_xor (product (slice_index m ((4 - r) % 4)) (slice_index a 0))

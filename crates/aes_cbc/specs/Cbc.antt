@@ -2,14 +2,14 @@
 use Rattle.std.specs.Prelude.{ℕ, zero, suc, ◌/◌, List, [], ◌++◌, take, drop, length}
 use Rattle.aes_cbc.specs.Aes.{added, cipher, inverse_cipher, key_schedule}
 
--- n blocks, enciphered under the key schedule w behind the block before them
+-- n blocks, enciphered under the key schedule w, chained to the block before them
 unfoldable pub enciphered : List ℕ → List ℕ → ℕ → List ℕ → List ℕ
 enciphered w before zero bytes = []
 enciphered w before (suc n) bytes =
     let block = cipher w (added (take 16 bytes) before) in
     block ++ enciphered w block n (drop 16 bytes)
 
--- n blocks, deciphered under the key schedule w behind the block before them
+-- n blocks, deciphered under the key schedule w, chained to the block before them
 unfoldable pub deciphered : List ℕ → List ℕ → ℕ → List ℕ → List ℕ
 deciphered w before zero bytes = []
 deciphered w before (suc n) bytes =

@@ -4,13 +4,13 @@
 use Rattle.std.specs.Prelude.{ℕ, zero, suc, ◌+◌, ◌*◌, ◌%◌, ◌^◌, true, false, nat_eq, bit_xor}
 use Rattle.std.specs.Int.{bit_at}
 
--- the sum of b x^i over each i below n for which a has x^i: a times b, where a has no x^n nor above
+-- the sum of b x^i over each i below n for which a has x^i: a times b, if a has no power from x^n on
 unfoldable pub terms : ℕ → ℕ → ℕ → ℕ
 terms zero a b = 0
 terms (suc n) a b = bit_xor (terms n a b) (bit_at a n * (b * 2 ^ n))
 
--- what is left of p modulo x^8 + x^4 + x^3 + x + 1, where p has no x^(8 + n) nor above: from the
--- highest power down, the modulus is taken away where the power is there
+-- what is left of p modulo x^8 + x^4 + x^3 + x + 1, if p has no power from x^(8 + n) on: from the highest power
+-- down, the modulus is subtracted if p has that power
 unfoldable pub remainder : ℕ → ℕ → ℕ
 remainder zero p = p
 remainder (suc n) p = remainder n (bit_xor p (bit_at p (8 + n) * (0x11b * 2 ^ n)))
@@ -19,7 +19,7 @@ remainder (suc n) p = remainder n (bit_xor p (bit_at p (8 + n) * (0x11b * 2 ^ n)
 unfoldable pub product : ℕ → ℕ → ℕ
 product a b = remainder 7 (terms 8 a b)
 
--- the greatest number below n whose product with b is 1, or 0 where there is none
+-- the greatest number below n whose product with b is 1, or 0 if there is none
 unfoldable pub inverse_below : ℕ → ℕ → ℕ
 inverse_below zero b = 0
 inverse_below (suc n) b = elim (nat_eq (product b n) 1) [ true ↦ n | false ↦ inverse_below n b ]
@@ -42,7 +42,7 @@ affine (suc n) b = affine n b + affine_bit b n * 2 ^ n
 unfoldable pub sbox : ℕ → ℕ
 sbox b = affine 8 (inverse b)
 
--- the greatest number below n that the S-box takes to y, or 0 where there is none
+-- the greatest number below n that the S-box takes to y, or 0 if there is none
 unfoldable pub taken_below : ℕ → ℕ → ℕ
 taken_below zero y = 0
 taken_below (suc n) y = elim (nat_eq (sbox n) y) [ true ↦ n | false ↦ taken_below n y ]

@@ -1,4 +1,4 @@
--- What the type of a key keeps of its fields.
+-- What the type of a key guarantees of its fields.
 use Rattle.std.specs.Prelude.{◌≡◌}
 use Rattle.aes_cbc.specs.Aes.{key_schedule}
 use Rattle.aes_cbc.specs.State.{IsInverted}

@@ -41,7 +41,7 @@ number_of-decimal n small =
     let fits : nat_lt n 4294967296 ≡ true = grind (arith, nat_tests) in
     rw (value, fits, ap is_eq (tied_itself nat_list_cmp_total (decimal n))) refl
 
--- a text that no number has
+-- a text that isn't any number's
 pub number_of-none : (text : List ℕ) → ((n : ℕ) → n < 4294967296 → text ≡ decimal n → ⊥) → None ≡ number_of text
 number_of-none text other =
     let step : (a b : Bool) → nat_lt (digits_value 10 text) 4294967296 ≡ a → is_name (decimal (digits_value 10 text)) text ≡ b → None ≡ cond (a && b) (Some (digits_value 10 text)) None =
@@ -76,7 +76,7 @@ printed_alike E text printed m h e same =
 
 -- ---- what a search in order finds
 
--- what was found at a name is shown as the text
+-- the value found at a name is shown as the text
 abbrev pub shown_at : List ℕ → Option AttrValue → Bool
 shown_at text None = false
 shown_at text (Some found) = is_name text (text_of found)
@@ -155,7 +155,7 @@ pair-decides one other = (
   λ e. rw (name-itself one.0 other.0 (ap (λ (p : List ℕ × List ℕ). p.0) e)) (name-itself one.1 other.1 (ap (λ (p : List ℕ × List ℕ). p.1) e)),
 )
 
--- the test decides whether the lists of names with texts are one
+-- the test decides whether the lists of names with texts are equal
 pub equal-is : (one other : List (List ℕ × AttrValue)) → (is_equal one other ≡ true → texts_of one ≡ texts_of other) × (texts_of one ≡ texts_of other → is_equal one other ≡ true)
 equal-is one other = pointwise_decides pair-decides (texts_of one) (texts_of other)
 

@@ -1,5 +1,5 @@
--- Secret Service API, "Lookup Attributes": an item matches where it has each wanted attribute. GNOME keyring file format: while a
--- file is locked, its items are found by the hashes of their attributes.
+-- Secret Service API, "Lookup Attributes": an item matches if it has each wanted attribute. GNOME keyring file format:
+-- while a file is locked, its items are found by the hashes of their attributes.
 use Rattle.std.specs.Prelude.{ℕ, ◌&&◌, Bool, false, cond, nat_lt, nat_eq, List, Option, Some, None, decimal, map}
 use Rattle.std.specs.Cmp.Lexicographic.{pointwise}
 use Rattle.std.specs.List.{list_any, list_all}
@@ -12,12 +12,12 @@ use Rattle.kr_base.specs.declared.hashed.HashedValue.{HashedValue}
 use Rattle.kr_base.specs.declared.hashed.HashedValue.TheVariants as hash
 use Rattle.attribute_hash.specs.Hash.{number_hash, text_hash}
 
--- the text that the API shows of a value: a number is shown as its decimal text
+-- the text as which the API shows a value: a number is shown as its decimal text
 abbrev pub text_of : AttrValue → List ℕ
 text_of (value.Text text) = text
 text_of (value.Number number) = decimal number
 
--- one of the attributes has the name and is shown as the text
+-- whether one of the attributes has the name and is shown as the text
 abbrev pub has_pair : List ℕ → List ℕ → List (List ℕ × AttrValue) → Bool
 has_pair name text attributes = list_any (λ pair. is_name name pair.0 && is_name text (text_of pair.1)) attributes
 
@@ -29,7 +29,7 @@ matches wanted attributes = list_all (λ pair. has_pair pair.0 (text_of pair.1) 
 abbrev pub texts_of : List (List ℕ × AttrValue) → List (List ℕ × List ℕ)
 texts_of attributes = map (λ pair. (pair.0, text_of pair.1)) attributes
 
--- two pairs have the same name and the same text
+-- whether two pairs have the same name and the same text
 abbrev pub is_same_pair : List ℕ × List ℕ → List ℕ × List ℕ → Bool
 is_same_pair one other = is_name one.0 other.0 && is_name one.1 other.1
 
@@ -37,7 +37,7 @@ is_same_pair one other = is_name one.0 other.0 && is_name one.1 other.1
 abbrev pub is_equal : List (List ℕ × AttrValue) → List (List ℕ × AttrValue) → Bool
 is_equal one other = pointwise is_same_pair (texts_of one) (texts_of other)
 
--- the number of 32 bits of which this is the decimal text, without leading zeros
+-- the number of 32 bits whose decimal text, without leading zeros, is this
 abbrev pub number_of : List ℕ → Option ℕ
 number_of text =
     cond (nat_lt (digits_value 10 text) 4294967296 && is_name (decimal (digits_value 10 text)) text)
@@ -49,12 +49,12 @@ abbrev pub is_number_hash : Option ℕ → ℕ → Bool
 is_number_hash None found = false
 is_number_hash (Some number) found = nat_eq (number_hash number) found
 
--- the hash is that of the text, or of the number of which it is the decimal text
+-- whether it is the hash of the text, or of the number whose decimal text this is
 abbrev pub is_hash_of : List ℕ → HashedValue → Bool
 is_hash_of text (hash.Text found) = is_name (text_hash text) found
 is_hash_of text (hash.Number found) = is_number_hash (number_of text) found
 
--- one of the hashed attributes has the name and a hash of the text
+-- whether one of the hashed attributes has the name and a hash of the text
 abbrev pub has_hash : List ℕ → List ℕ → List HashedPair → Bool
 has_hash name text hashed = list_any (λ pair. is_name name pair.name && is_hash_of text pair.value) hashed
 

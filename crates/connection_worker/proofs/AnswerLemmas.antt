@@ -1,4 +1,4 @@
--- The reply to a call can wait, so it waits behind the call, and nothing is lost.
+-- The reply to a call can wait, so it waits after the call, and nothing is lost.
 use Rattle.std.proofs.Common.{◌≡◌, ℕ, ◌+◌, ◌≤◌, Bool, true, false, cond, min, List, [], ◌∷◌, length, refl, sym, ◌∙◌, ap, arith}
 use Rattle.std.proofs.lemmas.Bool.{le-leb, lt-ltb}
 use Rattle.kr_base.specs.declared.ids.ConnId.{ConnId}
@@ -19,7 +19,7 @@ use Rattle.service_machine.specs.Single.{Asked, arrival, taking}
 use Rattle.connection_worker.specs.Serving.{IsOwed, owed, HasGiven}
 use Rattle.connection_worker.proofs.ServingLemmas.{same}
 
--- the row of a connection to which this is owed
+-- the row of a connection for which this waits
 abbrev pub row_with : ConnId → List Out → ℕ → ConnRow
 row_with conn outs taken = record { conn = conn; waiting = outs; overrun = false; leaving = false; taken = taken }
 
@@ -37,14 +37,14 @@ delivered-reply : (wanted : Bool) (conn : ConnId) (out : Out) (taken : ℕ) → 
 delivered-reply true conn out taken short = delivered-one conn out taken short
 delivered-reply false conn out taken short = refl
 
--- what is owed to the only connection is what waits in its row
+-- the outputs due to the only connection are what waits in its row
 pub owed-is : (told : Told) (outs : List Out) → IsOwed told outs → owed told ≡ outs
 owed-is told outs is = rw is.only (rw (same told.conn.0) refl)
 
 pub owed-all : (told : Told) (outs : List Out) → IsOwed told outs → IsOwed told (owed told)
 owed-all told outs is = rw (owed-is told outs is) is
 
--- what waits behind a request is its reply
+-- what waits after a request is its reply
 pub arrived-rows : (conn : ConnId) (state : Rows) (a : Asked) (taken : ℕ) → state.connections.rows ≡ row_with conn [] taken ∷ []
     → (step state (arrival conn a)).connections.rows ≡ row_with conn (waiting_behind a.request.wants_reply (message_of a.request.serial (served conn a.request state).answer)) taken ∷ []
 arrived-rows conn state a taken only =
@@ -54,7 +54,7 @@ arrived-rows conn state a taken only =
     ∙ ap (λ (r : List ConnRow). delivered (replies conn request ran.answer) r) (ap (λ (c : ConnRows). c.rows) (connections-served conn request state) ∙ only)
     ∙ delivered-reply request.wants_reply conn (message_of request.serial ran.answer) taken (reply-waits conn request state).small
 
--- behind a request no output is lost
+-- after a request no output is lost
 pub arrived-owed : (told new : Told) (a : Asked) → IsOwed told [] → new.conn ≡ told.conn → new.state ≡ step told.state (arrival told.conn a) → IsOwed new (owed new)
 arrived-owed told new a is conn state =
     let request = a.request in
@@ -66,7 +66,7 @@ arrived-owed told new a is conn state =
       only = behind ∙ ap (λ c. row_with c (waiting_behind request.wants_reply out) is.taken ∷ []) (sym conn);
     })
 
--- after what was given nothing is owed
+-- once it was taken, nothing waits any more
 given-idle-by : (mid new : Place) (outs : List Out) → IsOwed mid.told outs → HasGiven mid new → IsOwed new.told []
 given-idle-by mid new [] is so =
     let conn = mid.told.conn in

@@ -17,7 +17,7 @@ use Rattle.connection_worker.proofs.StreamLemmas.{Gave-none, GaveFront-whole, Ga
 use Rattle.connection_worker.proofs.AnswerLemmas.{row_with, given-idle}
 use Rattle.connection_worker.proofs.RecordLemmas.{recorded-none, recorded-one, recorded-refused, given-turn}
 
--- nothing was written, which is a front of anything
+-- nothing was written, which is a prefix of anything
 front-none : (o : Output) (text : List ℕ) → GaveFront o o text
 front-none o text = GaveFront-more o o [] text (GaveFront-whole o o [] (Gave-none o))
 
@@ -25,7 +25,7 @@ front-none o text = GaveFront-more o o [] text (GaveFront-whole o o [] (Gave-non
 pub unread : (parts : Parts) (w : World) (serials : ℕ) (o : Output) → IsOwed w.told [] → AnswersCall parts w w serials serials o o (Err end.Memory)
 unread parts w serials o idle = ([], record { early = tt; refused = []; few = omega arith; recorded = recorded-none w; idle = idle; wrote = λ taken behind. front-none o [] }, tt)
 
--- nothing is owed where nothing changed
+-- nothing waits if nothing changed
 idle-still : (old new : Told) → new.conn ≡ old.conn → new.state ≡ old.state → IsOwed old [] → IsOwed new []
 idle-still old new conn state idle = record {
   taken = idle.taken;
@@ -62,13 +62,13 @@ unasked parts request old new serials o end.Memory call idle asks = (
 )
 unasked parts request old new serials o _ call idle asks = absurd asks
 
--- what a request gives is what is owed behind it
+-- what a request gives is what waits after it
 given-owed : (old mid : World) (a : Asked) → HasArrived old mid a → given_by old.told.conn old.told.state (turns old.told.conn old.told.state (a ∷ [])) ≡ owed mid.told
 given-owed old mid a so =
     given-turn old.told.conn old.told.state a
     ∙ ap (λ (s : Rows). waiting_for old.told.conn s.connections.rows) (sym so.calls.state) ∙ ap (λ c. waiting_for c mid.told.state.connections.rows) (sym so.calls.same.conn)
 
--- what was owed for it was given, and written or not
+-- what waited for it was taken, and written or not
 pub answers : (parts : Parts) (request : Request) (old mid : World) (new : Place) (serials behind : ℕ) (from to : Output) (result : Result Unit End) → CallOf parts request
     → IsOwed mid.told (owed mid.told) → Asks request old mid (Ok tt) → Gives (place_of mid) new serials behind from to result
     → AnswersCall parts old (record { told = new.told; has_seen = new.has_seen; coming = mid.coming; salting = mid.salting }) serials behind from to result

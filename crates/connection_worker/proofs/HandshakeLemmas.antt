@@ -1,4 +1,4 @@
--- A handshake goes on by turns: lines are answered, and more is read.
+-- A handshake continues by turns: lines are answered, and more is read.
 use Rattle.std.proofs.Common.{◌≡◌, ℕ, ◌<◌, ◌≤◌, inl, inr, get_or, List, [], ◌∷◌, ◌++◌, length, drop, Result, Ok, Err, IfOk, OnErr, IsErrOf, refl, sym, ◌∙◌, ap, arith, append_assoc, append-nil, subst}
 use Rattle.std.proofs.lemmas.List.Folds.{concat-append}
 use Rattle.std.proofs.lemmas.Grind.{get_or_default_zero}
@@ -179,7 +179,7 @@ reads_no_more at next held rest left old mid new output _ so more = absurd more
 
 -- ---- the first piece
 
--- nothing came, or there was no memory for it
+-- nothing was read, or there was no memory for it
 pub never_began : (uid : ℕ) (guid left : List ℕ) (old new : Input) (output : Output) (why : End) → ReadsMore [] left old new (Err why)
     → Shakes uid guid (record { input = old; output = output }) (record { input = new; output = output }) (Err why)
 never_began uid guid left old new output end.ReadFault more = record {
@@ -225,7 +225,7 @@ began uid guid (first ∷ bytes) old mid output new result more is on =
       ends = rw whole (ends-from uid guid (bytes ++ on.read) old mid output new result more.1.later more.4 on.ends);
     }
 
--- the same of a handshake that is fresh
+-- the same for a new handshake
 pub began-at : (at : Exchange) (held behind : List ℕ) (old mid : Input) (output : Output) (new : Both) (result : Result Framing End) → at.state ≡ WaitingForAuth → behind ≡ drop 1 held
     → ReadsMore [] held old mid (Ok tt) → get_or held 0 0 ≡ 0 → ShakesOn at behind (record { input = mid; output = output }) new result
     → Shakes at.uid at.guid (record { input = old; output = output }) new result
@@ -234,10 +234,10 @@ began-at at held behind old mid output new result is_fresh is_behind more zero_t
     began at.uid at.guid held old mid output new result more zero_there
     (subst P (λ i. record { uid = at.uid; guid = at.guid; state = is_fresh i }) (rw is_behind at on))
 
--- what was read behind bytes that equal these
+-- what was read after bytes that equal these
 pub more_behind : (old rest left : List ℕ) (mid new : Input) (result : Result Unit End) → old ≡ rest → ReadsMore old left mid new result → ReadsMore rest left mid new result
 more_behind old rest left mid new result is more = subst (λ (held : List ℕ). ReadsMore held left mid new result) is more
 
--- the first byte, read by its place
+-- the first byte, read by its index
 pub first_is : (held : List ℕ) (byte : ℕ) → byte ≡ get_or held 0 byte → 0 < length held → byte ≡ get_or held 0 0
 first_is held byte is some = is ∙ get_or_default_zero held 0 byte some

@@ -17,14 +17,14 @@ use Rattle.connection_worker.specs.Streams.{Output, Gave, GaveFront}
 use Rattle.connection_worker.specs.Lines.{IsLineEnd, Answers}
 use Rattle.connection_worker.proofs.StreamLemmas.{Gave-trans, GaveFront-more, GaveFront-behind}
 
--- the first CR LF stands behind the place before this one
+-- the first CR LF starts just before this position
 pub ends-here : (bytes : List ℕ) (place : ℕ) → 1 ≤ place → place < length bytes → get_or bytes (place - 1) 0 ≡ 13 → get_or bytes place 0 ≡ 10
     → ((k : ℕ) → k + 1 < place → EndsAt bytes k → ⊥) → IsLineEnd bytes (Some (place - 1))
 ends-here bytes place some within cr lf first =
     let behind : place - 1 + 1 ≡ place = omega (arith, some) in
     (first_cut-at bytes (place - 1) (cr, ap (λ (n : ℕ). get_or bytes n 0) behind ∙ lf) (λ k below. first k (omega (arith, below))), omega (arith, some, within))
 
--- a place past the end has no byte
+-- a position past the end has no byte
 past-end : (bytes : List ℕ) (place : ℕ) → length bytes ≤ place → get_or bytes place 0 ≡ 0
 past-end [] place long = refl
 past-end (c ∷ bytes) zero long = absurd (omega (arith, long))
@@ -48,7 +48,7 @@ endless at bytes none long =
     run-first at bytes ∙ ap (run_from_cut run at bytes) none
     ∙ ap (λ b. cond b (silent (waiting at bytes)) (silent (refused fault.LineTooLong))) (le-ltb (length bytes) LINE_LIMIT long)
 
--- the first line ends behind this place, and is too long
+-- the first line ends at this position, and is too long
 pub too_long : (at : Exchange) (bytes : List ℕ) (place : ℕ) → IsLineEnd bytes (Some place) → LINE_LIMIT < place + 2 → run at bytes ≡ silent (refused fault.LineTooLong)
 too_long at bytes place ends long =
     let line = take place bytes in
@@ -67,14 +67,14 @@ by_row at bytes place ends fits =
     run-first at bytes ∙ ap (run_from_cut run at bytes) ends.0
     ∙ ap (λ b. cond b (run_from_step (step_of at line) rest (run (next_of at line) rest)) (silent (refused fault.LineTooLong))) (le-leb (length line + 2) LINE_LIMIT (omega (arith, size, fits)))
 
--- what it brings
+-- what it leads to
 pub by_step : (at : Exchange) (bytes : List ℕ) (place : ℕ) (brought : Step) → IsLineEnd bytes (Some place) → place + 2 ≤ LINE_LIMIT → brought ≡ step_of at (take place bytes)
     → run at bytes ≡ run_from_step brought (drop (place + 2) bytes) (run (next_of at (take place bytes)) (drop (place + 2) bytes))
 by_step at bytes place brought ends fits is = rw is (by_row at bytes place ends fits)
 
 -- ---- all lines
 
--- the run goes on with another one that equals it
+-- the run continues with another one that equals it
 pub answers-is : (at : Exchange) (bytes : List ℕ) (old new : Output) (one other : Run) → Answers at bytes old new one → one ≡ other → Answers at bytes old new other
 answers-is at bytes old new one other so is = record {
   answers = so.answers;
@@ -99,7 +99,7 @@ answers-more at next bytes taken size old mid new one answer so is gave =
     } in
     answers-is at bytes old new further (run next (drop (taken + size) bytes)) on (ap (run next) (drop-drop size taken bytes))
 
--- its answer wasn't written whole
+-- its answer wasn't written completely
 pub answers-failed : (at : Exchange) (bytes : List ℕ) (old mid new : Output) (one further : Run) (answer : List ℕ)
     → Answers at bytes old mid one → one ≡ answered answer further → GaveFront mid new answer → GaveFront old new (concat (run at bytes).answers)
 answers-failed at bytes old mid new one further answer so is gave =

@@ -25,7 +25,7 @@ use Rattle.connection_worker.proofs.StreamLemmas.{Gave-none, Gave-trans, GaveFro
 
 -- ---- requests that were answered one after the other
 
--- what requests give, one behind the other
+-- what requests give, one after the other
 pub given-more : (old mid : World) (asked more : List Asked) → Recorded old mid asked []
     → given_by old.told.conn old.told.state (turns old.told.conn old.told.state (asked ++ more))
     ≡ given_by old.told.conn old.told.state (turns old.told.conn old.told.state asked) ++ given_by mid.told.conn mid.told.state (turns mid.told.conn mid.told.state more)
@@ -60,7 +60,7 @@ answered-more old mid new serials next behind from o to asked more p q =
           );
     }
 
--- an early end behind what was written
+-- an early end after what was written
 pub ends-behind : (why : End) (count : ℕ) (from o to : Output) (x y : List ℕ) → Gave from o x → EndsEarly why count o to y → EndsEarly why count from to (x ++ y)
 ends-behind end.EventsSpent count from o to x y gave ends = (ends.0, Gave-trans from o to x y gave ends.1)
 ends-behind end.WriteFault count from o to x y gave ends = (rose-later from.faults o.faults to.faults gave.later ends.0, GaveFront-behind from o to x y gave ends.1)
@@ -186,7 +186,7 @@ all-stream most bytes rest left messages cut stream =
     let e : messages ++ [] ≡ messages = append-nil messages in
     rw (sym e) (stream_then most bytes rest left messages [] cut stream)
 
--- no further message stands whole
+-- no further message is complete
 pub going-last : (most : ℕ) (bytes rest left : List ℕ) (old mid : World) (serials next : ℕ) (from o : Output) → (so : Going most bytes rest old mid serials next from o)
     → Stream most rest [] left → (going : Going most bytes left old mid serials next from o) × Stream most bytes going.messages left
 going-last most bytes rest left old mid serials next from o so stream =

@@ -44,7 +44,7 @@ GivesSalts-append a b c (salt ∷ one) more p q = (p.0, GivesSalts-append (behin
 pub recorded-none : (w : World) → Recorded w w [] []
 recorded-none w = record { calls = records-none (place_of w); moments = refl; salts = refl }
 
--- more requests behind some
+-- more requests after others
 pub recorded-more : (old mid new : World) (asked more refused : List Asked) → Recorded old mid asked [] → Recorded mid new more refused → Recorded old new (asked ++ more) refused
 recorded-more old mid new asked more refused p q =
     let conn = old.told.conn in
@@ -69,7 +69,7 @@ recorded-more old mid new asked more refused p q =
           rw e (GivesSalts-append old.salting mid.salting new.salting (map (λ (a : Asked). a.salt) (asked ++ [])) (map (λ (a : Asked). a.salt) (more ++ refused)) p.salts q.salts);
     }
 
--- one request whose answer was given
+-- one request whose answer was taken
 pub recorded-one : (old mid : World) (new : Place) (a : Asked) → HasArrived old mid a → HasGiven (place_of mid) new
     → Recorded old (record { told = new.told; has_seen = new.has_seen; coming = mid.coming; salting = mid.salting }) (a ∷ []) []
 recorded-one old mid new a p q =
@@ -92,7 +92,7 @@ recorded-one old mid new a p q =
 pub recorded-refused : (old new : World) (a : Asked) → HasAsked old new a → Recorded old new [] (a ∷ [])
 recorded-refused old new a p = record { calls = p.calls; moments = (new.coming, p.moment, refl); salts = (p.salt, p.salting) }
 
--- what one request gives is what is owed behind it
+-- what one request gives is what waits after it
 pub given-turn : (conn : ConnId) (state : Rows) (a : Asked) → given_by conn state (turns conn state (a ∷ [])) ≡ waiting_for conn (step state (arrival conn a)).connections.rows
 given-turn conn state a =
     let behind = step state (arrival conn a) in

@@ -1,4 +1,4 @@
--- What requests give is what they put out: the reply to each that wants one, and nothing else.
+-- What requests give is their outputs: the reply to each that wants one, and nothing else.
 use Rattle.std.proofs.Common.{◌≡◌, ◌+◌, Bool, true, false, cond, List, [], ◌∷◌, ◌++◌, length, refl, sym, ◌∙◌, ap, arith, append-nil}
 use Rattle.std.proofs.lemmas.Bool.{lt-ltb}
 use Rattle.kr_base.specs.declared.ids.ConnId.{ConnId}
@@ -18,7 +18,7 @@ use Rattle.connection_worker.proofs.AnswerLemmas.{waiting_behind, arrived-rows, 
 use Rattle.connection_worker.proofs.RecordLemmas.{given_by-append, given-turn}
 use Rattle.connection_worker.proofs.ServingLemmas.{same, only-desk}
 
--- what is owed may be taken
+-- what waits may be taken
 taking-legal : (told : Told) (outs : List Out) → IsOwed told outs → Legal told.state (taking told.conn told.state)
 taking-legal told [] is =
     let none : taking told.conn told.state ≡ [] = rw is.only (rw (same told.conn.0) refl) in
@@ -28,7 +28,7 @@ taking-legal told (out ∷ outs) is =
     rw is.only (rw (same told.conn.0) (ap (λ b. cond b (event.Take told.conn ∷ []) []) (lt-ltb 0 (length (out ∷ outs)) (omega arith)))) in
     rw some (rw (only-desk told (out ∷ outs) is) (lt-ltb 0 (length (out ∷ outs)) (omega arith)), tt)
 
--- behind a request that was answered nothing is owed
+-- after a request that was answered nothing waits
 idle-turn : (told : Told) (a : Asked) → IsOwed told [] → IsOwed (record told { state = replay told.state (turn told.conn told.state a) }) []
 idle-turn told a idle =
     let mid : Told = record told { state = step told.state (arrival told.conn a) } in
@@ -72,7 +72,7 @@ replies (a ∷ more) told idle =
     let rest = replies more (record told { state = next }) (idle-turn told a idle) in
     given_by-append told.conn told.state now (turns told.conn next more) ∙ (λ i. one i ++ rest i)
 
--- the connection's going gives nothing
+-- that the connection is gone gives nothing
 pub single-replies : (told : Told) (asked : List Asked) → IsOwed told [] → given_by told.conn told.state (single told.conn told.state asked) ≡ replies_to told.conn told.state asked
 single-replies told asked idle =
     let all = turns told.conn told.state asked in

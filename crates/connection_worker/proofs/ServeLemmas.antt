@@ -1,4 +1,4 @@
--- Calls are served, and more bytes come, turn after turn.
+-- Calls are served, and more bytes are read, turn after turn.
 use Rattle.std.proofs.Common.{◌≡◌, ℕ, inr, List, [], ◌++◌, Ok, Err, refl, sym, ◌∙◌, arith, subst, append_assoc, append-nil, ◌==◌}
 use Rattle.std.proofs.lemmas.List.{map-append}
 use Rattle.std.proofs.lemmas.List.Elements.{filter-append}
@@ -25,7 +25,7 @@ use Rattle.connection_worker.proofs.HandshakeLemmas.{rose-later}
 use Rattle.connection_worker.proofs.MessageLemmas.{answered-more, broke-more, are-append, first-so, first-fewer, going-none}
 use Rattle.connection_worker.proofs.StreamLemmas.{Took-none, Took-trans, GaveFront-whole}
 
--- two stretches of messages, one behind the other
+-- two stretches of messages, one after the other
 going-then : (most : ℕ) (bytes rest left : List ℕ) (old mid new : World) (serials next behind : ℕ) (from o to : Output) → Going most bytes rest old mid serials next from o
     → Going most rest left mid new next behind o to → Going most bytes left old new serials behind from to
 going-then most bytes rest left old mid new serials next behind from o to p q = record {
@@ -47,7 +47,7 @@ amid-none has from w sink idle = record {
   going = let e : has.rest ++ [] ≡ has.rest = append-nil has.rest in rw e (going-none has.most has.rest w 0 sink idle);
 }
 
--- the messages that stand whole were served
+-- the complete messages were served
 pub through : (has : Framing) (from now : Input) (left more : Framing) (old mid new : World) (next behind : ℕ) (sink o to : Output) → IsAmid has from now left old mid next sink o
     → (going : Going left.most left.rest more.rest mid new next behind o to) → Stream left.most left.rest going.messages more.rest → more.most ≡ left.most
     → IsThrough has from now more old new behind sink to
@@ -71,7 +71,7 @@ through has from now left more old mid new next behind sink o to so going stream
       stream = stream_then has.most (has.rest ++ so.read) left.rest more.rest so.going.messages going.messages so.going.cut (rw (sym so.most) stream);
     }
 
--- more bytes came
+-- more bytes were read
 pub amid-more : (has : Framing) (from now later : Input) (left fed : Framing) (old new : World) (behind : ℕ) (sink o : Output) → IsThrough has from now left old new behind sink o
     → FeedsMore left fed now later (Ok tt) → IsAmid has from later fed old new behind sink o
 amid-more has from now later left fed old new behind sink o so more =
@@ -91,9 +91,9 @@ amid-more has from now later left fed old new behind sink o so more =
       });
     }
 
--- ---- what stands whole
+-- ---- what is complete
 
--- all requests that stand whole were recorded
+-- all complete requests were recorded
 all-so : (has : Framing) (from now : Input) (left : Framing) (old new : World) (behind : ℕ) (sink o : Output) → (so : IsThrough has from now left old new behind sink o)
     → AllRequests has.most (has.rest ++ so.amid.read) (requests_of so.amid.going.asked) left.rest
 all-so has from now left old new behind sink o so = record { messages = so.amid.going.messages; stream = so.stream; are = so.amid.going.are }
@@ -122,7 +122,7 @@ first-then has from now left old mid next sink o so asked first = record {
 
 -- ---- the ends, by the bytes after the handshake
 
--- all requests that stand whole were recorded
+-- all complete requests were recorded
 all-served : (has : Framing) (from now : Input) (left : Framing) (old new : World) (behind : ℕ) (sink o : Output) → has.most ≡ most_bytes
     → (so : IsThrough has from now left old new behind sink o) → AllServed (silent (opened (has.rest ++ so.amid.read))) so.amid.going.asked left.rest
 all-served has from now left old new behind sink o most so = record {
@@ -179,7 +179,7 @@ broke-end has from now left old mid new next sink o to why most so early =
       wrote = ends.1;
     }
 
--- a violation that bytes show isn't that the input ended
+-- a violation that bytes show isn't EndInside
 shown : (cause : Violation) (to : Input) (rest : List ℕ) → Breaks most_bytes rest cause → IsViolated cause to rest
 shown violation.EndInside to rest breaks = absurd (never_ends most_bytes rest breaks)
 shown violation.Endian to rest breaks = breaks
@@ -191,7 +191,7 @@ shown violation.MissingField to rest breaks = breaks
 shown violation.BadBody to rest breaks = breaks
 shown violation.InvalidType to rest breaks = breaks
 
--- the serving of the messages that stand whole ended the whole
+-- serving the complete messages ended the whole
 pub answers-end : (has : Framing) (from now : Input) (left more : Framing) (old mid new : World) (next behind : ℕ) (sink o to : Output) (why : End) → has.most ≡ most_bytes
     → IsAmid has from now left old mid next sink o → AnswersAll left more mid new next behind o to (Err why) → ServesOn has from now old new sink to why
 unfolding going-then
@@ -230,7 +230,7 @@ answers-end has from now left more old mid new next behind sink o to end.WriteFa
 answers-end has from now left more old mid new next behind sink o to end.Memory most so answers = broke-end has from now left old mid new next sink o to end.Memory most so answers
 answers-end has from now left more old mid new next behind sink o to _ most so answers = absurd answers.1.early
 
--- no more bytes came
+-- no more bytes were read
 stays : (a b c : Input) (x : List ℕ) → Took a b x → Took b c [] → Took a c x
 stays a b c x p q = let e : x ++ [] ≡ x = append-nil x in rw (sym e) (Took-trans a b c x [] p q)
 

@@ -31,7 +31,7 @@ use Rattle.connection_worker.proofs.StreamLemmas.{Took-trans, Gave-trans, GaveFr
 
 -- ---- the desk's last call
 
--- a connection that is there goes
+-- a connection that is there is recorded as gone
 pub goes-alone : (old new : Place) → IsTrue old.told.is_alone → IsOwed old.told [] → Goes old new → Records old new (of_own old.told.state (event.Gone old.told.conn ∷ []))
 goes-alone old new alone idle (inl gone) = alone-extends old new (event.Gone old.told.conn) output.Gone alone gone
 goes-alone old new alone idle (inr (looks, missing)) =
@@ -40,7 +40,7 @@ goes-alone old new alone idle (inr (looks, missing)) =
     ap (λ c. has c new.told.state.connections.rows) looks.same.conn ∙ ap (λ (s : Rows). has old.told.conn s.connections.rows) state ∙ only-there old.told [] idle in
     let e : true ≡ false = sym there ∙ missing in cc
 
--- a connection that has just joined is owed nothing, and has taken nothing
+-- nothing waits for a connection that has just joined, and it has taken nothing
 pub joined-idle : (told : Told) → HasJoined told → IsOwed told []
 joined-idle told joined = record { taken = 0; only = joined }
 
@@ -61,7 +61,7 @@ single-records old mid asked refused new so gone =
     subst (λ seen. Records (place_of old) new seen) all
     (records-more (place_of old) (place_of mid) new (of_own old.told.state first) (of_own mid.told.state (event.Gone mid.told.conn ∷ [])) so.calls gone)
 
--- going gives nothing, so the text is that of the requests
+-- that it is gone gives nothing, so the text is that of the requests
 single-text : (old : World) (asked : List Asked) → HasJoined old.told → written old.told.conn old.told.state (single old.told.conn old.told.state asked)
     ≡ written_after old.told.conn 0 old.told.state (turns old.told.conn old.told.state asked)
 single-text old asked joined =
@@ -71,9 +71,9 @@ single-text old asked joined =
     ap (λ n. spelled_behind n (given_by conn state (single conn state asked))) (taken-none old.told joined)
     ∙ ap (spelled_behind 0) (given_by-append conn state first (event.Gone conn ∷ []) ∙ append-nil (given_by conn state first))
 
--- ---- behind an open handshake
+-- ---- after an open handshake
 
--- more bytes behind BEGIN
+-- more bytes after BEGIN
 opened-more : (uid : ℕ) (guid read more rest : List ℕ) → (shaking.handshake uid guid read).end ≡ shaking.opened rest
     → shaking.handshake uid guid (read ++ more) ≡ record { answers = (shaking.handshake uid guid read).answers; end = shaking.opened (rest ++ more) }
 opened-more uid guid [] more rest is = let e = sym (ap (λ (r : shaking.Run). r.end) (handshake-nothing uid guid)) ∙ is in cc
@@ -89,7 +89,7 @@ first-run : (run : shaking.Run) (bytes : List ℕ) (asked : List Asked) → run.
 first-run run bytes asked is (inl none) = inl none
 first-run run bytes asked is (inr some) = inr (some.0, is ∙ some.1, some.2)
 
--- why the whole ended, where the calls after the handshake did
+-- why the whole ended, if the calls after the handshake did
 cause-after : (how : End) (run : shaking.Run) (bytes : List ℕ) (asked : List Asked) (count : ℕ) (from mid to : Input) (sink o out : Output) → run.end ≡ shaking.opened bytes
     → from.faults ≤ mid.faults → IsStill from mid → sink.faults ≤ o.faults → HasCause how (shaking.silent (shaking.opened bytes)) asked count mid to o out → HasCause how run asked count from to sink out
 cause-after end.Done run bytes asked count from mid to sink o out is later same put cause = (all-run run bytes asked [] is cause.0, cause.1, cause.2 ∙ same)
@@ -121,7 +121,7 @@ written-behind end.WriteFault sink o out x y gave wrote = GaveFront-behind sink 
 written-behind end.Memory sink o out x y gave wrote = GaveFront-behind sink o out x y gave wrote
 written-behind _ sink o out x y gave wrote = Gave-trans sink o out x y gave wrote
 
--- why it ended, where the handshake did, and what was written
+-- why it ended, if the handshake did, and what was written
 shaking-ends : (how : End) (run : shaking.Run) (count : ℕ) (from to : Input) (sink out : Output)
     → EndsFor IsRefusedFor run (record { input = from; output = sink }) (record { input = to; output = out }) (Err how)
     → HasCause how run [] count from to sink out × HasWritten how sink out (concat run.answers ++ []) × HasRefused how run [] []

@@ -1,4 +1,4 @@
--- Readings and writings one behind the other.
+-- Readings and writings one after the other.
 use Rattle.std.proofs.Common.{ℕ, List, [], ◌++◌, sym, ◌∙◌, ap, arith, append_assoc, append-nil}
 use Rattle.std.proofs.KnownBytes.{Appends-nil, Appends-trans, Consumes-nil, Consumes-trans}
 use Rattle.kr_outside.proofs.FaultLemmas.{KeepsSteady-none, KeepsSteady-trans}
@@ -24,7 +24,7 @@ Gave-trans a b c x y p q = record {
   steady = KeepsSteady-trans a.is_steady b.is_steady c.is_steady a.faults b.faults c.faults p.steady q.steady;
 }
 
--- all of the bytes are a front of them
+-- all of the bytes are a prefix of them
 pub GaveFront-whole : (a b : Output) (x : List ℕ) → Gave a b x → GaveFront a b x
 GaveFront-whole a b x p = record {
   appended = record { front = x; rest = []; whole = sym (append-nil x); put = p.appended };
@@ -32,7 +32,7 @@ GaveFront-whole a b x p = record {
   steady = p.steady;
 }
 
--- a front is one of more bytes
+-- a prefix is one of more bytes
 pub GaveFront-more : (a b : Output) (x y : List ℕ) → GaveFront a b x → GaveFront a b (x ++ y)
 GaveFront-more a b x y p = record {
   appended = record {
@@ -45,7 +45,7 @@ GaveFront-more a b x y p = record {
   steady = p.steady;
 }
 
--- a front behind bytes that were written whole
+-- a prefix after bytes that were written completely
 pub GaveFront-behind : (a b c : Output) (x y : List ℕ) → Gave a b x → GaveFront b c y → GaveFront a c (x ++ y)
 GaveFront-behind a b c x y p q = record {
   appended = record {

@@ -1,4 +1,4 @@
--- What events give to the connection is what its takes were answered.
+-- What events give to the connection is what its takes returned.
 use Rattle.std.proofs.Common.{◌≡◌, Bool, true, false, cond, List, [], ◌∷◌, ◌++◌, refl, sym, ◌∙◌, ap, append_assoc}
 use Rattle.kr_base.specs.declared.ids.ConnId.{ConnId}
 use Rattle.service_machine.specs.declared.rows.Rows.{Rows}
@@ -19,7 +19,7 @@ given-append (records.Others event ∷ seen) more = given-append seen more
 given-append (records.Own event answer ∷ seen) more =
     ap (λ outs. records.outs_in answer ++ outs) (given-append seen more) ∙ sym (append_assoc (records.outs_in answer) (records.given seen) (records.given more))
 
--- what is owed is taken, and nothing is where nothing is owed
+-- what waits is taken, and nothing is taken if nothing waits
 taken-owed : (conn : ConnId) (state : Rows) → given_by conn state (taking conn state) ≡ records.given (records.of_own state (taking conn state))
 taken-owed conn state =
     let pass : (b : Bool) → given_by conn state (cond b (event.Take conn ∷ []) []) ≡ records.given (records.of_own state (cond b (event.Take conn ∷ []) [])) =

@@ -1,4 +1,4 @@
--- One method call that is served, and those of a framer.
+-- Serving one method call, and the calls in a framer.
 use Rattle.std.specs.Prelude.{◌≡◌, ℕ, ◌+◌, ◌≤◌, ◌==◌, true, List, [], ◌∷◌, ◌++◌, length, Result, Ok, Err}
 use Rattle.dbus_framing.specs.Framers.{Framing}
 use Rattle.dbus_framing.specs.Messages.{Parts}
@@ -27,7 +27,7 @@ pub record Answered (old new : World) (serials behind : ℕ) (from to : Output) 
       → Gave from to (written_after old.told.conn taken old.told.state (turns old.told.conn old.told.state asked))
       × AreBehind (taken + length (given_by old.told.conn old.told.state (turns old.told.conn old.told.state asked))) behind
 
--- the ends at which requests that stand whole may be left
+-- the ends at which complete requests may be left over
 abbrev pub IsEarly : End → Type 0
 IsEarly end.EventsSpent = Unit {0}
 IsEarly end.WriteFault = Unit {0}
@@ -56,14 +56,14 @@ AnswersCall parts old new serials behind from to (Ok done) = (asked : Asked) × 
 AnswersCall parts old new serials behind from to (Err why) =
     (asked : List Asked) × (broke : Broke old new serials from to asked why) × IsOne parts (asked ++ broke.refused)
 
--- a message was served, which gives the requests of the calls in it; or the serving ended early at a call
+-- a message was served, with the request in it if it is a call; or the serving ended early at a call
 abbrev pub AnswersMessage : Parts → World → World → ℕ → ℕ → Output → Output → Result Unit End → Type 0
 AnswersMessage parts old new serials behind from to (Ok done) =
     (asked : List Asked) × AreRequests (calls_in (parts ∷ [])) (requests_of asked) × Answered old new serials behind from to asked
 AnswersMessage parts old new serials behind from to (Err why) =
     (asked : List Asked) × (broke : Broke old new serials from to asked why) × ((parts.kind == 1) ≡ true) × IsOne parts (asked ++ broke.refused)
 
--- So far: a front of the bytes is messages, whose requests were recorded and answered; this rest is left.
+-- So far: a prefix of the bytes is messages, whose requests were recorded and answered; this rest is left over.
 pub record Going (most : ℕ) (bytes rest : List ℕ) (old new : World) (serials behind : ℕ) (from to : Output) : Type 0 where
   pub asked : List Asked
   pub messages : List Parts
@@ -76,8 +76,8 @@ abbrev pub AnswersEarly : Framing → World → World → ℕ → Output → Out
 AnswersEarly has old new serials from to why =
     (asked : List Asked) × (broke : Broke old new serials from to asked why) × FirstRequests has.most has.rest (requests_of (asked ++ broke.refused))
 
--- The messages that stand whole were served, and no more stands whole; or behind them a violation shows; or the serving ended
--- early.
+-- The complete messages were served, and no further one is complete; or after them a violation shows; or the
+-- serving ended early.
 abbrev pub AnswersAll : Framing → Framing → World → World → ℕ → ℕ → Output → Output → Result Unit End → Type 0
 AnswersAll has left old new serials behind from to (Ok done) =
     (going : Going has.most has.rest left.rest old new serials behind from to) × Stream has.most has.rest going.messages left.rest × (left.most ≡ has.most)

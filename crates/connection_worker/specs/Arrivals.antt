@@ -1,4 +1,4 @@
--- The requests that come in the bytes of a connection.
+-- The requests in the bytes of a connection.
 use Rattle.std.specs.Prelude.{ℕ, ◌==◌, List, [], ◌∷◌, ◌++◌, filter}
 use Rattle.secret_calls.specs.declared.call.Request.{Request}
 use Rattle.call_wire.specs.CallOf.{CallOf}
@@ -9,14 +9,14 @@ use Rattle.dbus_framing.specs.Streams.{Cut, Stream}
 abbrev pub calls_in : List Parts → List Parts
 calls_in messages = filter (λ parts. parts.kind == 1) messages
 
--- each request is that of the call at its place
+-- each request is that of the call with the same index
 abbrev pub AreRequests : List Parts → List Request → Type 0
 AreRequests [] [] = Unit {0}
 AreRequests (parts ∷ calls) (request ∷ requests) = CallOf parts request × AreRequests calls requests
 AreRequests [] (request ∷ requests) = ⊥
 AreRequests (parts ∷ calls) [] = ⊥
 
--- the requests of all messages that stand whole in the bytes, and the rest behind these
+-- the requests of all complete messages in the bytes, and the rest after these
 pub record AllRequests (most : ℕ) (bytes : List ℕ) (requests : List Request) (rest : List ℕ) : Type 0 where
   pub messages : List Parts
   pub stream : Stream most bytes messages rest

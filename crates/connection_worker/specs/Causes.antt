@@ -14,7 +14,7 @@ use Rattle.connection_worker.specs.Handshakes.{most_bytes, Awaits, IsRefusedFor}
 use Rattle.service_machine.specs.Single.{Asked, requests_of}
 use Rattle.connection_worker.specs.Streams.{Input, Output, IsStill, Gave, GaveFront}
 
--- all requests that stand whole after the handshake were recorded, and the rest is this one
+-- all complete requests after the handshake were recorded, and the rest is this one
 pub record AllServed (run : shaking.Run) (asked : List Asked) (rest : List ℕ) : Type 0 where
   pub behind : List ℕ
   pub opened : run.end ≡ shaking.opened behind
@@ -24,42 +24,42 @@ pub record AllServed (run : shaking.Run) (asked : List Asked) (rest : List ℕ) 
 abbrev pub FirstServed : shaking.Run → List Asked → Type 0
 FirstServed run asked = (asked ≡ []) ⊎ ((behind : List ℕ) × (run.end ≡ shaking.opened behind) × FirstRequests most_bytes behind (requests_of asked))
 
--- The rest after the messages is violated: it shows this violation. EndInside is none that bytes show; it comes where the
--- input ended with a rest.
+-- The rest after the messages shows this violation. Bytes never show EndInside; it comes if the input ended
+-- with a rest.
 abbrev pub IsViolated : Violation → Input → List ℕ → Type 0
 IsViolated violation.EndInside to rest = (rest ≢ []) × IsAtEnd to.left
 IsViolated cause to rest = Breaks most_bytes rest cause
 
 -- The cause of each end: by the run of the handshake over the bytes read, the requests that were recorded, the number of
--- the run's events up to then, and the streams before and after. The input's count of faults rose where the input failed,
--- and stands still at every other end.
+-- the run's events up to then, and the streams before and after. The input's count of faults rose if the input failed,
+-- and didn't rise at any other end.
 abbrev pub HasCause : End → shaking.Run → List Asked → ℕ → Input → Input → Output → Output → Type 0
--- BEGIN came, each call of the messages was recorded, no part of a message is left over, and the input has ended
+-- BEGIN came, each call of the messages was recorded, and the input ended between two messages
 HasCause end.Done run asked count from to sink after = AllServed run asked [] × IsAtEnd to.left × IsStill from to
--- BEGIN came, each call of the messages was recorded, and the rest is violated
+-- BEGIN came, each call of the messages was recorded, and the rest breaks a rule
 HasCause (end.Violation cause) run asked count from to sink after = ((rest : List ℕ) × AllServed run asked rest × IsViolated cause to rest) × IsStill from to
--- the handshake was refused for this; EndedEarly where the input ended before BEGIN
+-- the handshake was refused for this; EndedEarly if the input ended before BEGIN
 HasCause (end.AuthRefused why) run asked count from to sink after = IsRefusedFor run.end to why × (asked ≡ []) × IsStill from to
--- the input's count rose; each call that stands whole in what was read was recorded
+-- the input's count rose; each complete call in what was read was recorded
 HasCause end.ReadFault run asked count from to sink after =
     Rose from.faults to.faults × ((Awaits run.end × (asked ≡ [])) ⊎ ((rest : List ℕ) × AllServed run asked rest))
 -- the output's count rose
 HasCause end.WriteFault run asked count from to sink after = Rose sink.faults after.faults × FirstServed run asked × IsStill from to
 -- all events that can be counted were
 HasCause end.EventsSpent run asked count from to sink after = IsSpent count × FirstServed run asked × IsStill from to
--- free
+-- at any time
 HasCause end.Memory run asked count from to sink after = FirstServed run asked × IsStill from to
--- the only connection of a service is ended by nobody else, and loses no output
+-- nobody else ends the only connection of a service, and it loses no output
 HasCause _ run asked count from to sink after = ⊥
 
--- All that was put out is written before the end, but where the output failed or memory ran out: then a front of it is.
+-- All of the output is written before the end, unless the output failed or memory ran out: then a prefix of it is.
 abbrev pub HasWritten : End → Output → Output → List ℕ → Type 0
 HasWritten end.WriteFault sink after text = GaveFront sink after text
 HasWritten end.Memory sink after text = GaveFront sink after text
 HasWritten _ sink after text = Gave sink after text
 
--- The requests for which a moment and a salt were taken and which weren't recorded, after those that were: at most one, the
--- next that came, where no further event can be counted or memory ran out; none at every other end.
+-- The requests for which a moment and a salt were taken and which weren't recorded, after those that were: at most
+-- one, the next one, if no further event can be counted or memory ran out; none at every other end.
 abbrev pub HasRefused : End → shaking.Run → List Asked → List Asked → Type 0
 HasRefused end.EventsSpent run asked refused = (length refused ≤ 1) × FirstServed run (asked ++ refused)
 HasRefused end.Memory run asked refused = (length refused ≤ 1) × FirstServed run (asked ++ refused)

@@ -17,7 +17,7 @@ pub record Both : Type 0 where
   pub input : Input
   pub output : Output
 
--- how many bytes a message that comes in may have
+-- the most bytes that an incoming message may have
 abbrev pub most_bytes : ℕ
 most_bytes = 1048576
 
@@ -34,13 +34,13 @@ IsRefusedFor how input fault.LineTooLong = how ≡ shaking.refused fault.LineToo
 IsRefusedFor how input fault.BeginTooSoon = how ≡ shaking.refused fault.BeginTooSoon
 IsRefusedFor how input fault.EndedEarly = Awaits how × IsAtEnd input.left
 
--- the same while it isn't used yet that no bytes show EndedEarly
+-- the same, before it is used that no bytes show EndedEarly
 abbrev pub IsRefusedSo : shaking.End → Input → AuthFault → Type 0
 IsRefusedSo how input why = (how ≡ shaking.refused why) ⊎ ((why ≡ fault.EndedEarly) × Awaits how × IsAtEnd input.left)
 
--- A run over the bytes read, and how the call ended: open, with the bytes behind BEGIN in the framer; or refused; or by a
--- fault of the source, or of the sink, or for want of memory. All answers were written, or a front of them where the sink
--- failed or memory ran out. The source's count stands still, but where the source failed.
+-- A run over the bytes read, and how the call ended: open, with the bytes after BEGIN in the framer; or refused; or by
+-- a fault of the source, or of the sink, or for lack of memory. All answers were written, or a prefix of them if the
+-- sink failed or memory ran out. The source's count didn't rise, unless the source failed.
 abbrev pub EndsFor : (shaking.End → Input → AuthFault → Type 0) → shaking.Run → Both → Both → Result Framing End → Type 0
 EndsFor RefusedFor run old new (Ok framing) =
     (run.end ≡ shaking.opened framing.rest) × (framing.most ≡ most_bytes) × (framing.broken ≡ None) × Gave old.output new.output (concat run.answers) × IsStill old.input new.input
@@ -56,7 +56,7 @@ pub record Shakes (uid : ℕ) (guid : List ℕ) (old new : Both) (result : Resul
   pub took : Took old.input new.input read
   pub ends : EndsFor IsRefusedFor (shaking.handshake uid guid read) old new result
 
--- more bytes were read behind those that are held; or the source failed, or ended, or no memory was left
+-- more bytes were read after those that are held; or the source failed, or ended, or no memory was left
 abbrev pub ReadsMore : List ℕ → List ℕ → Input → Input → Result Unit End → Type 0
 ReadsMore old new from to (Ok done) = (more : List ℕ) × Took from to more × (new ≡ old ++ more) × (0 < length more) × IsStill from to
 ReadsMore old new from to (Err end.ReadFault) = Took from to [] × Rose from.faults to.faults
@@ -64,8 +64,8 @@ ReadsMore old new from to (Err (end.AuthRefused fault.EndedEarly)) = Took from t
 ReadsMore old new from to (Err end.Memory) = (more : List ℕ) × Took from to more × IsStill from to
 ReadsMore old new from to (Err _) = ⊥
 
--- Behind bytes that are held, these were read; the answers so far are written, and the run over all of them goes on with
--- this one.
+-- After bytes that are held, these were read; the answers so far are written, and the run over all of them
+-- continues with this one.
 pub record Reached (at : Exchange) (held : List ℕ) (old new : Both) (further : shaking.Run) : Type 0 where
   pub read : List ℕ
   pub took : Took old.input new.input read
@@ -74,7 +74,7 @@ pub record Reached (at : Exchange) (held : List ℕ) (old new : Both) (further :
   pub gave : Gave old.output new.output (concat answers)
   pub goes : shaking.run at (held ++ read) ≡ record { answers = answers ++ further.answers; end = further.end }
 
--- what a handshake read behind bytes that are held and begin a line, and how it ended
+-- what a handshake read after bytes that are held and begin a line, and how it ended
 pub record ShakesOn (at : Exchange) (held : List ℕ) (old new : Both) (result : Result Framing End) : Type 0 where
   pub read : List ℕ
   pub took : Took old.input new.input read

@@ -10,14 +10,14 @@ use Rattle.service_machine.specs.Single.{Asked, turns, single}
 use Rattle.connection_worker.specs.Streams.{Input, Output, Took}
 use Rattle.connection_worker.specs.Written.{written}
 
--- All that was read, recorded and written over one connection, whose desk is alone and which has just joined.
+-- All that was read, recorded and written for one connection, whose desk is alone and which has just joined.
 pub record IsServed (uid : ℕ) (guid : List ℕ) (from to : Input) (sink after : Output) (old new : World) (how : End) : Type 0 where
   pub read : List ℕ
   pub took : Took from to read
   pub asked : List Asked
-  -- the desk recorded the events of these requests and that the connection is gone, and none else
+  -- the desk recorded the events of these requests and that the connection is gone, and no others
   pub recorded : Records (place_of old) (place_of new) (of_own old.told.state (single old.told.conn old.told.state asked))
-  -- for these too a moment and a salt were taken
+  -- a moment and a salt were taken for these too
   pub refused : List Asked
   pub few : HasRefused how (handshake uid guid read) asked refused
   pub moments : GivesMoments old.coming (map (λ (a : Asked). a.now) (asked ++ refused)) new.coming

@@ -8,11 +8,11 @@ use Rattle.service_machine.specs.Step.{puts_out}
 use Rattle.service_machine.specs.Replay.{replay}
 use Rattle.service_machine.specs.Single.{Asked, arrival, turn}
 
--- what a request puts out for its connection: its reply, where one is wanted
+-- the output of a request for its connection: its reply, if one is wanted
 abbrev pub reply_to : ConnId → Rows → Asked → List Out
 reply_to conn state asked = sent_to conn (puts_out state (arrival conn asked))
 
--- what requests put out one after the other, each in the state behind those before it
+-- the outputs of requests, one after the other, each in the state after those before it
 abbrev pub replies_to : ConnId → Rows → List Asked → List Out
 replies_to conn state [] = []
 replies_to conn state (asked ∷ more) = reply_to conn state asked ++ replies_to conn (replay state (turn conn state asked)) more

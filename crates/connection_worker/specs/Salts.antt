@@ -4,7 +4,7 @@ use Rattle.std.specs.Prelude.{ℕ, ◌+◌, ◌*◌, ◌%◌, ◌^◌, List, ◌
 use Rattle.std.specs.Int.{w32, to_le_bytes}
 use Rattle.rand_chacha.specs.ChaCha.{word_at, key_of}
 
--- a word of a connection's stream in its four bytes, the least significant first
+-- a word of a connection's stream as four bytes, the least significant first
 unfoldable pub word_of : List ℕ → ℕ → ℕ → List ℕ
 word_of key stream place = to_le_bytes w32 (word_at 10 key stream place)
 
@@ -16,7 +16,7 @@ words_at key stream place = word_of key stream place ++ word_of key stream ((pla
 abbrev pub salt_of : List ℕ → ℕ → ℕ → List ℕ
 salt_of seed conn k = words_at (key_of seed) conn ((2 * k) % 2 ^ 68)
 
--- where a generator of salts stands: the seed, the connection, and how many salts it gave
+-- the state of a generator of salts: the seed, the connection, and the position of the next word
 pub record Salting : Type 0 where
   pub key : List ℕ
   pub stream : ℕ

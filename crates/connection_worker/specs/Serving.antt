@@ -1,4 +1,4 @@
--- Requests that are served over a desk, a clock, a generator of salts and a sink: what changes with each of them.
+-- Serving requests with a desk, a clock, a generator of salts and a sink: what each of them changes.
 use Rattle.std.specs.Prelude.{◌≡◌, ℕ, ◌+◌, ◌%◌, ◌^◌, false, List, [], ◌∷◌, ◌++◌, length, map, Option, Result, Ok, Err}
 use Rattle.kr_outside.specs.Clock.{GivesFirst}
 use Rattle.kr_outside.specs.Faults.{Rose}
@@ -17,7 +17,8 @@ use Rattle.service_machine.specs.Single.{Asked, arrival, taking, turns}
 use Rattle.connection_worker.specs.Written.{spelled_behind}
 use Rattle.connection_worker.specs.Streams.{Output, Gave, GaveFront}
 
--- what the serving of requests changes beside the sink: the desk, which has a place in the history, the clock, the salts
+-- what serving requests changes, apart from the sink: the desk, which has a place in the history, the clock,
+-- and the salts
 pub record World : Type 1 where
   pub told : Told
   pub has_seen : View → Type 0
@@ -36,7 +37,7 @@ world told has_seen coming desk clock salting = record { told = told desk; has_s
 abbrev pub HasJoined : Told → Type 0
 HasJoined told = told.state.connections.rows ≡ new_row told.conn ∷ []
 
--- The connection is the only one; what waits for it is this, it has lost no output, and it isn't leaving.
+-- The connection is the only one; these outputs wait for it, it has lost none, and it isn't leaving.
 pub record IsOwed (told : Told) (outs : List Out) : Type 0 where
   pub taken : ℕ
   pub only : told.state.connections.rows ≡ record { conn = told.conn; waiting = outs; overrun = false; leaving = false; taken = taken } ∷ []
@@ -45,36 +46,36 @@ pub record IsOwed (told : Told) (outs : List Out) : Type 0 where
 abbrev pub owed : Told → List Out
 owed told = waiting_for told.conn told.state.connections.rows
 
--- moments that a clock gave one after the other
+-- moments that a clock returned one after the other
 abbrev pub GivesMoments : Option (ℕ → ℕ) → List ℕ → Option (ℕ → ℕ) → Type 0
 GivesMoments old [] new = new ≡ old
 GivesMoments old (moment ∷ moments) new = (mid : Option (ℕ → ℕ)) × GivesFirst old moment mid × GivesMoments mid moments new
 
--- the generator behind one more salt
+-- the generator after one more salt
 abbrev pub behind_salt : Salting → Salting
 behind_salt salting = record salting { place = (salting.place + 2) % 2 ^ 68 }
 
--- salts that a generator gave one after the other
+-- salts that a generator returned one after the other
 abbrev pub GivesSalts : Salting → List (List ℕ) → Salting → Type 0
 GivesSalts old [] new = new ≡ old
 GivesSalts old (salt ∷ salts) new = (salt ≡ words_at old.key old.stream old.place) × GivesSalts (behind_salt old) salts new
 
--- The desk recorded these requests, each with a moment of the clock and a salt; and for these further ones, which weren't
--- recorded, a moment and a salt were taken.
+-- The desk recorded these requests, each with a moment of the clock and a salt; and a moment and a salt were taken for
+-- these further ones, which weren't recorded.
 pub record Recorded (old new : World) (asked refused : List Asked) : Type 0 where
   pub calls : Records (place_of old) (place_of new) (of_own old.told.state (turns old.told.conn old.told.state asked))
   pub moments : GivesMoments old.coming (map (λ (a : Asked). a.now) (asked ++ refused)) new.coming
   pub salts : GivesSalts old.salting (map (λ (a : Asked). a.salt) (asked ++ refused)) new.salting
 
--- Why the serving ended early, and what was then written of this text: all of it where no further event can be counted; a
--- front of it where the sink failed or memory ran out.
+-- Why the serving ended early, and what was then written of this text: all of it if no further event can be
+-- counted; a prefix of it if the sink failed or memory ran out.
 abbrev pub EndsEarly : End → ℕ → Output → Output → List ℕ → Type 0
 EndsEarly end.EventsSpent count from to text = IsSpent count × Gave from to text
 EndsEarly end.WriteFault count from to text = Rose from.faults to.faults × GaveFront from to text
 EndsEarly end.Memory count from to text = GaveFront from to text
 EndsEarly _ count from to text = ⊥
 
--- Behind one request that was recorded, before what is owed for it is taken.
+-- After one request was recorded, before the output for it is taken.
 pub record HasArrived (old new : World) (asked : Asked) : Type 0 where
   pub calls : Records (place_of old) (place_of new) (of_own old.told.state (arrival old.told.conn asked ∷ []))
   pub moment : GivesFirst old.coming asked.now new.coming
@@ -95,11 +96,11 @@ Asks request old new (Err end.EventsSpent) = (asked : Asked) × (asked.request �
 Asks request old new (Err end.Memory) = (asked : Asked) × (asked.request ≡ request) × HasAsked old new asked
 Asks request old new (Err _) = ⊥
 
--- the desk gave what was owed: a Take was recorded where anything was
+-- the desk returned the outputs that waited: a Take was recorded if there were any
 abbrev pub HasGiven : Place → Place → Type 0
 HasGiven old new = Records old new (of_own old.told.state (taking old.told.conn old.told.state))
 
--- what was owed was given and written; or it was given, and a front of it was written
+-- the outputs that waited were taken and written; or they were taken, and a prefix of them was written
 abbrev pub Gives : Place → Place → ℕ → ℕ → Output → Output → Result Unit End → Type 0
 Gives old new serials behind from to (Ok done) =
     HasGiven old new × ((taken : ℕ) → AreBehind taken serials → Gave from to (spelled_behind taken (owed old.told)) × AreBehind (taken + length (owed old.told)) behind)

@@ -1,4 +1,4 @@
--- The calls after a handshake, as they come from a source.
+-- The calls after a handshake, as they arrive from a source.
 use Rattle.std.specs.Prelude.{◌≡◌, ◌≢◌, ℕ, List, [], ◌++◌, Result, Ok, Err}
 use Rattle.std.specs.Io.KnownBytes.{IsAtEnd}
 use Rattle.kr_outside.specs.Faults.{Rose}
@@ -37,7 +37,7 @@ pub record ServesOn (has : Framing) (from to : Input) (old new : World) (sink af
   pub cause : HasCause how (silent (opened (has.rest ++ read))) asked new.told.count from to sink after
   pub wrote : HasWritten how sink after (written_after old.told.conn 0 old.told.state (turns old.told.conn old.told.state asked))
 
--- So far: these bytes were read, and of what the framer held and they the messages so far are served.
+-- So far: these bytes were read, and the messages so far in them and in what the framer held are served.
 pub record IsAmid (has : Framing) (from now : Input) (left : Framing) (old new : World) (behind : ℕ) (sink out : Output) : Type 0 where
   pub read : List ℕ
   pub took : Took from now read
@@ -45,7 +45,7 @@ pub record IsAmid (has : Framing) (from now : Input) (left : Framing) (old new :
   pub most : left.most ≡ has.most
   pub going : Going has.most (has.rest ++ read) left.rest old new 0 behind sink out
 
--- the same, and no further message stands whole
+-- the same, and no further message is complete
 pub record IsThrough (has : Framing) (from now : Input) (left : Framing) (old new : World) (behind : ℕ) (sink out : Output) : Type 0 where
   pub amid : IsAmid has from now left old new behind sink out
   pub stream : Stream has.most (has.rest ++ amid.read) amid.going.messages left.rest

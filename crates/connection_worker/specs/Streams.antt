@@ -30,7 +30,7 @@ pub record Took (old new : Input) (bytes : List ℕ) : Type 0 where
   pub later : old.faults ≤ new.faults
   pub steady : KeepsSteady old.is_steady new.is_steady old.faults new.faults
 
--- no read failed: the source's count of faults stands still
+-- no read failed: the source's count of faults didn't rise
 abbrev pub IsStill : Input → Input → Type 0
 IsStill old new = new.faults ≡ old.faults
 
@@ -40,7 +40,7 @@ pub record Gave (old new : Output) (bytes : List ℕ) : Type 0 where
   pub later : old.faults ≤ new.faults
   pub steady : KeepsSteady old.is_steady new.is_steady old.faults new.faults
 
--- a front of these bytes was written, and no more
+-- a prefix of these bytes was written, and no more
 pub record GaveFront (old new : Output) (bytes : List ℕ) : Type 0 where
   pub appended : AppendsFront old.written new.written bytes
   pub later : old.faults ≤ new.faults

@@ -1,4 +1,4 @@
--- What is written of the outputs that a connection takes.
+-- What is written for the outputs that a connection takes.
 use Rattle.std.specs.Prelude.{ℕ, ◌+◌, ◌%◌, ◌==◌, if◌then◌else◌, List, [], ◌∷◌, ◌++◌}
 use Rattle.kr_base.specs.declared.ids.ConnId.{ConnId}
 use Rattle.secret_calls.specs.declared.out.Out.{Out}
@@ -23,24 +23,24 @@ abbrev pub given_by : ConnId → Rows → List Event → List Out
 given_by conn state [] = []
 given_by conn state (event ∷ events) = given conn state event ++ given_by conn (step state event) events
 
--- the serial of an output after so many: 1, 2 and so on up to the last number, then 1 again
+-- the serial of an output after this many others: 1, 2 and so on up to the last number, then 1 again
 abbrev pub serial_behind : ℕ → ℕ
 serial_behind taken = taken % 4294967295 + 1
 
--- outputs as they are written, after so many
+-- outputs as they are written, after this many others
 abbrev pub spelled_behind : ℕ → List Out → List ℕ
 spelled_behind taken [] = []
 spelled_behind taken (out ∷ outs) = spelled out (serial_behind taken) ++ spelled_behind (taken + 1) outs
 
--- what is written of what events give to the connection, after so many outputs
+-- what is written for what events give to the connection, after this many outputs
 abbrev pub written_after : ConnId → ℕ → Rows → List Event → List ℕ
 written_after conn taken state events = spelled_behind taken (given_by conn state events)
 
--- how many outputs the connection has taken, as its row counts them; none where it isn't there
+-- the number of outputs that the connection has taken, as its row counts them; 0 if it isn't there
 abbrev pub taken_by : ConnId → List ConnRow → ℕ
 taken_by conn [] = 0
 taken_by conn (row ∷ rows) = if is_row conn row then row.taken else taken_by conn rows
 
--- all that is written of what events give to the connection: its serials go on from the outputs that it has taken
+-- all that is written for what events give to the connection: its serials continue after the outputs that it has taken
 abbrev pub written : ConnId → Rows → List Event → List ℕ
 written conn state events = written_after conn (taken_by conn state.connections.rows) state events

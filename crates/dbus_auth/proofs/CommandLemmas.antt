@@ -1,4 +1,4 @@
--- What the command of a line tells of the line.
+-- What the command of a line says about the line.
 use Rattle.std.proofs.Common.{◌≡◌, ℕ, ◌+◌, ◌^◌, ◌<◌, ◌==◌, Bool, true, false, cond, ◌⊎◌, inl, inr, List, [], ◌∷◌, ◌++◌, length, take, drop, get_or, Option, Some, None, Result, Ok, Err, refl, sym, ap, ◌∙◌, arith, codes, take-append-drop}
 use Rattle.std.specs.Prelude.{◌↔◌, IsTrue, nat_lt, option_map, unwrap_or, position, decimal}
 use Rattle.std.specs.Option.{option_map_or}
@@ -96,7 +96,7 @@ data_of-word : (uid : ℕ) (o : Option (List ℕ)) → has_data (data_of uid o) 
 data_of-word uid o =
     elim (is_accepted uid (unwrap_or o [])) as (λ b. has_data (cond b DataAccepted OtherData) ≡ true) [ true ↦ refl | false ↦ refl ]
 
--- a command of the word AUTH, and of the word DATA
+-- a command can't be that of the word AUTH and that of the word DATA
 not_both : (z : Command) → has_auth z ≡ true → has_data z ≡ true → ⊥
 not_both DataAccepted a d = cc a
 not_both OtherData a d = cc a
@@ -198,13 +198,13 @@ command_of-begin uid line h =
     (bytes_eq-Decides (word_of line) (codes "BEGIN")).0
     (chain-begin _ _ _ _ _ _ (auth_of uid (argument_of line)) (data_of uid (argument_of line)) (auth_of-word uid (argument_of line)) (data_of-word uid (argument_of line)) h)
 
--- and back
+-- and conversely
 pub command_of-with_begin : (uid : ℕ) (line : List ℕ) → word_of line ≡ codes "BEGIN" → command_of uid line ≡ Begin
 unfolding command_of
 command_of-with_begin uid line h =
     ap (λ (w : List ℕ). chain (bytes_eq w (codes "AUTH")) (bytes_eq w (codes "DATA")) (bytes_eq w (codes "CANCEL")) (bytes_eq w (codes "ERROR")) (bytes_eq w (codes "BEGIN")) (bytes_eq w (codes "NEGOTIATE_UNIX_FD")) (auth_of uid (argument_of line)) (data_of uid (argument_of line))) h
 
--- where a word of n letters stands before a space
+-- the first space comes after a word of n letters
 spaced : (line : List ℕ) (n : ℕ) → n < length line → cond (nat_lt n (length line)) (Some n) None ≡ Some n
 spaced line n long = ap (λ b. cond b (Some n) None) (lt-ltb n (length line) long)
 

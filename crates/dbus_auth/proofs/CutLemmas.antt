@@ -4,16 +4,16 @@ use Rattle.std.specs.Prelude.{option_map}
 use Rattle.std.proofs.lemmas.Bool.{and_parts, and_from, eqb-true, eq-eqb, false≢true}
 use Rattle.dbus_auth.specs.Lines.{Cut, cut_led_by, first_cut, is_led_by, line_end, EndsAt}
 
--- a byte and those behind it begin with CR LF
+-- a byte and those after it begin with CR LF
 abbrev ends_here : ℕ → List ℕ → Bool
 ends_here c bytes = c == 13 && is_led_by 10 bytes
 
--- a LF leads the bytes
+-- the bytes begin with a LF
 led_by_feed : (bytes : List ℕ) → is_led_by 10 bytes ≡ true → (rest : List ℕ) × (bytes ≡ 10 ∷ rest)
 led_by_feed [] h = cc h
 led_by_feed (d ∷ rest) h = (rest, ap (λ (x : ℕ). x ∷ rest) (eqb-true d 10 h))
 
--- the first cut stands at this byte, or behind it
+-- the first cut is at this byte, or after it
 pub data CutOf (c : ℕ) (bytes : List ℕ) : Type 0 where
   here : (rest : List ℕ) → c ≡ 13 → bytes ≡ 10 ∷ rest → first_cut (c ∷ bytes) ≡ Some (record { line = []; rest = rest }) → CutOf c bytes
   behind : ends_here c bytes ≡ false → first_cut (c ∷ bytes) ≡ option_map (cut_led_by c) (first_cut bytes) → CutOf c bytes
@@ -38,7 +38,7 @@ not_mapped : (f : Cut → Cut) (o : Option Cut) → option_map f o ≡ None → 
 not_mapped f None h = refl
 not_mapped f (Some first) h = cc h
 
--- a line and the rest are the bytes
+-- a line, its ending and the rest are the bytes
 pub first_cut-whole : (bytes : List ℕ) (cut : Cut) → first_cut bytes ≡ Some cut → bytes ≡ cut.line ++ (line_end ++ cut.rest)
 first_cut-whole [] cut h = cc h
 first_cut-whole (c ∷ bytes) cut h =
@@ -51,7 +51,7 @@ first_cut-whole (c ∷ bytes) cut h =
           rw m.2 (ap (λ (l : List ℕ). c ∷ l) (first_cut-whole bytes m.0 m.1))
     ]
 
--- a byte that doesn't begin with CR LF leads the line
+-- a byte that doesn't begin CR LF is the first of the line
 led_line : (c : ℕ) (bytes : List ℕ) → ends_here c bytes ≡ false → first_cut (c ∷ bytes) ≡ option_map (cut_led_by c) (first_cut bytes)
 led_line c bytes other =
     ap (λ b. cond b (Some (record { line = []; rest = drop 1 bytes })) (option_map (cut_led_by c) (first_cut bytes))) other
@@ -60,7 +60,7 @@ led_line c bytes other =
 one_uncut : (c : ℕ) → first_cut (c ∷ []) ≡ None
 one_uncut c = elim (cut_of c []) [ here rest cr lf is ↦ cc lf | behind other is ↦ is ]
 
--- more bytes behind a cut stand in its rest
+-- more bytes after a cut are in its rest
 pub first_cut-append : (bytes more : List ℕ) (cut : Cut) → first_cut bytes ≡ Some cut → first_cut (bytes ++ more) ≡ Some (record { line = cut.line; rest = cut.rest ++ more })
 first_cut-append [] more cut h = cc h
 first_cut-append (c ∷ []) more cut h = cc (sym (one_uncut c) ∙ h)
@@ -76,7 +76,7 @@ first_cut-append (c ∷ d ∷ bytes) more cut h =
           ∙ ap (λ (k : Cut). Some (record { line = k.line; rest = k.rest ++ more })) (sym m.2)
     ]
 
--- a cut that comes with more bytes stands at the seam or behind it
+-- a cut that appears with more bytes is at the seam or after it
 pub first_cut-late : (bytes more : List ℕ) (cut : Cut) → first_cut bytes ≡ None → first_cut (bytes ++ more) ≡ Some cut → length bytes < length cut.line + 2
 first_cut-late [] more cut none some = omega arith
 first_cut-late (c ∷ []) more cut none some = omega arith
@@ -91,7 +91,7 @@ first_cut-late (c ∷ d ∷ bytes) more cut none some =
           omega arith
     ]
 
--- a line without CR LF is cut off at the CR LF behind it
+-- a line without CR LF is cut off at the CR LF after it
 pub first_cut-line : (line rest : List ℕ) → first_cut line ≡ None → first_cut (line ++ (line_end ++ rest)) ≡ Some (record { line = line; rest = rest })
 first_cut-line [] rest none = refl
 first_cut-line (c ∷ []) rest none =
@@ -107,7 +107,7 @@ first_cut-line (c ∷ d ∷ line) rest none =
           led_line c (d ∷ (line ++ (line_end ++ rest))) other ∙ ap (option_map (cut_led_by c)) (first_cut-line (d ∷ line) rest before)
     ]
 
--- no CR LF stands in a line that was cut off
+-- a line that was cut off contains no CR LF
 pub first_cut-alone : (bytes : List ℕ) (cut : Cut) → first_cut bytes ≡ Some cut → first_cut cut.line ≡ None
 first_cut-alone bytes cut h =
     elim (first_cut cut.line) as (λ o. first_cut cut.line ≡ o → o ≡ None) [
@@ -121,13 +121,13 @@ first_cut-alone bytes cut h =
           absurd (omega (arith, simp length-append at long, ap (λ (l : List ℕ). length l) lines))
     ] refl
 
--- a byte behind which the test fails isn't CR before LF
+-- a byte after which the test fails isn't CR before LF
 not_behind : (c : ℕ) (bytes : List ℕ) → ends_here c bytes ≡ false → EndsAt (c ∷ bytes) 0 → ⊥
 not_behind c [] other ends = absurd (omega (arith, ends.1))
 not_behind c (d ∷ bytes) other ends =
     false≢true (sym other ∙ and_from (c == 13) (d == 10) (eq-eqb c 13 ends.0) (eq-eqb d 10 ends.1))
 
--- a place counted from the next byte
+-- a position counted from the next byte
 EndsAt-tail : (c : ℕ) (bytes : List ℕ) (k : ℕ) → EndsAt (c ∷ bytes) (suc k) → EndsAt bytes k
 EndsAt-tail c bytes k ends =
     let e : suc k + 1 ≡ suc (k + 1) = omega arith in
@@ -138,7 +138,7 @@ EndsAt-cons c bytes k ends =
     let e : suc k + 1 ≡ suc (k + 1) = omega arith in
     (ends.0, ap (λ (n : ℕ). get_or (c ∷ bytes) n 0) e ∙ ends.1)
 
--- the bytes are cut at the first place at which CR LF stands
+-- the bytes are cut at the first position of a CR LF
 pub first_cut-at : (bytes : List ℕ) (place : ℕ) → EndsAt bytes place → ((k : ℕ) → k < place → EndsAt bytes k → ⊥)
     → first_cut bytes ≡ Some (record { line = take place bytes; rest = drop (place + 2) bytes })
 first_cut-at [] zero ends first = absurd (omega (arith, ends.0))
@@ -157,7 +157,7 @@ first_cut-at (c ∷ bytes) (suc place) ends first =
           ∙ ap (λ (n : ℕ). Some (record { line = c ∷ take place bytes; rest = drop n (c ∷ bytes) })) e
     ]
 
--- bytes in which CR LF stands nowhere aren't cut
+-- bytes without CR LF aren't cut
 pub first_cut-nowhere : (bytes : List ℕ) → ((k : ℕ) → EndsAt bytes k → ⊥) → first_cut bytes ≡ None
 first_cut-nowhere [] none = refl
 first_cut-nowhere (c ∷ bytes) none =

@@ -1,4 +1,4 @@
--- The laws of the handshake: who is told OK, what opens it, what refuses it.
+-- The laws of the handshake: who gets OK, what opens it, what refuses it.
 use Rattle.std.proofs.Common.{◌≡◌, ◌≢◌, ℕ, ◌==◌, true, false, cond, ◌⊎◌, inl, inr, List, [], ◌∷◌, ◌++◌, refl, sym, ap, ◌∙◌, subst, arith, append_assoc, codes}
 use Rattle.std.specs.Prelude.{◌↔◌}
 use Rattle.std.specs.List.{AllByRecursion, concat}
@@ -23,12 +23,12 @@ use Rattle.dbus_auth.proofs.TableLemmas.{row-ok, row-ok_next, row-error_next, ro
 
 -- ---- the stream and its cutting
 
--- nothing came yet
+-- nothing has arrived yet
 pub handshake-nothing : (uid : ℕ) (guid : List ℕ) → handshake uid guid [] ≡ silent (waiting (fresh uid guid) [])
 unfolding handshake
 handshake-nothing uid guid = refl
 
--- behind a zero byte the table runs
+-- after a zero byte the table runs
 pub handshake-zero : (uid : ℕ) (guid bytes : List ℕ) → handshake uid guid (0 ∷ bytes) ≡ run (fresh uid guid) bytes
 unfolding handshake
 handshake-zero uid guid bytes = refl
@@ -39,7 +39,7 @@ unfolding handshake
 handshake-other uid guid first bytes other =
     ap (λ b. cond b (run (fresh uid guid) bytes) (silent (refused NoZero))) (ne_eqb first 0 other)
 
--- pieces that come behind bytes
+-- pieces that come after bytes
 pub in_pieces-run : (at : Exchange) (bytes : List ℕ) (pieces : List (List ℕ)) → in_pieces (run at bytes) pieces ≡ run at (bytes ++ concat pieces)
 in_pieces-run at bytes [] = ap (run at) (sym (append-nil bytes))
 in_pieces-run at bytes (piece ∷ pieces) =
@@ -62,7 +62,7 @@ in_pieces-handshake uid guid first bytes (piece ∷ pieces) =
 
 -- ---- an accepted argument
 
--- OK is answered to a line that gives an accepted argument
+-- OK is the answer to a line that gives an accepted argument
 pub gives-ok : (at : Exchange) (line : List ℕ) → GivesAccepted at line → step_of at line ≡ step.Say (ok_line at.guid)
 gives-ok at _ (at_once argument state is) =
     let true_is = (is_accepted-iff at.uid argument).1 is in
@@ -91,16 +91,16 @@ ok-gives at line h =
 
 -- ---- the lines of a run
 
--- the run over lines that the table stands behind goes on from there
+-- a run continues after lines that the table has answered
 pub stands-run : (at : Exchange) (lines bytes : List ℕ) (answers : List (List ℕ)) (state : State) → Stands at lines answers state
     → run at (lines ++ bytes) ≡ told answers (run (in_state at state) bytes)
 stands-run at lines bytes answers state stands = run-append at lines bytes ∙ ap (λ r. continued r bytes) stands
 
--- nothing came yet
+-- nothing has arrived yet
 stands_start : (at : Exchange) → Stands at [] [] at.state
 stands_start at = run-waiting at [] (record { none = refl; short = omega arith })
 
--- one line more in front
+-- one more line in front
 stands_behind : (at : Exchange) (line lines answer : List ℕ) (answers : List (List ℕ)) (state : State) → IsLine line → step_of at line ≡ step.Say answer
     → Stands (next_of at line) lines answers state → Stands at (ended line lines) (answer ∷ answers) state
 stands_behind at line lines answer answers state is e stands =
@@ -174,7 +174,7 @@ open_line _ _ _ _ (refuses at line behind fault is s) rest e = cc e
 abbrev pub AllError : List (List ℕ) → Type 0
 AllError = AllByRecursion (λ answer. answer ≡ error_line)
 
--- where the client is to begin, OK stands; or it was to begin before the first line, and nothing but
+-- if the client should begin, OK is in force; or it should begin before the first line, and nothing but
 -- ERROR was answered
 to_begin : (at : Exchange) (bytes : List ℕ) (answers : List (List ℕ)) (end : End) → Runs at bytes answers end → (place : Exchange) (left : List ℕ) → end ≡ waiting place left
     → place.state ≡ WaitingForBegin → OkStands at.guid answers ⊎ ((at.state ≡ WaitingForBegin) × AllError answers)
@@ -200,7 +200,7 @@ to_begin _ _ _ _ (says at line rest answer answers end is s later) place left e 
 to_begin _ _ _ _ (begins at line rest is s) place left e begin = cc e
 to_begin _ _ _ _ (refuses at line rest fault is s) place left e begin = cc e
 
--- ERROR keeps the client to begin
+-- after ERROR the client should still begin
 still_to_begin : (at : Exchange) (bytes : List ℕ) (answers : List (List ℕ)) (end : End) → Runs at bytes answers end → (place : Exchange) (left : List ℕ) → end ≡ waiting place left
     → at.state ≡ WaitingForBegin → AllError answers → place.state ≡ WaitingForBegin
 still_to_begin _ _ _ _ (waits at bytes is) place left e begin errors =
@@ -213,7 +213,7 @@ still_to_begin _ _ _ _ (says at line rest answer answers end is s later) place l
 still_to_begin _ _ _ _ (begins at line rest is s) place left e begin errors = cc e
 still_to_begin _ _ _ _ (refuses at line rest fault is s) place left e begin errors = cc e
 
--- where OK stands, the client is to begin
+-- if OK is in force, the client should begin
 ok_to_begin : (at : Exchange) (bytes : List ℕ) (answers : List (List ℕ)) (end : End) → Runs at bytes answers end → (place : Exchange) (left : List ℕ) → end ≡ waiting place left
     → (before since : List (List ℕ)) → answers ≡ before ++ ok_line at.guid ∷ since → AllError since → place.state ≡ WaitingForBegin
 ok_to_begin _ _ _ _ (waits at bytes is) place left e [] since whole errors = cc whole
@@ -230,7 +230,7 @@ ok_to_begin _ _ _ _ (says at line rest answer answers end is s later) place left
 ok_to_begin _ _ _ _ (begins at line rest is s) place left e before since whole errors = cc e
 ok_to_begin _ _ _ _ (refuses at line rest fault is s) place left e before since whole errors = cc e
 
--- the table awaits BEGIN exactly where OK stands
+-- the table awaits BEGIN exactly if OK is in force
 pub stands-ok : (uid : ℕ) (guid lines : List ℕ) (answers : List (List ℕ)) (state : State) → Stands (fresh uid guid) lines answers state
     → (state ≡ WaitingForBegin) ↔ OkStands guid answers
 stands-ok uid guid lines answers state stands =
@@ -244,7 +244,7 @@ stands-ok uid guid lines answers state stands =
       λ ok. ok_to_begin at lines answers _ way (in_state at state) [] refl ok.before ok.since ok.whole ok.errors,
     )
 
--- BEGIN where OK stands
+-- BEGIN if OK is in force
 pub begin-opens : (uid : ℕ) (guid lines line rest : List ℕ) (answers : List (List ℕ)) (state : State) → Stands (fresh uid guid) lines answers state
     → IsLine line → word_of line ≡ codes "BEGIN" → OkStands guid answers → run (fresh uid guid) (lines ++ ended line rest) ≡ record { answers = answers; end = opened rest }
 begin-opens uid guid lines line rest answers state stands is word ok =
@@ -255,7 +255,7 @@ begin-opens uid guid lines line rest answers state stands is word ok =
     ∙ ap (told answers) (run-line (in_state at state) line rest is ∙ ap (λ s. run_from_step s rest (run (next_of (in_state at state) line) rest)) step_is)
     ∙ ap (λ (l : List (List ℕ)). record { answers = l; end = opened rest }) (append-nil answers)
 
--- BEGIN where it doesn't
+-- BEGIN if it isn't
 pub begin-refused : (uid : ℕ) (guid lines line rest : List ℕ) (answers : List (List ℕ)) (state : State) → Stands (fresh uid guid) lines answers state
     → IsLine line → word_of line ≡ codes "BEGIN" → (OkStands guid answers → ⊥) → run (fresh uid guid) (lines ++ ended line rest) ≡ record { answers = answers; end = refused BeginTooSoon }
 begin-refused uid guid lines line rest answers state stands is word none =
@@ -266,7 +266,7 @@ begin-refused uid guid lines line rest answers state stands is word none =
     ∙ ap (told answers) (run-line (in_state at state) line rest is ∙ ap (λ s. run_from_step s rest (run (next_of (in_state at state) line) rest)) step_is)
     ∙ ap (λ (l : List (List ℕ)). record { answers = l; end = refused BeginTooSoon }) (append-nil answers)
 
--- OK is told only to a line that gives an accepted argument
+-- OK is the answer only to a line that gives an accepted argument
 pub ok_earned : (uid : ℕ) (guid bytes : List ℕ) (front since : List (List ℕ)) → (run (fresh uid guid) bytes).answers ≡ front ++ ok_line guid ∷ since
     → HasLine (fresh uid guid) bytes front (λ at line rest. GivesAccepted at line)
 ok_earned uid guid bytes front since e =
@@ -283,7 +283,7 @@ ok_earned uid guid bytes front since e =
       so = ok-gives (in_state at has.state) has.line has.so;
     }
 
--- what an open run tells
+-- what follows from an open run
 is_opened : (uid : ℕ) (guid bytes : List ℕ) (answers : List (List ℕ)) (rest : List ℕ) → run (fresh uid guid) bytes ≡ record { answers = answers; end = opened rest }
     → IsOpened uid guid bytes answers rest
 is_opened uid guid bytes answers rest e =
@@ -303,7 +303,7 @@ is_opened uid guid bytes answers rest e =
       },
     )
 
--- a run is open exactly behind a BEGIN before which OK stands
+-- a run is open exactly after a BEGIN before which OK is in force
 pub run-opened : (uid : ℕ) (guid bytes : List ℕ) (answers : List (List ℕ)) (rest : List ℕ)
     → (run (fresh uid guid) bytes ≡ record { answers = answers; end = opened rest }) ↔ IsOpened uid guid bytes answers rest
 run-opened uid guid bytes answers rest = (
@@ -400,7 +400,7 @@ waiting_part _ _ _ _ (says at line rest answer answers end is s later) place lef
 waiting_part _ _ _ _ (begins at line rest is s) place left e = cc e
 waiting_part _ _ _ _ (refuses at line rest fault is s) place left e = cc e
 
--- what is awaited, and behind which bytes of a line
+-- what is awaited, and after which bytes of a line
 pub run-waits : (at : Exchange) (bytes : List ℕ) (answers : List (List ℕ)) (place : Exchange) (left : List ℕ)
     → (run at bytes ≡ record { answers = answers; end = waiting place left }) ↔ IsWaiting at bytes answers place left
 run-waits at bytes answers place left = (

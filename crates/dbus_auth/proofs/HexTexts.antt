@@ -1,4 +1,4 @@
--- Reading hex into room for the bytes that are awaited.
+-- Decoding hex into a room for the bytes that are wanted.
 use Rattle.std.proofs.Common.{◌≡◌, ℕ, ◌*◌, true, false, List, length, Result, Ok, Err, refl, sym, ap, ◌∙◌}
 use Rattle.std.specs.Prelude.{MatchResult}
 use Rattle.std.specs.Str.{bytes_eq}
@@ -9,7 +9,7 @@ use Rattle.hex.specs.declared.error.FromHexError.{FromHexError}
 use Rattle.hex.proofs.HexLemmas.{decode_of-ok, decode_sized-twice}
 use Rattle.dbus_auth.specs.Commands.{is_hex_of, is_ok_with}
 
--- other bytes were read, or none, where those of a text that decodes to them can't be read
+-- a text that can't be decoded into as many bytes as are wanted decodes to other bytes, or to none
 not_read : (text wanted : List ℕ) (fault : FromHexError) (d : Result (List ℕ) FromHexError)
     → decode_of text ≡ d → decode_sized text (length wanted) ≡ Err fault → is_ok_with wanted d ≡ false
 not_read text wanted fault (Err e) is refused = refl
@@ -22,7 +22,7 @@ not_read text wanted fault (Ok bytes) is refused =
       | false ↦ λ other. refl
     ] refl
 
--- no bytes can be read into the room of those that are awaited
+-- so it isn't the wanted bytes in hex
 is_hex_of-Err : (text wanted : List ℕ) (fault : FromHexError) → decode_sized text (length wanted) ≡ Err fault → is_hex_of text wanted ≡ false
 is_hex_of-Err text wanted fault refused = not_read text wanted fault (decode_of text) refl refused
 
@@ -32,7 +32,7 @@ not_read_into : (text wanted out : List ℕ) (r : Result Unit FromHexError) (d :
 not_read_into text wanted out r (Ok bytes) is reads fails = cc (sym fails ∙ ap is_ok reads.0)
 not_read_into text wanted out r (Err fault) is reads fails = is_hex_of-Err text wanted fault is
 
--- `decode_to_slice` has failed in a room as long as the bytes that are awaited
+-- the same, if `decode_to_slice` fails in a room as long as the wanted bytes
 pub is_hex_of-not_ok : (text wanted room out : List ℕ) (r : Result Unit FromHexError) → length room ≡ length wanted
     → MatchResult (decode_sized text (length room)) (λ bytes. (r ≡ Ok tt) × (out ≡ bytes)) (λ e. r ≡ Err e)
     → is_ok r ≡ false → is_hex_of text wanted ≡ false

@@ -14,13 +14,13 @@ use Rattle.dbus_auth.specs.declared.auth.Step.{Step}
 use Rattle.dbus_auth.specs.declared.auth.Step.TheVariants as step
 use Rattle.dbus_auth.proofs.CutLemmas.{first_cut-whole, first_cut-append, first_cut-late, first_cut-line, first_cut-alone}
 
--- the rest behind a line is shorter by two bytes at least
+-- the rest after a line is shorter by at least two bytes
 rest_shorter : (bytes : List ℕ) (cut : Cut) → first_cut bytes ≡ Some cut → length cut.rest + length cut.line + 2 ≡ length bytes
 rest_shorter bytes cut h =
     let whole = simp length-append at (ap (λ (l : List ℕ). length l) (first_cut-whole bytes cut h)) in
     omega arith
 
--- a further run matters only over the rest of the cut
+-- what a further run gives matters only for the rest of the cut
 same_further : (f g : Exchange → List ℕ → Run) (at : Exchange) (bytes : List ℕ) (cut : Cut)
     → f (next_of at cut.line) cut.rest ≡ g (next_of at cut.line) cut.rest
     → run_from_cut f at bytes (Some cut) ≡ run_from_cut g at bytes (Some cut)
@@ -61,7 +61,7 @@ run-first at (c ∷ bytes) =
           (run_lines-enough (length bytes) (length cut.rest) (next_of at cut.line) cut.rest (omega arith) (omega arith))
     ] refl
 
--- bytes without CR LF, which fit the limit: more are awaited
+-- bytes without CR LF that fit the limit: more are awaited
 pub run-waiting : (at : Exchange) (bytes : List ℕ) → IsUnfinished bytes → run at bytes ≡ silent (waiting at bytes)
 run-waiting at bytes is =
     run-first at bytes ∙ ap (run_from_cut run at bytes) is.none
@@ -73,7 +73,7 @@ run-line at line rest is =
     run-first at (ended line rest) ∙ ap (run_from_cut run at (ended line rest)) (first_cut-line line rest is.whole)
     ∙ ap (λ b. cond b (run_from_step (step_of at line) rest (run (next_of at line) rest)) (silent (refused LineTooLong))) (le-leb (length line + 2) line_limit is.fits)
 
--- where the first cut leads past the limit, or isn't there
+-- if the first cut is past the limit, or there is none
 overflowing : (at : Exchange) (bytes : List ℕ) (o : Option Cut) → first_cut bytes ≡ o → first_cut (take line_limit bytes) ≡ None → line_limit ≤ length bytes
     → run_from_cut run at bytes o ≡ silent (refused LineTooLong)
 overflowing at bytes None is none long =
@@ -85,15 +85,15 @@ overflowing at bytes (Some cut) is none long =
     let past : line_limit < length cut.line + 2 = omega arith in
     ap (λ b. cond b (run_from_step (step_of at cut.line) cut.rest (run (next_of at cut.line) cut.rest)) (silent (refused LineTooLong))) (lt-leb (length cut.line + 2) line_limit past)
 
--- as many bytes as the limit are there, and no line has ended within them
+-- there are as many bytes as the limit, and no line has ended within them
 pub run-overflow : (at : Exchange) (bytes : List ℕ) → IsTooLong bytes → run at bytes ≡ silent (refused LineTooLong)
 run-overflow at bytes is = run-first at bytes ∙ overflowing at bytes (first_cut bytes) refl is.none is.long
 
--- a run goes so
+-- a run goes in one of the ways
 abbrev pub Goes : Exchange → List ℕ → Run → Type 0
 Goes at bytes r = Runs at bytes r.answers r.end
 
--- the front of bytes whose first cut leads past a limit, or isn't there, has none
+-- if the first cut of bytes is past a limit, or there is none, there is none in their first bytes up to the limit
 front_uncut : (limit : ℕ) (bytes : List ℕ) (o : Option Cut) → first_cut bytes ≡ o → limit ≤ length bytes
     → ((cut : Cut) → o ≡ Some cut → limit < length cut.line + 2) → first_cut (take limit bytes) ≡ None
 front_uncut limit bytes o is long far =
@@ -109,14 +109,14 @@ front_uncut limit bytes o is long far =
           absurd (omega arith)
     ] refl
 
--- the step of a line decides how the run goes on
+-- the step of a line decides how the run continues
 step_goes : (at : Exchange) (line rest : List ℕ) (s : Step) (further : Run) → IsLine line → step_of at line ≡ s → Goes (next_of at line) rest further
     → Goes at (ended line rest) (run_from_step s rest further)
 step_goes at line rest (step.Say answer) further is e later = says at line rest answer further.answers further.end is e later
 step_goes at line rest step.Begin further is e later = begins at line rest is e
 step_goes at line rest (step.Refused fault) further is e later = refuses at line rest fault is e
 
--- a run over bytes that hold no cut
+-- a run over bytes without a cut
 goes_uncut : (at : Exchange) (bytes : List ℕ) → first_cut bytes ≡ None → Goes at bytes (run at bytes)
 goes_uncut at bytes none =
     elim (cases_lt (length bytes) line_limit) [
@@ -128,7 +128,7 @@ goes_uncut at bytes none =
           subst (λ r. Goes at bytes r) (sym (run-overflow at bytes is)) (overflows at bytes is)
     ]
 
--- a run over bytes whose first cut leads past the limit
+-- a run over bytes whose first cut is past the limit
 goes_past : (at : Exchange) (bytes : List ℕ) (cut : Cut) → first_cut bytes ≡ Some cut → line_limit < length cut.line + 2 → Goes at bytes (run at bytes)
 goes_past at bytes cut is past =
     let size = rest_shorter bytes cut is in
@@ -184,11 +184,11 @@ goes_so at bytes answers end e = subst (λ (r : Run). Runs at bytes r.answers r.
 pub run-iff : (at : Exchange) (bytes : List ℕ) (answers : List (List ℕ)) (end : End) → (run at bytes ≡ record { answers = answers; end = end }) ↔ Runs at bytes answers end
 run-iff at bytes answers end = (goes_so at bytes answers end, run-goes at bytes answers end)
 
--- more bytes behind a line stand in its rest
+-- more bytes after a line are in its rest
 pub line-append : (line rest more : List ℕ) → ended line rest ++ more ≡ ended line (rest ++ more)
 line-append line rest more = append_assoc line (line_end ++ rest) more
 
--- one answer more in front of a run that goes on
+-- one more answer before a run that continues
 answered-resumed : (answer : List ℕ) (answers : List (List ℕ)) (end : End) (more : List ℕ) → answered answer (resumed answers end more) ≡ resumed (answer ∷ answers) end more
 answered-resumed answer answers (waiting at unfinished) more = refl
 answered-resumed answer answers (refused fault) more = refl

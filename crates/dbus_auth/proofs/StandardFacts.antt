@@ -1,4 +1,4 @@
--- Worked conversations, computed from the definitions: what a client sends, and what it is answered.
+-- Worked conversations, computed from the definitions: what a client sends, and the answers.
 use Rattle.std.proofs.Common.{◌≡◌, ℕ, List, [], ◌∷◌, refl, codes}
 use Rattle.std.specs.Fmt.{digits}
 use Rattle.hex.proofs.OnLiterals.{hex_on_literals}
@@ -9,7 +9,7 @@ use Rattle.dbus_auth.specs.Table.{fresh}
 use Rattle.dbus_auth.specs.declared.auth.AuthFault.TheVariants.{NoZero, BeginTooSoon}
 use Rattle.dbus_auth.specs.declared.auth.State.TheVariants.{WaitingForData}
 
--- nothing came yet
+-- nothing has arrived yet
 nothing : (uid : ℕ) (guid : List ℕ) → handshake uid guid [] ≡ record { answers = []; end = waiting (fresh uid guid) [] }
 unfolding handshake
 nothing uid guid = refl
@@ -24,15 +24,15 @@ name_at_once : (guid : List ℕ) → handshake 1000 guid (0 ∷ codes "AUTH EXTE
 unfolding handshake run run_lines command_of is_accepted digits hex_on_literals
 name_at_once guid = refl
 
--- the name left to the server, all lines in one piece as busctl sends them, and a message behind them
+-- the name left to the server, all lines in one piece as busctl sends them, and a message after them
 name_left_out : (guid : List ℕ)
     → handshake 1000 guid (0 ∷ codes "AUTH EXTERNAL\r\nDATA\r\nNEGOTIATE_UNIX_FD\r\nBEGIN\r\nl\u{1}\0\u{1}")
     ≡ record { answers = data_line ∷ ok_line guid ∷ error_line ∷ []; end = opened (codes "l\u{1}\0\u{1}") }
 unfolding handshake run run_lines command_of is_accepted digits hex_on_literals
 name_left_out guid = refl
 
--- a user id with a leading zero, half a byte, a space behind the digits, and no mechanism; BEGIN then comes
--- too soon, whatever follows
+-- a user id with a leading zero, half a byte, a space after the digits, and no mechanism; then BEGIN comes too
+-- soon, whatever follows
 refused_names : (guid : List ℕ)
     → handshake 0 guid (0 ∷ codes "AUTH EXTERNAL 3030\r\nAUTH EXTERNAL 3\r\nAUTH EXTERNAL 30 \r\nAUTH\r\nBEGIN\r\nAUTH")
     ≡ record { answers = rejected_line ∷ rejected_line ∷ rejected_line ∷ rejected_line ∷ []; end = refused BeginTooSoon }

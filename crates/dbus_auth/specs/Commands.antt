@@ -1,4 +1,4 @@
--- D-Bus Specification, "Authentication Protocol": what a line asks of the server.
+-- D-Bus Specification, "Authentication Protocol": what a line asks for.
 use Rattle.std.specs.Prelude.{ℕ, ◌==◌, Bool, false, ◌||◌, if◌then◌else◌, List, [], length, Option, None, Some, unwrap_or, Result, Ok, Err, codes, decimal}
 use Rattle.std.specs.Str.{bytes_eq}
 use Rattle.hex.specs.Hex.{decode_of}
@@ -12,7 +12,7 @@ abbrev pub is_ok_with : List ℕ → Result (List ℕ) FromHexError → Bool
 is_ok_with wanted (Ok bytes) = bytes_eq bytes wanted
 is_ok_with wanted (Err fault) = false
 
--- the text is hex, of either case, for these bytes
+-- the text is these bytes in hex, of either case
 abbrev pub is_hex_of : List ℕ → List ℕ → Bool
 is_hex_of text bytes = is_ok_with bytes (decode_of text)
 
@@ -21,12 +21,12 @@ is_hex_of text bytes = is_ok_with bytes (decode_of text)
 unfoldable pub is_accepted : ℕ → List ℕ → Bool
 is_accepted uid argument = length argument == 0 || is_hex_of argument (decimal uid)
 
--- `AUTH EXTERNAL` alone, or with what stands behind its space
+-- `AUTH EXTERNAL` alone, or with what comes after its space
 abbrev pub external_of : ℕ → Option (List ℕ) → Command
 external_of uid None = External
 external_of uid (Some argument) = if is_accepted uid argument then ExternalAccepted else OtherAuth
 
--- the word AUTH with its argument: a mechanism's name, and behind a space the mechanism's argument
+-- the word AUTH with its argument: a mechanism's name, and after a space the mechanism's argument
 abbrev pub auth_of : ℕ → Option (List ℕ) → Command
 auth_of uid None = OtherAuth
 auth_of uid (Some argument) =
@@ -36,7 +36,7 @@ auth_of uid (Some argument) =
 abbrev pub data_of : ℕ → Option (List ℕ) → Command
 data_of uid argument = if is_accepted uid (unwrap_or argument []) then DataAccepted else OtherData
 
--- what a line asks. Of the words but AUTH and DATA the argument doesn't matter
+-- what a line asks for; the argument matters only with the words AUTH and DATA
 unfoldable pub command_of : ℕ → List ℕ → Command
 command_of uid line =
     if bytes_eq (word_of line) (codes "AUTH") then auth_of uid (argument_of line)

@@ -1,4 +1,4 @@
--- What the laws of the handshake speak of: its lines, a run that goes on, and who was told OK.
+-- What the laws of the handshake are about: its lines, a run that continues, and who gets OK.
 use Rattle.std.specs.Prelude.{◌≡◌, ℕ, ◌+◌, ◌<◌, ◌≤◌, ◌⊎◌, List, [], ◌∷◌, ◌++◌, length, take, None, Ok, codes, decimal}
 use Rattle.std.specs.List.{AllByRecursion}
 use Rattle.hex.specs.Hex.{decode_of}
@@ -13,12 +13,12 @@ use Rattle.dbus_auth.specs.declared.auth.State.{State}
 use Rattle.dbus_auth.specs.declared.auth.State.TheVariants.{WaitingForAuth, WaitingForData}
 use Rattle.dbus_auth.specs.declared.auth.Step.TheVariants as step
 
--- a line as the table is fed with it: no CR LF stands in it, and with one behind it it fits the limit
+-- a line as it is fed to the table: it contains no CR LF, and with its own CR LF it fits the limit
 pub record IsLine (line : List ℕ) : Type 0 where
   pub whole : first_cut line ≡ None
   pub fits : length line + 2 ≤ line_limit
 
--- a line with its ending, and the rest behind it
+-- a line with its ending, and the rest after it
 abbrev pub ended : List ℕ → List ℕ → List ℕ
 ended line rest = line ++ (line_end ++ rest)
 
@@ -27,12 +27,12 @@ pub record IsUnfinished (bytes : List ℕ) : Type 0 where
   pub none : first_cut bytes ≡ None
   pub short : length bytes < line_limit
 
--- as many bytes as the limit are there, and no line has ended within them
+-- there are as many bytes as the limit, and no line has ended within them
 pub record IsTooLong (bytes : List ℕ) : Type 0 where
   pub none : first_cut (take line_limit bytes) ≡ None
   pub long : line_limit ≤ length bytes
 
--- the ways in which a run goes, as a relation on whole lists
+-- the ways in which a run can go, as a relation on whole lists
 pub data Runs : Exchange → List ℕ → List (List ℕ) → End → Type 0 where
   waits : (at : Exchange) (bytes : List ℕ) → IsUnfinished bytes → Runs at bytes [] (waiting at bytes)
   overflows : (at : Exchange) (bytes : List ℕ) → IsTooLong bytes → Runs at bytes [] (refused LineTooLong)
@@ -47,36 +47,36 @@ abbrev pub joined : List (List ℕ) → List ℕ
 joined [] = []
 joined (line ∷ lines) = ended line (joined lines)
 
--- the table fed with line after line; lines behind an accepted BEGIN are rest again
+-- the run of the table that is fed line after line; lines after an accepted BEGIN belong to the rest
 abbrev pub fed : Exchange → List (List ℕ) → Run
 fed at [] = silent (waiting at [])
 fed at (line ∷ lines) = run_from_step (step_of at line) (joined lines) (fed (next_of at line) lines)
 
--- answers in front of a run's
+-- answers before a run's
 abbrev pub told : List (List ℕ) → Run → Run
 told answers further = record { answers = answers ++ further.answers; end = further.end }
 
--- a run that stands so, when more bytes come
+-- a run that has come so far, when more bytes arrive
 abbrev pub resumed : List (List ℕ) → End → List ℕ → Run
 resumed answers (waiting at unfinished) more = told answers (run at (unfinished ++ more))
 resumed answers (refused fault) more = record { answers = answers; end = refused fault }
 resumed answers (opened rest) more = record { answers = answers; end = opened (rest ++ more) }
 
--- a run, when more bytes come
+-- a run, when more bytes arrive
 abbrev pub continued : Run → List ℕ → Run
 continued before more = resumed before.answers before.end more
 
--- a run, when bytes come piece after piece
+-- a run, when bytes arrive piece after piece
 abbrev pub in_pieces : Run → List (List ℕ) → Run
 in_pieces before [] = before
 in_pieces before (piece ∷ pieces) = in_pieces (continued before piece) pieces
 
--- the argument is empty, or hex of either case for the user id's decimal digits
+-- the argument is empty, or the user id's decimal digits in hex of either case
 abbrev pub IsAccepted : ℕ → List ℕ → Type 0
 IsAccepted uid argument = (argument ≡ []) ⊎ (decode_of argument ≡ Ok (decimal uid))
 
--- the line gives such an argument where the table awaits one: with the mechanism's name, or when it was
--- asked for; then the space before an empty one may be missing
+-- the line gives such an argument when the table awaits one: with the mechanism's name, or after it was asked for;
+-- in that case the space before an empty one may be missing
 pub data GivesAccepted (at : Exchange) : List ℕ → Type 0 where
   at_once : (argument : List ℕ) → at.state ≡ WaitingForAuth → IsAccepted at.uid argument → GivesAccepted at (codes "AUTH EXTERNAL " ++ argument)
   when_asked : (argument : List ℕ) → at.state ≡ WaitingForData → IsAccepted at.uid argument → GivesAccepted at (codes "DATA " ++ argument)
@@ -90,8 +90,8 @@ in_state at state = record at { state = state }
 abbrev pub Stands : Exchange → List ℕ → List (List ℕ) → State → Type 0
 Stands at lines answers state = run at lines ≡ record { answers = answers; end = waiting (in_state at state) [] }
 
--- behind lines that were given these answers stands a line. P tells of the place of the table there, of
--- the line, and of the rest behind it
+-- after lines that got these answers comes a line such that P is true of the table's state there, of the line, and
+-- of the rest after it
 pub record HasLine (at : Exchange) (bytes : List ℕ) (answers : List (List ℕ)) (P : Exchange → List ℕ → List ℕ → Type 0) : Type 0 where
   pub lines : List ℕ
   pub line : List ℕ
@@ -102,15 +102,14 @@ pub record HasLine (at : Exchange) (bytes : List ℕ) (answers : List (List ℕ)
   pub stands : Stands at lines answers state
   pub so : P (in_state at state) line rest
 
--- OK stands: it was answered, and nothing but ERROR since
+-- OK is in force: it was answered, and nothing but ERROR since
 pub record OkStands (guid : List ℕ) (answers : List (List ℕ)) : Type 0 where
   pub before : List (List ℕ)
   pub since : List (List ℕ)
   pub whole : answers ≡ before ++ ok_line guid ∷ since
   pub errors : AllByRecursion (λ answer. answer ≡ error_line) since
 
--- behind lines that were given these answers stand bytes of which P holds; P tells of the place of the
--- table there as well
+-- after lines that got these answers come bytes such that P is true of the table's state there and of these bytes
 pub record HasPart (at : Exchange) (bytes : List ℕ) (answers : List (List ℕ)) (P : Exchange → List ℕ → Type 0) : Type 0 where
   pub lines : List ℕ
   pub part : List ℕ
@@ -119,18 +118,17 @@ pub record HasPart (at : Exchange) (bytes : List ℕ) (answers : List (List ℕ)
   pub stands : Stands at lines answers state
   pub so : P (in_state at state) part
 
--- OK stands in these answers, and behind the lines that they were given to stands a BEGIN line with this
--- rest behind it
+-- OK is in force in these answers, and after the lines that got them comes a BEGIN line with this rest after it
 abbrev pub IsOpened : ℕ → List ℕ → List ℕ → List (List ℕ) → List ℕ → Type 0
 IsOpened uid guid bytes answers rest =
     OkStands guid answers × HasLine (fresh uid guid) bytes answers (λ at line behind. (word_of line ≡ codes "BEGIN") × (behind ≡ rest))
 
--- more bytes are awaited at this place, behind these bytes of a line
+-- more bytes are awaited in this state, after these bytes of a line
 abbrev pub IsWaiting : Exchange → List ℕ → List (List ℕ) → Exchange → List ℕ → Type 0
 IsWaiting at bytes answers place unfinished =
     HasPart at bytes answers (λ there part. (there ≡ place) × (part ≡ unfinished) × IsUnfinished part)
 
--- the cause of each fault in the bytes behind the zero byte, with the answers that were given before it
+-- the cause of each fault in the bytes after the zero byte, with the answers before it
 abbrev pub HasCause : ℕ → List ℕ → List ℕ → List (List ℕ) → AuthFault → Type 0
 HasCause uid guid bytes answers NoZero = ⊥
 HasCause uid guid bytes answers LineTooLong = HasPart (fresh uid guid) bytes answers (λ at part. IsTooLong part)

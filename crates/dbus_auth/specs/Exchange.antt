@@ -1,4 +1,4 @@
--- D-Bus Specification, "Authentication Protocol", "Server states": where a handshake stands.
+-- D-Bus Specification, "Authentication Protocol", "Server states": the state of a handshake.
 use Rattle.std.specs.Prelude.{ℕ, List}
 use Rattle.dbus_auth.specs.declared.auth.State.{State}
 

@@ -6,8 +6,8 @@ use Rattle.std.specs.Option.{option_map_or}
 abbrev pub line_end : List ℕ
 line_end = 13 ∷ 10 ∷ []
 
--- how many bytes a line may have, CR LF at its end among them (docs/DECISIONS.md, "A line of the handshake
--- has 16,384 bytes at most")
+-- the most bytes that a line may have, including CR LF at its end (docs/DECISIONS.md, "A line of the handshake has
+-- 16,384 bytes at most")
 abbrev pub line_limit : ℕ
 line_limit = 16384
 
@@ -19,7 +19,7 @@ is_space c = c == 32
 abbrev pub word_of : List ℕ → List ℕ
 word_of line = option_map_or (λ place. take place line) (position is_space line) line
 
--- a line's argument is what stands behind that one space; a line without a space has none
+-- a line's argument is what comes after that space; a line without a space has none
 abbrev pub argument_of : List ℕ → Option (List ℕ)
 argument_of line = option_map (λ place. drop (place + 1) line) (position is_space line)
 
@@ -28,20 +28,20 @@ abbrev pub is_led_by : ℕ → List ℕ → Bool
 is_led_by c [] = false
 is_led_by c (first ∷ bytes) = first == c
 
--- CR LF stands at this place
+-- CR LF is at this position
 abbrev pub EndsAt : List ℕ → ℕ → Type 0
 EndsAt bytes place = (slice_index bytes place ≡ 13) × (slice_index bytes (place + 1) ≡ 10)
 
--- bytes cut at their first CR LF: the line before it, and the rest behind it
+-- bytes cut at their first CR LF: the line before it, and the rest after it
 pub record Cut : Type 0 where
   pub line : List ℕ
   pub rest : List ℕ
 
--- the same of one more byte in front
+-- the same with one more byte in front
 abbrev pub cut_led_by : ℕ → Cut → Cut
 cut_led_by c cut = record { line = c ∷ cut.line; rest = cut.rest }
 
--- the first cut; None where no CR LF stands in the bytes. A CR or a LF alone belongs to its line
+-- the first cut; None if the bytes contain no CR LF. A CR or a LF alone belongs to its line
 abbrev pub first_cut : List ℕ → Option Cut
 first_cut [] = None
 first_cut (c ∷ bytes) =

@@ -11,8 +11,7 @@ use Rattle.dbus_auth.specs.declared.auth.Step.TheVariants as step
 use Rattle.dbus_auth.specs.declared.command.Command.{Command}
 use Rattle.dbus_auth.specs.declared.command.Command.TheVariants.{External, ExternalAccepted, OtherAuth, DataAccepted, OtherData, Cancel, Error, Begin, NegotiateUnixFd}
 
--- a row for each state and command: what is answered, and the next state. Where the handshake ends,
--- the state stays
+-- a row for each state and command: the answer, and the next state. When the handshake ends, the state stays
 abbrev pub row : List ℕ → State → Command → Step × State
 row guid WaitingForAuth External = (step.Say data_line, WaitingForData)
 row guid WaitingForAuth ExternalAccepted = (step.Say (ok_line guid), WaitingForBegin)
@@ -36,10 +35,10 @@ row guid WaitingForBegin _ = (step.Say error_line, WaitingForBegin)
 abbrev pub fresh : ℕ → List ℕ → Exchange
 fresh uid guid = record { uid = uid; guid = guid; state = WaitingForAuth }
 
--- what is answered to a line, by its row
+-- the answer to a line, by its row
 abbrev pub step_of : Exchange → List ℕ → Step
 step_of at line = (row at.guid at.state (command_of at.uid line)).0
 
--- where the handshake stands behind the line
+-- the state of the handshake after the line
 abbrev pub next_of : Exchange → List ℕ → Exchange
 next_of at line = record at { state = (row at.guid at.state (command_of at.uid line)).1 }

@@ -1,4 +1,4 @@
--- Streams: cuts one behind the other, and that there is one stream.
+-- Streams: cuts one after the other, and that there is one stream.
 use Rattle.std.proofs.Common.{◌≡◌, ℕ, ◌<◌, List, [], ◌∷◌, ◌++◌, length, take, Result, Ok, Err, refl, sym, ap, subst, ◌∙◌, arith, append_assoc, append-nil, length-append}
 use Rattle.std.specs.Prelude.{filter}
 use Rattle.std.proofs.lemmas.List.{take_at, append_cancel_left, take-append-le}
@@ -56,7 +56,7 @@ cut_more most bytes piece rest answers p = record {
   kept = p.kept;
 }
 
--- two messages in front of the same bytes are the same
+-- two messages before the same bytes are the same
 pub record SameFront (one other : List ℕ) (behind left : List ℕ) (parts further : Parts) : Type 0 where
   pub front_is : one ≡ other
   pub behind_is : behind ≡ left
@@ -75,7 +75,7 @@ same_front most one other behind left parts further m n e =
       parts_are = one_meaning most other parts further (subst (λ (s : List ℕ). IsMessage most s parts) spelling m) n;
     }
 
--- what stands behind messages that begin a stream
+-- what comes after messages that begin a stream
 record Follows (most : ℕ) (messages all : List Parts) (left rest : List ℕ) : Type 0 where
   spellings : List (List ℕ)
   spelled : List Parts
@@ -199,7 +199,7 @@ went_begins most turns left rest messages went stream = answers_begin most (fed_
 
 -- ---- there is one stream
 
--- behind messages that stand in front of bytes of which no front is one
+-- after messages that are followed by bytes of which no prefix is one
 ended : (most : ℕ) (spellings : List (List ℕ)) (spelled : List Parts) (rest left : List ℕ) → AreMessages most spellings spelled → rest ≡ joined spellings ++ left
     → BeginsNone most rest → (filter is_kept spelled ≡ []) × (rest ≡ left)
 ended most [] [] rest left each parted none = (refl, parted)

@@ -1,4 +1,4 @@
--- Each answer comes wherever it may, since there is one stream.
+-- Each answer comes whenever it may, since there is one stream.
 use Rattle.std.proofs.Common.{◌≡◌, ℕ, ◌+◌, List, [], ◌∷◌, drop, Option, Some, None, Result, Ok, Err, sym, subst}
 use Rattle.dbus_types.specs.declared.message.Message.{Message}
 use Rattle.dbus_framing.specs.declared.violation.Violation.{Violation}

@@ -1,4 +1,4 @@
--- What stands in front of the bytes, and behind the messages of ignored types.
+-- What the bytes begin with, and what comes after messages of ignored types.
 use Rattle.std.proofs.Common.{◌≡◌, ℕ, ◌+◌, ◌^◌, ◌<◌, ◌≤◌, Bool, cond, List, [], ◌∷◌, ◌++◌, length, take, drop, None, Ok, Err, refl, sym, ap, subst, ◌∙◌, arith, length-append, length-drop, Some, Option}
 use Rattle.std.specs.Prelude.{filter}
 use Rattle.std.proofs.lemmas.Bool.{le-leb, lt-leb}
@@ -20,13 +20,13 @@ use Rattle.dbus_framing.proofs.Readings.{message_said, is_message, IsBytes-take}
 use Rattle.dbus_marshal.proofs.Taking.{IsBytes}
 use Rattle.dbus_framing.proofs.Cuts.{cut_none, cut_one, cut_then, breaks_stay, breaks_none, short_begin, short_break}
 
--- a message that stands whole in front: the bytes that its head counts
+-- a complete message at the start: the bytes that its head counts
 pub record Front (most : ℕ) (bytes front : List ℕ) (head : Head) : Type 0 where
   pub is : front ≡ take head.size bytes
   pub fits : head.size ≤ length bytes
   pub known : head_of most bytes ≡ Ok head
 
--- what is known of the front alone
+-- what is known of these bytes alone
 pub record Alone (most : ℕ) (front : List ℕ) (head : Head) : Type 0 where
   pub long : length front ≡ head.size
   pub begun : 16 ≤ length front
@@ -89,7 +89,7 @@ pub known_behind : (most start : ℕ) (fed piece : List ℕ) (progress : Progres
 known_behind most start fed piece progress within known =
     subst (λ (rest : List ℕ). IsKnown most rest progress) (sym (drop-append-le start fed piece within)) (known_more most (drop start fed) piece progress known)
 
--- ---- one message further
+-- ---- one message further on
 
 further : (most : ℕ) (bytes left : List ℕ) (message : Message) → Cut most bytes [] left → SeesMessage most left message
     → Cut most bytes (filter is_kept (parts_of message ∷ [])) (drop message.length left)
@@ -110,7 +110,7 @@ ignored_further most bytes left message cut sees ignored =
 pub some_taken : (most : ℕ) (bytes : List ℕ) (message : Message) → SeesMessage most bytes message → 16 ≤ message.length
 some_taken most bytes message sees = omega (arith, sees.spelled.begun, length-take-le message.length bytes sees.fits)
 
--- what is found where a message is answered
+-- what is found when a message is returned
 pub finds_kept : (most taken : ℕ) (bytes left : List ℕ) (message : Message) → taken ≤ length bytes → left ≡ drop taken bytes → Cut most bytes [] left
     → SeesMessage most left message → message.kind ≤ 4 → Finds most bytes (record { taken = taken + message.length; look = looks.Whole message })
 finds_kept most taken bytes left message within is cut sees kept =
@@ -138,7 +138,7 @@ goes_on most taken bytes left behind message within is cut sees ignored next =
 
 -- ---- the framer
 
--- what is kept when more is fed
+-- what stays true when more is fed
 pub kept_more : (most start : ℕ) (fed fresh piece : List ℕ) (progress : Progress) → IsKept most fed start progress → fresh ≡ fed ++ piece
     → IsKept most fresh start progress
 kept_more most start fed fresh piece progress kept is =
@@ -148,7 +148,7 @@ kept_more most start fed fresh piece progress kept is =
       known = known_behind most start fed piece progress (omega (arith, kept.few)) kept.known;
     })
 
--- the bytes that messages took are half of what is held at most, and the others are those that no message took
+-- the bytes that messages consumed are at most half of those held, and the others are those that no message consumed
 pub record Moved (fed moved : List ℕ) (taken now : ℕ) : Type 0 where
   pub rest : drop now moved ≡ drop taken fed
   pub few : now + now ≤ length moved
@@ -157,7 +157,7 @@ pub record Moved (fed moved : List ℕ) (taken now : ℕ) : Type 0 where
 abbrev pub framing : ℕ → List ℕ → ℕ → Progress → Framing
 framing most fed start progress = record { most = most; rest = drop start fed; broken = broken_in progress; held = length fed }
 
--- a violation that was found is answered again
+-- a violation that was found is returned again
 pub refused_again : (most start : ℕ) (fed : List ℕ) (progress : Progress) (cause : Violation) (shown : Framing) → IsKept most fed start progress
     → progress ≡ steps.Broken cause → framing most fed start progress ≡ shown → Refused shown cause shown
 refused_again most start fed progress cause shown kept is view =
@@ -170,7 +170,7 @@ refused_again most start fed progress cause shown kept is view =
       most = refl;
     })
 
--- what was found behind the bytes that messages took
+-- what was found after the bytes that messages consumed
 pub record FoundIn (most start : ℕ) (fed rest : List ℕ) (found : Found) (look : Look) : Type 0 where
   pub within : start ≤ length fed
   pub rest_is : rest ≡ drop start fed
@@ -203,7 +203,7 @@ kept_broken most start taken now fed moved cause limited it move = record {
   known = subst (λ (rest : List ℕ). Breaks most rest cause) (sym move.rest) it.sees.breaks;
 }
 
--- what is known where more bytes are awaited
+-- what is known when more bytes are awaited
 pub kept_waiting : (most start taken now : ℕ) (fed moved : List ℕ) (progress : Progress) → most < 2 ^ 32 → Behind most start fed taken (looks.Waits progress)
     → Moved fed moved (start + taken) now → IsKept most moved now progress
 kept_waiting most start taken now fed moved progress limited it move = record {
@@ -233,7 +233,7 @@ waits_now most start taken fed left progress now shown it is view =
     subst (λ (f : Framing). Waiting f left) view (subst (λ (rest : List ℕ). Waiting (framing most fed start progress) rest) (sym is)
     (record { stream = record { cut = it.cut; no_more = it.sees.no_message }; no_violation = it.sees.no_violation }))
 
--- a framer of which no violation is known shows none
+-- a framer without a known violation shows none
 pub not_broken : (most start : ℕ) (fed : List ℕ) (progress : Progress) (shown : Framing) (cause : Violation) → broken_in progress ≡ None
     → framing most fed start progress ≡ shown → shown.broken ≡ Some cause → ⊥
 not_broken most start fed progress shown cause none view broken =

@@ -115,7 +115,7 @@ two_by true t u e = byte_and u ∙ ap (λ (w : Ty). is_field_type (Ty.struct (Ty
 pub two : (t u : Ty) (ts all : Tys) → all ≡ Tys.more t ts → Some u ≡ lone_in true ts → (is_byte t && is_variant u) ≡ is_field_type (Ty.struct all)
 two t u ts all parts lone = two_by (is_byte t) t u refl ∙ ap (λ (us : Tys). is_field_type (Ty.struct (Tys.more t us))) (sym (lone_more ts u lone)) ∙ ap (λ (us : Tys). is_field_type (Ty.struct us)) (sym parts)
 
--- what a struct of a field's types is
+-- whether a struct has the types of a field
 pub struct_test : (t : Ty) (ts : Tys) → Some ts ≡ fields_in t → is_field_type (Ty.struct ts) ≡ is_field_type t
 struct_test (Ty.struct us) ts e = let same : us ≡ ts = cc in ap (λ (ws : Tys). is_field_type (Ty.struct ws)) (sym same)
 struct_test (Ty.basic b) ts e = absurd cc

@@ -38,7 +38,7 @@ size_same endian one other same =
     let fields = same.word endian 12 (lit≤ tt) in
     cc
 
--- the rows behind the byte order, of the numbers that they look at
+-- the rows after the byte order, as a function of the numbers that they look at
 abbrev rows : ℕ → Endian → ℕ → ℕ → ℕ → ℕ → Result Head Violation
 rows most endian kind version serial size =
     cond (kind == 0) (Err violation.InvalidType)
@@ -80,7 +80,7 @@ headed head = Ok head
 headed_is : (one other : Head) → headed one ≡ headed other → one ≡ other
 headed_is one other e = cc
 
--- what passed, by the tests
+-- what passes, by the tests
 record ByTests (a b c d : Bool) (one other : Head) : Type 0 where
   typed : a ≡ false
   version : b ≡ true

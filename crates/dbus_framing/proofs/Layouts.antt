@@ -41,7 +41,7 @@ word_then endian place n xs rest ts vs none long small is more =
     subst (λ (k : ℕ). Marshals 64 endian place (Ty.basic basics.Uint32) (Val.number basics.Uint32 k) xs) is spelled in
     (xs, rest, refl, first, subst (λ (k : ℕ). AllMarshal 64 endian (behind place k) ts vs rest) (sym long) more)
 
--- ---- the front of a message
+-- ---- the start of a message
 
 four_first : (bytes : List ℕ) → 4 ≤ length bytes → take 4 bytes ≡ get_or bytes 0 0 ∷ get_or bytes 1 0 ∷ get_or bytes 2 0 ∷ get_or bytes 3 0 ∷ []
 four_first [] long = absurd (omega (arith, long))
@@ -56,7 +56,7 @@ take_both n m bytes =
     let second : drop n (take (n + m) bytes) ≡ take m (drop n bytes) = drop-take n m bytes in
     sym (take-append-drop n (take (n + m) bytes)) ∙ ap (λ (x : List ℕ). x ++ drop n (take (n + m) bytes)) first ∙ ap (λ (x : List ℕ). take n bytes ++ x) second
 
--- the front up to the end of the fields: four bytes, two numbers of 32 bits, and the array
+-- the start up to the end of the fields: four bytes, two numbers of 32 bits, and the array
 front_parts : (bytes : List ℕ) (w : ℕ) → 16 ≤ length bytes
     → take (16 + w) bytes ≡ get_or bytes 0 0 ∷ get_or bytes 1 0 ∷ get_or bytes 2 0 ∷ get_or bytes 3 0
     ∷ (take 4 (drop 4 bytes) ++ (take 4 (drop 8 bytes) ++ take (4 + w) (drop 12 bytes)))
@@ -81,7 +81,7 @@ word_long place bytes fits = length-take-le 4 (drop place bytes) (omega (arith, 
 four_same : (m a b c d e f : ℕ) (x : List ℕ) → a ≡ d → b ≡ e → c ≡ f → m ∷ a ∷ b ∷ c ∷ x ≡ m ∷ d ∷ e ∷ f ∷ x
 four_same m a b c d e f x p q r = cc
 
--- the types and values of a header from the serial on, from the length on, and so on to the front
+-- the types and values of a header from the serial on, from the length on, and so on to the start
 abbrev serial_types : Tys
 serial_types = Tys.more (Ty.basic basics.Uint32) field_types
 
@@ -148,7 +148,7 @@ all_zero (b ∷ bytes) clear =
     let both = and_parts (b == 0) (are_zero bytes) clear in
     rw (eqb-true b 0 both.0) (ap (λ (x : List ℕ). 0 ∷ x) (all_zero bytes both.1))
 
--- zeros stand between two places
+-- there are zeros between two positions
 gap : (bytes : List ℕ) (from n : ℕ) → from + n ≤ length bytes → are_zero (take n (drop from bytes)) ≡ true → bytes ≡ take from bytes ++ (zeros n ++ drop (from + n) bytes)
 gap bytes from n fits clear =
     let long : length (take n (drop from bytes)) ≡ n = length-take-le n (drop from bytes) (omega (arith, fits, length-drop from bytes)) in

@@ -1,4 +1,4 @@
--- A message by its definition, and by the rows that are looked at one after the other.
+-- A message by its definition, and by the rules that are checked one after the other.
 use Rattle.std.proofs.Common.{◌≡◌, ℕ, ◌+◌, Bool, true, false, cond, List, [], ◌++◌, length, take, drop, get_or, Option, Some, None, Result, Ok, Err, refl, sym, ap, subst, ◌∙◌, arith, length-append, length-take, inl, inr, lit<}
 use Rattle.std.specs.Prelude.{option_and_then}
 use Rattle.std.proofs.lemmas.Bool.{cases_lt}
@@ -77,7 +77,7 @@ IsBytes-take n bytes fits i = elim (cases_lt i n) [
 abbrev option_fields : Fields → Option Fields
 option_fields fields = Some fields
 
--- fields that are read are spelled so
+-- fields that are read are spelled that way
 read_fields : (endian : Endian) (bytes : List ℕ) (fields : Fields) (zero : Bool) (read : Result Vals ValueFault) → IsBytes bytes
     → are_zero (take (padding 8 (word_at endian 12 bytes)) (drop (fields_end endian bytes) bytes)) ≡ zero
     → values_at endian field_types (at 4 (take (4 + word_at endian 12 bytes) (drop 12 bytes))) ≡ read
@@ -105,7 +105,7 @@ fields_read endian bytes fields it =
     ap (λ (zero : Bool). cond zero (option_and_then fields_in (result_ok (values_at endian field_types (at 4 (take (4 + word_at endian 12 bytes) (drop 12 bytes)))))) None) it.padded
     ∙ ap (λ (values : Result Vals ValueFault). option_and_then fields_in (result_ok values)) read ∙ it.are
 
--- what is read of whole bytes is a message
+-- what is read from complete bytes is a message
 pub is_message : (most : ℕ) (bytes : List ℕ) (head : Head) (parts : Parts) → head_of most bytes ≡ Ok head → length bytes ≡ head.size
     → IsBytes bytes → is_signature parts.signature ≡ true → message_at head.endian bytes ≡ Ok parts → IsMessage most bytes parts
 is_message most bytes head parts known long fits listed read =
@@ -159,7 +159,7 @@ option_is endian = Some endian
 some_endian : (one other : Endian) → option_is one ≡ option_is other → one ≡ other
 some_endian one other e = cc
 
--- A message that stands in front of others is as long as its first bytes say.
+-- A message before others is as long as its first bytes say.
 pub no_longer : (most more : ℕ) (spelling behind : List ℕ) (one other : Parts) → IsMessage most spelling one → IsMessage more (spelling ++ behind) other → behind ≡ []
 no_longer most more spelling behind one other m n =
     let same = start_stays spelling behind m.begun in

@@ -1,4 +1,4 @@
--- What contracts see of a framer, and what its type keeps.
+-- What contracts see of a framer, and what its type guarantees.
 use Rattle.std.specs.Prelude.{◌≡◌, ℕ, ◌+◌, ◌≤◌, ◌<◌, ◌^◌, List, [], ◌∷◌, length, drop, Option, Some, None, Result, Ok, Err}
 use Rattle.dbus_types.specs.declared.message.Message.{Message}
 use Rattle.dbus_framing.specs.declared.violation.Violation.{Violation}
@@ -9,19 +9,19 @@ use Rattle.dbus_framing.specs.declared.progress.Progress.TheVariants as progress
 use Rattle.dbus_framing.specs.Messages.{Parts, parts_of, head_of}
 use Rattle.dbus_framing.specs.Streams.{Breaks, BreaksNone, Stream}
 
--- the reader's limit on a message, the bytes that no message took, the violation that was found, and how many bytes are
--- held
+-- the reader's limit on a message, the bytes that no message has consumed, the violation that was found, and how many
+-- bytes are held
 pub record Framing : Type 0 where
   pub most : ℕ
   pub rest : List ℕ
   pub broken : Option Violation
   pub held : ℕ
 
--- a framer of this limit that was fed these bytes alone, before they are looked at
+-- a framer with this limit that was fed only these bytes, before they are looked at
 abbrev pub just_fed : ℕ → List ℕ → Framing
 just_fed most bytes = record { most = most; rest = bytes; broken = None; held = length bytes }
 
--- what is held is at most twice what no message took
+-- at most twice as many bytes are held as no message has consumed
 abbrev pub HoldsFew : Framing → Type 0
 HoldsFew framing = framing.held ≤ length framing.rest + length framing.rest
 
@@ -31,66 +31,67 @@ broken_in progress.Nothing = None
 broken_in (progress.Begun head) = None
 broken_in (progress.Broken cause) = Some cause
 
--- what is known of the bytes that no message took
+-- what is known of the bytes that no message has consumed
 abbrev pub IsKnown : ℕ → List ℕ → Progress → Type 0
 IsKnown most rest progress.Nothing = Unit {0}
 IsKnown most rest (progress.Begun head) = (16 ≤ length rest) × (head_of most rest ≡ Ok head)
 IsKnown most rest (progress.Broken cause) = Breaks most rest cause
 
--- What a framer keeps: the limit, the bytes that it holds, how many of them messages took, which is half of them at most,
--- and what is known of the others.
+-- What a framer guarantees: the limit, the bytes that it holds, how many of them messages have consumed, which are
+-- at most half of them, and what is known of the others.
 pub record IsKept (most : ℕ) (fed : List ℕ) (start : ℕ) (progress : Progress) : Type 0 where
   pub few : start + start ≤ length fed
   pub limited : most < 2 ^ 32
   pub known : IsKnown most (drop start fed) progress
 
--- a framer before and behind a violation
+-- a framer before and after a violation
 pub record Refused (old : Framing) (cause : Violation) (new : Framing) : Type 0 where
   pub stream : Stream old.most old.rest [] new.rest
   pub breaks : Breaks old.most new.rest cause
   pub kept : new.broken ≡ Some cause
   pub most : new.most ≡ old.most
 
--- Nothing changes for want of memory. A violation stands behind the messages of ignored types.
+-- If memory runs out, nothing changes. A violation is after the messages of ignored types.
 abbrev pub IsRefusal : Framing → FrameRefused → Framing → Type 0
 IsRefusal old refused.OutOfMemory new = new ≡ old
 IsRefusal old (refused.Violation cause) new = Refused old cause new
 
--- ---- where each answer comes
+-- ---- when each answer comes
 
--- nothing but messages of ignored types stands whole, and no violation shows behind them
+-- no messages are complete except those of ignored types, and no violation shows after them
 pub record Waits (most : ℕ) (bytes : List ℕ) : Type 0 where
   pub rest : List ℕ
   pub stream : Stream most bytes [] rest
   pub no_violation : BreaksNone most rest
 
--- nothing but messages of ignored types stands whole, and this violation shows behind them
+-- no messages are complete except those of ignored types, and this violation shows after them
 pub record Stops (most : ℕ) (bytes : List ℕ) (cause : Violation) : Type 0 where
   pub rest : List ℕ
   pub stream : Stream most bytes [] rest
   pub breaks : Breaks most rest cause
 
--- None is answered, but where memory ran out
+-- None is returned, unless memory ran out
 abbrev pub NoneComes : Result (Option Message) FrameRefused → Type 0
 NoneComes (Ok None) = Unit {0}
 NoneComes (Ok (Some message)) = ⊥
 NoneComes (Err refused.OutOfMemory) = Unit {0}
 NoneComes (Err (refused.Violation cause)) = ⊥
 
--- the violation is answered, but where memory ran out
+-- the violation is returned, unless memory ran out
 abbrev pub ViolationComes : Violation → Result (Option Message) FrameRefused → Type 0
 ViolationComes cause (Ok found) = ⊥
 ViolationComes cause (Err refused.OutOfMemory) = Unit {0}
 ViolationComes cause (Err (refused.Violation other)) = other ≡ cause
 
--- the message is answered, but where memory ran out
+-- the message is returned, unless memory ran out
 abbrev pub MessageComes : Parts → Result (Option Message) FrameRefused → Type 0
 MessageComes parts (Ok None) = ⊥
 MessageComes parts (Ok (Some message)) = parts_of message ≡ parts
 MessageComes parts (Err refused.OutOfMemory) = Unit {0}
 MessageComes parts (Err (refused.Violation cause)) = ⊥
 
--- Each answer comes wherever it may: None where nothing stands whole, a violation where it shows, and else the first message.
+-- Each answer comes whenever it may: None if no message is complete, a violation if it shows, and otherwise
+-- the first message.
 pub record IsExact (most : ℕ) (bytes : List ℕ) (result : Result (Option Message) FrameRefused) : Type 0 where
   pub none : Waits most bytes → NoneComes result
   pub violation : (cause : Violation) → Stops most bytes cause → ViolationComes cause result

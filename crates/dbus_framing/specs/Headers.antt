@@ -1,4 +1,4 @@
--- D-Bus Specification, "Message Format", "Header Fields": which fields a header has, and what they hold.
+-- D-Bus Specification, "Message Format", "Header Fields": which fields a header has, and what they contain.
 use Rattle.std.specs.Prelude.{ℕ, ◌==◌, Bool, true, false, List, Option, Some, None, is_some, ◌&&◌, option_map, option_and_then, if◌then◌else◌}
 use Rattle.dbus_types.specs.declared.complete_type.BasicType.TheVariants as basics
 use Rattle.dbus_types.specs.Types.{Ty, Tys}
@@ -9,7 +9,7 @@ use Rattle.dbus_framing.specs.declared.header.FieldKind.{FieldKind}
 use Rattle.dbus_framing.specs.declared.header.FieldKind.TheVariants as kinds
 use Rattle.dbus_framing.specs.Names.{is_member_name, is_interface_name}
 
--- the values of a header's fields, where it has them
+-- the values of a header's fields, if it has them
 pub record Fields : Type 0 where
   pub path : Option (List ℕ)
   pub interface : Option (List ℕ)
@@ -49,22 +49,22 @@ kind_of code =
     if code == 8 then kinds.Signature else
     if code == 9 then kinds.UnixFds else kinds.Unknown
 
--- the value, where the test holds of it
+-- the value, if the test is true
 abbrev pub where_is : {A : Type 0} → Bool → A → Option A
 where_is true value = Some value
 where_is false value = None
 
--- the path that a value of type `o` is
+-- the path in a value of type `o`
 abbrev pub path_in : Val → Option (List ℕ)
 path_in (Val.text basics.ObjectPath bytes) = Some bytes
 path_in _ = None
 
--- the text that a value of type `s` is
+-- the text in a value of type `s`
 abbrev pub string_in : Val → Option (List ℕ)
 string_in (Val.text basics.String bytes) = Some bytes
 string_in _ = None
 
--- the number that a value of type `u` is
+-- the number in a value of type `u`
 abbrev pub number_in : Val → Option ℕ
 number_in (Val.number basics.Uint32 number) = Some number
 number_in _ = None
@@ -86,12 +86,12 @@ member_in value = option_and_then (λ bytes. where_is (is_member_name bytes) byt
 abbrev pub serial_in : Val → Option ℕ
 serial_in value = option_and_then (λ number. if number == 0 then None else Some number) (number_in value)
 
--- the value of a field that had none before
+-- the value of a field, or None if the field had one before
 abbrev pub once : {A : Type 0} → Option A → Option A → Option A
 once None value = value
 once (Some before) value = None
 
--- The fields with one more. A known field has the right type, a right name or path or serial, and stands once.
+-- The fields with one more. A known field has the right type and a valid name, path or serial, and occurs once.
 abbrev pub with_field : Fields → FieldKind → Val → Option Fields
 with_field fields kinds.Invalid value = None
 with_field fields kinds.Path value = option_map (λ it. record fields { path = Some it }) (once fields.path (path_in value))
@@ -120,7 +120,7 @@ abbrev pub held_in : Val → Option Val
 held_in (Val.variant value) = Some value
 held_in _ = None
 
--- the two values that there are
+-- the only two values, if there are exactly two
 abbrev pub two_of : Vals → Option (Val × Val)
 two_of (Vals.more first (Vals.more second Vals.end)) = Some (first, second)
 two_of _ = None
@@ -141,12 +141,12 @@ field_in field = option_and_then coded_in (pair_in field)
 abbrev pub with_value : Fields → Val → Option Fields
 with_value fields value = option_and_then (λ field. with_field fields (kind_of field.0) field.1) (field_in value)
 
--- the fields with those that stand in an array, one behind the other
+-- the fields with those in an array, one after the other
 abbrev pub with_values : Fields → Vals → Option Fields
 with_values fields Vals.end = Some fields
 with_values fields (Vals.more value values) = option_and_then (λ next. with_values next values) (with_value fields value)
 
--- the one value that there is
+-- the only value, if there is exactly one
 abbrev pub one_of : Vals → Option Val
 one_of (Vals.more value Vals.end) = Some value
 one_of _ = None
@@ -173,8 +173,8 @@ structs_in _ = None
 abbrev pub fields_in : Vals → Option Fields
 fields_in values = option_and_then (λ array. option_and_then (with_values no_fields) (structs_in array)) (one_of values)
 
--- Which fields the type of the message needs: a call PATH and MEMBER, a return REPLY_SERIAL, an error ERROR_NAME and
--- REPLY_SERIAL, a signal PATH, INTERFACE and MEMBER.
+-- Which fields a message of each type must have: a call PATH and MEMBER, a return REPLY_SERIAL, an error ERROR_NAME
+-- and REPLY_SERIAL, a signal PATH, INTERFACE and MEMBER.
 abbrev pub has_needed : ℕ → Fields → Bool
 has_needed kind fields =
     if kind == 1 then is_some fields.path && is_some fields.member else

@@ -18,7 +18,7 @@ use Rattle.dbus_framing.specs.declared.violation.Violation.TheVariants as violat
 use Rattle.dbus_framing.specs.declared.head.Head.{Head}
 use Rattle.dbus_framing.specs.Headers.{Fields, fields_in, has_needed}
 
--- What a message says: a field is None where the header has none, and the signature lists the types of the body.
+-- What a message says: a field is None if the header has none, and the signature lists the types of the body.
 pub record Parts : Type 0 where
   pub kind : ℕ
   pub flags : ℕ
@@ -52,11 +52,11 @@ parts_of message = record {
   size = message.length;
 }
 
--- the byte order that the first byte says: `l` or `B`
+-- the byte order that the first byte names: `l` or `B`
 abbrev pub endian_of : ℕ → Option Endian
 endian_of mark = if mark == 108 then Some Little else (if mark == 66 then Some Big else None)
 
--- the number of 32 bits at a place
+-- the number of 32 bits at a position
 unfoldable pub word_at : Endian → ℕ → List ℕ → ℕ
 word_at endian place bytes = number_from endian w32 (take 4 (drop place bytes))
 
@@ -68,7 +68,7 @@ fields_end endian bytes = 16 + word_at endian 12 bytes
 abbrev pub body_start : Endian → List ℕ → ℕ
 body_start endian bytes = fields_end endian bytes + padding 8 (word_at endian 12 bytes)
 
--- how many bytes a message has that begins so
+-- the number of bytes of a message that begins with these bytes
 abbrev pub size_at : Endian → List ℕ → ℕ
 size_at endian bytes = body_start endian bytes + word_at endian 4 bytes
 
@@ -76,18 +76,18 @@ size_at endian bytes = body_start endian bytes + word_at endian 4 bytes
 abbrev pub field_types : Tys
 field_types = Tys.more (Ty.array (Ty.struct (Tys.more (Ty.basic basics.Byte) (Tys.more Ty.variant Tys.end)))) Tys.end
 
--- The header fields of a message, as they are read: an array that stands at place 12, and zeros up to the body.
+-- The header fields of a message, as they are read: an array at position 12, and zeros up to the body.
 unfoldable pub fields_at : Endian → List ℕ → Option Fields
 fields_at endian bytes =
     if are_zero (take (padding 8 (word_at endian 12 bytes)) (drop (fields_end endian bytes) bytes))
     then option_and_then fields_in (result_ok (values_at endian field_types (record { place = 4; left = take (4 + word_at endian 12 bytes) (drop 12 bytes) })))
     else None
 
--- the types of the body: none where SIGNATURE is missing
+-- the types of the body: none if SIGNATURE is missing
 abbrev pub body_types : Fields → Tys
 body_types fields = unwrap_or fields.signature Tys.end
 
--- what a message says that begins so, has these fields and this body
+-- what a message says that begins with these bytes and has these fields and this body
 abbrev pub parts_from : Endian → List ℕ → Fields → Vals → Parts
 parts_from endian bytes fields body = record {
   kind = slice_index bytes 1;
@@ -105,25 +105,26 @@ parts_from endian bytes fields body = record {
   size = length bytes;
 }
 
--- The bytes have these header fields: from place 12 on stands the spelling of an array of fields, and then zeros up to the body.
+-- The bytes have these header fields: at position 12 is the spelling of an array of fields, and then come zeros up
+-- to the body.
 pub record HasFields (endian : Endian) (bytes : List ℕ) (fields : Fields) : Type 0 where
   pub array : Vals
   pub spelled : AreSpelled endian 12 field_types array (take (4 + word_at endian 12 bytes) (drop 12 bytes))
   pub padded : IsTrue (are_zero (take (padding 8 (word_at endian 12 bytes)) (drop (fields_end endian bytes) bytes)))
   pub are : fields_in array ≡ Some fields
 
--- The whole list of bytes is a message, and says this; a reader takes messages of at most so many bytes.
+-- The whole list of bytes is a message, and says this; a reader accepts messages of at most this many bytes.
 pub record IsMessage (most : ℕ) (bytes : List ℕ) (parts : Parts) : Type 0 where
   pub endian : Endian
   pub fields : Fields
   pub body : Vals
-  -- 16 bytes stand before the fields: byte order, type, flags, version 1, three numbers of 32 bits
+  -- 16 bytes come before the fields: byte order, type, flags, version 1, three numbers of 32 bits
   pub begun : 16 ≤ length bytes
   pub marked : endian_of (slice_index bytes 0) ≡ Some endian
   pub typed : slice_index bytes 1 ≢ 0
   pub version : slice_index bytes 3 ≡ 1
   pub numbered : word_at endian 8 bytes ≢ 0
-  -- the lengths that are said there, of the fields and of the body, are those of the whole
+  -- the whole has the length that follows from those given there, of the fields and of the body
   pub whole : length bytes ≡ size_at endian bytes
   pub within : length bytes ≤ most
   pub headed : HasFields endian bytes fields
@@ -163,7 +164,7 @@ pub record IsHeaderAndBody (bytes : List ℕ) (parts : Parts) : Type 0 where
 
 -- ---- the violations, in the order in which they are looked at
 
--- the rows behind the byte order
+-- the rows after the byte order
 abbrev pub head_in : ℕ → List ℕ → Endian → Result Head Violation
 head_in most bytes endian =
     if slice_index bytes 1 == 0 then Err violation.InvalidType else
@@ -180,12 +181,12 @@ marked_head most bytes (Some endian) = head_in most bytes endian
 abbrev pub head_of : ℕ → List ℕ → Result Head Violation
 head_of most bytes = marked_head most bytes (endian_of (slice_index bytes 0))
 
--- a message whose body was read so
+-- a message whose body was read in this way
 abbrev pub bodied_message : Endian → List ℕ → Fields → Option Vals → Result Parts Violation
 bodied_message endian bytes fields None = Err violation.BadBody
 bodied_message endian bytes fields (Some body) = Ok (parts_from endian bytes fields body)
 
--- a message whose fields were read so
+-- a message whose fields were read in this way
 abbrev pub fielded_message : Endian → List ℕ → Option Fields → Result Parts Violation
 fielded_message endian bytes None = Err violation.BadHeader
 fielded_message endian bytes (Some fields) =
@@ -193,6 +194,6 @@ fielded_message endian bytes (Some fields) =
     then bodied_message endian bytes fields (result_ok (values_at endian (body_types fields) (record { place = 0; left = drop (body_start endian bytes) bytes })))
     else Err violation.MissingField
 
--- what a whole message says whose first 16 bytes show no violation, or its first violation
+-- what a complete message says, if its first 16 bytes show no violation; or its first violation
 abbrev pub message_at : Endian → List ℕ → Result Parts Violation
 message_at endian bytes = fielded_message endian bytes (fields_at endian bytes)

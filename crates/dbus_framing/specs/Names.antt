@@ -4,8 +4,8 @@ use Rattle.std.specs.List.{list_any}
 use Rattle.std.specs.Char.{is_ascii_digit}
 use Rattle.dbus_types.specs.Paths.{is_element_code}
 
--- Elements of [A-Za-z0-9_], joined by dots: none is empty, and none begins with a digit. The flag says that a code of the
--- first element stood before.
+-- Elements of [A-Za-z0-9_], joined by dots: none is empty, and none begins with a digit. The flag says whether a code
+-- of the first element has come already.
 abbrev pub are_name_elements : Bool → List ℕ → Bool
 are_name_elements begun [] = begun
 are_name_elements begun (code ∷ codes) =

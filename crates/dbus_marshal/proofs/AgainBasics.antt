@@ -1,4 +1,4 @@
--- What is spelled of a basic type is read again, whatever follows.
+-- The spelling of a value of a basic type is read again, whatever follows.
 use Rattle.std.proofs.Common.{◌≡◌, ℕ, zero, suc, ◌+◌, ◌<◌, ◌≤◌, ◌^◌, ◌&&◌, Bool, true, false, List, [], ◌∷◌, ◌++◌, length, Result, Ok, Err, refl, sym, ap, subst, ◌∙◌, arith, append_assoc, length-append}
 use Rattle.std.specs.Prelude.{if◌then◌else◌, nat_le}
 use Rattle.std.specs.Int.{Width, w8, w32, byte_len}
@@ -23,7 +23,7 @@ second_of : (a b : Bool) → (a && b) ≡ true → b ≡ true
 second_of true b e = e
 second_of false b e = absurd cc
 
--- the bytes from a place on
+-- the bytes from a position on
 abbrev pub at : ℕ → List ℕ → Spot
 at place left = record { place = place; left = left }
 
@@ -118,7 +118,7 @@ text_end w limit wide endian place text =
 regroup : (zs ns ts rest : List ℕ) → (zs ++ (ns ++ ts)) ++ rest ≡ (zs ++ ns) ++ (ts ++ rest)
 regroup zs ns ts rest = append_assoc zs (ns ++ ts) rest ∙ ap (λ (r : List ℕ). zs ++ r) (append_assoc ns ts rest) ∙ sym (append_assoc zs ns (ts ++ rest))
 
--- a length and the text behind it are read again
+-- a length and the text after it are read again
 counted_again : (w : Width) (limit : ℕ) → IsWide w limit → (endian : Endian) (fault : ValueFault) (place : ℕ) (text rest : List ℕ) → length text < limit
     → (number_at endian w (at place (aligned (byte_len w) place (number_bytes endian w (length text) ++ (text ++ 0 ∷ [])) ++ rest)) >>= λ n. ended_at fault n.0 n.1)
     ≡ Ok (text, at (behind place (length (aligned (byte_len w) place (number_bytes endian w (length text) ++ (text ++ 0 ∷ []))))) rest)

@@ -1,4 +1,4 @@
--- What is spelled of any type is read again, whatever follows.
+-- The spelling of a value of any type is read again, whatever follows.
 use Rattle.std.proofs.Common.{◌≡◌, ℕ, zero, suc, ◌+◌, ◌<◌, ◌≤◌, ◌^◌, ◌&&◌, Bool, true, false, List, [], ◌∷◌, ◌++◌, length, Ok, refl, sym, ap, subst, ◌∙◌, arith, append_assoc, append-nil, length-append}
 use Rattle.std.specs.Prelude.{nat_le}
 use Rattle.std.specs.Int.{w32, byte_len}
@@ -25,7 +25,7 @@ and_both : (a b : Bool) → a ≡ true → b ≡ true → (a && b) ≡ true
 and_both true b e f = f
 and_both false b e f = absurd cc
 
--- ---- types of which each value has a byte
+-- ---- types whose values all have a byte
 
 abbrev mutual
   -- no struct in the type is empty

@@ -16,7 +16,7 @@ both : (a b : Bool) → (a && b) ≡ true → (a ≡ true) × (b ≡ true)
 both true b e = (refl, e)
 both false b e = absurd cc
 
--- one value, of one byte at least
+-- one value, of at least one byte
 alone : (k long : ℕ) → 0 < long → 1 ≤ (k + 1) * long
 alone k long some = omega (arith, add-mul k 1 long)
 
@@ -29,7 +29,7 @@ around_suc fewer inner within long counted fits some =
     let same : fewer + 1 ≡ suc fewer = omega arith in
     subst (λ (k : ℕ). 1 + inner ≤ (k + 1) * long) same (around (fewer + 1) inner within long counted fits some)
 
--- values behind others
+-- values after others
 beside : (k one two a b : ℕ) → one ≤ k * a → two ≤ k * b → one + two ≤ k * (a + b)
 beside k one two a b first second = omega (arith, mul-add k a b, first, second)
 

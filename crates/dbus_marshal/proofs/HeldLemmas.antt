@@ -1,4 +1,4 @@
--- Values take two parts of memory for each of their bytes at most, and what their types take.
+-- Values take at most two parts of memory for each of their bytes, and what their types take.
 use Rattle.std.proofs.Common.{◌≡◌, ℕ, zero, suc, ◌+◌, ◌*◌, ◌<◌, ◌≤◌, ◌&&◌, Bool, true, false, List, [], ◌∷◌, ◌++◌, length, refl, sym, subst, arith, length-append}
 use Rattle.std.specs.Int.{w32, byte_len}
 use Rattle.dbus_types.specs.declared.complete_type.BasicType.{BasicType}
@@ -61,7 +61,7 @@ array_long endian a n z elements =
 padded_long : (a : ℕ) (bytes : List ℕ) → length bytes ≤ length (zeros a ++ bytes)
 padded_long a bytes = omega (arith, length-append (zeros a) bytes)
 
--- how many values there are
+-- the number of values
 abbrev number_of : Vals → ℕ
 number_of Vals.end = 0
 number_of (Vals.more v vs) = 1 + number_of vs

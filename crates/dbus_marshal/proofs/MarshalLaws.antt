@@ -1,4 +1,4 @@
--- What `marshal` gives, and two laws of the relation.
+-- What `marshal` returns, and two laws of the relation.
 use Rattle.std.proofs.Common.{◌≡◌, ℕ, ◌%◌, Bool, true, false, List, [], ◌++◌, length, Result, Ok, Err, sym, ap, subst, ◌∙◌, arith, append-nil}
 use Rattle.dbus_types.specs.declared.endian.Endian.{Endian}
 use Rattle.dbus_types.specs.Types.{Tys, is_signature}
@@ -17,7 +17,7 @@ use Rattle.dbus_marshal.proofs.AgainBasics.{at}
 use Rattle.dbus_marshal.proofs.AgainValues.{readers_again, fields_again, signature_solid}
 use Rattle.dbus_marshal.proofs.UnmarshalLaws.{values_only}
 
--- the first byte stands at the place
+-- the first byte is at the position
 first_place : (place : ℕ) (start : List ℕ) → start ≡ [] → behind (place % 8) (length start) ≡ place % 8
 first_place place start none = ap (λ (l : List ℕ). behind (place % 8) (length l)) none ∙ omega arith
 

@@ -11,9 +11,9 @@ use Rattle.dbus_marshal.specs.Putting.{padded, put, puts, signed, opened, elemen
 use Rattle.dbus_marshal.proofs.Taking.{wide32}
 use Rattle.dbus_marshal.proofs.WritingLemmas.{zeros_long, text_bare, text_wrote, number_mod32, bytes_array}
 
--- ---- places
+-- ---- positions
 
--- the place after more bytes
+-- the position after more bytes
 pub place-append : (before more : List ℕ) → length (before ++ more) % 8 ≡ behind (length before % 8) (length more)
 place-append before more = ap (λ n. n % 8) (length-append before more) ∙ omega arith
 
@@ -39,7 +39,7 @@ puts_all before (Vals.more v vs) =
     ∙ ap (λ p. (before ++ bytes) ++ all_spelled Little vs p) (place-append before bytes)
     ∙ append_assoc before bytes (all_spelled Little vs (behind (length before % 8) (length bytes)))
 
--- values at a place that is known
+-- values at a known position
 pub puts_at : (before : List ℕ) (vs : Vals) (place : ℕ) → length before % 8 ≡ place → puts before vs ≡ before ++ all_spelled Little vs place
 puts_at before vs place is = puts_all before vs ∙ ap (λ p. before ++ all_spelled Little vs p) is
 
@@ -142,7 +142,7 @@ opened_put alignment count long before is =
     ∙ ap (λ (n : List ℕ). padded alignment (before ++ (Z ++ n))) (number_mod32 Little long)
     ∙ ap (padded alignment) (sym (append_assoc before Z (number_bytes Little w32 long)))
 
--- values that a counter is given as if it were at a place
+-- values put into a counter as if it were at a position
 pub puts_from : (first place : ℕ) (vs : Vals) → first < 8 → first ≡ place → puts (replicate first 0) vs ≡ replicate first 0 ++ all_spelled Little vs place
 puts_from first place vs below is =
     puts_at (replicate first 0) vs place (ap (λ n. n % 8) (zeros_long first) ∙ omega (arith, below, is))
@@ -163,7 +163,7 @@ array_put before t vs =
     ∙ ap (λ q. ((padded 4 before ++ N) ++ zeros (padding A q)) ++ E) there
     ∙ append_assoc (padded 4 before ++ N) Y E ∙ append_assoc (before ++ Z) N (Y ++ E) ∙ append_assoc before Z (N ++ (Y ++ E))
 
--- the same where the alignment is a number of the program
+-- the same if the alignment is a number of the program
 pub array_put_at : (alignment : ℕ) (t : Ty) (vs : Vals) (before : List ℕ) → alignment ≡ alignment_of t
     → puts (opened alignment (elements_long alignment before vs) before) vs ≡ put before (Val.array t vs)
 array_put_at alignment t vs before is = rw is (array_put before t vs)

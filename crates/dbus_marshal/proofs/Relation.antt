@@ -1,4 +1,4 @@
--- The relation of a value and its bytes holds of one list of bytes, the spelling.
+-- The relation of a value and its bytes is true of one list of bytes, the spelling.
 use Rattle.std.proofs.Common.{◌≡◌, ℕ, zero, suc, ◌≤◌, ◌&&◌, Bool, true, false, List, ◌++◌, length, refl, sym, ap, subst, ◌∙◌, append-nil}
 use Rattle.std.specs.Prelude.{nat_le}
 use Rattle.std.specs.Int.{w32, byte_len}
@@ -258,7 +258,7 @@ mutual
       let parts = and_parts (is_short endian v place) _ s in
       (_, _, refl, spelled_marshals depth endian place t v f.0 parts.0, each_spelled_marshal depth endian (behind place (length (spelled endian v place))) t vs f.1 parts.1)
 
--- there is one list of bytes at most
+-- there is at most one list of bytes
 pub one_spelling : (depth : ℕ) (endian : Endian) (place : ℕ) (t : Ty) (v : Val) (xs ys : List ℕ) → Marshals depth endian place t v xs → Marshals depth endian place t v ys → xs ≡ ys
 one_spelling depth endian place t v xs ys m n =
     let first = marshals_is depth endian place t v xs m in

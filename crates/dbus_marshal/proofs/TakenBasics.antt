@@ -1,4 +1,4 @@
--- What is read of a basic type fits it, and is spelled so.
+-- What is read of a basic type fits it, and is spelled that way.
 use Rattle.std.proofs.Common.{◌≡◌, ℕ, ◌+◌, ◌<◌, ◌^◌, ◌==◌, Bool, true, false, cond, List, [], ◌∷◌, ◌++◌, length, take, Result, Ok, Err, refl, sym, ap, subst, ◌∙◌, arith, inl, inr, append_assoc}
 use Rattle.std.specs.Prelude.{if◌then◌else◌, slice_index, nat_lt}
 use Rattle.std.specs.Int.{Width, w8, w32, byte_len}
@@ -30,7 +30,7 @@ value_done x = Ok x
 pub value_is : (x y : Val × Spot) → value_done x ≡ value_done y → x ≡ y
 value_is x y e = cc
 
--- what a reader of values took from the front
+-- what a reader of values took from the start
 pub record Took (depth : ℕ) (endian : Endian) (t : Ty) (spot : Spot) (x : Val × Spot) : Type 0 where
   pub fits : Fits depth t x.0
   pub short : is_short endian x.0 spot.place ≡ true
@@ -106,7 +106,7 @@ ended_taken fault count spot x fits e =
           absurd cc
     ]
 
--- a length and the text behind it
+-- a length and the text after it
 behind_length : (w : Width) (limit : ℕ) → IsWide w limit → (endian : Endian) (fault : ValueFault) (spot : Spot) (n : ℕ × Spot) (x : List ℕ × Spot) → IsBytes spot.left
     → number_at endian w spot ≡ Ok n → ended_at fault n.0 n.1 ≡ Ok x
     → Takes spot (aligned (byte_len w) spot.place (number_bytes endian w (length x.0) ++ (x.0 ++ 0 ∷ []))) x.1 × (length x.0 < limit)

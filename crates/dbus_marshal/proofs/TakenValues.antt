@@ -1,4 +1,4 @@
--- What is read of any type fits it, and is spelled so.
+-- What is read of any type fits it, and is spelled that way.
 use Rattle.std.proofs.Common.{◌≡◌, ℕ, zero, suc, ◌<◌, ◌≤◌, ◌^◌, ◌&&◌, Bool, true, false, cond, List, [], ◌∷◌, ◌++◌, length, Result, Ok, Err, refl, sym, ap, subst, ◌∙◌, arith, inl, inr, append_assoc, append-nil, length-append}
 use Rattle.std.specs.Prelude.{if◌then◌else◌, nat_le, nat_lt}
 use Rattle.std.specs.Int.{w32}
@@ -24,7 +24,7 @@ and_both : (a b : Bool) → a ≡ true → b ≡ true → (a && b) ≡ true
 and_both true b e f = f
 and_both false b e f = absurd cc
 
--- a reader of which each value fits, and is spelled so
+-- a reader whose values all fit, and are spelled that way
 pub record IsTaker (depth : ℕ) (endian : Endian) (read : Ty → Reader Val) : Type 0 where
   pub takes : (t : Ty) (spot : Spot) (x : Val × Spot) → IsBytes spot.left → read t spot ≡ Ok x → Took depth endian t spot x
 
@@ -65,7 +65,7 @@ variant_took fewer endian read spot x taker fits e =
     (subst (λ (bs : List ℕ). Takes spot (text_spelled endian basics.Signature bs spot.place) a.0.1) text front.0)
     (subst (λ (t : Ty). Took fewer endian t a.0.1 c.0) same inner))
 
--- ---- values one behind the other
+-- ---- values one after the other
 
 pub record TookAll (depth : ℕ) (endian : Endian) (ts : Tys) (spot : Spot) (x : Vals × Spot) : Type 0 where
   pub fits : AllFit depth ts x.0
@@ -142,7 +142,7 @@ one_value x y e = cc
 abbrev ok_value : Val × Spot → Result (Val × Spot) ValueFault
 ok_value x = Ok x
 
--- where the first element stands
+-- the position of the first element
 behind_four : (endian : Endian) (n place : ℕ) → behind place (length (aligned 4 place (number_bytes endian w32 n))) ≡ behind (start_of 4 place) 4
 behind_four endian n place =
     let long : length (number_bytes endian w32 n) ≡ 4 = wide32.len endian n in
@@ -173,7 +173,7 @@ array_took_as fewer endian t spot n start y vs other long counted aligns whole c
       takes = subst (λ (bs : List ℕ). Takes spot bs y.1) (text ∙ ap (array_spelled endian (alignment_of t) spot.place) is) all;
     }
 
--- the type of a byte is one type
+-- there is one type of a byte
 is_byte_type : (t : Ty) → is_byte t ≡ true → t ≡ Ty.basic basics.Byte
 is_byte_type (Ty.basic basics.Byte) e = refl
 is_byte_type (Ty.basic basics.Boolean) e = absurd cc

@@ -1,4 +1,4 @@
--- What is read is spelled so.
+-- What is read is spelled that way.
 use Rattle.std.proofs.Common.{◌≡◌, ℕ, ◌+◌, ◌%◌, ◌^◌, ◌<◌, ◌==◌, ◌&&◌, Bool, true, false, cond, List, [], ◌∷◌, ◌++◌, length, take, drop, get_or, Result, Ok, Err, refl, sym, ap, subst, ◌∙◌, arith, inl, inr, append_assoc, length-append}
 use Rattle.std.specs.Int.{Width, w8, w16, w32, w64, byte_len}
 use Rattle.std.proofs.lemmas.Bool.{cases_lt, eqb-true, lt-ltb, le-ltb}
@@ -26,12 +26,12 @@ IsBytes-take n bytes h i =
       | inr le ↦ rw (get_or_past (take n bytes) i 0 (omega (arith, length-take n bytes))) (omega arith)
     ]
 
--- the value of a step that did not fail
+-- the value of a step that didn't fail
 pub bind_ok : {A B E : Type 0} (r : Result A E) (f : A → Result B E) (y : B) → (r >>= f) ≡ Ok y → (x : A) × (r ≡ Ok x) × (f x ≡ Ok y)
 bind_ok (Ok x) f y e = (x, refl, e)
 bind_ok (Err d) f y e = absurd cc
 
--- what a reader took from the front
+-- what a reader took from the start
 pub record Takes (spot : Spot) (bytes : List ℕ) (after : Spot) : Type 0 where
   pub parts : spot.left ≡ bytes ++ after.left
   pub place : after.place ≡ behind spot.place (length bytes)
@@ -97,7 +97,7 @@ padding_taken alignment spot after fits e =
 
 -- ---- numbers
 
--- the bytes of numbers of a width, and back
+-- numbers of a width to bytes, and back
 pub record IsWide (w : Width) (limit : ℕ) : Type 0 where
   pub len : (endian : Endian) (n : ℕ) → length (number_bytes endian w n) ≡ byte_len w
   pub back : (endian : Endian) (bytes : List ℕ) → length bytes ≡ byte_len w → IsBytes bytes → number_bytes endian w (number_from endian w bytes) ≡ bytes

@@ -28,7 +28,7 @@ false_unless : (b : Bool) → (b ≡ true → ⊥) → b ≡ false
 false_unless true never = absurd (never refl)
 false_unless false never = refl
 
--- What a copy answers of a string: it, where it holds no zero byte.
+-- What copying a string returns: the copy, if the string contains no zero byte.
 pub text_when : (bytes string : List ℕ) (result : Result (Option (List ℕ)) AllocError) → Some string ≡ cond (is_utf8 bytes) (Some bytes) None
     → IfOk result (λ answer. IfSome answer (λ made. made ≡ string)) → ((result ≡ Ok None) ↔ Contains string 0) → IfOk result (λ made. made ≡ cond (is_text bytes) (Some bytes) None)
 text_when bytes string (Ok None) is made zero =

@@ -1,4 +1,4 @@
--- What `unmarshal` gives: the values that the bytes are, or the first fault from the left.
+-- What `unmarshal` returns: the values that the bytes spell, or the first fault from the left.
 use Rattle.std.proofs.Common.{◌≡◌, ℕ, ◌+◌, ◌*◌, ◌%◌, ◌<◌, ◌≤◌, Bool, true, cond, List, [], ◌++◌, length, Result, Ok, Err, refl, sym, ap, subst, ◌∙◌, arith, append-nil, inl, inr, Vec, Global}
 use Rattle.std.specs.Prelude.{if◌then◌else◌, nat_lt, IfOk}
 use Rattle.std.proofs.lemmas.Bool.{cases_lt, lt-ltb, le-ltb}
@@ -35,7 +35,7 @@ whole endian ts place bytes x took none =
     let is : bytes ≡ all_spelled endian x.0 place = took.takes.parts ∙ ap (λ (r : List ℕ). all_spelled endian x.0 place ++ r) (nil_from_length x.1.left none) ∙ append-nil (all_spelled endian x.0 place) in
     subst (λ (bs : List ℕ). AllMarshal 64 endian place ts x.0 bs) (sym is) (all_spelled_marshal 64 endian place ts x.0 took.fits took.short)
 
--- what is read is spelled so
+-- what is read is spelled that way
 pub values_found : (endian : Endian) (ts : Tys) (place : ℕ) (bytes : List ℕ) (vs : Vals) → place < 8 → IsBytes bytes → values_at endian ts (at place bytes) ≡ Ok vs → AllMarshal 64 endian place ts vs bytes
 unfolding values_at
 values_found endian ts place bytes vs below fits e =
@@ -50,7 +50,7 @@ values_found endian ts place bytes vs below fits e =
           subst (λ (ws : Vals). AllMarshal 64 endian place ts ws bytes) (vals_is a.0.0 vs some) (whole endian ts place bytes a.0 took (omega arith))
     ]
 
--- what is spelled so is read
+-- what is spelled that way is read
 pub values_only : (endian : Endian) (ts : Tys) (place : ℕ) (bytes : List ℕ) (vs : Vals) → place < 8 → is_signature ts ≡ true → AllMarshal 64 endian place ts vs bytes → values_at endian ts (at place bytes) ≡ Ok vs
 unfolding values_at
 values_only endian ts place bytes vs below valid m =
@@ -58,19 +58,19 @@ values_only endian ts place bytes vs below valid m =
     let read = fields_again 64 endian (value_at 64 endian) ts vs place [] (readers_again 64 endian) below (signature_solid ts valid) is.fits is.short in
     ap (λ (bs : List ℕ). values_at endian ts (at place bs)) (is.is ∙ sym (append-nil (all_spelled endian vs place))) ∙ rw read refl
 
--- the values are few for their bytes
+-- the number of values is bounded by that of the bytes
 pub values_few : (endian : Endian) (ts : Tys) (place : ℕ) (bytes : List ℕ) (vs : Vals) → is_signature ts ≡ true → AllMarshal 64 endian place ts vs bytes → counts vs ≤ 65 * length bytes
 values_few endian ts place bytes vs valid m =
     let is = all_is 64 endian place ts vs bytes m in
     subst (λ (bs : List ℕ). counts vs ≤ 65 * length bs) (sym is.is) (few_values 64 endian ts vs place (signature_solid ts valid) is.fits)
 
--- and take few parts of memory
+-- and so are the parts of memory that they take
 pub values_held : (endian : Endian) (ts : Tys) (place : ℕ) (bytes : List ℕ) (vs : Vals) → is_signature ts ≡ true → AllMarshal 64 endian place ts vs bytes → all_parts vs ≤ 2 * length bytes + length (texts_of ts)
 values_held endian ts place bytes vs valid m =
     let is = all_is 64 endian place ts vs bytes m in
     subst (λ (bs : List ℕ). all_parts vs ≤ 2 * length bs + length (texts_of ts)) (sym is.is) (all_plain_few 64 endian ts vs place (signature_solid ts valid) is.fits)
 
--- ---- the answer of a call
+-- ---- the result of a call
 
 pub types_same : (ts us : Tys) (endian : Endian) (place : ℕ) (bytes : List ℕ) (result : Result (Vec Value Global) ValueFault) → ts ≡ us
     → Reads (λ x. values_of x.items) result (values_at endian ts (at (place % 8) bytes)) → Reads (λ x. values_of x.items) result (values_at endian us (at (place % 8) bytes))

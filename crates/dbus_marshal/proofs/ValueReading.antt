@@ -1,4 +1,4 @@
--- What the readers of values give, one value at a time.
+-- What the readers of values return, one value at a time.
 use Rattle.std.proofs.Common.{Box, Bool, true, Some, None, subst, ◌≡◌, ℕ, zero, suc, ◌+◌, ◌-◌, ◌<◌, ◌≤◌, List, [], ◌∷◌, ◌++◌, length, Result, Ok, Err, refl, sym, ap, ◌∙◌, append_assoc, arith, rules, sub-one, false, ltb, le_refl, Vec, Global}
 use Rattle.std.proofs.lemmas.List.{nil_from_length}
 use Rattle.dbus_types.specs.declared.complete_type.BasicType.TheVariants as basics
@@ -21,7 +21,7 @@ use Rattle.dbus_marshal.specs.declared.cursor.Cursor.{Cursor}
 use Rattle.dbus_marshal.specs.Cursors.{spot_of}
 use Rattle.dbus_marshal.specs.Reading.{Refuses, Reads, Reader, Spot, further, bytes_at, padding_at, number_at, basic_number_at, elements_of, only_type, basic_at, value_at, variant_by, array_by, struct_by, entry_by, fields_by, elements_from, values_then, with_values, with_fields}
 
--- where one reading gives a fault, another that gives each fault with it gives it too
+-- a reading that returns each fault of another one returns the fault that the other one returns
 pub refuses_as : {Y Z : Type 0} (e : ValueFault) (read : Result Y ValueFault) (total : Result Z ValueFault) → ((f : ValueFault) → read ≡ Err f → total ≡ Err f) → Refuses e read → Refuses e total
 refuses_as Short read total same fault = same Short fault
 refuses_as Padding read total same fault = same Padding fault
@@ -77,7 +77,7 @@ is_basic (Array' place t) b e = absurd cc
 is_basic (Struct' shape row) b e = absurd cc
 is_basic (DictEntry' key place t) b e = absurd cc
 
--- the one type of a list, and no other list
+-- a list of one type has an only type, and no other list does
 pub only_none : (types : List CompleteType) → length types ≡ 0 → only_type (types_of types) ≡ Err BadSignature
 only_none types none = ap (λ (ts : List CompleteType). only_type (types_of ts)) (nil_from_length types none)
 
@@ -88,7 +88,7 @@ only_many types first (second ∷ others) parts some = ap (λ (ts : List Complet
 pub only_one : (types : List CompleteType) (first : CompleteType) (others : List CompleteType) → types ≡ first ∷ others → length others ≡ 0 → only_type (types_of types) ≡ Ok (type_of first)
 only_one types first others parts none = ap (λ (ts : List CompleteType). only_type (types_of ts)) (parts ∙ ap (λ (ts : List CompleteType). first ∷ ts) (nil_from_length others none))
 
--- ---- values behind others
+-- ---- values after others
 
 pub values_then-end : (vs : Vals) → values_then vs Vals.end ≡ vs
 values_then-end Vals.end = refl
@@ -154,7 +154,7 @@ elements_fault e read front n i spot left total lt some fault so_far =
 
 -- ---- the fields of a struct
 
--- the types that are left behind those of values
+-- the types that are left after those of the values
 abbrev pub AreLeft : Bool → Tys → List Value → Tys → Type 0
 AreLeft inner ts values left = (rest : List Value) → fields_as inner ts (values ++ rest) ≡ values_then (fields_as inner ts values) (fields_as inner left rest)
 
@@ -215,7 +215,7 @@ fields_end read front types spot total is so_far =
     let one : with_fields front (fields_by read types spot) ≡ Ok (front, spot) = rw is (ap (λ (vs : Vals). Ok (vs, spot)) (values_then-end front)) in
     sym so_far ∙ one
 
--- ---- what a container has
+-- ---- what a container contains
 
 bytes_as : (inner : Bool) (t : Ty) (bytes : Box (List ℕ) Global) → value_as (known_as inner (Ty.array t)) (Bytes bytes) ≡ Val.bytes bytes.value
 bytes_as true t bytes = refl
@@ -244,7 +244,7 @@ array_are inner read t spot array vs is other found type same =
     ∙ ap (λ (u : Ty). Ok (Val.array u (each_as u array.value.values.items))) (sym type) ∙ ap (λ (v : Val). Ok v) (sym (plain_array array))
     ∙ ap (λ (b : Bool). Ok (value_as (known_as b (Ty.array t)) (Array array))) (sym is)
 
--- a struct whose fields are there
+-- a struct whose fields were read
 pub struct_are : (inner : Bool) (read : Ty → Reader Val) (ts : Tys) (spot start after : Spot) (value : Value) (fields : List Value) → lone_in inner ts ≡ None → padding_at 8 spot ≡ Ok start
     → fields_by read ts start ≡ Ok (fields_as inner ts fields, after) → HasFields value fields → struct_by read ts spot ≡ Ok (value_as (known_as inner (Ty.struct ts)) value, after)
 unfolding struct_by
@@ -254,7 +254,7 @@ one_field : (read : Ty → Reader Val) (t : Ty) (spot : Spot) → fields_by read
 unfolding fields_by
 one_field read t spot = refl
 
--- a struct of one field in an array is what its field is
+-- a struct of one field in an array is kept as its field
 pub lone_read : (inner : Bool) (read : Ty → Reader Val) (ts : Tys) (t : Ty) (spot start : Spot) (result : Result (Value × Cursor) ValueFault) → lone_in inner ts ≡ Some t → padding_at 8 spot ≡ Ok start
     → Reads (λ x. (value_as (known_as true t) x.0, spot_of x.1)) result (read t start)
     → Reads (λ x. (value_as (known_as inner (Ty.struct ts)) x.0, spot_of x.1)) result (struct_by read ts spot)
@@ -266,7 +266,7 @@ lone_read inner read ts t spot start (Err e) lone padded fault =
     let parts = lone_is inner ts t lone in
     refuses_as e (read t start) (struct_by read ts spot) (λ f is. rw (parts.1, padded, one_field read t start, is) refl) fault
 
--- ---- a value, by its type and where it lies
+-- ---- a value, by its type and where it is
 
 abbrev pub ReadsAs : Bool → Ty → Result (Value × Cursor) ValueFault → Result (Val × Spot) ValueFault → Type 0
 ReadsAs inner t result read = Reads (λ x. (value_as (known_as inner t) x.0, spot_of x.1)) result read

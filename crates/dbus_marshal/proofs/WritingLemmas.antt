@@ -1,4 +1,4 @@
--- What the writers leave behind the bytes that they found.
+-- What the writers leave after the bytes that they found.
 use Rattle.std.proofs.Common.{Box, Some, None, ◌≡◌, ℕ, zero, suc, ◌+◌, ◌-◌, ◌%◌, ◌<◌, ◌≤◌, ◌&&◌, Bool, true, false, List, [], ◌∷◌, ◌++◌, length, take, drop, get_or, replicate, Result, Ok, Err, refl, sym, ap, subst, ◌∙◌, arith, append_assoc, append-nil, length-append, length-drop, Vec, Global}
 use Rattle.std.specs.Prelude.{nat_le}
 use Rattle.std.specs.Int.{w8, w32}
@@ -27,7 +27,7 @@ use Rattle.dbus_marshal.specs.Writing.{Writes}
 use Rattle.dbus_marshal.proofs.Taking.{IsBytes, wide32}
 use Rattle.dbus_marshal.proofs.AgainBasics.{behind_twice}
 
--- where the bytes behind others stand
+-- the position of the bytes after others
 pub behind_both : (phase : ℕ) (xs ys : List ℕ) → behind phase (length (xs ++ ys)) ≡ behind (behind phase (length xs)) (length ys)
 behind_both phase xs ys = ap (behind phase) (length-append xs ys) ∙ sym (behind_twice phase (length xs) (length ys))
 
@@ -49,14 +49,14 @@ pub true_both : (a b : Bool) → a ≡ true → b ≡ true → (a && b) ≡ true
 true_both true b e f = f
 true_both false b e f = absurd cc
 
--- what is written behind what was written before
+-- what is written after what was written before
 pub writes_behind : {X : Type 0} (result : Result X MarshalFault) (front bytes : List ℕ) (short : Bool) (old mid new : List ℕ) → mid ≡ old ++ front
     → Writes result bytes short mid new → Writes result (front ++ bytes) short old new
 writes_behind (Ok x) front bytes short old mid new is w = (w.0 ∙ ap (λ (m : List ℕ). m ++ bytes) is ∙ append_assoc old front bytes, w.1)
 writes_behind (Err TooLong) front bytes short old mid new is w = w
 writes_behind (Err OutOfMemory) front bytes short old mid new is w = tt
 
--- and stands where the front ends
+-- and it starts where the first part ends
 pub writes_at : {X : Type 0} (result : Result X MarshalFault) (phase : ℕ) (bytes : ℕ → List ℕ) (short : ℕ → Bool) (front old mid new : List ℕ) → mid ≡ old ++ front
     → Writes result (bytes (behind phase (length mid))) (short (behind phase (length mid))) mid new
     → Writes result (front ++ bytes (behind (behind phase (length old)) (length front))) (short (behind (behind phase (length old)) (length front))) old new
@@ -89,13 +89,13 @@ zeros_front (suc (suc (suc (suc (suc (suc (suc (suc n)))))))) lt = absurd (omega
 pub zeros_long : (n : ℕ) → length (zeros n) ≡ n
 zeros_long n = length-replicate {A = ℕ} n 0
 
--- where the padded bytes stand
+-- the position of the padded bytes
 pub start_is : (phase alignment : ℕ) (old mid : List ℕ) → mid ≡ old ++ zeros (padding alignment (behind phase (length old))) → behind phase (length mid) ≡ start_of alignment (behind phase (length old))
 start_is phase alignment old mid is =
     ap (λ (m : List ℕ). behind phase (length m)) is ∙ behind_both phase old (zeros (padding alignment (behind phase (length old))))
     ∙ ap (behind (behind phase (length old))) (zeros_long (padding alignment (behind phase (length old))))
 
--- padding, and what is written behind it
+-- padding, and what is written after it
 pub writes_padded : {X : Type 0} (result : Result X MarshalFault) (phase alignment : ℕ) (bytes : ℕ → List ℕ) (short : ℕ → Bool) (old mid new : List ℕ) → mid ≡ old ++ zeros (padding alignment (behind phase (length old)))
     → Writes result (bytes (behind phase (length mid))) (short (behind phase (length mid))) mid new
     → Writes result (aligned alignment (behind phase (length old)) (bytes (start_of alignment (behind phase (length old))))) (short (start_of alignment (behind phase (length old)))) old new
@@ -110,7 +110,7 @@ text_bare endian text place =
     let none : padding 1 place ≡ 0 = omega arith in
     ap (λ (n : ℕ). zeros n ++ (number_bytes endian w8 (length text) ++ (text ++ 0 ∷ []))) none
 
--- the text stands behind the byte of its length
+-- the text comes after the byte of its length
 pub signature_wrote : (endian : Endian) (old one two new text : List ℕ) (mark place : ℕ) → mark ≡ length old → one ≡ old ++ 0 ∷ [] → two ≡ one ++ text
     → new ≡ take mark two ++ (number_bytes endian w8 (length (drop (mark + 1) two)) ++ (drop (mark + 1) two ++ 0 ∷ [])) → new ≡ old ++ text_spelled endian basics.Signature text place
 signature_wrote endian old one two new text mark place at is_one is_two is =
@@ -204,7 +204,7 @@ struct_text old one two three text is_one is_two is =
 
 -- ---- the arms of a value
 
--- what is written of a tree is written of a value that has it
+-- what is written for a tree is written for a value that has this tree
 pub writes_tree : {X : Type 0} (result : Result X MarshalFault) (endian : Endian) (v w : Val) (place : ℕ) (old new : List ℕ) → v ≡ w → Writes result (spelled endian w place) (is_short endian w place) old new
     → Writes result (spelled endian v place) (is_short endian v place) old new
 writes_tree result endian v w place old new same written = subst (λ (u : Val). Writes result (spelled endian u place) (is_short endian u place) old new) (sym same) written
@@ -226,7 +226,7 @@ inner_tree value known t values slice is same of_known =
     ap (core_as known) is ∙ inner_holds known values ∙ ap (λ (l : List Value). Val.array (element_of known) (each_as (element_of known) l)) (sym same)
     ∙ ap (λ (u : Ty). Val.array u (each_as u slice)) (sym of_known)
 
--- ---- what lies where it can't
+-- ---- a value in a place where it can't be
 
 pub writes_nothing : (endian : Endian) (v : Val) (place : ℕ) (old new : List ℕ) → v ≡ nothing → new ≡ old ++ zeros (padding 8 place) → Writes {X = Unit {0}} (Ok tt) (spelled endian v place) (is_short endian v place) old new
 writes_nothing endian v place old new same is =
@@ -341,7 +341,7 @@ wrapped_value endian t core value place alignment start inner slice made below i
     is ∙ ap (aligned alignment place) (is_slice ∙ is_inner ∙ ap (λ (u : Ty). spelled endian (core_as u value) start) is_core ∙ ap (spelled endian w) is_start)
     ∙ ap (λ (a : ℕ). aligned a place (spelled endian w (start_of a place))) is_alignment ∙ sym (wrapped_spelled endian t w place below)
 
--- what is written behind the padding of the structs is the whole
+-- what is written after the padding of the structs is the whole
 pub writes_wrapped : {X : Type 0} (result : Result X MarshalFault) (endian : Endian) (phase : ℕ) (t core : Ty) (value : Value) (alignment : ℕ) (old mid new : List ℕ) → alignment ≡ wrapping t → core ≡ core_of t
     → mid ≡ old ++ zeros (padding alignment (behind phase (length old)))
     → Writes result (spelled endian (core_as core value) (behind phase (length mid))) (is_short endian (core_as core value) (behind phase (length mid))) mid new
@@ -359,7 +359,7 @@ writes_wrapped result endian phase t core value alignment old mid new is_alignme
 
 -- ---- the elements of an array
 
--- where the elements stand
+-- the position of the elements
 elements_at : (endian : Endian) (phase alignment mark : ℕ) (old opened : List ℕ)
     → opened ≡ old ++ (zeros (padding 4 (behind phase (length old))) ++ (number_bytes endian w32 0 ++ zeros (padding alignment (behind phase (mark + 4)))))
     → mark ≡ length old + length (zeros (padding 4 (behind phase (length old)))) → behind phase (length opened) ≡ first_at alignment (behind phase (length old))
@@ -375,7 +375,7 @@ elements_at endian phase alignment mark old opened opens at =
     ap length opens ∙ omega (arith, length-append old (Z ++ (N ++ Y)), length-append Z (N ++ Y), length-append N Y, long, at, zeros_long (padding alignment (behind phase (mark + 4)))) in
     ap (behind phase) whole ∙ sym (behind_twice phase (mark + 4) (padding alignment (behind phase (mark + 4)))) ∙ ap (start_of alignment) four_at
 
--- the spelling and the test of an array, by where its elements stand
+-- the spelling and the test of an array, by the position of its elements
 pub array_fault : (e : MarshalFault) (endian : Endian) (phase alignment mark : ℕ) (vs : Vals) (old opened done : List ℕ)
     → opened ≡ old ++ (zeros (padding 4 (behind phase (length old))) ++ (number_bytes endian w32 0 ++ zeros (padding alignment (behind phase (mark + 4)))))
     → mark ≡ length old + length (zeros (padding 4 (behind phase (length old))))
@@ -388,7 +388,7 @@ array_fault e endian phase alignment mark vs old opened done opens at w =
     (are_short endian vs (behind phase (length opened))) _ opened done old done
     (λ no. false_front _ _ (subst (λ (p : ℕ). are_short endian vs p ≡ false) there no)) w
 
--- so many bytes of elements were written
+-- the number of bytes of the elements that were written
 elements_long : (endian : Endian) (phase alignment mark : ℕ) (vs : Vals) (old opened done : List ℕ) (start end : ℕ)
     → opened ≡ old ++ (zeros (padding 4 (behind phase (length old))) ++ (number_bytes endian w32 0 ++ zeros (padding alignment (behind phase (mark + 4)))))
     → mark ≡ length old + length (zeros (padding 4 (behind phase (length old)))) → done ≡ opened ++ all_spelled endian vs (behind phase (length opened)) → start ≡ length opened → end ≡ length done
@@ -442,7 +442,7 @@ array_done endian phase alignment mark vs old opened done new start end opens at
       true_both _ _ (subst (λ (p : ℕ). are_short endian vs p ≡ true) there short) (le-leb _ _ (subst (λ (k : ℕ). k ≤ 67108864) long fits)),
     )
 
--- ---- values one behind the other
+-- ---- values one after the other
 
 pub each_left : (t : Ty) (values : List Value) (i : ℕ) (each : Value) → i < length values → each ≡ get_or values i each → each_as t (drop i values) ≡ Vals.more (value_as t each) (each_as t (drop (i + 1) values))
 each_left t values i each lt is =

@@ -1,4 +1,4 @@
--- Where a cursor stands.
+-- Where a cursor is.
 use Rattle.dbus_marshal.specs.Reading.{Spot}
 use Rattle.dbus_marshal.specs.declared.cursor.Cursor.{Cursor}
 

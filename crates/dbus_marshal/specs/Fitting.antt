@@ -1,4 +1,4 @@
--- D-Bus Specification, "Type System", "Marshaling": which values a type has, but for the length of their arrays.
+-- D-Bus Specification, "Type System", "Marshaling": which values a type has, except for the length of their arrays.
 use Rattle.std.specs.Prelude.{ℕ, ◌<◌, ◌≡◌, IsTrue, IsFalse}
 use Rattle.dbus_types.specs.declared.complete_type.BasicType.TheVariants as basics
 use Rattle.dbus_types.specs.Types.{Ty, Tys, is_signature}
@@ -6,7 +6,7 @@ use Rattle.dbus_types.specs.Values.{Val, Vals, ty_of, tys_of}
 use Rattle.dbus_marshal.specs.Wire.{limit_of, is_byte, AreBytes, IsTextOf, Opens}
 
 abbrev mutual
-  -- a value of the type, in which at most so many arrays, structs, dict entries and variants are open at once
+  -- a value of the type, in which at most this many arrays, structs, dict entries and variants are open at once
   pub Fits : ℕ → Ty → Val → Type 0
   Fits depth (Ty.basic b) (Val.number c n) = (c ≡ b) × (n < limit_of b)
   Fits depth (Ty.basic b) (Val.text c bytes) = (c ≡ b) × IsTextOf b bytes
@@ -28,8 +28,8 @@ abbrev mutual
   EachFits depth t Vals.end = Unit {0}
   EachFits depth t (Vals.more v vs) = Fits depth t v × EachFits depth t vs
 
--- Each value fits the type that it has, with at most 64 containers open at once: so it is spelled by the rules, but for the
--- length of its arrays. That a signature lists the types is asked inside a variant alone (docs/DECISIONS.md, "What no
+-- Each value fits the type that it has, with at most 64 containers open at once: so it is spelled by the rules, except
+-- for the length of its arrays. Only inside a variant must a signature list the types (docs/DECISIONS.md, "What no
 -- signature lists can be written too").
 abbrev pub HaveSpelling : Vals → Type 0
 HaveSpelling vs = AllFit 64 (tys_of vs) vs

@@ -12,7 +12,7 @@ abbrev mutual
   type_parts (Ty.struct ts) = 1 + types_parts ts
   type_parts (Ty.entry key t) = 1 + type_parts t
 
-  -- of types, one behind the other
+  -- the parts of types, one after the other
   pub types_parts : Tys → ℕ
   types_parts Tys.end = 0
   types_parts (Tys.more t ts) = type_parts t + types_parts ts
@@ -29,12 +29,12 @@ abbrev mutual
   parts (Val.struct vs) = 1 + all_parts vs
   parts (Val.entry key v) = 1 + (parts key + parts v)
 
-  -- of values that aren't in an array, one behind the other
+  -- the parts of values that aren't in an array, one after the other
   pub all_parts : Vals → ℕ
   all_parts Vals.end = 0
   all_parts (Vals.more v vs) = parts v + all_parts vs
 
-  -- The parts of a value in an array: a struct of one field is its field, and no array inside has a type.
+  -- The parts of a value in an array: a struct of one field is its field, and no array inside has its own type.
   pub inner_parts : Val → ℕ
   inner_parts (Val.number b n) = 1
   inner_parts (Val.text b them) = 1 + length them
@@ -46,7 +46,7 @@ abbrev mutual
   inner_parts (Val.struct (Vals.more v (Vals.more w vs))) = 1 + (inner_parts v + (inner_parts w + all_inner_parts vs))
   inner_parts (Val.entry key v) = 1 + (inner_parts key + inner_parts v)
 
-  -- of values in an array, one behind the other
+  -- the parts of values in an array, one after the other
   pub all_inner_parts : Vals → ℕ
   all_inner_parts Vals.end = 0
   all_inner_parts (Vals.more v vs) = inner_parts v + all_inner_parts vs

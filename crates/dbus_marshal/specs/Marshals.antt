@@ -1,5 +1,5 @@
--- D-Bus Specification, "Marshaling": which bytes a value of a type has at a place, by cases on the type. Places are
--- counted modulo 8, which each alignment divides.
+-- D-Bus Specification, "Marshaling": which bytes a value of a type has at a position, by cases on the type.
+-- Positions are counted modulo 8, which each alignment divides.
 use Rattle.std.specs.Prelude.{ℕ, ◌%◌, ◌<◌, ◌≤◌, ◌≡◌, IsTrue, IsFalse, List, [], ◌∷◌, ◌++◌, length}
 use Rattle.std.specs.Int.{w32, byte_len}
 use Rattle.dbus_types.specs.declared.complete_type.BasicType.{BasicType}
@@ -9,7 +9,7 @@ use Rattle.dbus_types.specs.Types.{Ty, Tys, is_signature, text_of}
 use Rattle.dbus_types.specs.Values.{Val, Vals}
 use Rattle.dbus_marshal.specs.Wire.{width_of, alignment_of, padding, behind, start_of, zeros, number_bytes, limit_of, is_byte, AreBytes, IsTextOf, Opens}
 
--- the bytes are zeros up to the alignment, and then bytes of which this holds, where they stand
+-- the bytes are zeros up to a multiple of the alignment, and then bytes that have the given property at their position
 abbrev pub Padded : ℕ → ℕ → (ℕ → List ℕ → Type 0) → List ℕ → Type 0
 Padded alignment place Behind bytes = (rest : List ℕ) × (bytes ≡ zeros (padding alignment place) ++ rest) × Behind (start_of alignment place) rest
 
@@ -17,7 +17,7 @@ Padded alignment place Behind bytes = (rest : List ℕ) × (bytes ≡ zeros (pad
 abbrev pub NumberMarshals : Endian → ℕ → BasicType → ℕ → List ℕ → Type 0
 NumberMarshals endian place b n bytes = (n < limit_of b) × Padded (byte_len (width_of b)) place (λ at rest. rest ≡ number_bytes endian (width_of b) n) bytes
 
--- a text: its length, its bytes, a zero byte
+-- a text: its length, its bytes and a zero byte
 abbrev pub TextMarshals : Endian → ℕ → BasicType → List ℕ → List ℕ → Type 0
 TextMarshals endian place b text bytes =
     IsTextOf b text × Padded (byte_len (width_of b)) place (λ at rest. rest ≡ number_bytes endian (width_of b) (length text) ++ (text ++ 0 ∷ [])) bytes
@@ -30,8 +30,8 @@ ArrayMarshals endian place t Elements bytes =
     × Padded (alignment_of t) (behind at 4) (λ first padded. (padded ≡ elements) × Elements first elements) behind_length) bytes
 
 abbrev mutual
-  -- The bytes are this value of the type at the place, with at most so many arrays, structs, dict entries and variants
-  -- open at once.
+  -- The bytes are this value of the type at the position, with at most this many arrays, structs, dict entries and
+  -- variants open at once.
   pub Marshals : ℕ → Endian → ℕ → Ty → Val → List ℕ → Type 0
   Marshals depth endian place (Ty.basic b) (Val.number c n) bytes = (c ≡ b) × NumberMarshals endian place b n bytes
   Marshals depth endian place (Ty.basic b) (Val.text c text) bytes = (c ≡ b) × TextMarshals endian place b text bytes
@@ -49,19 +49,19 @@ abbrev mutual
       × Marshals fewer endian at (Ty.basic key) k front × Marshals fewer endian (behind at (length front)) t v rest) bytes)
   Marshals depth endian place t v bytes = ⊥
 
-  -- the bytes are these values of the types, one behind the other
+  -- the bytes are these values of the types, one after the other
   pub AllMarshal : ℕ → Endian → ℕ → Tys → Vals → List ℕ → Type 0
   AllMarshal depth endian place Tys.end Vals.end bytes = bytes ≡ []
   AllMarshal depth endian place (Tys.more t ts) (Vals.more v vs) bytes =
       (front : List ℕ) × (rest : List ℕ) × (bytes ≡ front ++ rest) × Marshals depth endian place t v front × AllMarshal depth endian (behind place (length front)) ts vs rest
   AllMarshal depth endian place ts vs bytes = ⊥
 
-  -- the bytes are these values of one type, one behind the other
+  -- the bytes are these values of one type, one after the other
   pub EachMarshals : ℕ → Endian → ℕ → Ty → Vals → List ℕ → Type 0
   EachMarshals depth endian place t Vals.end bytes = bytes ≡ []
   EachMarshals depth endian place t (Vals.more v vs) bytes =
       (front : List ℕ) × (rest : List ℕ) × (bytes ≡ front ++ rest) × Marshals depth endian place t v front × EachMarshals depth endian (behind place (length front)) t vs rest
 
--- The bytes are the spelling of these values of the types, where the first byte stands at the place.
+-- The bytes are the spelling of these values of the types, with the first byte at this position.
 abbrev pub AreSpelled : Endian → ℕ → Tys → Vals → List ℕ → Type 0
 AreSpelled endian place ts vs bytes = AllMarshal 64 endian (place % 8) ts vs bytes

@@ -1,5 +1,5 @@
--- D-Bus Specification, "Marshaling": what a writer stands for, as the list of the bytes that it was given from the message's
--- start on. All is little-endian.
+-- D-Bus Specification, "Marshaling": what a writer stands for: the list of all bytes put so far, from the message's
+-- start on. Everything is little-endian.
 use Rattle.std.specs.Prelude.{ℕ, ◌≡◌, ◌%◌, min, List, ◌++◌, length}
 use Rattle.std.specs.Int.{w32}
 use Rattle.dbus_types.specs.declared.complete_type.BasicType.TheVariants as basics
@@ -8,7 +8,7 @@ use Rattle.dbus_types.specs.Values.{Val, Vals}
 use Rattle.dbus_marshal.specs.Wire.{padding, zeros, number_bytes}
 use Rattle.dbus_marshal.specs.Spelling.{text_spelled, first_at, spelled, all_spelled}
 
--- A counter stands for a list of bytes: it has the length, or the last number of 64 bits where the length is greater, and
+-- A counter stands for a list of bytes: it has the length, or the last number of 64 bits if the length is greater, and
 -- the lower 32 bits of the length.
 abbrev pub Counts : ℕ → ℕ → List ℕ → Type 0
 Counts size low before = (size ≡ min 18446744073709551615 (length before)) × (low ≡ length before % 4294967296)
@@ -34,6 +34,6 @@ signed text before = before ++ text_spelled Little basics.Signature text (length
 unfoldable pub opened : ℕ → ℕ → List ℕ → List ℕ
 opened alignment count before = padded alignment (padded 4 before ++ number_bytes Little w32 count)
 
--- how many bytes the elements of an array have
+-- the number of bytes of an array's elements
 abbrev pub elements_long : ℕ → List ℕ → Vals → ℕ
 elements_long alignment before vs = length (all_spelled Little vs (first_at alignment (length before % 8)))

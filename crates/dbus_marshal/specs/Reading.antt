@@ -13,7 +13,7 @@ use Rattle.dbus_marshal.specs.declared.refused.ValueFault.{ValueFault}
 use Rattle.dbus_marshal.specs.declared.refused.ValueFault.TheVariants.{Short, Padding, BadBool, BadText, BadPath, BadSignature, ArrayTooLong, TooDeep, Rest, OutOfMemory}
 use Rattle.dbus_marshal.specs.Wire.{width_of, alignment_of, padding, behind, number_from, is_text, is_byte}
 
--- the fault is what reading gives, unless memory ran out
+-- the fault is the result of reading, unless memory ran out
 abbrev pub Refuses : {Y : Type 0} → ValueFault → Result Y ValueFault → Type 0
 Refuses Short read = read ≡ Err Short
 Refuses Padding read = read ≡ Err Padding
@@ -26,25 +26,25 @@ Refuses TooDeep read = read ≡ Err TooDeep
 Refuses Rest read = read ≡ Err Rest
 Refuses OutOfMemory read = Unit {0}
 
--- what a function answered, seen by the view, is what reading gives, unless memory ran out
+-- what a function returned, seen by the view, is the result of reading, unless memory ran out
 abbrev pub Reads : {X Y : Type 0} → (X → Y) → Result X ValueFault → Result Y ValueFault → Type 0
 Reads view (Ok x) read = read ≡ Ok (view x)
 Reads view (Err e) read = Refuses e read
 
--- where reading stands: the place modulo 8, and the bytes from there on
+-- where reading is: the position modulo 8, and the bytes from there on
 pub record Spot : Type 0 where
   pub place : ℕ
   pub left : List ℕ
 
--- so many bytes further
+-- this many bytes further on
 abbrev pub further : ℕ → Spot → Spot
 further count spot = record { place = behind spot.place count; left = drop count spot.left }
 
--- a reader: what it read, and where it stands then
+-- a reader: what it read, and where it is then
 abbrev pub Reader : Type 0 → Type 0
 Reader A = Spot → Result (A × Spot) ValueFault
 
--- so many bytes, which are Short where they aren't all there
+-- this many bytes, or Short if they aren't all there
 unfoldable pub bytes_at : ℕ → Reader (List ℕ)
 bytes_at count spot = if nat_lt (length spot.left) count then Err Short else Ok (take count spot.left, further count spot)
 
@@ -53,7 +53,7 @@ abbrev pub are_zero : List ℕ → Bool
 are_zero [] = true
 are_zero (b ∷ bytes) = b == 0 && are_zero bytes
 
--- Padding to the alignment: the bytes that are there are zero, and then they are all there.
+-- Padding to the alignment. The bytes that are there must be zero; after that, all must be there.
 unfoldable pub padding_at : ℕ → Spot → Result Spot ValueFault
 padding_at alignment spot =
     if are_zero (take (padding alignment spot.place) spot.left)
@@ -77,11 +77,11 @@ basic_number_at endian basics.Boolean spot =
     number_at endian w32 spot >>= λ n. if nat_lt 1 n.0 then Err BadBool else Ok (Val.number basics.Boolean n.0, n.1)
 basic_number_at endian b spot = number_at endian (width_of b) spot >>= λ n. Ok (Val.number b n.0, n.1)
 
--- so many bytes, and behind them one that is zero, or this fault
+-- this many bytes, and after them one that is zero, or this fault
 unfoldable pub ended_at : ValueFault → ℕ → Reader (List ℕ)
 ended_at fault count spot = bytes_at (count + 1) spot >>= λ x. if slice_index x.0 count == 0 then Ok (take count x.0, x.1) else Err fault
 
--- a string: its length, its bytes, a zero byte
+-- a string: its length, its bytes and a zero byte
 unfoldable pub string_at : Endian → Reader (List ℕ)
 string_at endian spot =
     number_at endian w32 spot >>= λ n. ended_at BadText n.0 n.1 >>= λ x. if is_text x.0 then Ok x else Err BadText
@@ -95,7 +95,7 @@ abbrev pub listed : Result Tys SignatureFault → Result Tys ValueFault
 listed (Ok ts) = Ok ts
 listed (Err fault) = Err BadSignature
 
--- a signature: its length in one byte, its bytes, a zero byte
+-- a signature: its length in one byte, its bytes and a zero byte
 unfoldable pub signature_value_at : Endian → Reader Tys
 signature_value_at endian spot =
     number_at endian w8 spot >>= λ n. ended_at BadSignature n.0 n.1 >>= λ x. listed (signature_at x.0) >>= λ ts. Ok (ts, x.1)
@@ -118,26 +118,26 @@ unfoldable pub variant_by : (Ty → Reader Val) → Endian → Reader Val
 variant_by read endian spot =
     signature_value_at endian spot >>= λ s. only_type s.0 >>= λ t. read t s.1 >>= λ v. Ok (Val.variant v.0, v.1)
 
--- values behind others
+-- values after others
 abbrev pub values_then : Vals → Vals → Vals
 values_then Vals.end ws = ws
 values_then (Vals.more v vs) ws = Vals.more v (values_then vs ws)
 
--- what is read behind values that were read before
+-- what is read after values that were read before
 abbrev pub with_values : Vals → Result Vals ValueFault → Result Vals ValueFault
 with_values front read = read >>= λ vs. Ok (values_then front vs)
 
--- the same, with where reading stands then
+-- the same, with where reading is then
 abbrev pub with_fields : Vals → Result (Vals × Spot) ValueFault → Result (Vals × Spot) ValueFault
 with_fields front read = read >>= λ vs. Ok (values_then front vs.0, vs.1)
 
--- Elements up to the end of the bytes, which the last argument shows. There are at most as many as bytes.
+-- Elements up to the end of the bytes, which the last argument shows. There are at most as many elements as bytes.
 unfoldable pub elements_from : Reader Val → ℕ → Spot → List ℕ → Result Vals ValueFault
 elements_from read n spot [] = Ok Vals.end
 elements_from read zero spot (b ∷ bytes) = Err Short
 elements_from read (suc n) spot (b ∷ bytes) = read spot >>= λ v. elements_from read n v.1 v.1.left >>= λ vs. Ok (Vals.more v.0 vs)
 
--- an array of the elements that are all of the bytes, or the bytes
+-- an array of the elements that all of the bytes spell, or of the bytes themselves
 unfoldable pub elements_of : Reader Val → Ty → Spot → Result Val ValueFault
 elements_of read t spot =
     if is_byte t then Ok (Val.bytes spot.left) else (elements_from read (length spot.left) spot spot.left >>= λ vs. Ok (Val.array t vs))
@@ -149,7 +149,7 @@ array_by read endian t spot =
     if nat_lt 67108864 n.0 then Err ArrayTooLong
     else (padding_at (alignment_of t) n.1 >>= λ start. bytes_at n.0 start >>= λ x. elements_of read t (record { place = start.place; left = x.0 }) >>= λ v. Ok (v, x.1))
 
--- values of the types, one behind the other
+-- values of the types, one after the other
 unfoldable pub fields_by : (Ty → Reader Val) → Tys → Reader Vals
 fields_by read Tys.end spot = Ok (Vals.end, spot)
 fields_by read (Tys.more t ts) spot = read t spot >>= λ v. fields_by read ts v.1 >>= λ vs. Ok (Vals.more v.0 vs.0, vs.1)
@@ -158,13 +158,13 @@ fields_by read (Tys.more t ts) spot = read t spot >>= λ v. fields_by read ts v.
 unfoldable pub struct_by : (Ty → Reader Val) → Tys → Reader Val
 struct_by read ts spot = padding_at 8 spot >>= λ start. fields_by read ts start >>= λ vs. Ok (Val.struct vs.0, vs.1)
 
--- a dict entry: padding, its key, its value
+-- a dict entry: padding, its key and its value
 unfoldable pub entry_by : (Ty → Reader Val) → Endian → BasicType → Ty → Reader Val
 entry_by read endian key t spot =
     padding_at 8 spot >>= λ start. basic_at endian key start >>= λ k. read t k.1 >>= λ v. Ok (Val.entry k.0 v.0, v.1)
 
--- A value in which at most so many arrays, structs, dict entries and variants are open at once. One too many is TooDeep
--- before anything of it is looked at.
+-- A value in which at most this many arrays, structs, dict entries and variants are open at once. One too many is
+-- TooDeep before anything of it is looked at.
 unfoldable pub value_at : ℕ → Endian → Ty → Reader Val
 value_at depth endian (Ty.basic b) spot = basic_at endian b spot
 value_at zero endian Ty.variant spot = Err TooDeep
@@ -176,6 +176,6 @@ value_at (suc depth) endian (Ty.struct ts) spot = struct_by (value_at depth endi
 value_at zero endian (Ty.entry key t) spot = Err TooDeep
 value_at (suc depth) endian (Ty.entry key t) spot = entry_by (value_at depth endian) endian key t spot
 
--- values of the types that are all of the bytes
+-- values of the types, which all of the bytes spell
 unfoldable pub values_at : Endian → Tys → Spot → Result Vals ValueFault
 values_at endian ts spot = fields_by (value_at 64 endian) ts spot >>= λ vs. if nat_lt 0 (length vs.1.left) then Err Rest else Ok vs.0

@@ -1,4 +1,4 @@
--- D-Bus Specification, "Marshaling": the bytes of a value that stands at a place, as a function of the value.
+-- D-Bus Specification, "Marshaling": the bytes of a value at a position, as a function of the value.
 use Rattle.std.specs.Prelude.{ℕ, ◌&&◌, nat_le, Bool, true, List, [], ◌∷◌, ◌++◌, length}
 use Rattle.std.specs.Int.{w32, byte_len}
 use Rattle.dbus_types.specs.declared.complete_type.BasicType.{BasicType}
@@ -8,7 +8,7 @@ use Rattle.dbus_types.specs.Types.{text_of}
 use Rattle.dbus_types.specs.Values.{Val, Vals, ty_of}
 use Rattle.dbus_marshal.specs.Wire.{width_of, alignment_of, padding, behind, start_of, zeros, number_bytes}
 
--- zeros up to the alignment, and then these bytes
+-- zeros up to a multiple of the alignment, and then these bytes
 abbrev pub aligned : ℕ → ℕ → List ℕ → List ℕ
 aligned alignment place bytes = zeros (padding alignment place) ++ bytes
 
@@ -16,11 +16,11 @@ aligned alignment place bytes = zeros (padding alignment place) ++ bytes
 abbrev pub number_spelled : Endian → BasicType → ℕ → ℕ → List ℕ
 number_spelled endian b n place = aligned (byte_len (width_of b)) place (number_bytes endian (width_of b) n)
 
--- a text: its length, its bytes, a zero byte
+-- a text: its length, its bytes and a zero byte
 abbrev pub text_spelled : Endian → BasicType → List ℕ → ℕ → List ℕ
 text_spelled endian b bytes place = aligned (byte_len (width_of b)) place (number_bytes endian (width_of b) (length bytes) ++ (bytes ++ 0 ∷ []))
 
--- where the first element of an array at a place stands, by the alignment of the elements
+-- the position of the first element of an array at a position, by the alignment of the elements
 abbrev pub first_at : ℕ → ℕ → ℕ
 first_at alignment place = start_of alignment (behind (start_of 4 place) 4)
 
@@ -42,13 +42,13 @@ abbrev mutual
   spelled endian (Val.entry key v) place =
       aligned 8 place (spelled endian key (start_of 8 place) ++ spelled endian v (behind (start_of 8 place) (length (spelled endian key (start_of 8 place)))))
 
-  -- the bytes of values, one behind the other
+  -- the bytes of values, one after the other
   pub all_spelled : Endian → Vals → ℕ → List ℕ
   all_spelled endian Vals.end place = []
   all_spelled endian (Vals.more v vs) place = spelled endian v place ++ all_spelled endian vs (behind place (length (spelled endian v place)))
 
 abbrev mutual
-  -- no array within the value at the place has over 67,108,864 bytes of elements
+  -- no array within the value at this position has more than 67,108,864 bytes of elements
   pub is_short : Endian → Val → ℕ → Bool
   is_short endian (Val.number b n) place = true
   is_short endian (Val.text b bytes) place = true
@@ -60,7 +60,7 @@ abbrev mutual
   is_short endian (Val.entry key v) place =
       is_short endian key (start_of 8 place) && is_short endian v (behind (start_of 8 place) (length (spelled endian key (start_of 8 place))))
 
-  -- nor within values, one behind the other
+  -- nor within values, one after the other
   pub are_short : Endian → Vals → ℕ → Bool
   are_short endian Vals.end place = true
   are_short endian (Vals.more v vs) place = is_short endian v place && are_short endian vs (behind place (length (spelled endian v place)))

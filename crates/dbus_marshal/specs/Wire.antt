@@ -10,7 +10,7 @@ use Rattle.dbus_types.specs.declared.endian.Endian.TheVariants.{Little, Big}
 use Rattle.dbus_types.specs.Types.{Ty, Tys, is_signature, texts_of}
 use Rattle.dbus_types.specs.Paths.{is_object_path}
 
--- the width of a number, and of the length in front of a text
+-- the width of a number, and of the length before a text
 abbrev pub width_of : BasicType → Width
 width_of basics.Byte = w8
 width_of basics.Boolean = w32
@@ -26,7 +26,7 @@ width_of basics.String = w32
 width_of basics.ObjectPath = w32
 width_of basics.Signature = w8
 
--- A value stands at a multiple of its type's alignment.
+-- The alignment of a type: a value is at a multiple of it.
 abbrev pub alignment_of : Ty → ℕ
 alignment_of (Ty.basic b) = byte_len (width_of b)
 alignment_of Ty.variant = 1
@@ -34,12 +34,12 @@ alignment_of (Ty.array t) = 4
 alignment_of (Ty.struct ts) = 8
 alignment_of (Ty.entry key t) = 8
 
--- How many bytes reach from a place to the next multiple of the alignment. Places are counted modulo 8, which each
--- alignment divides.
+-- The number of bytes from a position to the next multiple of the alignment. Positions are counted modulo 8, which
+-- each alignment divides.
 abbrev pub padding : ℕ → ℕ → ℕ
 padding alignment place = (alignment - place % alignment) % alignment
 
--- the place so many bytes behind a place
+-- the position this many bytes after a position
 abbrev pub behind : ℕ → ℕ → ℕ
 behind place count = (place + count) % 8
 
@@ -47,7 +47,7 @@ behind place count = (place + count) % 8
 abbrev pub start_of : ℕ → ℕ → ℕ
 start_of alignment place = behind place (padding alignment place)
 
--- padding is of zeros
+-- padding consists of zeros
 abbrev pub zeros : ℕ → List ℕ
 zeros n = replicate n 0
 
@@ -56,12 +56,12 @@ unfoldable pub number_bytes : Endian → Width → ℕ → List ℕ
 number_bytes Little width n = to_le_bytes width n
 number_bytes Big width n = to_be_bytes width n
 
--- the number that bytes are
+-- the number that bytes spell
 unfoldable pub number_from : Endian → Width → List ℕ → ℕ
 number_from Little width bytes = from_le_bytes width bytes
 number_from Big width bytes = from_be_bytes width bytes
 
--- the numbers of a basic type are those below: a boolean is 0 or 1, and a text is none
+-- the numbers of a basic type are those below this one: a boolean is 0 or 1, and a type of texts has no numbers
 abbrev pub limit_of : BasicType → ℕ
 limit_of basics.Byte = 2 ^ 8
 limit_of basics.Boolean = 2
@@ -89,7 +89,7 @@ IsString bytes = IsTrue (is_text bytes) × (length bytes < 2 ^ 32)
 abbrev pub IsSignature : List ℕ → Type 0
 IsSignature bytes = (ts : Tys) × IsTrue (is_signature ts) × (bytes ≡ texts_of ts)
 
--- the texts of a basic type: a number is none
+-- the texts of a basic type: a type of numbers has none
 abbrev pub IsTextOf : BasicType → List ℕ → Type 0
 IsTextOf basics.String bytes = IsString bytes
 IsTextOf basics.ObjectPath bytes = IsString bytes × IsTrue (is_object_path bytes)
@@ -105,7 +105,7 @@ IsTextOf basics.Uint64 bytes = ⊥
 IsTextOf basics.Double bytes = ⊥
 IsTextOf basics.UnixFd bytes = ⊥
 
--- the type of a byte: an array of bytes is the bytes, and no array of values
+-- whether it is the type of a byte: an array of bytes is its bytes, not an array of values
 abbrev pub is_byte : Ty → Bool
 is_byte (Ty.basic basics.Byte) = true
 is_byte t = false

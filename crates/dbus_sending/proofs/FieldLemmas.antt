@@ -1,4 +1,5 @@
--- The fields of a header that is sent: they are read as they were, they have a spelling, and none of them is an array.
+-- The fields of a header that is sent: they are read back unchanged, they have a spelling, and none of them
+-- is an array.
 use Rattle.std.proofs.Common.{◌≡◌, ◌≢◌, ℕ, ◌^◌, ◌<◌, ◌==◌, ◌&&◌, Bool, true, false, IsTrue, List, Option, Some, None, IfSome, option_map, option_and_then, Result, refl, ap, subst, sym, ◌∙◌, arith, rules, if◌then◌else◌}
 use Rattle.std.specs.Result.{result_ok}
 use Rattle.dbus_types.specs.declared.complete_type.BasicType.TheVariants as basics
@@ -15,7 +16,7 @@ use Rattle.dbus_sending.specs.Sent.{SentHeader, Sent, CanBeSent, IsName, IsMembe
 
 -- ---- what is read
 
--- a field that is read so, before others
+-- a field that is read in this way, before others
 reads : (fields : Fields) (code : ℕ) (value : Val) (rest : Vals) (next : Fields) → with_field fields (kind_of code) value ≡ Some next
     → with_values fields (Vals.more (field_value code value) rest) ≡ with_values next rest
 reads fields code value rest next is = ap (option_and_then (λ (f : Fields). with_values f rest)) is
@@ -71,7 +72,7 @@ read_reply path interface member error (Some it) rest is =
     reads (with_error path interface member error) 5 (Val.number basics.Uint32 it) rest (with_reply path interface member error (Some it))
     (ap (λ (b : Bool). option_map (λ (x : ℕ). with_reply path interface member error (Some x)) (once None (if b then None else Some it))) (is_zero it is.0))
 
--- the fields behind REPLY_SERIAL
+-- the fields after REPLY_SERIAL
 abbrev with_destination : Fields → Option (List ℕ) → Fields
 with_destination fields destination = record fields { destination = destination }
 
@@ -93,7 +94,7 @@ read_sender : (path interface member error : Option (List ℕ)) (reply : Option 
 read_sender path interface member error reply destination None rest = refl
 read_sender path interface member error reply destination (Some it) rest = refl
 
--- types that are there have a signature
+-- a list of types that isn't empty has a signature
 signed : (t : Ty) (ts : Tys) → signature_of (texts_of (Tys.more t ts)) ≡ Some (texts_of (Tys.more t ts))
 signed (Ty.basic b) ts = refl
 signed Ty.variant ts = refl
@@ -112,7 +113,7 @@ read_signature path interface member error reply destination sender (Tys.more t 
     ∙ reads before 8 (Val.text basics.Signature (texts_of (Tys.more t ts))) Vals.end (with_signature fields destination sender (Some (Tys.more t ts)))
     (ap (λ (listed : Result Tys SignatureFault). option_map (λ (x : Tys). with_signature fields destination sender (Some x)) (once None (result_ok listed))) (signature_again (Tys.more t ts) is))
 
--- the fields from SIGNATURE on, from SENDER on, and so to all but PATH
+-- the fields from SIGNATURE on, from SENDER on, and so on to all except PATH
 abbrev from_8 : List ℕ → Vals
 from_8 text = row 8 (Val.text basics.Signature) (signature_of text) Vals.end
 
@@ -134,7 +135,7 @@ from_3 h text = row 3 (Val.text basics.String) h.member (from_4 h text)
 abbrev from_2 : SentHeader → List ℕ → Vals
 from_2 h text = row 2 (Val.text basics.String) h.interface (from_3 h text)
 
--- each field is read as it was
+-- each field is read back unchanged
 pub fields_again : (sent : Sent) → CanBeSent sent → with_values no_fields (fields_of sent) ≡ Some (fields_read sent)
 fields_again sent can =
     let h = sent.header in
@@ -150,7 +151,7 @@ fields_again sent can =
 
 -- ---- that they have a spelling
 
--- a value that a field can have: of one type, and no container
+-- a value that a field can have: of one type, and not a container
 pub record IsFieldValue (value : Val) : Type 0 where
   pub listed : IsTrue (is_signature (Tys.more (ty_of value) Tys.end))
   pub fits : Fits 61 (ty_of value) value

@@ -71,7 +71,7 @@ whole_is sent can =
     ∙ ap (λ n. ((F ++ fields) ++ zeros n) ++ body_in sent) (padding-length (length fields))
     ∙ append_assoc (F ++ fields) (gap sent) (body_in sent) ∙ append_assoc F fields (gap sent ++ body_in sent)
 
--- ---- what is read of them
+-- ---- what is read from them
 
 word_back : (n : ℕ) → n < 2 ^ 32 → number_from Little w32 (word n) ≡ n
 unfolding number_bytes number_from
@@ -101,7 +101,7 @@ zero_front : (n : ℕ) (rest : List ℕ) → are_zero (take n (zeros n ++ rest))
 zero_front zero rest = refl
 zero_front (suc n) rest = zero_front n rest
 
--- a list that begins so goes on behind it
+-- a list that begins with this prefix continues after it
 behind : (front rest bytes : List ℕ) (n : ℕ) → bytes ≡ front ++ rest → length front ≡ n → drop n bytes ≡ rest
 behind front rest bytes n is long = ap (λ (x : List ℕ). drop n x) is ∙ ap (λ k. drop k (front ++ rest)) (sym long) ∙ drop-append_seam front rest
 

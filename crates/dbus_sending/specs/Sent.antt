@@ -1,5 +1,5 @@
 -- D-Bus Specification, "Message Format" and "Marshaling": a message that is sent, and its bytes, as the spelling of a header
--- of the types `yyyyuua(yv)` and of a body. All is little-endian.
+-- of the types `yyyyuua(yv)` and of a body. Everything is little-endian.
 use Rattle.std.specs.Prelude.{◌≢◌, ℕ, ◌^◌, ◌<◌, ◌≤◌, IsTrue, List, [], ◌∷◌, ◌++◌, length, Option, Some, None, IfSome}
 use Rattle.dbus_types.specs.declared.complete_type.BasicType.TheVariants as basics
 use Rattle.dbus_types.specs.declared.endian.Endian.TheVariants.{Little}
@@ -13,7 +13,7 @@ use Rattle.dbus_framing.specs.Names.{is_member_name, is_interface_name}
 use Rattle.dbus_framing.specs.Headers.{Fields, field_type, has_needed}
 use Rattle.dbus_framing.specs.Messages.{Parts}
 
--- The header of a message that is sent: its type, flags and serial, and the fields, where it has them. The field SIGNATURE
+-- The header of a message that is sent: its type, flags and serial, and its fields, if it has them. The field SIGNATURE
 -- follows from the body.
 pub record SentHeader : Type 0 where
   pub kind : ℕ
@@ -53,12 +53,12 @@ pub record Sent : Type 0 where
 abbrev pub field_value : ℕ → Val → Val
 field_value code value = Val.struct (Vals.more (Val.number basics.Byte code) (Vals.more (Val.variant value) Vals.end))
 
--- a field before others, where the header has it
+-- a field before others, if the header has it
 abbrev pub row : {A : Type 0} → ℕ → (A → Val) → Option A → Vals → Vals
 row code value None rest = rest
 row code value (Some it) rest = Vals.more (field_value code (value it)) rest
 
--- SIGNATURE: what lists the types of the body, and none for a body without values
+-- SIGNATURE: the text that lists the types of the body, or None for a body without values
 abbrev pub signature_of : List ℕ → Option (List ℕ)
 signature_of [] = None
 signature_of (code ∷ codes) = Some (code ∷ codes)
@@ -87,12 +87,12 @@ spelled_message sent = padded 8 (all_spelled Little (header_of sent) 0) ++ all_s
 
 -- ---- what it says
 
--- the types that SIGNATURE lists, where there is one
+-- the types that SIGNATURE lists, if there is one
 abbrev pub types_listed : Tys → Option Tys
 types_listed Tys.end = None
 types_listed (Tys.more t ts) = Some (Tys.more t ts)
 
--- the fields that are read in it
+-- the fields that are read from it
 abbrev pub fields_read : Sent → Fields
 fields_read sent = record {
   path = sent.header.path;
@@ -106,7 +106,7 @@ fields_read sent = record {
   unix_fds = None;
 }
 
--- what a reader is told
+-- what a reader gets
 abbrev pub said_by : Sent → Parts
 said_by sent = record {
   kind = sent.header.kind;
@@ -138,7 +138,7 @@ IsMember text = IsTextOf basics.String text × IsTrue (is_member_name text)
 abbrev pub IsSerial : ℕ → Type 0
 IsSerial serial = (serial ≢ 0) × (serial < 2 ^ 32)
 
--- Each number and each text is one of its field.
+-- Each number and each text is valid for its field.
 pub record HasHeader (header : SentHeader) : Type 0 where
   pub typed : header.kind ≢ 0
   pub kind : header.kind < 2 ^ 8
@@ -152,9 +152,9 @@ pub record HasHeader (header : SentHeader) : Type 0 where
   pub destination : IfSome header.destination (IsTextOf basics.String)
   pub sender : IfSome header.sender (IsTextOf basics.String)
 
--- The message is one by the standard: its header is one and has the fields that its type needs, and the body has a
--- signature and a spelling. No array is too long, neither that of the fields nor one in the body, and the body's length is a
--- number of 32 bits.
+-- The message is valid by the standard: its header is valid and has the fields that its type must have, and the
+-- body has a signature and a spelling. No array is too long, neither that of the fields nor one in the body, and
+-- the body's length is a number of 32 bits.
 pub record CanBeSent (sent : Sent) : Type 0 where
   pub header : HasHeader sent.header
   pub needed : IsTrue (has_needed sent.header.kind (fields_read sent))

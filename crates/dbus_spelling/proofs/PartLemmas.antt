@@ -1,4 +1,4 @@
--- What is made of parts.
+-- What is made from parts.
 use Rattle.std.proofs.Common.{◌≡◌, ℕ, ◌%◌, ◌<◌, true, append_assoc, List, [], ◌∷◌, ◌++◌, length, refl, sym, ap, ◌∙◌, arith}
 use Rattle.std.specs.Int.{w8, w32}
 use Rattle.dbus_types.specs.declared.complete_type.BasicType.TheVariants as basics
@@ -47,7 +47,7 @@ array_made endian alignment place first start elements inner count whole made sc
     is ∙ ap (aligned 4 place) (is_sw ∙ is_whole ∙ ap (λ (l : List ℕ). l ++ si) (is_sc ∙ is_count ∙ number_mod32 endian (length elements))
     ∙ ap (λ (l : List ℕ). number_bytes endian w32 (length elements) ++ l) (is_si ∙ is_inner ∙ ap (λ (p : ℕ). aligned alignment p elements) (is_first ∙ ap (λ (p : ℕ). behind p 4) is_start)))
 
--- an answer that is handed on
+-- a result that is passed on
 pub handed : (result : Result (Vec ℕ Global) AllocError) (xs ys : List ℕ) → xs ≡ ys → IfOk result (λ made. made.items ≡ xs) → IfOk result (λ made. made.items ≡ ys)
 handed (Ok made) xs ys same is = is ∙ same
 handed (Err e) xs ys same is = tt
@@ -84,7 +84,7 @@ entry_value endian place key value held known start n at k ks rest rests inner i
     is_rest ∙ ap (λ (t : Ty). spelled endian (value_as t x) at) is_held ∙ ap (λ (v : Val). spelled endian v at) (sym is_value) ∙ ap (spelled endian value) at_is in
     is ∙ ap (aligned 8 place) (is_inners ∙ is_inner ∙ ap (λ (l : List ℕ). l ++ rests) (is_ks ∙ k_is) ∙ ap (λ (l : List ℕ). K ++ l) (is_rests ∙ rest_is))
 
--- values behind others
+-- values after others
 pub next_made : (endian : Endian) (place : ℕ) (made next slice new total : List ℕ) (n at : ℕ) (w : Val) (vs rest : Vals) → place < 8 → vs ≡ Vals.more w rest → n ≡ length made → at ≡ behind place n → next ≡ spelled endian w at → slice ≡ next → new ≡ made ++ slice
     → made ++ all_spelled endian vs (behind place (length made)) ≡ total → new ++ all_spelled endian rest (behind place (length new)) ≡ total
 next_made endian place made next slice new total n at w vs rest below parts is_n is_at is_next is_slice is before =

@@ -11,7 +11,7 @@ lone_many inner types first [] parts some = absurd (some refl)
 lone_many true types first (second ∷ others) parts some = ap (λ (ts : List CompleteType). lone_in true (types_of ts)) (sym parts)
 lone_many false types first (second ∷ others) parts some = refl
 
--- how many there are
+-- the number of them
 abbrev pub wraps : Ty → ℕ
 wraps (Ty.struct (Tys.more t Tys.end)) = suc (wraps t)
 wraps (Ty.struct (Tys.more t (Tys.more u ts))) = 0

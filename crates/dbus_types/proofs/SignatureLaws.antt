@@ -1,4 +1,4 @@
--- The two laws of reading a signature: what is read is spelled so, and what is spelled so is read.
+-- The two laws of reading a signature: types are read exactly if the text spells them.
 use Rattle.std.proofs.Common.{◌≡◌, ℕ, zero, suc, ◌<◌, ◌≤◌, ◌==◌, ◌&&◌, Bool, true, false, cond, List, [], ◌∷◌, ◌++◌, length, Result, Ok, Err, refl, sym, ap, subst, ◌∙◌, arith, append_assoc, length-append, ltb, inl, inr, Vec, Global}
 use Rattle.std.specs.Prelude.{nat_le, IfOk, IsTrue}
 use Rattle.std.proofs.lemmas.Bool.{le-ltb, leb-true, le-leb, lt-ltb, cases_lt}
@@ -15,12 +15,12 @@ use Rattle.dbus_types.specs.Types.{Ty, Tys, basic, variant, array, struct, entry
 use Rattle.dbus_types.specs.Signatures.{◌>>=◌, Reads, Reader, lead_of, led_by, closed_by, keyed_by, entry_by, element_by, array_by, struct_by, fields_by, types_by, type_at, signature_at}
 use Rattle.dbus_types.proofs.SignatureReading.{array_in, struct_in, type_at-is}
 
--- the value of a step that did not fail
+-- the value of a step that didn't fail
 pub bind_ok : {A B E : Type 0} (r : Result A E) (f : A → Result B E) (y : B) → (r >>= f) ≡ Ok y → (x : A) × (r ≡ Ok x) × (f x ≡ Ok y)
 bind_ok (Ok x) f y e = (x, refl, e)
 bind_ok (Err d) f y e = absurd cc
 
--- both tests hold
+-- both tests are true
 pub both_true : (a b : Bool) → (a && b) ≡ true → (a ≡ true) × (b ≡ true)
 both_true true b e = (refl, e)
 both_true false b e = absurd cc
@@ -40,7 +40,7 @@ lead_of-code basics.String = refl
 lead_of-code basics.ObjectPath = refl
 lead_of-code basics.Signature = refl
 
--- ---- what is spelled so is read
+-- ---- what is spelled is read
 
 not_41 : (b : BasicType) → (code_of b == 41) ≡ false
 not_41 basics.Byte = refl
@@ -72,7 +72,7 @@ not_123 basics.String = refl
 not_123 basics.ObjectPath = refl
 not_123 basics.Signature = refl
 
--- a reader of fields goes on where a type begins
+-- a reader of fields continues where a type begins
 fields_on : (read : Reader) (n : ℕ) (t : Ty) (rest : List ℕ) (arrays structs : ℕ) → is_within false arrays structs t ≡ true
     → fields_by read (suc n) (text_of t ++ rest) ≡ (read (text_of t ++ rest) >>= λ u. fields_by read n u.1 >>= λ us. Ok (more u.0 us.0, us.1))
 unfolding fields_by
@@ -99,7 +99,7 @@ some_code (array t) = omega arith
 some_code (struct ts) = omega arith
 some_code (entry key t) = omega arith
 
--- an element that is no entry
+-- an element that isn't an entry
 element_plain : (read : Reader) (t : Ty) (arrays structs : ℕ) (rest : List ℕ) → is_within false arrays structs t ≡ true → element_by read (text_of t ++ rest) ≡ read (text_of t ++ rest)
 unfolding element_by
 element_plain read (basic b) arrays structs rest within = ap (λ (x : Bool). cond x (entry_by read rest) (read (code_of b ∷ rest))) (not_123 b)
@@ -169,7 +169,7 @@ reader_by arrays (suc structs) inner outer (struct ts) rest within =
     ∙ struct_again (type_at arrays structs) arrays structs ts rest (outer structs refl) some.0 some.1
 reader_by arrays structs inner outer (entry key t) rest within = absurd cc
 
--- the readers of so many arrays, by recursion on the structs
+-- the readers of this many arrays, by recursion on the structs
 readers_inner : (arrays : ℕ) → ((fewer : ℕ) → arrays ≡ suc fewer → (structs : ℕ) → IsReader fewer structs (type_at fewer structs)) → (structs : ℕ) → IsReader arrays structs (type_at arrays structs)
 readers_inner arrays below zero = record { again = reader_by arrays zero (λ fewer e. below fewer e zero) (λ fewer e. absurd cc) }
 readers_inner arrays below (suc structs) =
@@ -199,9 +199,9 @@ signature_again ts within =
     let short : ltb 255 (length (texts_of ts)) ≡ false = le-ltb _ _ (leb-true _ _ each.1) in
     rw short (types_again (type_at 32 32) ts (length (texts_of ts)) (readers 32 32) each.0 (omega arith))
 
--- ---- what is read is spelled so
+-- ---- what is read is spelled that way
 
--- what a reader took from the front
+-- what a reader took from the start
 pub record Takes (arrays structs : ℕ) (entries : Bool) (codes : List ℕ) (t : Ty) (rest : List ℕ) : Type 0 where
   pub parts : codes ≡ text_of t ++ rest
   pub within : is_within entries arrays structs t ≡ true
@@ -371,7 +371,7 @@ takers_inner arrays below (suc structs) =
     let before = takers_inner arrays below structs in
     record { takes = taker_by arrays (suc structs) (λ fewer e. below fewer e (suc structs)) (λ fewer e. let same : structs ≡ fewer = cc in subst (λ (n : ℕ). IsTaker arrays n (type_at arrays n)) same before) }
 
--- what each reader within limits reads is spelled so, and within them
+-- what each reader within limits reads is spelled that way, and is within them
 pub takers : (arrays structs : ℕ) → IsTaker arrays structs (type_at arrays structs)
 takers zero structs = takers_inner zero (λ fewer e. absurd cc) structs
 takers (suc arrays) structs =

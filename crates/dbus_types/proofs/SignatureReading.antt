@@ -1,4 +1,4 @@
--- What the readers of a signature give, one code at a time.
+-- What the readers of a signature return, one code at a time.
 use Rattle.std.proofs.Common.{◌≡◌, ℕ, zero, suc, ◌+◌, ◌-◌, ◌<◌, ◌≤◌, ◌==◌, Bool, true, false, cond, List, [], ◌∷◌, length, Result, Ok, Err, refl, sym, ap, subst, ◌∙◌, arith, sub-one, Vec, Global}
 use Rattle.std.proofs.lemmas.List.{nil_from_length}
 use Rattle.std.proofs.lemmas.Bool.{ne_eqb}
@@ -11,7 +11,7 @@ use Rattle.dbus_types.specs.Views.{type_of, types_of}
 use Rattle.dbus_types.specs.Signatures.{◌>>=◌, Refuses, Reader, too_deep, lead_of, led_by, type_by, array_by, struct_by, fields_by, types_by, type_at, types_then, with_front, types_behind}
 use Rattle.dbus_types.proofs.Views.{types_then-end, struct_is}
 
--- where one reading gives a fault, another that gives each fault with it gives it too
+-- a reading that returns each fault of another one returns the fault that the other one returns
 pub refuses_as : {Y Z : Type 0} (e : SignatureFault) (read : Result Y SignatureFault) (total : Result Z SignatureFault) → ((f : SignatureFault) → read ≡ Err f → total ≡ Err f) → Refuses e read → Refuses e total
 refuses_as BadType read total same fault = same BadType fault
 refuses_as TooDeep read total same fault = same TooDeep fault

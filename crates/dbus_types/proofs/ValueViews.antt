@@ -1,4 +1,4 @@
--- The views of values whose parts lie in vectors.
+-- The views of values whose parts are in vectors.
 use Rattle.dbus_types.specs.declared.value.TypedArray.{TypedArray}
 use Rattle.std.proofs.Common.{◌≡◌, List, [], ◌∷◌, length, Bool, true, false, Some, None, refl, sym, ap, ◌∙◌, arith, Vec, Box, Global}
 use mathlib.Core.Former.{Count}
@@ -25,20 +25,20 @@ row_of (Pair' _ _ row) = (_, row)
 row_of (Array' _ _ _ row) = (_, row)
 row_of _ = (_, end_of-Value)
 
--- a struct's fields are what its vector holds, where there aren't two
+-- a struct's fields are what its vector contains, if there aren't two
 pub struct_holds : (known : Ty) (vs : Box (Vec Value Global) Global) → core_as known (Struct vs) ≡ Val.struct (unless_two (struct_fields known (all_as (fields_of known) vs.value.items) (each_as known vs.value.items)))
 struct_holds known vs =
     let row = row_of (Struct vs) in
     ap (λ (us : Vals). Val.struct (unless_two (struct_fields known us (row_each known row.1)))) (all_is (fields_of known) row.0 row.1 ∙ ap (all_as (fields_of known)) (items_hidden-the_row-Value-0 vs.value))
     ∙ ap (λ (us : Vals). Val.struct (unless_two (struct_fields known (all_as (fields_of known) vs.value.items) us))) (each_is known row.0 row.1 ∙ ap (each_as known) (items_hidden-the_row-Value-0 vs.value))
 
--- the elements of an array inside an array are what its vector holds
+-- the elements of an array inside an array are what its vector contains
 pub inner_holds : (known : Ty) (vs : Box (Vec Value Global) Global) → core_as known (InnerArray vs) ≡ Val.array (element_of known) (each_as (element_of known) vs.value.items)
 inner_holds known vs =
     let row = row_of (InnerArray vs) in
     ap (Val.array (element_of known)) (each_is (element_of known) row.0 row.1 ∙ ap (each_as (element_of known)) (items_hidden-the_row-Value-0 vs.value))
 
--- the elements of an array with a type of its own are what its vector holds
+-- the elements of an array with a type of its own are what its vector contains
 pub array_holds : (known : Ty) (a : Box TypedArray Global) → core_as known (Array a) ≡ typed_array known (type_of a.value.element) (each_as (type_of a.value.element) a.value.values.items)
 array_holds known a =
     let t = type_of a.value.element in
@@ -120,7 +120,7 @@ vector_fields value vs fields is same known =
     ap (core_as known) is ∙ struct_holds known vs ∙ ap Val.struct (struct_two known vs.value.items)
     ∙ ap (λ (l : List Value). Val.struct (struct_fields known (all_as (fields_of known) l) (each_as known l))) (sym same)
 
--- a struct of two fields has what its array holds
+-- a struct of two fields has what its array contains
 pub pair_fields : (value : Value) (vs : Box (List Value) Global) (fields : List Value) → value ≡ Pair vs → fields ≡ vs.value → HasFields value fields
 pair_fields value vs fields is same known =
     let row = row_of (Pair vs) in

@@ -1,4 +1,4 @@
--- The views of types whose parts lie in vectors.
+-- The views of types whose parts are in vectors.
 use Rattle.std.proofs.Common.{◌≡◌, ℕ, ◌+◌, ◌<◌, List, [], ◌∷◌, ◌++◌, length, take, get_or, refl, sym, ap, ◌∙◌, Vec, Global}
 use Rattle.std.proofs.lemmas.List.{take_more}
 use mathlib.Core.Former.{Count}
@@ -15,7 +15,7 @@ abbrev row_of : CompleteType → (n : Count) × Row_of-CompleteType n
 row_of (Struct' _ row) = (_, row)
 row_of _ = (_, end_of-CompleteType)
 
--- a struct's fields are what its vector holds
+-- a struct's fields are what its vector contains
 pub struct_is : (ts : Vec CompleteType Global) → type_of (Struct ts) ≡ struct (types_of ts.items)
 struct_is ts =
     let row = row_of (Struct ts) in

@@ -1,4 +1,4 @@
--- The basic type of a value, where it has one.
+-- The basic type of a value, if it has one.
 use Rattle.std.specs.Prelude.{◌≡◌, Option, Some, None}
 use Rattle.dbus_types.specs.declared.complete_type.BasicType.{BasicType}
 use Rattle.dbus_types.specs.Types.{Ty}

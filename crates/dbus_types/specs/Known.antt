@@ -1,4 +1,4 @@
--- What is known of the type of a value by the place where it lies.
+-- What is known of the type of a value from where it is.
 use Rattle.std.specs.Prelude.{ℕ, Bool, true, false, Option, Some, None}
 use Rattle.dbus_types.specs.Types.{Ty, Tys}
 use Rattle.dbus_types.specs.ValueViews.{lone_in}
@@ -11,7 +11,7 @@ lone_field Ty.variant = None
 lone_field (Ty.array t) = None
 lone_field (Ty.entry key t) = None
 
--- the alignment of the structs of one field around a type, which is 1 where there is none
+-- the alignment of the structs of one field around a type, or 1 if there are none
 abbrev pub wrapping : Ty → ℕ
 wrapping (Ty.struct (Tys.more t Tys.end)) = 8
 wrapping (Ty.struct (Tys.more t (Tys.more u ts))) = 1

@@ -9,19 +9,19 @@ use Rattle.dbus_types.specs.declared.signature.SignatureFault.TheVariants.{BadTy
 use Rattle.dbus_types.specs.Types.{Ty, Tys, basic, variant, array, struct, entry, end, more}
 
 infixl 10 ◌>>=◌
--- what the next step gives, or the fault that came before it
+-- the result of the next step, or the fault that came before it
 abbrev pub ◌>>=◌ : {A B E : Type 0} → Result A E → (A → Result B E) → Result B E
 (Ok x) >>= f = f x
 (Err e) >>= f = Err e
 
--- the fault is what reading gives, unless memory ran out
+-- the fault is the result of reading, unless memory ran out
 abbrev pub Refuses : {Y : Type 0} → SignatureFault → Result Y SignatureFault → Type 0
 Refuses BadType read = read ≡ Err BadType
 Refuses TooDeep read = read ≡ Err TooDeep
 Refuses TooLong read = read ≡ Err TooLong
 Refuses OutOfMemory read = Unit {0}
 
--- what a function answered, seen by the view, is what reading gives, unless memory ran out
+-- what a function returned, seen by the view, is the result of reading, unless memory ran out
 abbrev pub Reads : {X Y : Type 0} → (X → Y) → Result X SignatureFault → Result Y SignatureFault → Type 0
 Reads view (Ok x) read = read ≡ Ok (view x)
 Reads view (Err e) read = Refuses e read
@@ -46,11 +46,11 @@ lead_of code =
     if code == 97 then leads.Array else
     if code == 40 then leads.Struct else leads.Other
 
--- a reader of types: what it read, and the codes behind it
+-- a reader of types: what it read, and the codes after it
 abbrev pub Reader : Type 0
 Reader = List ℕ → Result (Ty × List ℕ) SignatureFault
 
--- where a further array or struct would be one too many
+-- an array or struct would be one too many here
 abbrev pub too_deep : Reader
 too_deep codes = Err TooDeep
 
@@ -67,7 +67,7 @@ keyed_by read leads.Array codes = Err BadType
 keyed_by read leads.Struct codes = Err BadType
 keyed_by read leads.Other codes = Err BadType
 
--- a dict entry, behind its opening brace
+-- a dict entry, after its opening brace
 unfoldable pub entry_by : Reader → Reader
 entry_by read [] = Err BadType
 entry_by read (code ∷ codes) = keyed_by read (lead_of code) codes
@@ -77,27 +77,27 @@ unfoldable pub element_by : Reader → Reader
 element_by read [] = read []
 element_by read (code ∷ codes) = if code == 123 then entry_by read codes else read (code ∷ codes)
 
--- an array, behind its code
+-- an array, after its code
 unfoldable pub array_by : Reader → Reader
 array_by read codes = element_by read codes >>= λ t. Ok (array t.0, t.1)
 
--- The further fields of a struct, and its closing parenthesis. There are at most as many as codes.
+-- The further fields of a struct, and its closing parenthesis. There are at most as many fields as codes.
 unfoldable pub fields_by : Reader → ℕ → List ℕ → Result (Tys × List ℕ) SignatureFault
 fields_by read zero codes = Err BadType
 fields_by read (suc n) [] = Err BadType
 fields_by read (suc n) (code ∷ codes) =
     if code == 41 then Ok (end, codes) else (read (code ∷ codes) >>= λ t. fields_by read n t.1 >>= λ ts. Ok (more t.0 ts.0, ts.1))
 
--- types behind others
+-- types after others
 abbrev pub types_then : Tys → Tys → Tys
 types_then end us = us
 types_then (more t ts) us = more t (types_then ts us)
 
--- what is read behind types that were read before
+-- what is read after types that were read before
 abbrev pub with_front : Tys → Result (Tys × List ℕ) SignatureFault → Result (Tys × List ℕ) SignatureFault
 with_front front read = read >>= λ ts. Ok (types_then front ts.0, ts.1)
 
--- a struct, behind its opening parenthesis: at least one field
+-- a struct, after its opening parenthesis: at least one field
 unfoldable pub struct_by : Reader → Reader
 struct_by read codes = read codes >>= λ t. fields_by read (length t.1) t.1 >>= λ ts. Ok (struct (more t.0 ts.0), ts.1)
 
@@ -114,26 +114,26 @@ abbrev pub type_by : Reader → Reader → Reader
 type_by of_array of_struct [] = Err BadType
 type_by of_array of_struct (code ∷ codes) = led_by of_array of_struct (lead_of code) codes
 
--- a type in which at most so many structs are open at once
+-- a type in which at most this many structs are open at once
 abbrev pub nested_by : (ℕ → Reader) → ℕ → Reader
 nested_by of_array zero codes = type_by (of_array zero) too_deep codes
 nested_by of_array (suc structs) codes = type_by (of_array (suc structs)) (struct_by (nested_by of_array structs)) codes
 
--- a type in which at most so many arrays, and so many structs, are open at once
+-- a type in which at most this many arrays, and this many structs, are open at once
 unfoldable pub type_at : ℕ → ℕ → Reader
 type_at zero structs codes = nested_by (λ s. too_deep) structs codes
 type_at (suc arrays) structs codes = nested_by (λ s. array_by (type_at arrays s)) structs codes
 
--- types up to the end of the codes, of which there are at most as many as codes
+-- types up to the end of the codes, at most as many as there are codes
 unfoldable pub types_by : Reader → ℕ → List ℕ → Result Tys SignatureFault
 types_by read n [] = Ok end
 types_by read zero (code ∷ codes) = Err BadType
 types_by read (suc n) (code ∷ codes) = read (code ∷ codes) >>= λ t. types_by read n t.1 >>= λ ts. Ok (more t.0 ts)
 
--- what is read behind types that were read before
+-- what is read after types that were read before
 abbrev pub types_behind : Tys → Result Tys SignatureFault → Result Tys SignatureFault
 types_behind front read = read >>= λ ts. Ok (types_then front ts)
 
--- The types that a signature lists. TooLong is looked at first, then the first fault from the left.
+-- The types that a signature lists. TooLong comes first, then the first fault from the left.
 unfoldable pub signature_at : List ℕ → Result Tys SignatureFault
 signature_at codes = if nat_lt 255 (length codes) then Err TooLong else types_by (type_at 32 32) (length codes) codes

@@ -4,7 +4,7 @@ use Rattle.dbus_types.specs.declared.complete_type.BasicType.{BasicType}
 use Rattle.dbus_types.specs.declared.complete_type.BasicType.TheVariants as basics
 
 mutual
-  -- a complete type; an entry stands only as an array's element
+  -- a complete type; an entry may be only an array's element
   pub data Ty : Type 0 where
     basic : BasicType → Ty
     variant : Ty
@@ -12,7 +12,7 @@ mutual
     struct : Tys → Ty
     entry : BasicType → Ty → Ty
 
-  -- types, one behind the other
+  -- types, one after the other
   pub data Tys : Type 0 where
     end : Tys
     more : Ty → Tys → Tys
@@ -42,7 +42,7 @@ abbrev mutual
   text_of (struct ts) = 40 ∷ (texts_of ts ++ 41 ∷ [])
   text_of (entry key t) = 123 ∷ code_of key ∷ (text_of t ++ 125 ∷ [])
 
-  -- the texts of types, one behind the other
+  -- the texts of types, one after the other
   pub texts_of : Tys → List ℕ
   texts_of end = []
   texts_of (more t ts) = text_of t ++ texts_of ts
@@ -52,14 +52,14 @@ abbrev pub has_type : Tys → Bool
 has_type end = false
 has_type (more t ts) = true
 
--- what holds with one fewer, where there is one
+-- the property with one fewer, if there is one
 abbrev pub with_fewer : ℕ → (ℕ → Bool) → Bool
 with_fewer zero holds = false
 with_fewer (suc n) holds = holds n
 
 abbrev mutual
-  -- At most so many arrays and structs are open at once, no struct is empty, and an entry stands as an
-  -- array's element, or in front where the flag says so.
+  -- At most this many arrays and structs are open at once, no struct is empty, and an entry is an array's element,
+  -- or the type itself if the flag says so.
   pub is_within : Bool → ℕ → ℕ → Ty → Bool
   is_within entries arrays structs (basic b) = true
   is_within entries arrays structs variant = true

@@ -16,7 +16,7 @@ mutual
     struct : Vals → Val
     entry : Val → Val → Val
 
-  -- values, one behind the other
+  -- values, one after the other
   pub data Vals : Type 0 where
     end : Vals
     more : Val → Vals → Vals
@@ -40,7 +40,7 @@ abbrev mutual
   ty_of (Val.struct vs) = Ty.struct (tys_of vs)
   ty_of (Val.entry key v) = entry_of (ty_of key) (ty_of v)
 
-  -- the types of values, one behind the other
+  -- the types of values, one after the other
   pub tys_of : Vals → Tys
   tys_of Vals.end = Tys.end
   tys_of (Vals.more v vs) = Tys.more (ty_of v) (tys_of vs)

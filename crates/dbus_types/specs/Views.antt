@@ -1,4 +1,4 @@
--- What the types and values of the program stand for, without where they lie in memory.
+-- What the types and values of the program stand for, apart from where they are in memory.
 use Rattle.std.specs.Prelude.{List, [], ◌∷◌}
 use Rattle.dbus_types.specs.Types.{Ty, Tys, basic, variant, array, struct, entry, end, more}
 use Rattle.dbus_types.specs.declared.complete_type.CompleteType.{CompleteType, Basic, Variant, Array', Struct', DictEntry', Row_of-CompleteType, end_of-CompleteType, more_of-CompleteType}
@@ -17,7 +17,7 @@ abbrev mutual
   row_types end_of-CompleteType = end
   row_types (more_of-CompleteType t rest) = more (type_of t) (row_types rest)
 
--- the trees of types, one behind the other
+-- the trees of types, one after the other
 abbrev pub types_of : List CompleteType → Tys
 types_of [] = end
 types_of (t ∷ ts) = more (type_of t) (types_of ts)

@@ -1,4 +1,4 @@
--- How long the digest is that a key and a vector are cut from.
+-- The length of the digest from which a key and a vector are cut.
 use Rattle.std.proofs.Common.{◌≡◌, ℕ, zero, suc, List, length}
 use Rattle.sha2.specs.Sha256.{sha256}
 use Rattle.sha2.proofs.Facts256.{length-sha256}

@@ -14,7 +14,7 @@ hashed zero digest = digest
 hashed (suc n) digest = sha256 (hashed n digest)
 
 -- the digest of the password and the salt, and of each digest again, as often as there are iterations
--- in all; no iterations act as one
+-- in all; zero iterations count as one
 abbrev pub kdf : List ℕ → List ℕ → ℕ → List ℕ
 kdf password salt iterations = hashed (iterations - 1) (sha256 (password ++ salt))
 

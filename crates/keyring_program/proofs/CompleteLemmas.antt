@@ -31,7 +31,7 @@ use Rattle.service_machine.specs.Limits.{most_events}
 
 -- ---- streams
 
--- a count that stands still didn't rise
+-- a count that stays the same didn't rise
 pub still : (old new : ℕ) → StandsStill old new → Rose old new → ⊥
 still old new s (inl rose) = omega (arith, s.0)
 still old new s (inr stands) = s.1 stands
@@ -48,7 +48,7 @@ at-end (Some xs) left e end = let same : xs ≡ left = cc in sym same ∙ end
 
 -- ---- the handshake
 
--- an end, when more bytes come
+-- an end, when more bytes arrive
 abbrev with-more : End → List ℕ → End
 with-more how more = (continued (record { answers = []; end = how }) more).end
 
@@ -60,7 +60,7 @@ end-more run more = by_end run.end
     by_end (refused fault) = refl
     by_end (opened rest) = refl
 
--- behind bytes with which it is refused or open it stays so
+-- a handshake that is refused or open stays so
 opened-more : (uid : ℕ) (seed read more rest : List ℕ) → (shaken uid seed read).end ≡ opened rest → (shaken uid seed (read ++ more)).end ≡ opened (rest ++ more)
 opened-more uid seed [] more rest is = let e = sym (ap (λ (r : Run). r.end) (handshake-nothing uid (guid seed))) ∙ is in cc
 opened-more uid seed (first ∷ bytes) more rest is =
@@ -71,7 +71,7 @@ refused-more uid seed [] more why is = let e = sym (ap (λ (r : Run). r.end) (ha
 refused-more uid seed (first ∷ bytes) more why is =
     ap (λ (r : Run). r.end) (handshake-append uid (guid seed) first bytes more) ∙ end-more (shaken uid seed (first ∷ bytes)) more ∙ ap (λ e. with-more e more) is
 
--- so it isn't refused where the whole is open
+-- so it isn't refused if the whole is open
 never-refused : (uid : ℕ) (seed read left behind : List ℕ) (to : Input) (why : AuthFault) → to.left ≡ Some left → (shaken uid seed (read ++ left)).end ≡ opened behind
     → IsRefusedFor (shaken uid seed read).end to why → ⊥
 never-refused uid seed read left behind to fault.NoZero told is-open is = let e = sym (refused-more uid seed read left fault.NoZero is) ∙ is-open in cc
@@ -119,7 +119,7 @@ never-violated behind left rest messages all to violation.MissingField told stre
 never-violated behind left rest messages all to violation.BadBody told stream is whole = never-broken behind left rest messages all violation.BadBody stream is whole
 never-violated behind left rest messages all to violation.InvalidType told stream is whole = never-broken behind left rest messages all violation.InvalidType stream is whole
 
--- requests of the first messages are so whatever follows
+-- requests of the first messages stay so, whatever follows
 first-more : (behind left : List ℕ) (asked : List Asked) → FirstRequests most_bytes behind (requests_of asked) → FirstRequests most_bytes (behind ++ left) (requests_of asked)
 first-more behind left asked first = record {
   messages = first.messages;
@@ -172,7 +172,7 @@ complete uid seed bytes coming from to sink behind how so whole told input outpu
     by_cause end.OtherEnded cause = absurd cause
     by_cause end.Overrun cause = absurd cause
 
--- no end is told as faulty words are
+-- no end has the status of invalid arguments
 no-usage : (how : ending.End) → status_of how ≡ status.Usage → ⊥
 no-usage end.Done is = cc
 no-usage (end.Violation which) is = cc
@@ -184,6 +184,6 @@ no-usage end.Memory is = cc
 no-usage end.OtherEnded is = cc
 no-usage end.Overrun is = cc
 
--- so no run ends as faulty words do
+-- so no run with valid arguments ends with Usage
 pub never-usage : (uid : ℕ) (seed : List ℕ) (coming : Option (ℕ → ℕ)) (from to : Input) (sink behind : Output) (how : Status) → Serves uid seed coming from to sink behind how → how ≡ status.Usage → ⊥
 never-usage uid seed coming from to sink behind how so is = no-usage so.how (sym so.status_is ∙ is)

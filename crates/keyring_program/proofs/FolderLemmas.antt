@@ -1,4 +1,4 @@
--- What was loaded of a folder is what a start makes of the images that the host told.
+-- What was loaded from a folder is what a start makes of the images that the host reported.
 use Rattle.std.proofs.Common.{◌≡◌, ℕ, List, Option, Some, None, ◌∙◌, ap}
 use Rattle.kr_outside.specs.Folder.{AreTold}
 use Rattle.kr_outside.specs.RenameDisk.{Image}
@@ -7,7 +7,7 @@ use Rattle.folder_store.specs.Opened.{Opening, Opened}
 use Rattle.folder_store.proofs.OpenedLemmas.{opened_same}
 use Rattle.keyring_program.specs.Folder.{IsOpened}
 
--- images that were told are these
+-- the images that were reported are these
 told-of : (told : Option (List ℕ → Image)) (images found : List ℕ → Image) → told ≡ Some images → AreTold told found → (name : List ℕ) → found name ≡ images name
 told-of None images found e are = absurd (let f : None ≡ Some images = e in cc)
 told-of (Some other) images found e are = λ name. let same : other ≡ images = cc in are name ∙ ap (λ f. f name) same

@@ -1,4 +1,4 @@
--- What a clock and a generator of salts gave one after the other, by places.
+-- What a clock and a generator of salts returned one after the other, by position.
 use Rattle.std.proofs.Common.{◌≡◌, ℕ, ◌+◌, ◌*◌, ◌%◌, ◌^◌, List, [], ◌∷◌, ◌++◌, map, Option, Some, None, refl, ◌∙◌, ap, arith}
 use Rattle.rand_chacha.specs.ChaCha.{key_of}
 use Rattle.kr_outside.specs.Clock.{GivesFirst}
@@ -7,7 +7,7 @@ use Rattle.connection_worker.specs.Serving.{GivesMoments, GivesSalts, behind_sal
 use Rattle.service_machine.specs.Single.{Asked}
 use Rattle.keyring_program.specs.Events.{the_connection, AreGivenFrom, HaveMoments, HaveSalts}
 
--- a moment, and those behind it
+-- a moment, and those after it
 moments-next : (moment : ℕ) (moments all : List ℕ) (coming : ℕ → ℕ) (place : ℕ) (now : ℕ → ℕ) (behind : Option (ℕ → ℕ)) → ((k : ℕ) → now k ≡ coming (place + k))
     → ((next : ℕ → ℕ) → ((k : ℕ) → next k ≡ coming (place + 1 + k)) → GivesMoments (Some next) all behind → AreGivenFrom (place + 1) coming moments)
     → (next : Option (ℕ → ℕ)) → GivesFirst (Some now) moment next → GivesMoments next all behind → AreGivenFrom place coming (moment ∷ moments)

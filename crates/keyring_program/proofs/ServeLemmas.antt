@@ -63,7 +63,7 @@ only-end end.Memory run asked count from to sink behind cause = tt
 
 -- ---- the whole
 
--- what is so of a connection and a state is so of these
+-- what is true of a connection and a state is true of these
 at-start : (conn : ConnId) (state : Rows) → conn ≡ the_connection → state ≡ joined → (P : ConnId → Rows → Type 0) → P conn state → P the_connection joined
 at-start conn state c s P p = subst (λ r. P the_connection r) s (subst (λ d. P d state) c p)
 

@@ -25,7 +25,7 @@ use Rattle.keyring_program.specs.Events.{the_connection, joined, events_of, text
 abbrev pub OneCall : Type 0
 OneCall = (parts : Parts) (one other : Request) → CallOf parts one → CallOf parts other → one.call ≡ other.call
 
--- two requests that are answered alike
+-- two requests that get the same answer
 record Alike (one other : Asked) : Type 0 where
   call : one.request.call ≡ other.request.call
   serial : one.request.serial ≡ other.request.serial
@@ -64,7 +64,7 @@ given_by-append state (event ∷ events) more =
     ap (λ l. given the_connection state event ++ l) (given_by-append (step state event) events more)
     ∙ sym (append_assoc (given the_connection state event) (given_by the_connection (step state event) events) (given_by the_connection (replay (step state event) events) more))
 
--- what is given behind a request, and then for further ones
+-- what is given after a request, and then for further ones
 abbrev behind : Rows → List Asked → List Event
 behind state more = taking the_connection state ++ turns the_connection (replay state (taking the_connection state)) more
 
@@ -81,7 +81,7 @@ given-alike (a ∷ one) (b ∷ other) state p =
     ∙ sym (given_by-append here take (turns the_connection next other))
     ∙ ap (λ s. given_by the_connection s (behind s other)) (step-alike state a b p.0)
 
--- the connection's going gives nothing
+-- that the connection is gone gives nothing
 given-all : (asked : List Asked) → given_by the_connection opened_rows (events_of asked) ≡ given_by the_connection joined (turns the_connection joined asked)
 given-all asked =
     given_by-append joined (turns the_connection joined asked) (event.Gone the_connection ∷ []) ∙ append-nil (given_by the_connection joined (turns the_connection joined asked))

@@ -15,7 +15,7 @@ use Rattle.connection_worker.specs.Written.{written}
 abbrev pub the_connection : ConnId
 the_connection = record { 0 = 1 }
 
--- the service after its joining
+-- the service after the connection joined
 abbrev pub joined : Rows
 joined = step opened_rows (event.Connect the_connection)
 
@@ -27,16 +27,16 @@ events_until asked = event.Connect the_connection ∷ turns the_connection joine
 abbrev pub events_of : List Asked → List Event
 events_of asked = events_until asked ++ event.Gone the_connection ∷ []
 
--- what the run of a handshake and these requests put out
+-- the output of the run of a handshake and of these requests
 abbrev pub text_of : Run → List Asked → List ℕ
 text_of run asked = concat run.answers ++ written the_connection opened_rows (events_of asked)
 
--- the values that a function gives, from this place on
+-- the values of a function, from this argument on
 abbrev pub AreGivenFrom : {V : Type 0} → ℕ → (ℕ → V) → List V → Type 0
 AreGivenFrom place give [] = Unit {0}
 AreGivenFrom place give (value ∷ values) = (value ≡ give place) × AreGivenFrom (place + 1) give values
 
--- the moments at which the requests came are the first of the clock, where it tells them
+-- the moments at which the requests came are the first of the clock, if it reports them
 abbrev pub HaveMoments : Option (ℕ → ℕ) → List Asked → Type 0
 HaveMoments None asked = Unit {0}
 HaveMoments (Some coming) asked = AreGivenFrom 0 coming (map (λ (a : Asked). a.now) asked)

@@ -12,7 +12,7 @@ pub record IsOpened (images : List ℕ → Image) : Type 0 where
   pub pairs : List (List ℕ × List ℕ)
   pub opened : Opened the_limits images opening pairs
 
--- a run that ended so had its folder open
+-- a run that ended with this status had its folder open
 abbrev pub HadFolder : Status → Type 0
 HadFolder status.Usage = ⊥
 HadFolder status.FolderFault = ⊥

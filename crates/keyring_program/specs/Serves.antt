@@ -16,9 +16,10 @@ use Rattle.keyring_program.specs.declared.status.Status.{Status}
 abbrev pub shaken : ℕ → List ℕ → List ℕ → Run
 shaken uid seed read = handshake uid (guid seed) read
 
--- The run of the user's client under this seed, with a clock that gives these moments: these bytes were read, and these
--- requests of them recorded, each with a moment and a salt; their events are legal from the service's start, and what these
--- put out was written after the handshake's answers. The connection's end has its cause, and the status is that of the end.
+-- The run of the user's client under this seed, with a clock that returns these moments: these bytes were read, and
+-- these requests in them recorded, each with a moment and a salt; their events are legal from the service's start, and
+-- their outputs were written after the handshake's answers. The connection's end has its cause, and the status is that
+-- of the end.
 pub record Serves (uid : ℕ) (seed : List ℕ) (coming : Option (ℕ → ℕ)) (from to : Input) (sink after : Output) (status : Status) : Type 0 where
   pub read : List ℕ
   pub took : Took from to read

@@ -5,7 +5,7 @@ use Rattle.connection_worker.specs.declared.ending.End.TheVariants as end
 use Rattle.keyring_program.specs.declared.status.Status.{Status}
 use Rattle.keyring_program.specs.declared.status.Status.TheVariants as status
 
--- the number with which the process ends
+-- the exit number of the process
 abbrev pub number_of : Status → ℕ
 number_of status.Done = 0
 number_of status.Usage = 2
@@ -17,13 +17,13 @@ number_of (status.AuthRefused why) = 8
 number_of status.Memory = 9
 number_of status.EventsSpent = 11
 
--- the serving of the only connection of a service may end so: nobody else ends it, and no output is lost
+-- serving the only connection of a service may end in this way: nobody else ends it, and no output is lost
 abbrev pub IsOnlyEnd : End → Type 0
 IsOnlyEnd end.OtherEnded = ⊥
 IsOnlyEnd end.Overrun = ⊥
 IsOnlyEnd _ = Unit {0}
 
--- the status of a run whose connection ended so; the last row stands for the ends that can't come
+-- the status of a run whose connection ended in this way; the last row stands for the ends that can't come
 abbrev pub status_of : End → Status
 status_of end.Done = status.Done
 status_of (end.Violation cause) = status.Violation cause

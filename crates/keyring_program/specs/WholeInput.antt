@@ -10,8 +10,8 @@ use Rattle.service_machine.specs.Single.{Asked, requests_of}
 use Rattle.keyring_program.specs.Events.{events_of}
 use Rattle.keyring_program.specs.Serves.{shaken}
 
--- The bytes are a handshake that is open, and behind it a stream of messages that leaves no rest; no requests of its first
--- messages make more events than can be counted.
+-- The bytes are a handshake that is open, and after it a stream of messages without a rest; no requests of its
+-- first messages have more events than can be counted.
 pub record IsWholeInput (uid : ℕ) (seed bytes : List ℕ) : Type 0 where
   pub behind : List ℕ
   pub messages : List Parts

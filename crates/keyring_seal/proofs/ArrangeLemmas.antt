@@ -1,4 +1,4 @@
--- Items that are put in order, each as both parts tell it.
+-- Items that are put in order, each as both parts have it.
 use Rattle.std.proofs.Common.{◌≡◌, ℕ, ◌+◌, ◌<◌, List, [], ◌∷◌, length, get_or, map, drop, refl, sym, ap, ◌∙◌, arith}
 use denote.Ref.{Bor}
 use Rattle.std.specs.BTreeMap.{insert_entry}
@@ -14,16 +14,16 @@ use Rattle.keyring_file.specs.declared.area.FullItem.{FullItem}
 use Rattle.keyring_seal.specs.Order.{entered, by_number}
 use Rattle.keyring_seal.specs.Arranged.{Row, row_number, hashed_row}
 
--- a row that is lent
+-- a borrowed row
 abbrev pub Lent : Type 0
 Lent = Bor ClearItem × Bor FullItem
 
--- what is lent
+-- what was borrowed
 abbrev pub see : Lent → Row
 see row = (row.0.now, row.1.now)
 
 module _ {A B : Type 0} (number : A × B → ℕ) where
-  -- the next row goes to its place
+  -- the next row is inserted at its position
   pub enter_next : (es : List (ℕ × (A × B))) (xs : List A) (ys : List B) (i : ℕ) (x : A) (y : B) → i < length xs → length ys ≡ length xs → x ≡ get_or xs i x → y ≡ get_or ys i y
       → entered number es (zip (drop i xs) (drop i ys)) ≡ entered number (insert_entry nat_cmp es (number (x, y)) (x, y)) (zip (drop (i + 1) xs) (drop (i + 1) ys))
   enter_next es xs ys i x y lt same ex ey =
@@ -35,7 +35,7 @@ pub map-map : {X Y Z : Type 0} (f : Y → Z) (g : X → Y) (xs : List X) → map
 map-map f g [] = refl
 map-map f g (x ∷ xs) = ap (λ t. f (g x) ∷ t) (map-map f g xs)
 
--- what is made of rows that are seen through something else is made of the rows
+-- what is computed from rows seen through a view is computed from the rows
 pub told : {S Y Z : Type 0} (see : S → Y) (f : Y → Z) (seen : List S) (rows : List Y) → map see seen ≡ rows → map (λ s. f (see s)) seen ≡ map f rows
 told see f seen rows e = sym (map-map f see seen) ∙ ap (λ r. map f r) e
 
@@ -45,7 +45,7 @@ clear_items_of rows = sym (map-map (λ (row : Row). row.0) hashed_row rows)
 pub items_of : (rows : List Row) → map (λ row. row.1) rows ≡ map (λ row. row.1) (map hashed_row rows)
 items_of rows = sym (map-map (λ (row : Row). row.1) hashed_row rows)
 
--- ---- what holds of all rows holds of them in any order
+-- ---- what is true of all rows is true of them in any order
 
 all_entered : {X : Type 0} (number : X → ℕ) (P : X → Type 0) (es : List (ℕ × X)) (rows : List X) → All P (values_of es) → AllByRecursion P rows → All P (values_of (entered number es rows))
 all_entered number P es [] standing all = standing

@@ -1,4 +1,4 @@
--- What is arranged are the same items by rising numbers, and it is arranged already.
+-- An arranged content has the same items by rising numbers, and arranging it again changes nothing.
 use Rattle.std.proofs.Common.{◌≡◌, ℕ, ◌<◌, List, [], ◌∷◌, map, refl, sym, ap, ◌∙◌, arith}
 use Rattle.std.specs.declared.cmp.Ordering.{Ordering}
 use Rattle.std.specs.declared.cmp.Ordering.TheVariants.{Less, Equal, Greater}
@@ -17,7 +17,7 @@ use Rattle.keyring_seal.proofs.FileLemmas.{arranged_counted}
 use Rattle.keyring_seal.proofs.RisingLemmas.{IsRising, place_by_rising, rising_by_number}
 use Rattle.keyring_seal.proofs.SealLemmas.{arranged-permutation}
 
--- ---- rows that are entered stand by rising numbers
+-- ---- rows that are inserted are by rising numbers
 
 module _ {X : Type 0} (number : X → ℕ) where
   abbrev Above : ℕ → List (ℕ × X) → Type 0

@@ -1,4 +1,4 @@
--- Rows that are lent in the order of rising numbers, as the content that they are.
+-- Borrowed rows in the order of rising numbers, as the content that they form.
 use Rattle.std.proofs.Common.{◌≡◌, ℕ, ◌+◌, ◌≤◌, ◌<◌, List, [], ◌∷◌, length, map, nat_eq, false, Option, refl, sym, ap, subst, ◌∙◌, arith}
 use Rattle.std.specs.List.{flat_map, AllByRecursion, IsDistinct}
 use Rattle.std.specs.List.Sorted.{IsStrictlyIncreasing}
@@ -23,7 +23,7 @@ use Rattle.keyring_seal.proofs.RowLemmas.{length_of_map}
 apart : (x y : ℕ) → x < y → nat_eq x y ≡ false
 apart x y lt = grind (arith, nat_tests)
 
--- numbers that rise stand once
+-- numbers that rise occur once
 distinct_by_rising : (xs : List ℕ) → IsStrictlyIncreasing xs → IsDistinct nat_eq xs
 distinct_by_rising xs up = IsDistinct-from_apart nat_eq xs (λ i j d lt within. apart _ _ (below_from_sorted xs i j d (sorted_from_strictly_increasing xs up) lt within))
 
@@ -75,7 +75,7 @@ module _ (front : ClearPart) (lent : List Lent) where
     pub lent_seen : map see lent ≡ by_number row_number (rows (of_lent front lent))
     lent_seen = sym (ap (by_number row_number) (rows_again (map see lent)) ∙ rising_by_number row_number (map see lent) (rising_by_place row_number (map see lent) rising))
 
-    -- what the rows are is arranged already
+    -- the content that the rows form is arranged already
     pub lent_arranged : AreKept lent → arranged (of_lent front lent) ≡ of_lent front lent
     lent_arranged kept = ap (of_rows front) (ap (map hashed_row) (sym lent_seen) ∙ kept_rows lent kept)
 

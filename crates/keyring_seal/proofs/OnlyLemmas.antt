@@ -1,4 +1,4 @@
--- A content has one arrangement: rows by rising numbers are told by which rows they are.
+-- A content has one arrangement: which rows there are determines their order by rising numbers.
 use Rattle.std.proofs.Common.{◌≡◌, ℕ, zero, suc, ◌<◌, List, [], ◌∷◌, length, map, refl, sym, ap, ◌∙◌, arith, inl, inr}
 use Rattle.std.specs.Prelude.{◌⊎◌, Contains, slice_index_or}
 use Rattle.std.specs.List.{AllByRecursion, zip}
@@ -53,7 +53,7 @@ module _ {X : Type 0} (number : X → ℕ) where
     ]
   ]
 
-  -- what is in the one list behind its head isn't the head of the other
+  -- what comes after the head of one list isn't the head of the other
   behind : (x y z : X) (xs ys : List X) → x ≡ y → IsRising number (x ∷ xs) → Contains xs z → Contains (y ∷ ys) z → Contains ys z
   behind x y z xs ys same a h p = elim (first_or y z ys p) [
     | inl e ↦ let up = below x z xs a h in let one = ap number same in let other = ap number e in absurd (omega (arith, up, one, other))

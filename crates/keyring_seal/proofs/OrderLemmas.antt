@@ -20,7 +20,7 @@ neither true b e = absurd cc
 neither false b e = (refl, e)
 
 module _ {X : Type 0} where
-  -- a row that is put at its place is one more row
+  -- a row that is inserted at its position is one more row
   at_place : (k : ℕ) (x : X) (e : ℕ × X) (es : List (ℕ × X)) (r : Ordering) → MatchOrdering r (k < e.0) (k ≡ e.0) (e.0 < k) → nat_eq k e.0 ≡ false
       → IsPermutation ((k, x) ∷ es) (insert_entry nat_cmp es k x)
       → IsPermutation ((k, x) ∷ e ∷ es) (match_ordering r ((k, x) ∷ e ∷ es) ((e.0, x) ∷ es) (e ∷ insert_entry nat_cmp es k x))
@@ -65,7 +65,7 @@ module _ {X : Type 0} (number : X → ℕ) where
       )
       (entered-permutation next more still)
 
-  -- rows whose numbers differ are the same rows, by rising numbers
+  -- rows whose numbers differ, when put by rising numbers, are the same rows
   pub by_number-permutation : (rows : List X) → IsDistinct nat_eq (map number rows) → IsPermutation rows (by_number number rows)
   unfolding by_number
   by_number-permutation rows distinct =

@@ -1,4 +1,4 @@
--- Rows whose numbers rise stand by rising numbers as they are.
+-- Rows whose numbers rise are in order already.
 use Rattle.std.proofs.Common.{◌≡◌, ℕ, zero, suc, ◌+◌, ◌≤◌, ◌<◌, List, [], ◌∷◌, ◌++◌, length, get_or, drop, map, refl, sym, ap, subst, ◌∙◌, append_assoc, arith}
 use Rattle.std.specs.declared.cmp.Ordering.{Ordering}
 use Rattle.std.specs.declared.cmp.Ordering.TheVariants.{Less, Equal, Greater}
@@ -16,7 +16,7 @@ use Rattle.keyring_seal.specs.Arranged.{row_number}
 use Rattle.keyring_seal.specs.Order.{entered, by_number}
 use Rattle.keyring_seal.proofs.ArrangeLemmas.{Lent, see}
 
--- each number is below the next one, one after another
+-- each number is less than the next one, as a definition by recursion
 abbrev pub IsRising : {X : Type 0} → (X → ℕ) → List X → Type 0
 IsRising number [] = Unit {0}
 IsRising number (x ∷ []) = Unit {0}
@@ -42,7 +42,7 @@ place_by_rising number (x ∷ y ∷ more) rising (suc k) lt = let e : suc k + 1 
 
 -- ---- the test
 
--- a last number alone
+-- a single number at the end
 pub rising_end : {X : Type 0} (number : X → ℕ) (xs : List X) (i : ℕ) → length xs ≤ i + 1 → IsRising number (drop i xs)
 rising_end number [] zero le = tt
 rising_end number [] (suc i) le = tt
@@ -50,7 +50,7 @@ rising_end number (x ∷ []) zero le = tt
 rising_end number (x ∷ y ∷ more) zero le = absurd (omega arith)
 rising_end number (x ∷ more) (suc i) le = rising_end number more i (omega arith)
 
--- rising numbers rise at each place
+-- rising numbers rise at each position
 pub rising_at : {X : Type 0} (number : X → ℕ) (xs : List X) (i j : ℕ) (d e : X) → j ≡ i + 1 → j < length xs → IsRising number xs → number (get_or xs i d) < number (get_or xs j e)
 rising_at number [] i j d e next lt rising = absurd (omega arith)
 rising_at number (x ∷ xs) i zero d e next lt rising = absurd (omega arith)
@@ -77,7 +77,7 @@ module _ {X : Type 0} where
   below_last k n x (e ∷ es) lt below = (omega (arith, lt, below.0), below_last k n x es lt below.1)
 
 module _ {X : Type 0} (number : X → ℕ) where
-  -- the keys that stand are below the first of these
+  -- the keys in the entries are below the first number of these rows
   abbrev Below : List (ℕ × X) → List X → Type 0
   Below es [] = Unit {0}
   Below es (x ∷ more) = AllByRecursion (λ e. e.0 < number x) es
@@ -108,13 +108,13 @@ zip_rising (x ∷ []) (y ∷ full) rising = tt
 zip_rising (x ∷ w ∷ clear) (y ∷ []) rising = tt
 zip_rising (x ∷ w ∷ clear) (y ∷ z ∷ full) rising = (rising.0, zip_rising (w ∷ clear) (z ∷ full) rising.1)
 
--- the items as they stand
+-- the items in the given order
 pub as_they_stand : (clear : List ClearItem) (full : List FullItem) → IsStrictlyIncreasing (map (λ (item : ClearItem). item.id.0) clear) → zip clear full ≡ by_number row_number (zip clear full)
 as_they_stand clear full up = sym (rising_by_number row_number (zip clear full) (zip_rising clear full (rising_by_place (λ (item : ClearItem). item.id.0) clear up)))
 
--- ---- the loop that takes them
+-- ---- the loop that collects them
 
--- one more item is taken
+-- one more item is collected
 pub stand_next : (done : List Lent) (row : Lent) (clear : List ClearItem) (full : List FullItem) (i : ℕ) → i < length clear → length full ≡ length clear → row.0.now ≡ get_or clear i row.0.now → row.1.now ≡ get_or full i row.1.now
     → map see (done ++ row ∷ []) ++ zip (drop (i + 1) clear) (drop (i + 1) full) ≡ map see done ++ zip (drop i clear) (drop i full)
 stand_next done row clear full i lt same ex ey =

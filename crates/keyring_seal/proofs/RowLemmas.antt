@@ -1,4 +1,4 @@
--- Items that are lent, and what is written of them.
+-- Borrowed items, and what is written for them.
 use Rattle.std.proofs.Common.{◌≡◌, ℕ, suc, ◌++◌, List, [], ◌∷◌, length, map, Result, Ok, Err, refl, sym, ap, ◌∙◌, append_assoc}
 use Rattle.std.specs.List.{flat_map, AllByRecursion}
 use Rattle.std.specs.Result.{OnOk}
@@ -14,12 +14,12 @@ pub length_of_map : {X Y : Type 0} (g : X → Y) (xs : List X) → length (map g
 length_of_map g [] = refl
 length_of_map g (x ∷ xs) = ap (λ (n : ℕ). suc n) (length_of_map g xs)
 
--- what holds of all that was made of the elements
+-- what is true of everything that was made from the elements
 pub all_of_map : {X Y : Type 0} (P : Y → Type 0) (g : X → Y) (xs : List X) → AllByRecursion P (map g xs) → AllByRecursion (λ x. P (g x)) xs
 all_of_map P g [] all = tt
 all_of_map P g (x ∷ xs) all = (all.0, all_of_map P g xs all.1)
 
--- a list of what is made of elements is written element by element
+-- a list of what is made from elements is written element by element
 pub listed : {X Y : Type 0} (f : Y → List ℕ) (g : X → Y) (xs : List X) → number (length xs) ++ flat_map (λ x. f (g x)) xs ≡ list_text f (map g xs)
 listed f g xs = λ j. number (sym (length_of_map g xs) j) ++ sym (flat_map-map f g xs) j
 
@@ -30,7 +30,7 @@ list_put (Ok x) f g xs old one new p h =
     h ∙ ap (λ w. w ++ each) p ∙ append_assoc old count each ∙ ap (λ w. old ++ w) (listed f g xs)
 list_put (Err e) f g xs old one new p h = tt
 
--- ---- rows that are lent, seen as the rows by rising number
+-- ---- borrowed rows, seen as the rows by rising number
 
 module _ (rows : List Lent) (ordered : List Row) (seen : map see rows ≡ ordered) where
   pub clear_told : map (λ row. (hashed_row (row.0.now, row.1.now)).0) rows ≡ map (λ (row : Row). row.0) (map hashed_row ordered)

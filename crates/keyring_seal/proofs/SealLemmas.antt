@@ -1,4 +1,4 @@
--- What a sealed file has in bytes.
+-- The number of bytes of a sealed file.
 use Rattle.std.proofs.Common.{◌<◌, ◌≡◌, ℕ, ◌+◌, ◌%◌, ◌≤◌, List, [], ◌∷◌, ◌++◌, length, map, refl, sym, ap, ◌∙◌, arith}
 use Rattle.std.specs.List.{flat_map, zip}
 use Rattle.std.specs.List.Sorted.{IsPermutation}
@@ -94,6 +94,6 @@ module _ (content : Content) (key vector : List ℕ) (can : IsSealable content) 
       let padded = ap padding items in
       omega (arith, whole, same, area_long, items, behind, listed, list, told, last, padded)
 
--- what was measured within the bytes that a file may have isn't over them
+-- a file that was measured to be small enough isn't too large
 pub never_over : (content : Content) (key vector : List ℕ) → IsSealable content → measure content ≤ most_bytes → most_bytes < length (sealed content key vector) → ⊥
 never_over content key vector can within over = let long = length-sealed content key vector can in omega (arith, within, over, long)

@@ -1,4 +1,4 @@
--- What is written of the items as they are lent, by rising number, is the sealed file.
+-- What is written for the borrowed items, by rising number, is the sealed file.
 use Rattle.std.proofs.Common.{◌≡◌, ℕ, ◌+◌, ◌^◌, ◌≤◌, ◌<◌, List, ◌++◌, length, map, ap, ◌∙◌, arith}
 use Rattle.std.specs.List.{flat_map, AllByRecursion}
 use Rattle.aes_cbc.specs.Cbc.{encrypted}
@@ -42,7 +42,7 @@ module _ (content : Content) (key vector : List ℕ) (can : IsSealable content) 
     unfolding lent_area
     told = ap (λ (t : List ℕ). checked (padded t)) (area_told lent (by_number row_number (rows content)) seen)
 
-    -- the front, and the encrypted area behind it
+    -- the front, and the encrypted area after it
     pub sealed_told : (file front area : List ℕ) (n : ℕ) → n ≡ items_measure content + (16 + padding (items_measure content))
         → front ≡ clear_text (record content.clear { items = map (λ row. (hashed_row (row.0.now, row.1.now)).0) lent }) n
         → area ≡ encrypted key vector (checked (padded (flat_map (λ row. item_text row.1.now) lent)))

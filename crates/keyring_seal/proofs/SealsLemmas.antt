@@ -1,4 +1,4 @@
--- What the answer of sealing says, clause by clause.
+-- What the result of sealing says, clause by clause.
 use Rattle.std.proofs.Common.{◌≡◌, ℕ, ◌≤◌, ◌<◌, List, length, Result, Ok, Err, refl, sym, subst, arith}
 use Rattle.std.specs.Prelude.{IfOk, OnOk, IsErrOf, Vec}
 use Rattle.std.specs.declared.alloc.Global.{Global}
@@ -25,7 +25,7 @@ module _ (room : ℕ) (text : List ℕ) where
   seals_measured (Err refused.TooLarge) h over = refl
   seals_measured (Err refused.OutOfMemory) h over = absurd (omega (arith, h, over))
 
-  -- what holds of a text that there is room for holds of the file
+  -- what is true of a text for which there is room is true of the file
   pub seals_so : (Q : List ℕ → Type 0) → (length text ≤ room → Q text) → (r : Result (Vec ℕ Global) SealRefused) → Seals room text r → IfOk r (λ file. Q file.items)
   seals_so Q so (Ok file) h = subst Q (sym h.0) (so h.1)
   seals_so Q so (Err e) h = tt

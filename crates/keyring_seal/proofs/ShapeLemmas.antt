@@ -18,7 +18,7 @@ use Rattle.keyring_seal.proofs.OrderLemmas.{map-by_number}
 use Rattle.keyring_seal.proofs.RoomLemmas.{flat_map-map, length_number}
 use Rattle.keyring_seal.proofs.SealLemmas.{length-sealed}
 
--- what the clear part tells of an item
+-- what the clear part says of an item
 abbrev told : Row → ClearItem
 told row = (hashed_row row).0
 
@@ -31,7 +31,7 @@ same_told [] before after item value = refl
 same_told (x ∷ clear) [] after item value = refl
 same_told (x ∷ clear) (y ∷ before) after item value = ap (λ (t : List ClearItem). told (x, y) ∷ t) (same_told clear before after item value)
 
--- an item but for its value
+-- an item except for its value
 abbrev behind_value : FullItem → List ℕ
 behind_value item =
     time item.created ++ (time item.modified ++ (number none_length ++ (zeros 16 ++ (list_text attribute_text item.attributes ++ list_text access_text item.access))))

@@ -52,7 +52,7 @@ module _ {A : Type 0} (f : A → List ℕ) (P K : A → Type 0) (short : (x : A)
         let count = not_many xs in
         record { few = omega (arith, small, count); each = short_all xs known small }
 
--- nothing need be known
+-- nothing has to be known
 Nothing : {A : Type 0} → A → Type 0
 Nothing x = Unit {0}
 
@@ -98,7 +98,7 @@ short_clear_item minor item plain h =
       content = short_content (nat_eq minor 0) minor item.content refl plain (back_small pairs last behind);
     }
 
--- what is written of a clear part is short
+-- what is written for a clear part is short
 pub short_clear : (clear : ClearPart) (n : ℕ) → (clear.minor ≡ 0 → AllByRecursion IsPlain clear.items) → length (clear_text clear n) ≤ most_bytes → IsShortClear clear
 short_clear clear n plain small =
     let text = clear_item_text clear.minor in
@@ -150,7 +150,7 @@ short_item item known h =
       access = short_list access_text IsShortAccess Nothing short_access (λ entry. some_behind entry.allowed (string entry.display ++ (string entry.path ++ (number none_length ++ number 0)))) item.access (nothing item.access) (back_small attributes access h6);
     }
 
--- what is written of items is short
+-- what is written for items is short
 pub short_items : (items : List FullItem) → length (area_text items) ≤ most_bytes → AllByRecursion IsShortItem items
 short_items items small =
     let body = back_small (md5 (body_text items)) (body_text items) small in

@@ -1,4 +1,4 @@
--- Opening, and what a file is a file of.
+-- Opening, and the content that a file encodes.
 use Rattle.std.proofs.Common.{◌≡◌, ℕ, List, length, Result, Ok, Err, refl, subst}
 use Rattle.std.specs.Prelude.{IfOk}
 use Rattle.aes_cbc.specs.Cbc.{decrypted}
@@ -11,7 +11,7 @@ use Rattle.keyring_seal.specs.declared.content.Content.{Content}
 use Rattle.keyring_seal.specs.Arranged.{IsSealable}
 use Rattle.keyring_seal.specs.Whole.{IsFileOf, opened}
 
--- what both texts are texts of is opened
+-- the content that both texts encode is opened
 pub opened_again : ((file area : List ℕ) (clear : ClearPart) → ClearText file clear area → clear_read file ≡ Ok (clear, area)) → ((area : List ℕ) (items : List FullItem) → AreaText area items → area_read (length items) area ≡ Ok items)
     → (file : List ℕ) (key vector : List ℕ) (content : Content) → IsFileOf file key vector content → opened file key vector ≡ Ok content
 unfolding opened
@@ -19,7 +19,7 @@ opened_again clear_again area_again file key vector content is =
     let items : area_read (length content.clear.items) (decrypted key vector is.area) ≡ Ok content.items = subst (λ (n : ℕ). area_read n (decrypted key vector is.area) ≡ Ok content.items) is.counted (area_again (decrypted key vector is.area) content.items is.items) in
     rw (clear_again file is.area content.clear is.clear, items) refl
 
--- what a file is a file of can be sealed
+-- the content that a file encodes can be sealed
 pub sealable : (file : List ℕ) (key vector : List ℕ) (content : Content) → IsFileOf file key vector content → IsSealable content
 sealable file key vector content is =
     let behind_version = is.clear.text.is_first.is_second.is_second in
@@ -29,7 +29,7 @@ sealable file key vector content is =
       iterations = behind_version.is_first.is_second.is_second.is_second.is_second.is_second.few;
     }
 
--- what holds of what was answered, by what is known of it
+-- what is true of a result, from what is known of it
 pub then_holds : {X E : Type 0} (P Q : X → Type 0) (r : Result X E) → ((x : X) → P x → Q x) → IfOk r P → IfOk r Q
 then_holds P Q (Ok x) step h = step x h
 then_holds P Q (Err e) step h = tt

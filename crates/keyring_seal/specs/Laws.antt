@@ -1,15 +1,15 @@
--- What the definitions of whole files say together.
+-- Laws of the definitions of whole files.
 use Rattle.std.specs.Prelude.{◌≡◌, ℕ, ◌≤◌, List, length, Ok}
 use Rattle.keyring_text.specs.Fields.{IsBytes}
 use Rattle.keyring_seal.specs.declared.content.Content.{Content}
 use Rattle.keyring_seal.specs.Arranged.{IsArrangement, IsKnown, IsSealable, arranged}
 use Rattle.keyring_seal.specs.Whole.{IsFileOf, most_bytes, opened, sealed}
 
--- a file of a content opens to that content, and so to no other
+-- a file of a content opens to that content, and so to no other one
 abbrev pub FilesOpen : Type 0
 FilesOpen = (file key vector : List ℕ) (content : Content) → IsFileOf file key vector content → opened file key vector ≡ Ok content
 
--- what a content is sealed to is a file of the content as it is arranged, where it is small enough for a file
+-- the file to which a content is sealed is a file of the content as it is arranged, if it is small enough for a file
 abbrev pub SealedAreFiles : Type 0
 SealedAreFiles =
     (content : Content) (key vector : List ℕ) → IsKnown content → IsSealable content → IsBytes vector → length (sealed content key vector) ≤ most_bytes → IsFileOf (sealed content key vector) key vector (arranged content)
@@ -19,7 +19,7 @@ abbrev pub SealedOpen : Type 0
 SealedOpen =
     (content : Content) (key vector : List ℕ) → IsKnown content → IsSealable content → IsBytes vector → length (sealed content key vector) ≤ most_bytes → opened (sealed content key vector) key vector ≡ Ok (arranged content)
 
--- what can be sealed is arranged
+-- a content that can be sealed has an arrangement
 abbrev pub ArrangedAreArrangements : Type 0
 ArrangedAreArrangements = (content : Content) → IsSealable content → IsArrangement content (arranged content)
 
@@ -27,6 +27,6 @@ ArrangedAreArrangements = (content : Content) → IsSealable content → IsArran
 abbrev pub ArrangedAlone : Type 0
 ArrangedAlone = (content made : Content) → IsSealable content → IsArrangement content made → made ≡ arranged content
 
--- what is arranged is arranged already
+-- arranging again changes nothing
 abbrev pub ArrangedStay : Type 0
 ArrangedStay = (content : Content) → arranged (arranged content) ≡ arranged content

@@ -8,7 +8,7 @@ use Rattle.keyring_seal.specs.declared.sealing.SealRefused.{SealRefused}
 use Rattle.keyring_seal.specs.declared.sealing.SealRefused.TheVariants as refused
 use Rattle.keyring_seal.specs.Arranged.{Row, hashed_row, rows}
 
--- so many bytes leave of the room what is answered, and none is answered where there isn't that much
+-- the result is what this many bytes leave of the room, or None if there isn't enough room
 abbrev pub Takes : ℕ → ℕ → Option ℕ → Type 0
 Takes room bytes None = room < bytes
 Takes room bytes (Some left) = left + bytes ≡ room
@@ -34,18 +34,18 @@ measure content =
     + items_measure content
     + (16 + padding (items_measure content))
 
--- The bytes of the area, and those of the whole file where they are within the room; none where they aren't. Given are the bytes of
--- the clear part and those of the items in the area.
+-- The bytes of the area and those of the whole file, if these are within the room, otherwise None. The arguments
+-- are the room, the bytes of the clear part and those of the items in the area.
 abbrev pub AreSizesOf : ℕ → ℕ → ℕ → Option (ℕ × ℕ) → Type 0
 AreSizesOf clear items room None = room < clear + items + (16 + padding items)
 AreSizesOf clear items room (Some (area, whole)) = (area ≡ items + (16 + padding items)) × (whole ≡ clear + items + (16 + padding items)) × (clear + items + (16 + padding items) ≤ room)
 
--- those of a content
+-- the same, for a content
 abbrev pub AreSizes : Content → ℕ → Option (ℕ × ℕ) → Type 0
 AreSizes content = AreSizesOf ((length (front_text content.clear) + 8) + length (flat_map (row_text content.clear.minor) (rows content))) (items_measure content)
 
--- What sealing answers: the text where there is room for it, and `TooLarge` where there isn't. Memory runs out only where there is
--- room.
+-- What sealing returns: the text if there is room for it, and `TooLarge` otherwise. Memory runs out only if
+-- there is room.
 abbrev pub Seals : ℕ → List ℕ → Result (Vec ℕ Global) SealRefused → Type 0
 Seals room text (Ok file) = (file.items ≡ text) × (length text ≤ room)
 Seals room text (Err refused.TooLarge) = room < length text

@@ -31,20 +31,20 @@ abbrev pub in_area_part : {A : Type 0} → Result A AreaFault → Result A OpenF
 in_area_part (Ok x) = Ok x
 in_area_part (Err e) = Err (fault.Area e)
 
--- what opening a file under a key and a vector gives: its content, or the first fault
+-- the result of opening a file under a key and a vector: its content, or the first fault
 unfoldable pub opened : List ℕ → List ℕ → List ℕ → Result Content OpenFault
 opened file key vector = do
   part ← in_clear_part (clear_read file)
   items ← in_area_part (area_read (length part.0.items) (decrypted key vector part.1))
   Ok (record { clear = part.0; items = items })
 
--- the one file that a content is sealed to under a key and a vector
+-- the one file to which a content is sealed under a key and a vector
 unfoldable pub sealed : Content → List ℕ → List ℕ → List ℕ
 sealed content key vector =
     let area = area_text (arranged content).items in
     clear_text (arranged content).clear (length area) ++ encrypted key vector area
 
--- how many bytes a file may have
+-- the most bytes that a file may have
 abbrev pub most_bytes : ℕ
 most_bytes = 67108864
 

@@ -17,14 +17,14 @@ use Rattle.keyring_text.specs.Reading.{span_at, number_at, time_at, string_at, i
 use Rattle.keyring_text.proofs.Laws.{Taken, Always, Reads, Parted, step, give, alike, ok_is}
 use Rattle.keyring_text.proofs.ListLaws.{found, tested}
 
--- ---- so many bytes
+-- ---- n bytes
 
--- so many bytes, as they are
+-- n bytes, as they are
 pub record IsSpelled (n : ℕ) (x text : List ℕ) : Type 0 where
   pub is : text ≡ x
   pub len : length x ≡ n
 
--- the same, of bytes
+-- the same, for elements that are bytes
 pub record IsSpelledBytes (n : ℕ) (x text : List ℕ) : Type 0 where
   pub spelled : IsSpelled n x text
   pub fits : IsBytes x
@@ -85,7 +85,7 @@ pub length-time : (n : ℕ) → length (time n) ≡ 8
 unfolding time
 length-time n = refl
 
--- a list of so many bytes
+-- a list of n bytes
 IsBytes-nil : IsBytes []
 IsBytes-nil i = omega arith
 
@@ -133,7 +133,7 @@ time-below : (x : List ℕ) → IsBytes x → time_of x < 2 ^ 64
 unfolding time_of
 time-below x fits = omega (arith, fits 0, fits 1, fits 2, fits 3, fits 4, fits 5, fits 6, fits 7)
 
--- four bytes that are a number
+-- four bytes that spell a number
 number-up : (n : ℕ) (x text : List ℕ) → IsSpelledBytes 4 x text → number_of x ≡ n → SpellsNumber n text
 number-up n x text s e =
     record { fits = subst (λ m. m < 2 ^ 32) e (number-below x s.fits); is = s.spelled.is ∙ sym (number-back x s.spelled.len s.fits) ∙ ap number e }
@@ -157,7 +157,7 @@ time_law =
 
 -- ---- strings
 
--- what stands behind a string's length
+-- what comes after a string's length
 pub data Behind (n : ℕ) (s text : List ℕ) : Type 0 where
   empty : n ≡ none_length → s ≡ [] → text ≡ [] → Behind n s text
   whole : n ≢ none_length → IsSpelled n s text → Behind n s text

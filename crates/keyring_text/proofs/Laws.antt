@@ -1,5 +1,5 @@
--- A reader and a form are one: what is taken is a text of the form, such a text is read again, whatever follows, and a part of it is
--- too short. Laws for readers that are made of others.
+-- A reader and a form agree: what is taken is a text of the form, such a text is read again, whatever follows, and
+-- a part of it is too short. Laws for readers that are made from others.
 use Rattle.std.proofs.Common.{◌≡◌, ℕ, ◌+◌, ◌-◌, ◌<◌, List, [], ◌++◌, length, take, Result, Ok, Err, refl, sym, ap, subst, ◌∙◌, append_assoc, arith, inl, inr}
 use Rattle.std.proofs.lemmas.Bool.{cases_lt}
 use Rattle.std.proofs.lemmas.List.{take-append-le, get_or-append-add, length-append, append-nil}
@@ -8,14 +8,14 @@ use Rattle.keyring_text.specs.Fields.{IsBytes}
 use Rattle.keyring_text.specs.Forms.{Joined}
 use Rattle.keyring_text.specs.Reading.{◌>>=◌}
 
--- what a reader took from the front
+-- what a reader took from the start
 pub record Taken {A : Type 0} (holds : A → Type 0) (form : A → List ℕ → Type 0) (bytes : List ℕ) (x : A) (rest : List ℕ) : Type 0 where
   pub text : List ℕ
   pub parts : bytes ≡ text ++ rest
   pub kept : holds x
   pub is : form x text
 
--- where `holds` holds of the value
+-- if `holds` is true of the value
 pub record ReadsIf {A F : Type 0} (short : F) (holds : A → Type 0) (form : A → List ℕ → Type 0) (read : List ℕ → Result (A × List ℕ) F) : Type 0 where
   pub takes : (bytes : List ℕ) (x : A) (rest : List ℕ) → IsBytes bytes → read bytes ≡ Ok (x, rest) → Taken holds form bytes x rest
   pub again : (x : A) (text rest : List ℕ) → holds x → form x text → read (text ++ rest) ≡ Ok (x, rest)
@@ -30,7 +30,7 @@ Reads short form read = ReadsIf short Always form read
 pub IsBytes-behind : (text rest : List ℕ) → IsBytes (text ++ rest) → IsBytes rest
 IsBytes-behind text rest fits i = subst (λ (n : ℕ). n < 256) (get_or-append-add text rest i 0) (fits (length text + i))
 
--- the value of a step that did not fail
+-- the value of a step that didn't fail
 pub record Bound {A B F : Type 0} (r : Result A F) (f : A → Result B F) (y : B) : Type 0 where
   pub x : A
   pub was : r ≡ Ok x
@@ -58,7 +58,7 @@ pub record Parted {A B : Type 0} (P : A → List ℕ → Type 0) (Q : A → B �
   pub kept : Q x b
   pub is_second : N x b back
 
--- the value is kept, and its text is the two parts
+-- the value has the property, and its text is the two parts
 pub record Put {B : Type 0} (holds : B → Type 0) (J : B → List ℕ → Type 0) (b : B) (text : List ℕ) : Type 0 where
   pub kept : holds b
   pub is : J b text
@@ -151,7 +151,7 @@ skip_last {P = P} {holds = holds} {S = S} first up down y h one =
 
 -- ---- a reader in other words
 
--- what is kept may as well be said of the text
+-- the property may as well be stated of the text
 pub alike : {A F : Type 0} {short : F} {holds keeps : A → Type 0} {P Q : A → List ℕ → Type 0} {r : List ℕ → Result (A × List ℕ) F} → ReadsIf short holds P r → ((a : A) (text : List ℕ) → holds a → P a text → Put keeps Q a text)
     → ((a : A) (text : List ℕ) → keeps a → Q a text → Put holds P a text) → ReadsIf short keeps Q r
 alike first up down =
@@ -161,7 +161,7 @@ alike first up down =
       cut = λ x text n k q lt. let d = down x text k q in first.cut x text n d.kept d.is lt;
     }
 
--- a value made of what is read
+-- a value made from what is read
 pub made : {A B F : Type 0} {short : F} {P : A → List ℕ → Type 0} {r : List ℕ → Result (A × List ℕ) F} → Reads short P r → (make : A → B) (Z : B → List ℕ → Type 0) → ((a : A) (text : List ℕ) → P a text → Z (make a) text)
     → ((b : B) (text : List ℕ) → Z b text → (a : A) × (make a ≡ b) × P a text) → Reads short Z (λ bytes. r bytes >>= λ x. Ok (make x.0, x.1))
 made {P = P} first make Z up down =

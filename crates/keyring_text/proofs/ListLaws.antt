@@ -1,4 +1,4 @@
--- Readers of values of two kinds, of so many elements, and of elements with keys of which none stands twice.
+-- Readers of values of two kinds, of n elements, and of elements with keys, none of which occurs twice.
 use Rattle.std.proofs.Common.{◌≡◌, ℕ, zero, suc, ◌<◌, Bool, true, false, cond, ◌||◌, eqb, List, [], ◌∷◌, ◌++◌, length, map, take, Result, Ok, Err, refl, sym, ap, subst, ◌∙◌, append_assoc, arith}
 use Rattle.std.specs.List.{list_any, AllByRecursion, IsDistinct}
 use Rattle.std.proofs.lemmas.Bool.{eqb-true}
@@ -8,11 +8,11 @@ use Rattle.keyring_text.specs.Forms.{Joined, SpellsAll, SpellsList, SpellsKeyed}
 use Rattle.keyring_text.specs.Reading.{◌>>=◌, checked, all_at, keyed_at}
 use Rattle.keyring_text.proofs.Laws.{Taken, ReadsIf, Always, Reads, Put, Parted, step, field, last, alike, ok_is}
 
--- what is kept, said of the text
+-- the property, stated of the text
 pub said : {A F : Type 0} {short : F} {holds : A → Type 0} {P : A → List ℕ → Type 0} {r : List ℕ → Result (A × List ℕ) F} → ReadsIf short holds P r → Reads short (Put holds P) r
 said first = alike first (λ a text h p. record { kept = tt; is = record { kept = h; is = p } }) (λ a text k q. q)
 
--- a value and what is behind it
+-- a value and what comes after it
 abbrev pub found : {A F : Type 0} → A → List ℕ → Result (A × List ℕ) F
 found x rest = Ok (x, rest)
 
@@ -37,7 +37,7 @@ tested {P = P} test fault first =
     (λ a b front back p q n. record { kept = q.0; is = subst (λ w. P b w) (sym (ap (λ (w : List ℕ). front ++ w) n ∙ append-nil front)) (subst (λ x. P x front) (sym q.1) p) })
     (λ b text h p. record { x = b; front = text; back = []; parts = sym (append-nil text); is_first = p; kept = (h, refl); is_second = refl })
 
--- ---- so many elements
+-- ---- n elements
 
 abbrev tail : {A : Type 0} → List A → List A
 tail [] = []
@@ -72,7 +72,7 @@ all-up : {A : Type 0} {P : A → List ℕ → Type 0} (n : ℕ) (x : A) (xs : Li
 all-up {P = P} n x xs front back p q others =
     subst (λ ys. Put (λ zs. length zs ≡ suc n) (SpellsAll P) ys (front ++ back)) (sym q) (record { kept = ap (λ m. suc m) others.kept; is = record { front = front; back = back; parts = refl; is_first = p; is_second = others.is } })
 
--- so many elements
+-- n elements
 pub all_law : {A F : Type 0} {short : F} {P : A → List ℕ → Type 0} {r : List ℕ → Result (A × List ℕ) F} → Reads short P r → (n : ℕ) → ReadsIf short (λ xs. length xs ≡ n) (SpellsAll P) (λ bytes. all_at r n bytes)
 unfolding all_at
 all_law each zero = all-zero
@@ -116,23 +116,23 @@ kinds_law bad Zs Ns kind =
 
 -- ---- elements with keys
 
--- no key stands in `seen`, nor twice
+-- no key is in `seen`, nor occurs twice
 abbrev pub Fresh : {A K : Type 0} → (A → K) → (K → K → Bool) → List K → List A → Type 0
 Fresh key same seen [] = Unit {0}
 Fresh key same seen (x ∷ xs) = (list_any (same (key x)) seen ≡ false) × Fresh key same (key x ∷ seen) xs
 
--- so many elements, and none of their keys seen before
+-- n elements, none of whose keys was seen before
 pub record FreshOf {A K : Type 0} (key : A → K) (same : K → K → Bool) (seen : List K) (n : ℕ) (xs : List A) : Type 0 where
   pub len : length xs ≡ n
   pub fresh : Fresh key same seen xs
 
--- an element whose key was read, where the key is new
+-- an element whose key was read, if the key is new
 pub record NewOf {A K : Type 0} (key : A → K) (same : K → K → Bool) (seen : List K) (E : A → List ℕ → Type 0) (k : K) (x : A) (text : List ℕ) : Type 0 where
   pub is_new : list_any (same k) seen ≡ false
   pub key_is : key x ≡ k
   pub is : E x text
 
--- the elements behind a key that was read: the one whose key it is, and others
+-- the elements once a key was read: the one with this key, and others
 pub record Inner {A K : Type 0} (key : A → K) (same : K → K → Bool) (seen : List K) (P : K → List ℕ → Type 0) (E : A → List ℕ → Type 0) (n : ℕ) (k : K) (xs : List A) (text : List ℕ) : Type 0 where
   pub x : A
   pub rest : List A

@@ -1,4 +1,4 @@
--- Reading elements one behind the other, as a loop does.
+-- Reading elements one after the other, as a loop does.
 use Rattle.std.proofs.Common.{◌≡◌, ℕ, suc, ◌-◌, ◌+◌, ◌≤◌, ◌<◌, Bool, true, false, cond, List, [], ◌∷◌, ◌++◌, Result, Ok, Err, refl, sym, ap, subst, ◌∙◌, append_assoc, arith}
 use Rattle.std.specs.List.{list_any}
 use Rattle.std.proofs.lemmas.List.{append-nil}
@@ -11,7 +11,7 @@ use Rattle.keyring_text.proofs.Laws.{bind_ok}
 abbrev pub with_front : {A F : Type 0} → List A → Result (List A × List ℕ) F → Result (List A × List ℕ) F
 with_front front read = read >>= λ x. Ok (front ++ x.0, x.1)
 
--- elements and what is behind them
+-- elements and what comes after them
 abbrev got : {A F : Type 0} → List A → List ℕ → Result (List A × List ℕ) F
 got xs rest = Ok (xs, rest)
 
@@ -26,7 +26,7 @@ front-nil (Err f) = refl
 front-got : {A F : Type 0} (front : List A) (rest : List ℕ) → with_front {F = F} front (got [] rest) ≡ got front rest
 front-got {A} {F} front rest = ap (λ (xs : List A). got {F = F} xs rest) (append-nil front)
 
--- ---- so many elements
+-- ---- n elements
 
 module _ {A F : Type 0} (read : List ℕ → Result (A × List ℕ) F) where
   pub all-goes_on : (front : List A) (count i : ℕ) (bytes : List ℕ) (x : A) (after : List ℕ) (total : Result (List A × List ℕ) F) → i < count → read bytes ≡ Ok (x, after) → with_front front (all_at read (count - i) bytes) ≡ total
@@ -67,7 +67,7 @@ seen_after-push key [] x seen = refl
 seen_after-push key (y ∷ xs) x seen = seen_after-push key xs x (key y ∷ seen)
 
 module _ {A K F : Type 0} (k_at : List ℕ → Result (K × List ℕ) F) (same : K → K → Bool) (twice : F) (rest_at : K → List ℕ → Result (A × List ℕ) F) (key : A → K) (keeps : (k : K) (bytes : List ℕ) (x : A) (rest : List ℕ) → rest_at k bytes ≡ Ok (x, rest) → key x ≡ k) where
-  -- what is still read where these keys were seen
+  -- what is still read once these keys were seen
   abbrev still : List K → ℕ → List ℕ → Result (List A × List ℕ) F
   still seen n bytes = keyed_at k_at same twice rest_at seen n bytes
 

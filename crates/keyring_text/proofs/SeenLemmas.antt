@@ -1,4 +1,4 @@
--- A key that is put into a set is seen from then on.
+-- A key that is added to a set is seen from then on.
 use Rattle.std.proofs.Common.{◌≡◌, ℕ, Bool, true, false, not, ◌||◌, List, [], ◌∷◌, Result, Ok, Err, refl, sym, ap, subst, ◌∙◌}
 use Rattle.std.specs.declared.cmp.Ordering.{Ordering}
 use Rattle.std.specs.declared.cmp.Ordering.TheVariants.{Less, Equal, Greater}
@@ -34,11 +34,11 @@ not_on : (b : Bool) → true ≡ not b → b ≡ false
 not_on true e = absurd cc
 not_on false e = refl
 
--- a key that was new, put into a set
+-- a key that was new, added to a set
 pub adds_key : {K Q : Type 0} (same : Q → Q → Bool) (view : K → Q) (cmp : K → K → Ordering) (k : K) (old new : List K) → true ≡ not (list_any (λ x. is_eq (cmp k x)) old) → new ≡ insert_key cmp old k → AddsKey same view old new (view k)
 adds_key same view cmp k old new added is q = ap (λ ks. list_any (λ x. same q (view x)) ks) is ∙ any-insert_key cmp (λ x. same q (view x)) k old (not_on _ added)
 
--- a key was seen where the set's order finds it
+-- a key was seen if the set's order finds it
 pub any-alike : {K : Type 0} (p q : K → Bool) → ((x : K) → p x ≡ q x) → (ks : List K) → list_any p ks ≡ list_any q ks
 any-alike p q h [] = refl
 any-alike p q h (x ∷ xs) = ap (λ b. b || list_any p xs) (h x) ∙ ap (λ b. q x || b) (any-alike p q h xs)
@@ -47,10 +47,10 @@ any-alike p q h (x ∷ xs) = ap (λ b. b || list_any p xs) (h x) ∙ ap (λ b. q
 pub seen_more : {K Q : Type 0} (same : Q → Q → Bool) (view : K → Q) (old new : List K) (key : Q) (seen : List Q) → ((q : Q) → stood_in same view old q ≡ list_any (same q) seen) → AddsKey same view old new key → (q : Q) → stood_in same view new q ≡ list_any (same q) (key ∷ seen)
 seen_more same view old new key seen agree adds q = adds q ∙ ap (λ b. same q key || b) (agree q)
 
--- ---- a key that was read and put into the set
+-- ---- a key that was read and added to the set
 
 module _ {A K F : Type 0} (key_at : List ℕ → Result (K × List ℕ) F) (twice : F) (rest_at : K → List ℕ → Result (A × List ℕ) F) (stood : K → Bool) (bytes rest : List ℕ) (k s : K) (added : Bool) where
-  -- it stood before
+  -- it occurred before
   pub new-twice : key_at bytes ≡ Ok (k, rest) → s ≡ k → added ≡ not (stood s) → added ≡ false → new_at key_at twice rest_at stood bytes ≡ Err twice
   new-twice was e is off =
       let on : stood k ≡ true = subst (λ q. stood q ≡ true) e (not_off (stood s) added is off) in

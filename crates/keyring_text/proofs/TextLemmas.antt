@@ -1,4 +1,4 @@
--- A copy of bytes that is a text, or none where they are no text.
+-- A copy of bytes as a text, or None if they aren't a text.
 use Rattle.std.proofs.Common.{◌≡◌, ◌↔◌, ℕ, Bool, true, false, cond, List, Option, Some, None, Result, Ok, Err, refl, sym, ap, subst, ◌∙◌}
 use Rattle.std.specs.Option.{IfSome}
 use Rattle.std.specs.Result.{IfOk}

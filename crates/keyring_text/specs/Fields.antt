@@ -11,7 +11,7 @@ IsBytes bytes = (i : ℕ) → slice_index bytes i < 256
 unfoldable pub number : ℕ → List ℕ
 number n = to_be_bytes w32 n
 
--- the number that four bytes are
+-- the number that four bytes spell
 unfoldable pub number_of : List ℕ → ℕ
 number_of bytes = from_be_bytes w32 bytes
 
@@ -19,7 +19,7 @@ number_of bytes = from_be_bytes w32 bytes
 unfoldable pub time : ℕ → List ℕ
 time seconds = to_be_bytes w64 seconds
 
--- the time that eight bytes are
+-- the time that eight bytes spell
 unfoldable pub time_of : List ℕ → ℕ
 time_of bytes = from_be_bytes w64 bytes
 
@@ -27,30 +27,30 @@ time_of bytes = from_be_bytes w64 bytes
 abbrev pub string : List ℕ → List ℕ
 string bytes = number (length bytes) ++ bytes
 
--- the length that stands for no string
+-- the length that means no string
 abbrev pub none_length : ℕ
 none_length = 0xffffffff
 
--- bytes are a number
+-- bytes spell a number
 pub record SpellsNumber (n : ℕ) (bytes : List ℕ) : Type 0 where
   pub fits : n < 2 ^ 32
   pub is : bytes ≡ number n
 
--- bytes are a time
+-- bytes spell a time
 pub record SpellsTime (seconds : ℕ) (bytes : List ℕ) : Type 0 where
   pub fits : seconds < 2 ^ 64
   pub is : bytes ≡ time seconds
 
--- bytes are a string, where none is read as the empty one
+-- bytes spell a string; an absent string is read as the empty one
 pub data SpellsString (s bytes : List ℕ) : Type 0 where
   some : length s < none_length → bytes ≡ string s → SpellsString s bytes
   none : s ≡ [] → bytes ≡ number none_length → SpellsString s bytes
 
--- bytes are a string that is a text: UTF-8 without a zero byte
+-- bytes spell a string that is a text: UTF-8 without a zero byte
 pub record SpellsText (t bytes : List ℕ) : Type 0 where
   pub text : IsText t
   pub string : SpellsString t bytes
 
--- so many bytes, whatever they are
+-- n bytes, whatever they are
 pub record IsSpan (n : ℕ) (bytes : List ℕ) : Type 0 where
   pub len : length bytes ≡ n

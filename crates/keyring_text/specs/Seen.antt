@@ -1,8 +1,8 @@
--- The keys that stood before in one list, as the keys of a set that is kept while the list is read.
+-- The keys that occurred so far in one list, as the keys of a set that is built while the list is read.
 use Rattle.std.specs.Prelude.{◌≡◌, Bool, ◌||◌, List}
 use Rattle.std.specs.List.{list_any}
 
--- whether the set's keys, each seen by view, have this key
+-- whether this key is among the set's keys, each seen by the view
 abbrev pub stood_in : {K Q : Type 0} → (Q → Q → Bool) → (K → Q) → List K → Q → Bool
 stood_in same view keys q = list_any (λ k. same q (view k)) keys
 

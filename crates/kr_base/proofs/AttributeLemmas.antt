@@ -1,4 +1,4 @@
--- Attributes: what is gathered of pairs, and what a search finds in order.
+-- Attributes: what is gathered from pairs, and what a search finds in order.
 use Rattle.std.proofs.Common.{◌≡◌, ℕ, ◌<◌, ◌≤◌, Bool, true, false, cond, nat_eq, List, [], ◌∷◌, length, get_or, Option, Some, None, refl, sym, ◌∙◌, ap, subst, inl, inr, ⊎_elim, arith}
 use Rattle.std.specs.declared.cmp.Ordering.{Ordering}
 use Rattle.std.specs.declared.cmp.Ordering.TheVariants.{Less, Equal, Greater}
@@ -96,7 +96,7 @@ module _ {V : Type 0} where
       let rest = same_values xs ys (sorted_tail by_bytes x.0 (keys_of xs) s) (sorted_tail by_bytes y.0 (keys_of ys) t) (tails x y xs ys s t h) in
       λ i. (heads x y xs ys s t h i, values x y xs ys s t h i) ∷ rest i
 
--- what is gathered of pairs is one list
+-- pairs gather to one list only
 pub one_gathered : {V : Type 0} (pairs some other : List (List ℕ × V)) → Gathers pairs some → Gathers pairs other → some ≡ other
 one_gathered pairs some other p q = same_values some other p.ordered q.ordered (λ name. p.values name ∙ sym (q.values name))
 
@@ -147,7 +147,7 @@ module _ {V : Type 0} (attributes : List (List ℕ × V)) (ordered : IsInOrder a
       let here : get_or attributes i e ≡ e = get_or_from_slice_get attributes i e e at in
       nat_list_cmp_total.antisymm name e.0 ∙ ap ordering_reverse (rw here at greater))
 
--- where values compare as equal just where they are the same, so do attributes
+-- if values compare as equal exactly when they are the same, so do attributes
 pairs_Decide : {V : Type 0} (same : V → V → Bool) → ((v w : V) → Decides (same v w) (v ≡ w)) → (p q : List ℕ × V)
     → Decides (eq_of_both (on (λ (x : List ℕ × V). x.0) (pointwise nat_eq)) (on (λ (x : List ℕ × V). x.1) same) p q) (p ≡ q)
 pairs_Decide same values p q =

@@ -11,7 +11,7 @@ use Rattle.kr_base.specs.declared.id_chunks.Chunk.{Chunk}
 use Rattle.kr_base.specs.declared.id_chunks.Key.TheVariants as key
 use Rattle.kr_base.proofs.IdLemmas.{Rises, AllBelow, AllAbove, all-weaker, rises-right, rises-left, below-middle, above-head, with-within, without-within, has-within, few, less_from_below}
 
--- ---- places
+-- ---- positions
 
 pub map-at : {X : Type 0} (f : X → ℕ) (xs : List X) (k : ℕ) (d : X) → k < length xs → get_or (map f xs) k 0 ≡ f (get_or xs k d)
 map-at f [] k d lt = absurd (omega (arith, lt))
@@ -46,7 +46,7 @@ filled-set [] k p f some = tt
 filled-set (q ∷ ps) zero p f some = (some, f.1)
 filled-set (q ∷ ps) (suc k) p f some = (f.0, filled-set ps k p f.1 some)
 
--- ---- the part at a place, with what comes before it and after it
+-- ---- the part at a position, with what comes before it and after it
 
 module _ (ps : List (List ℕ)) (k : ℕ) (lt : k < length ps) where
   abbrev middle : List ℕ
@@ -144,7 +144,7 @@ some-with id (x ∷ xs) ys = omega (arith, some-with id xs ys)
 pub filled-with : (ps : List (List ℕ)) (k id : ℕ) → IsFilled ps → IsFilled (slice_set ps k (with_id id (get_or ps k [])))
 filled-with ps k id f = filled-set ps k (with_id id (get_or ps k [])) f (some-with id _ _)
 
--- ---- the part at whose place an id lies
+-- ---- the part that contains an id at a position
 
 module _ (counts : List ℕ) (ps : List (List ℕ)) (k : ℕ) (lt : k < length ps) (counted : IsCounted counts ps) where
   at-count : get_or counts k 0 ≡ length (concat (take k ps))
@@ -228,7 +228,7 @@ removed-set [] k p = refl
 removed-set (q ∷ ps) zero p = refl
 removed-set (q ∷ ps) (suc k) p = ap (λ t. q ∷ t) (removed-set ps k p)
 
--- ---- a chunk that is written
+-- ---- writing a chunk
 
 module _ (cs : List Chunk) (k : ℕ) (lt : k < length cs) (c new : Chunk) (is : c ≡ get_or cs k c) where
   own-part : c.ids.items ≡ get_or (parts cs) k []
@@ -260,7 +260,7 @@ module _ (cs : List Chunk) (k : ℕ) (lt : k < length cs) (c new : Chunk) (is : 
             (ap (λ (t : List ℕ). get_or t k 0) written ∙ get_or-set_same (keys key.Before cs) k new.before 0 in_range ∙ e)
       ]
 
--- ---- a chunk that is split, and one that is taken away
+-- ---- splitting a chunk, and removing one
 
 parts-insert : (cs : List Chunk) (i : ℕ) (c : Chunk) → parts (insert cs i c) ≡ insert (parts cs) i c.ids.items
 parts-insert cs zero c = refl
@@ -337,7 +337,7 @@ module _ (cs : List Chunk) (k : ℕ) (lt : k < length cs) (shown : List ℕ) (pa
   pub filled-whole : (length shown == 0) ≡ false → IsFilled (remove (parts cs) k) → IsFilled (parts cs)
   filled-whole some f = filled-closed (parts cs) k f (subst (λ t. 0 < length t) part (some-of shown some))
 
--- ---- what a list in chunks keeps
+-- ---- what is always true of a list in chunks
 
 ids-two : (one other : ℕ) → one < other → other < 4294967296 → IsIdList (one ∷ other ∷ [] ++ [])
 unfolding IsStrictlySortedBy
@@ -360,7 +360,7 @@ laid-two one other c rising small start is = record {
 pub total-few : (cs : List Chunk) (k : ℕ) → k < length cs → length (ids_in cs) ≤ 4294967296 → length (concat (take k (parts cs))) + length (get_or (parts cs) k []) ≤ 4294967296
 total-few cs k lt few_ids = omega (arith, few_ids, sum-at (parts cs) k (in-parts cs k lt))
 
--- what is kept after a change of one part, of the ids and of the filled parts
+-- what stays true after a change of one part: of the ids, and of the filled parts
 pub kept-few : (ids new : List ℕ) → IsIdList ids → new ≡ ids → length new ≤ 4294967296
 kept-few ids new is same = few new (ids-changed ids new is same)
 

@@ -1,4 +1,4 @@
--- What is gathered of pairs, as a function, is what the relation says.
+-- The function that gathers pairs returns what the relation says.
 use Rattle.std.proofs.Common.{◌≡◌, ℕ, Bool, true, false, cond, List, [], ◌∷◌, Option, Some, refl, sym, ap, ◌∙◌}
 use Rattle.std.specs.declared.cmp.Ordering.{Ordering}
 use Rattle.std.specs.declared.cmp.Ordering.TheVariants.{Less, Equal, Greater}
@@ -20,7 +20,7 @@ use Rattle.kr_base.proofs.OrderedLemmas.{is_equal, name-test}
 abbrev by_bytes : List ℕ → List ℕ → Ordering
 by_bytes = slice_cmp nat_cmp
 
--- ---- a pair is put in its place, and all stay in order
+-- ---- a pair is put into its position, and all stay in order
 
 below : (x y z : List ℕ) → by_bytes x y ≡ Less → by_bytes y z ≡ Less → by_bytes x z ≡ Less
 below x y z p q = nat_list_cmp_total.trans x y z p q

@@ -1,4 +1,4 @@
--- Ids in rising order: what is below an id, what is above it, and one that is put in or taken out.
+-- Ids in rising order: what is below an id, what is above it, and one that is inserted or removed.
 use Rattle.std.proofs.Common.{◌≡◌, ℕ, ◌+◌, ◌<◌, ◌≤◌, ◌==◌, ◌||◌, Less, suc, Result, Ok, Err, Bool, true, false, not, nat_lt, List, [], ◌∷◌, ◌++◌, length, filter, take, drop, get_or, refl, sym, ap, subst, ◌∙◌, arith}
 use Rattle.std.specs.List.{AllByRecursion, insert, remove}
 use Rattle.std.specs.List.Sorted.{IsStrictlySortedBy, IsBinarySearchResult}
@@ -178,7 +178,7 @@ module _ (id : ℕ) (xs ys : List ℕ) (b : AllBelow id xs) (a : AllAbove id ys)
       let parts = list_any-append (λ x. x == id) xs (id ∷ ys) in
       rw (parts, has-other id xs (other-below id xs b), itself id) refl
 
--- ---- what lies between ids that are below and ids that are above
+-- ---- what is between ids that are below and ids that are above
 
 module _ (id : ℕ) (xs middle ys : List ℕ) (b : AllBelow id xs) (a : AllAbove id ys) where
   pub with-within : with_id id (xs ++ (middle ++ ys)) ≡ xs ++ (with_id id middle ++ ys)
@@ -207,7 +207,7 @@ module _ (id : ℕ) (xs middle ys : List ℕ) (b : AllBelow id xs) (a : AllAbove
       let more = list_any-append (λ x. x == id) middle ys in
       rw (parts, more, has-other id xs (other-below id xs b), has-other id ys (other-above id ys a)) (or_false (has_id middle id))
 
--- ---- what a search by halves found
+-- ---- what a binary search found
 
 at_place : (ids : List ℕ) (place id : ℕ) → place < length ids → get_or ids place 0 ≡ id → ids ≡ take place ids ++ id ∷ drop (place + 1) ids
 at_place ids place id in_range is =
@@ -289,7 +289,7 @@ without-hit ids id i rises found = let at = hit ids id i rises found in without-
 pub without-miss : (ids : List ℕ) (id i : ℕ) → Rises ids → Sought ids id (Err i) → ids ≡ without_id id ids
 without-miss ids id i rises found = let at = miss ids id i rises found in without-none ids i id at.0 at.1 at.2
 
--- ---- what is kept
+-- ---- what stays true
 
 pub small-with : (id : ℕ) (ids : List ℕ) → id < 4294967296 → IsIdList ids → IsIdList (with_id id ids)
 small-with id ids fits is = record {

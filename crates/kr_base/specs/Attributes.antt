@@ -1,5 +1,5 @@
 -- Attributes: names with their values (Secret Service API, "Lookup Attributes"). The list is in byte order of names, and no name
--- stands twice in it.
+-- occurs twice in it.
 use Rattle.std.specs.Prelude.{◌≡◌, ℕ, Bool, List, [], ◌∷◌, Option, Some, None, if◌then◌else◌}
 use Rattle.std.specs.BTreeMap.{insert_entry}
 use Rattle.std.specs.Cmp.Lexicographic.{slice_cmp}
@@ -13,11 +13,11 @@ use Rattle.std.specs.Ordering.{nat_cmp, is_eq}
 abbrev pub is_name : List ℕ → List ℕ → Bool
 is_name name other = is_eq (slice_cmp nat_cmp name other)
 
--- each name stands before the next ones in byte order
+-- each name is less than the next ones in byte order
 abbrev pub IsInOrder : {V : Type 0} → List (List ℕ × V) → Type 0
 IsInOrder attributes = IsStrictlySortedBy (slice_cmp nat_cmp) (keys_of attributes)
 
--- the value at the name, where there is one
+-- the value of the name, if there is one
 abbrev pub value_at : {V : Type 0} → List ℕ → List (List ℕ × V) → Option V
 value_at name attributes = lookup (is_name name) attributes
 

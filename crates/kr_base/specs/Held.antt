@@ -1,4 +1,4 @@
--- The bytes of a text, and of bytes of any kind, wherever they lie.
+-- The bytes of a text, and of bytes of any kind, wherever they are kept.
 use Rattle.std.specs.Prelude.{ℕ, List, string_bytes}
 use Rattle.kr_base.specs.declared.bytes.Held as bytes
 use Rattle.kr_base.specs.declared.bytes.Held.TheVariants as held

@@ -1,14 +1,14 @@
--- A collection's stem: what stands before `.keyring` in the name of its file (docs/SERVICE.md, "Names and paths").
+-- A collection's stem: what comes before `.keyring` in the name of its file (docs/SERVICE.md, "Names and paths").
 use Rattle.std.specs.Prelude.{◌≡◌, ℕ, ◌<◌, ◌≤◌, ◌⊎◌, List, [], length, Contains}
 use Rattle.kr_base.specs.Text.{HasZero, IsText}
 
--- what the type of a stem keeps of its bytes: a text that, with `.keyring.tmp` behind it, can be a file's name
+-- what the type of a stem guarantees of its bytes: a text that, with `.keyring.tmp` after it, can be a file's name
 pub record IsStem (bytes : List ℕ) : Type 0 where
   pub text : IsText bytes
   pub some : 0 < length bytes
   pub fits : length bytes ≤ 243
   pub no_slash : ¬ (Contains bytes 47)
 
--- why a text is no stem: it is empty, too long, or holds `/` or a zero byte
+-- why a text is no stem: it is empty, too long, or contains `/` or a zero byte
 abbrev pub IsNoStem : List ℕ → Type 0
 IsNoStem bytes = (bytes ≡ []) ⊎ (243 < length bytes) ⊎ Contains bytes 47 ⊎ HasZero bytes

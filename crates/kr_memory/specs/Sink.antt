@@ -2,7 +2,7 @@
 use Rattle.std.specs.Prelude.{ℕ, List}
 use Rattle.kr_memory.specs.Plan.{PiecePlan, FailingPlan}
 
--- a sink that fails as planned: the bytes kept, for how many more it holds memory, and its plan
+-- a sink that fails as planned: the bytes kept, for how many more it has memory, and its plan
 pub record SinkState : Type 0 where
   pub kept : List ℕ
   pub room : ℕ

@@ -1,4 +1,4 @@
--- One more slot is given back to a crash.
+-- One more slot is handed back in a crash.
 use Rattle.std.proofs.Common.{◌≡◌, ◌⊎◌, ⊎_elim, inl, inr, ℕ, ◌/◌, List, [], ◌∷◌, ◌++◌, true, cond, nat_eq, refl, sym, ◌∙◌, subst}
 use Rattle.std.specs.Cmp.Lexicographic.{pointwise}
 use Rattle.std.proofs.lemmas.Slice.Eq.{bytes_eq-Decides}
@@ -44,7 +44,7 @@ IsCrashed-more before between after slots slot image so_far leaves set others na
     (λ (rest : ¬ (HasSlot slots name) × (image_in between name ≡ image_in before name)). inr (none_more slots slot name rest.0 differs, kept ∙ rest.1))
     (so_far name))
 
--- what is left of the number behind these slots
+-- what is left of the number after these slots
 abbrev pub number_behind : List (List ℕ × SlotState) → ℕ → ℕ
 number_behind [] choice = choice
 number_behind (slot ∷ slots) choice = number_behind slots (choice / slot_count_left slot.1)

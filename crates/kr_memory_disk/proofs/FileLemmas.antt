@@ -1,4 +1,4 @@
--- Files by their names: one is taken out, one is added, and which names there are.
+-- Files by their names: one is removed, one is added, and which names there are.
 use Rattle.std.proofs.Common.{◌≡◌, ⊎_elim, ℕ, ◌<◌, List, [], ◌∷◌, ◌++◌, Bool, true, false, cond, not, nat_eq, None, Some, IsSome, refl, sym, ◌∙◌, ap, subst, arith}
 use Rattle.std.specs.List.{filter, Contains, AllByRecursion}
 use Rattle.std.specs.Cmp.Lexicographic.{pointwise}
@@ -70,11 +70,11 @@ all_others P name (file ∷ files) (first, rest) = by_test
     (λ is. all_others P name files rest)
     (λ is. (first, all_others P name files rest))
 
--- no name is in the list of none
+-- the empty list has distinct names
 pub distinct_none : HasDistinctNames []
 distinct_none = IsDistinct-from_count nat_list_eq_equiv [] refl
 
--- the parts of a longer one
+-- what distinct names say of the first file and of the others
 apart : (file : MemoryFile) (files : List MemoryFile) → HasDistinctNames (file ∷ files) → AllByRecursion (λ y. pointwise nat_eq file.name y ≡ false) (names_of files)
 apart file files distinct = IsDistinct-head (pointwise nat_eq) file.name (names_of files) distinct
 
@@ -108,7 +108,7 @@ distinct_push name bytes (file ∷ files) none distinct =
     none_behind : image_in files name ≡ None
     none_behind = by_test (λ t. cond t (Some file.bytes) (image_in files name) ≡ None → image_in files name ≡ None) (pointwise nat_eq file.name name) (λ is some. absurd (let never : ⊥ = cc in never)) (λ is none. none) none
 
--- a name is listed exactly where it stands for a file
+-- a name is listed exactly if it stands for a file
 pub listed : (files : List MemoryFile) (name : List ℕ) → Contains (names_of files) name → IsSome (image_in files name)
 listed [] name (k, within, is) = absurd (omega (arith, within))
 listed (file ∷ files) name contains = by_test
@@ -133,6 +133,6 @@ is_listed (file ∷ files) name some = by_test
     (λ is rest _. Contains-append_right (file.name ∷ []) (names_of files) name (is_listed files name rest))
     some refl
 
--- the names are those of all files, each of them once
+-- the names are those of all files, each once
 pub lists_names : (made : List (List ℕ)) (files : List MemoryFile) → HasDistinctNames files → Lists made (λ name. image_in files name) (names_of files)
 lists_names made files distinct = record { once = distinct; all = λ name _. (listed files name, is_listed files name) }

@@ -1,4 +1,4 @@
--- Where the images lie of which a crash may leave one, call by call, and that it may leave each of them.
+-- The places of the images that a crash may leave, call by call, and that it may leave each of them.
 use Rattle.std.proofs.Common.{◌≡◌, ⊎_elim, inl, inr, ℕ, zero, suc, ◌+◌, ◌%◌, ◌<◌, List, [], ◌∷◌, ◌++◌, length, map, reverse, take, get_or, slice_get, None, Some, refl, sym, ◌∙◌, ap, subst, arith}
 use Rattle.std.specs.List.{Contains}
 use Rattle.std.proofs.lemmas.List.{take_more, take_all, map-append, reverse-append, reverse-reverse, length-reverse}
@@ -19,7 +19,7 @@ use Rattle.kr_memory_disk.specs.Left.{image_there, LieAt, with_if_file, others_a
 use Rattle.kr_memory_disk.specs.SlotLaws.{leaves_itself}
 use Rattle.kr_memory_disk.proofs.PlaceLemmas.{StandsBefore, StandsBefore-none, StandsBefore-more}
 
--- of these things a crash may leave each image
+-- a crash may leave the image of each of these things
 each_leaves : (stoods : List Stood) (image : Image) → Contains (reverse (map image_stood stoods)) image → LeavesOneOf stoods image
 each_leaves [] image (k, within, is) = absurd (omega (arith, within))
 each_leaves (stood ∷ stoods) image contains = ⊎_elim
@@ -42,7 +42,7 @@ picked_leaves disk choice =
     let within : choice % length (images_left disk) < length (images_left disk) = omega (arith, some) in
     each_leaves (disk.name ∷ disk.others) (image_picked disk choice) (Contains-get_or (images_left disk) (choice % length (images_left disk)) None within)
 
--- where what else counts lies after the first calls, of which there are so many, the oldest first
+-- the places of what else counts, after the first `count` calls, the oldest first
 pub record LieBefore (calls : List CallRecord) (count : ℕ) (standing : Standing) (places : List Place) : Type 0 where
   pub stands : StandsBefore calls count standing
   pub others : (image : Image) → map (stood_at image calls) (reverse places) ≡ (disk_at image (take count calls)).others
@@ -51,7 +51,7 @@ pub LieBefore-none : (calls : List CallRecord) → LieBefore calls 0 (record { n
 LieBefore-none calls = record { stands = StandsBefore-none calls; others = λ image. refl }
 
 module _ (image : Image) (calls : List CallRecord) where
-  -- one place more
+  -- one more place
   pushed : (places : List Place) (place : Place) → map (stood_at image calls) (reverse (places ++ place ∷ [])) ≡ stood_at image calls place ∷ map (stood_at image calls) (reverse places)
   pushed places place = ap (λ p. map (stood_at image calls) p) (reverse-append places (place ∷ []))
 
@@ -73,7 +73,7 @@ module _ (image : Image) (calls : List CallRecord) where
   taken (Unsynced number) name places disk is same = also places name _ _ is same
   taken (Synced number) name places disk is same = also places name _ _ is same
 
-  -- one call more
+  -- one more call
   others_after_call : (call : SlotCall) (end : CallEnd) (standing : Standing) (places : List Place) (disk : Disk)
       → stood_at image calls standing.name ≡ disk.name → temporary_at calls standing.temporary ≡ disk.temporary → map (stood_at image calls) (reverse places) ≡ disk.others
       → map (stood_at image calls) (reverse (others_after call end standing places)) ≡ (disk_after call end disk).others
@@ -98,7 +98,7 @@ module _ (image : Image) (calls : List CallRecord) where
   others_after_call Remove Done standing places disk name temporary same = also places standing.name _ _ name same
   others_after_call Remove FailedDone standing places disk name temporary same = also places standing.name _ _ name same
 
--- the call of this number
+-- the call with this number
 pub LieBefore-more : (calls : List CallRecord) (number : ℕ) (call : CallRecord) (standing : Standing) (places : List Place) → number < length calls → slice_get calls number ≡ Some call → get_or calls number call ≡ call
     → LieBefore calls number standing places → LieBefore calls (number + 1) (standing_after call.call call.end number standing) (others_after call.call call.end standing places)
 LieBefore-more calls number call standing places within found is before = record {

@@ -15,7 +15,7 @@ use Rattle.kr_memory_disk.specs.declared.place.Standing.{Standing}
 use Rattle.kr_memory_disk.specs.Slot.{Disk, disk_after, disk_at, takes_temporary, misses_temporary}
 use Rattle.kr_memory_disk.specs.Place.{bytes_at, bytes_put, bytes_of_call, stood_at, temporary_at, synced_place, taken_place, standing_after, StandsAt}
 
--- the places after the first calls, of which there are so many
+-- the places after the first `count` calls
 pub record StandsBefore (calls : List CallRecord) (count : ℕ) (standing : Standing) : Type 0 where
   pub name : (image : Image) → stood_at image calls standing.name ≡ (disk_at image (take count calls)).name
   pub temporary : (image : Image) → temporary_at calls standing.temporary ≡ (disk_at image (take count calls)).temporary
@@ -49,7 +49,7 @@ module _ (image : Image) (calls : List CallRecord) where
   missed_temporary (temporary.Unsynced bytes) disk same = refl
   missed_temporary (temporary.Synced bytes) disk same = refl
 
-  -- one call more
+  -- one more call
   after_call : (number : ℕ) (call : SlotCall) (end : CallEnd) (standing : Standing) (disk : Disk) → bytes_at calls number ≡ bytes_put call
       → stood_at image calls standing.name ≡ disk.name → temporary_at calls standing.temporary ≡ disk.temporary
       → (stood_at image calls (standing_after call end number standing).name ≡ (disk_after call end disk).name)
@@ -81,7 +81,7 @@ module _ (image : Image) (calls : List CallRecord) where
 pub StandsBefore-none : (calls : List CallRecord) → StandsBefore calls 0 (record { name = Start; temporary = Missing })
 StandsBefore-none calls = record { name = λ image. refl; temporary = λ image. refl }
 
--- the call of this number
+-- the call with this number
 pub StandsBefore-more : (calls : List CallRecord) (number : ℕ) (call : CallRecord) (standing : Standing) → number < length calls → slice_get calls number ≡ Some call → get_or calls number call ≡ call
     → StandsBefore calls number standing → StandsBefore calls (number + 1) (standing_after call.call call.end number standing)
 StandsBefore-more calls number call standing within found is before = record {

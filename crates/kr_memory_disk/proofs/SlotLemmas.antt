@@ -14,7 +14,7 @@ use Rattle.kr_memory_disk.specs.declared.slot.CallEnd.TheVariants.{Done, Failed,
 use Rattle.kr_memory_disk.specs.declared.slot.CallRecord.{CallRecord}
 use Rattle.kr_memory_disk.specs.Slot.{device_call, with_rest, Stood, Whole, Torn, image_stood, Disk, DiskLeaves, LeavesOneOf, takes_temporary, misses_temporary, disk_after, disk_at, disk_of, SlotState, slot_may_leave, slot_moment, slot_left_since, IsPlanned, with_call, with_fault, IsFailure, unrecorded, recorded, IsNoted}
 
--- a call that didn't end as it should is recorded so
+-- a call that fails with a planned end is recorded with that end
 pub noted_failure : (old : SlotState) (call : SlotCall) (new : SlotState) (end : CallEnd) → IsPlanned old end → (end ≡ Failed) ⊎ (end ≡ FailedDone)
     → new ≡ with_rest new.room new.answered (with_fault (device_call call) (with_call old call end)) → IsFailure old call new
 noted_failure old call new end planned (inl is) same = recorded end planned (λ done. cc) same
@@ -24,7 +24,7 @@ noted_failure old call new end planned (inr is) same = recorded end planned (λ 
 disk_push : (image : Image) (calls : List CallRecord) (call : SlotCall) (end : CallEnd) → disk_at image (calls ++ (record { call = call; end = end }) ∷ []) ≡ disk_after call end (disk_at image calls)
 disk_push image calls call end = fold-append _ _ calls _
 
--- what holds of the disk before a call and behind each of its ends holds behind it
+-- what is true of the disk before a call, and after each end that the call may have, is true after it
 pub failed_disk : (P : Disk → Type 0) (old : SlotState) (call : SlotCall) (new : SlotState) → IsFailure old call new
     → P (disk_of old) → ((end : CallEnd) → ¬ (end ≡ Done) → P (disk_after call end (disk_of old))) → P (disk_of new)
 failed_disk P old call new (unrecorded takes is) none each = subst (λ s. P (disk_of s)) (sym is) none
@@ -56,7 +56,7 @@ same_time old new result (image, calls) failed = record {
   keeps = λ t left le (k, from, to, was). (k, from, omega (arith, ap length calls, to), subst (λ i. DiskLeaves (disk_at i (take k new.calls)) left) (sym image) (subst (λ c. DiskLeaves (disk_at old.image (take k c)) left) (sym calls) was));
 }
 
--- and of one with one call more
+-- and of one with one more call
 push_time : {T E : Type 0} (old new : SlotState) (call : CallRecord) (result : Result T E) → (new.image ≡ old.image) × (new.calls ≡ old.calls ++ call ∷ [])
     → Elapses slot_moment slot_left_since slot_may_leave old new result
 push_time old new call result (image, calls) = record {
@@ -90,18 +90,18 @@ failed_time old call new result (unrecorded takes is) failed = same_time old new
 failed_time old call new result (recorded end planned not_done is) failed =
     push_time old new (record { call = call; end = end }) result (ap (λ s. s.image) is, ap (λ s. s.calls) is)
 
--- each call lets time go on
+-- time goes on with each call
 pub noted_time : {U T E : Type 0} (old : SlotState) (call : SlotCall) (new : SlotState) (noted : Result U refused.Failed) (result : Result T E) → IsNoted old call new noted
     → (IsOk result → IsOk noted) → Elapses slot_moment slot_left_since slot_may_leave old new result
 noted_time old call new (Ok none) result is as_noted = push_time old new (record { call = call; end = Done }) result (ap (λ s. s.image) is.1, ap (λ s. s.calls) is.1)
 noted_time old call new (Err refused) result is as_noted = failed_time old call new result is (λ ok. let refused_ok = as_noted ok in cc)
 
--- what a read has answered is no matter of time
+-- what a read returned has nothing to do with time
 pub answered_time : {T E : Type 0} (old new : SlotState) (answered : Option Seen) (result : Result T E) → Elapses slot_moment slot_left_since slot_may_leave old new result
     → Elapses slot_moment slot_left_since slot_may_leave old (record new { answered = answered }) result
 answered_time old new answered result time = record { later = time.later; rises = time.rises; nothing_else = time.nothing_else; keeps = time.keeps }
 
--- what a call leaves of the name, call by call
+-- what each call leaves of the name
 pub name_stays_PutTemp : (bytes : List ℕ) (end : CallEnd) (disk : Disk) → image_stood (disk_after (PutTemp bytes) end disk).name ≡ image_stood disk.name
 name_stays_PutTemp bytes Done disk = refl
 name_stays_PutTemp bytes Failed disk = refl
@@ -195,6 +195,6 @@ settles : (name : Stood) (others : List Stood) → LeavesAnyBytes (LeavesOneOf (
 settles (Whole image) others = inr (λ left leaves. ⊎_elim (λ is. is) (λ none. absurd none) leaves)
 settles (Torn bytes) others = inl (λ any. inl refl)
 
--- behind a sync of the folder there is what a read gives
+-- after a sync of the folder a crash leaves what a read returns
 pub settles_SyncFolder : (disk : Disk) → LeavesAnyBytes (DiskLeaves disk) ⊎ Only (image_stood disk.name) (DiskLeaves (disk_after SyncFolder Done disk))
 settles_SyncFolder disk = settles disk.name disk.others

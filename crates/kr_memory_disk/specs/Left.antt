@@ -1,4 +1,4 @@
--- Where the images lie of which a crash may leave one.
+-- The places of the images that a crash may leave.
 use Rattle.std.specs.Prelude.{◌≡◌, List, [], ◌∷◌, ◌++◌, map}
 use Rattle.kr_outside.specs.RenameDisk.{Image}
 use Rattle.kr_memory_disk.specs.declared.slot.SlotCall.{SlotCall}
@@ -12,23 +12,23 @@ use Rattle.kr_memory_disk.specs.declared.place.Standing.{Standing}
 use Rattle.kr_memory_disk.specs.Place.{stood_at}
 use Rattle.kr_memory_disk.specs.Slot.{disk_at, image_stood, images_left}
 
--- what the name stands for there
+-- what the name stands for if it has this place
 abbrev pub image_there : Image → List CallRecord → Place → Image
 image_there image calls place = image_stood (stood_at image calls place)
 
--- behind these calls there lie the images of which a crash may leave one, in their order
+-- after these calls, the images at these places are those that a crash may leave, in order
 abbrev pub LieAt : List CallRecord → List Place → Type 0
 LieAt calls places =
     (image : Image) → map (image_there image calls) places ≡ images_left (disk_at image calls)
 
--- the places with this one more, where there is a temporary file
+-- the places and one more, if there is a temporary file
 abbrev pub with_if_file : Place → Place → List Place → List Place
 with_if_file Start place places = places
 with_if_file Missing place places = places
 with_if_file (Unsynced number) place places = places ++ place ∷ []
 with_if_file (Synced number) place places = places ++ place ∷ []
 
--- the places of what else counts as having stood, the oldest first, after a call with this end
+-- the places of what else the name counts as having stood for, the oldest first, after a call with this end
 abbrev pub others_after : SlotCall → CallEnd → Standing → List Place → List Place
 others_after Rename Failed standing places =
     with_if_file standing.temporary standing.temporary places

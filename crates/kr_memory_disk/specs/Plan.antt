@@ -1,8 +1,8 @@
--- Which calls of a folder or host in memory are to fail.
+-- Which calls of a folder or host in memory should fail.
 use Rattle.std.specs.Prelude.{ℕ, List, Contains}
 use Rattle.kr_memory.specs.Plan.{next_count}
 
--- the numbers of the calls that are to fail, how many calls there were, and how many have failed
+-- the numbers of the calls that should fail, how many calls there were, and how many have failed
 pub record PlannedCalls : Type 0 where
   pub failing : List ℕ
   pub calls : ℕ
@@ -12,11 +12,11 @@ pub record PlannedCalls : Type 0 where
 abbrev pub calls_at_start : List ℕ → PlannedCalls
 calls_at_start failing = record { failing = failing; calls = 0; faults = 0 }
 
--- the call that comes is to fail
+-- the next call should fail
 abbrev pub FailsNow : PlannedCalls → Type 0
 FailsNow plan = Contains plan.failing plan.calls
 
--- one more call was made, and it did not fail
+-- one more call was made, and it didn't fail
 abbrev pub after_success : PlannedCalls → PlannedCalls
 after_success plan = record plan { calls = next_count plan.calls }
 

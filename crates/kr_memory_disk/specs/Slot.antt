@@ -17,7 +17,7 @@ pub data Stood : Type 0 where
   Whole : (image : Image) → Stood
   Torn : (bytes : List ℕ) → Stood
 
--- what a read of it gives
+-- what a read of it returns
 abbrev pub image_stood : Stood → Image
 image_stood (Whole image) = image
 image_stood (Torn bytes) = Some bytes
@@ -32,14 +32,14 @@ abbrev pub LeavesOneOf : List Stood → Image → Type 0
 LeavesOneOf [] left = ⊥
 LeavesOneOf (stood ∷ others) left = LeavesStood stood left ⊎ LeavesOneOf others left
 
--- the disk: what the name stands for, what else counts as having stood since the last sync of the
--- folder that succeeded, the newest first, and the temporary file
+-- the disk: what the name stands for, what else it counts as having stood for since the last successful sync of the
+-- folder, newest first, and the temporary file
 pub record Disk : Type 0 where
   pub name : Stood
   pub others : List Stood
   pub temporary : Temporary
 
--- a name that stands for this image for good, with no temporary file
+-- a name that stands for this image, which no crash undoes, without a temporary file
 abbrev pub fresh_disk : Image → Disk
 fresh_disk image = record { name = Whole image; others = []; temporary = Unknown }
 
@@ -47,7 +47,7 @@ fresh_disk image = record { name = Whole image; others = []; temporary = Unknown
 abbrev pub stands_for : Stood → Disk → Disk
 stands_for stood disk = record { name = stood; others = disk.name ∷ disk.others; temporary = disk.temporary }
 
--- something else counts as having stood
+-- the name also counts as having stood for something else
 abbrev pub counts_also : Stood → Disk → Disk
 counts_also stood disk = record { name = disk.name; others = stood ∷ disk.others; temporary = disk.temporary }
 
@@ -61,7 +61,7 @@ takes_temporary Unknown disk = disk
 takes_temporary (Unsynced bytes) disk = with_temporary Unknown (stands_for (Torn bytes) disk)
 takes_temporary (Synced bytes) disk = with_temporary Unknown (stands_for (Whole (Some bytes)) disk)
 
--- the name doesn't take the temporary file, which counts as having stood
+-- the name doesn't take the temporary file, but counts as having stood for it
 abbrev pub misses_temporary : Temporary → Disk → Disk
 misses_temporary Unknown disk = disk
 misses_temporary (Unsynced bytes) disk = with_temporary Unknown (counts_also (Torn bytes) disk)
@@ -82,7 +82,7 @@ disk_after SyncFolder end disk = disk
 disk_after Remove Failed disk = counts_also (Whole None) disk
 disk_after Remove end disk = stands_for (Whole None) disk
 
--- the disk after these calls, the first of them first
+-- the disk after these calls, the first one first
 abbrev pub disk_at : Image → List CallRecord → Disk
 disk_at image calls = fold (λ disk call. disk_after call.call call.end disk) (fresh_disk image) calls
 
@@ -90,18 +90,18 @@ disk_at image calls = fold (λ disk call. disk_after call.call call.end disk) (f
 abbrev pub DiskLeaves : Disk → Image → Type 0
 DiskLeaves disk left = LeavesOneOf (disk.name ∷ disk.others) left
 
--- an image that a crash may leave for each thing that counts as having stood, in the order in which
--- they came to count, and what the name stands for last; of a file that wasn't synced its bytes
+-- for each thing that the name counts as having stood for, an image that a crash may leave, in the order in which
+-- they came to count, with what the name stands for last; for a file that wasn't synced, all its bytes
 abbrev pub images_left : Disk → List Image
 images_left disk = reverse (map image_stood (disk.name ∷ disk.others))
 
--- the one of them that a number picks: behind the last one it begins again with the first
+-- the one of them that a number picks; after the last one it starts again with the first
 abbrev pub image_picked : Disk → ℕ → Image
 image_picked disk choice = get_or (images_left disk) (choice % length (images_left disk)) None
 
--- a slot that fails as planned: the image that it began with, the record of its calls, the numbers of
--- the calls that are to fail, those of them which the disk does all the same, the count of faults, for
--- how many more records it holds memory, the last call if it failed, and what the last read answered
+-- a slot that fails as planned: the image that it began with, the record of its calls, the numbers of the calls
+-- that should fail, those of them which the disk performs nevertheless, the count of faults, for how many more
+-- records it has memory, the last call if it failed, and what the last read returned
 pub record SlotState : Type 0 where
   pub image : Image
   pub calls : List CallRecord
@@ -116,7 +116,7 @@ pub record SlotState : Type 0 where
 abbrev pub disk_of : SlotState → Disk
 disk_of slot = disk_at slot.image slot.calls
 
--- what a read of it gives
+-- what a read of it returns
 abbrev pub slot_seen : SlotState → Image
 slot_seen slot = image_stood (disk_of slot).name
 
@@ -128,7 +128,7 @@ slot_temporary slot = (disk_of slot).temporary
 abbrev pub slot_may_leave : SlotState → Image → Type 0
 slot_may_leave slot left = DiskLeaves (disk_of slot) left
 
--- how many images a crash now leaves one of, for a number to pick
+-- the number of images of which a crash now leaves one
 abbrev pub slot_count_left : SlotState → ℕ
 slot_count_left slot = length (images_left (disk_of slot))
 
@@ -145,13 +145,13 @@ abbrev pub slot_left_since : SlotState → ℕ → Image → Type 0
 slot_left_since slot t left =
     (k : ℕ) × (t ≤ k) × (k ≤ length slot.calls) × DiskLeaves (disk_at slot.image (take k slot.calls)) left
 
--- how the call that comes is to end
+-- how the next call should end
 abbrev pub IsPlanned : SlotState → CallEnd → Type 0
 IsPlanned slot Done = ¬ (Contains slot.failing (length slot.calls))
 IsPlanned slot Failed = Contains slot.failing (length slot.calls) × ¬ (Contains slot.done (length slot.calls))
 IsPlanned slot FailedDone = Contains slot.failing (length slot.calls) × Contains slot.done (length slot.calls)
 
--- the call of the device that a record is of
+-- the kind of a call, without its bytes
 abbrev pub device_call : SlotCall → DeviceCall
 device_call Size = device.Size
 device_call Read = device.Read
@@ -161,7 +161,7 @@ device_call Rename = device.Rename
 device_call SyncFolder = device.SyncFolder
 device_call Remove = device.Remove
 
--- the slot with one more call recorded, which ended so
+-- the slot with one more call recorded, which has this end
 abbrev pub with_call : SlotState → SlotCall → CallEnd → SlotState
 with_call slot call end =
     record {
@@ -175,7 +175,7 @@ with_call slot call end =
       answered = slot.answered;
     }
 
--- the slot with one more fault counted, of this call
+-- the slot with one more fault counted, in this call
 abbrev pub with_fault : DeviceCall → SlotState → SlotState
 with_fault call slot =
     record {
@@ -189,7 +189,7 @@ with_fault call slot =
       answered = slot.answered;
     }
 
--- the slot with memory for so many more records, whose last read answered this
+-- the slot with memory for this many more records, and this result of the last read
 abbrev pub with_rest : ℕ → Option Seen → SlotState → SlotState
 with_rest room answered slot =
     record {
@@ -203,8 +203,7 @@ with_rest room answered slot =
       answered = answered;
     }
 
--- for this call memory may be refused: for a record where there is no room for one, and for the bytes
--- that are put
+-- memory may be refused in this call: for a record if there is no room for one, and for the bytes that are put
 abbrev pub TakesMemory : SlotState → SlotCall → Type 0
 TakesMemory slot (PutTemp bytes) = ⊤
 TakesMemory slot other = slot.room ≡ 0
@@ -215,7 +214,7 @@ pub data IsFailure (old : SlotState) (call : SlotCall) (new : SlotState) : Type 
   recorded : (end : CallEnd) → IsPlanned old end → ¬ (end ≡ Done)
       → new ≡ with_rest new.room new.answered (with_fault (device_call call) (with_call old call end)) → IsFailure old call new
 
--- what a call leaves: it is recorded where it succeeds, which it does only as planned
+-- what a call leaves: it is recorded if it succeeds, which it does only as planned
 abbrev pub IsNoted : {T : Type 0} → SlotState → SlotCall → SlotState → Result T refused.Failed → Type 0
 IsNoted old call new (Ok value) = IsPlanned old Done × (new ≡ with_rest new.room new.answered (with_call old call Done))
 IsNoted old call new (Err refused) = IsFailure old call new

@@ -10,16 +10,16 @@ pub leaves_itself : (stood : Stood) → LeavesStood stood (image_stood stood)
 leaves_itself (Whole image) = refl
 leaves_itself (Torn bytes) = refl
 
--- a crash may leave what a read gives
+-- a crash may leave what a read returns
 pub leaves_seen : (slot : SlotState) → slot_may_leave slot (slot_seen slot)
 leaves_seen slot = inl (leaves_itself (disk_of slot).name)
 
--- this moment is one of those since an earlier one
+-- what a crash now may leave is among what it might have left since any moment up to now
 pub counts_moment : (slot : SlotState) (t : ℕ) (left : Image) → t ≤ slot_moment slot → slot_may_leave slot left → slot_left_since slot t left
 counts_moment slot t left le now =
     (length slot.calls, le, omega arith, subst (λ calls. DiskLeaves (disk_at slot.image calls) left) (sym (take_all (length slot.calls) slot.calls (omega arith))) now)
 
--- since this moment there is no other
+-- what a crash might have left since the present moment is what it may leave now
 pub only_moment : (slot : SlotState) (left : Image) → slot_left_since slot (slot_moment slot) left → slot_may_leave slot left
 only_moment slot left (k, from, to, was) =
     subst (λ calls. DiskLeaves (disk_at slot.image calls) left) (take_all k slot.calls from) was

@@ -9,7 +9,7 @@ abbrev pub image_if : Bool → List ℕ → Image
 image_if is_there bytes = cond is_there (Some bytes) None
 
 -- a slot: what the name stands for, the temporary file if there is one, how many bytes of a file it
--- keeps, and what the last read answered
+-- keeps, and what the last read returned
 pub record SteadySlotState : Type 0 where
   pub image : Image
   pub temporary : Image
@@ -22,11 +22,11 @@ with_temporary None slot = slot
 with_temporary (Some bytes) slot =
     record { image = Some bytes; temporary = None; room = slot.room; answered = slot.answered }
 
--- the slot behind a rename
+-- the slot after a rename
 abbrev pub renamed : SteadySlotState → SteadySlotState
 renamed slot = with_temporary slot.temporary slot
 
--- a folder: its files, the room of its slots, and the names of which slots were made, the newest first
+-- a folder: its files, the room of its slots, and the names of which slots were made, newest first
 pub record SteadyFolderState : Type 0 where
   pub files : List MemoryFile
   pub room : ℕ

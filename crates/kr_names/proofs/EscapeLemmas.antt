@@ -16,19 +16,19 @@ use Rattle.kr_names.proofs.TextLemmas.{bytes_fit, IsPlain, IsText-plain}
 abbrev pub IsPathByte : ℕ → Type 0
 IsPathByte byte = IsTrue (is_path_byte byte)
 
--- a byte that begins no escape stands for itself
+-- a byte that doesn't begin an escape stands for itself
 pub unescaped_other : (c : ℕ) (xs : List ℕ) → c ≢ 95 → unescaped (c ∷ xs) ≡ c ∷ unescaped xs
 unescaped_other c [] other = refl
 unescaped_other c (x ∷ []) other = refl
 unescaped_other c (x ∷ y ∷ xs) other = grind (arith, nat_tests)
 
--- nor does one with too little behind it
+-- so does one with too little after it
 pub unescaped_short : (c : ℕ) (xs : List ℕ) → length xs < 2 → unescaped (c ∷ xs) ≡ c ∷ unescaped xs
 unescaped_short c [] short = refl
 unescaped_short c (x ∷ []) short = refl
 unescaped_short c (x ∷ y ∷ xs) short = absurd (omega arith)
 
--- one byte more was read
+-- one more byte was read
 pub unescaped_more : (text bytes : List ℕ) (place : ℕ) → place < length text → unescaped (get_or text place 0 ∷ drop (place + 1) text) ≡ get_or text place 0 ∷ unescaped (drop (place + 1) text)
     → bytes ++ unescaped (drop place text) ≡ unescaped text → (bytes ++ get_or text place 0 ∷ []) ++ unescaped (drop (place + 1) text) ≡ unescaped text
 unescaped_more text bytes place in_range one before =

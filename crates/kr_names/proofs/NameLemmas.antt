@@ -1,4 +1,4 @@
--- Names: a path is that of one name at most.
+-- Names: a path belongs to one name at most.
 use Rattle.std.proofs.Common.{◌≡◌, ◌≢◌, ℕ, ◌^◌, ◌<◌, true, false, eqb, List, [], ◌∷◌, ◌++◌, get_or, Some, None, nat_lt, refl, sym, ◌∙◌, ap, subst, arith}
 use Rattle.std.specs.Prelude.{decimal}
 use Rattle.std.specs.List.{All, list_all}
@@ -58,7 +58,7 @@ name_back (Prompt id) is = ap (λ n. Prompt (record { 0 = n })) (decimal_is_IsNu
 pub one_name : (one other : ObjectName) (path : List ℕ) → IsPathOf one path → IsPathOf other path → one ≡ other
 one_name one other path p q = sym (name_back one p.named) ∙ ap name_at (sym p.spelled ∙ q.spelled) ∙ name_back other q.named
 
--- a path of none of the forms
+-- a path that has none of the forms
 pub record IsNoName (path : List ℕ) : Type 0 where
   pub no_whole : IsNoWhole path
   pub no_session : (n : ℕ) → IsNumbered sessions path n → ⊥
@@ -83,7 +83,7 @@ session_read path n is = record { named = (is.some, is.fits); spelled = is.spell
 pub prompt_read : (path : List ℕ) (n : ℕ) → IsNumbered prompts path n → IsPathOf (Prompt (record { 0 = n })) path
 prompt_read path n is = record { named = (is.some, is.fits); spelled = is.spelled }
 
--- no zero byte stands in a path
+-- a path contains no zero byte
 abbrev IsSome8 : ℕ → Type 0
 IsSome8 byte = 0 < byte
 

@@ -1,4 +1,4 @@
--- Names: the tests decide, and the name of a path is the one whose path it is.
+-- Names: the tests decide the facts, and `name_of_path` returns the name with this path.
 use Rattle.std.proofs.Common.{◌≡◌, ℕ, ◌^◌, ◌≤◌, ◌<◌, ◌&&◌, nat_eq, nat_le, Bool, true, false, IsTrue, List, length, Option, Some, None, if◌then◌else◌, refl, sym, ◌∙◌, ap, arith}
 use Rattle.std.specs.Bool.{Decides}
 use Rattle.std.specs.Cmp.{nat_eq_equiv}
@@ -83,7 +83,7 @@ none : (path : List ℕ) (found : Option ObjectName) → name_of_path path ≡ f
 none path None e never = refl
 none path (Some name) e never = absurd (never name (is_named path name e))
 
--- what was read of a path is its name
+-- what was read from a path is its name
 pub reads_name : (path : List ℕ) (answer : Option ObjectName) → Reads (λ name. IsPathOf name path) answer → answer ≡ name_of_path path
 reads_name path None never = none path (name_of_path path) refl never
 reads_name path (Some name) is = sym (named path name is)

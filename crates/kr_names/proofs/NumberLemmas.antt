@@ -1,4 +1,4 @@
--- Numbers in paths: decimal digits with no sign and no leading zero.
+-- Numbers in paths: decimal digits without a sign or a leading zero.
 use Rattle.std.proofs.Common.{◌≡◌, ℕ, List, Result, Ok, Err, sym, ◌∙◌, ap}
 use Rattle.std.specs.Prelude.{decimal}
 use Rattle.std.specs.Str.Parse.{ParsesUnsigned}

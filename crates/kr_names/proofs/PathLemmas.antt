@@ -1,4 +1,4 @@
--- Paths, part by part: what stands behind a front is read as just one thing.
+-- Paths, part by part: what follows a prefix is read in one way only.
 use Rattle.std.proofs.Common.{◌≡◌, ℕ, ◌<◌, ◌≤◌, ◌^◌, ◌≢◌, List, [], ◌∷◌, ◌++◌, length, get_or, Option, Some, None, Result, Ok, Err, IfOk, MatchOption, refl, sym, ◌∙◌, ap, subst, arith}
 use Rattle.std.specs.Prelude.{◌↔◌, decimal, IfSome}
 use Rattle.std.specs.List.{All}
@@ -15,11 +15,11 @@ use Rattle.kr_names.proofs.TextLemmas.{bytes_fit, IsPlain}
 use Rattle.kr_names.proofs.EscapeLemmas.{escaped_spelled, path_bytes_plain, path_byte_no_slash}
 use Rattle.kr_names.proofs.NumberLemmas.{one_number}
 
--- what stands behind the front is one text
+-- what follows the prefix is determined
 behind_front : (front path rest other : List ℕ) → path ≡ front ++ rest → path ≡ front ++ other → rest ≡ other
 behind_front front path rest other p q = append_cancel_left front rest other (sym p ∙ q)
 
--- a number behind a front
+-- a number after a prefix
 module _ (front path rest : List ℕ) (at : path ≡ front ++ rest) where
   numbered_rest : (n : ℕ) → IsNumbered front path n → IsNumber n rest
   numbered_rest n is = record { fits = is.fits; digits = behind_front front path rest (decimal n) at is.spelled }

@@ -1,5 +1,5 @@
--- How a stem stands in a path (docs/SERVICE.md, "Names and paths"). D-Bus Specification, "Valid Object Paths": between the slashes
--- stand letters, digits and `_` alone.
+-- How a path spells a stem (docs/SERVICE.md, "Names and paths"). D-Bus Specification, "Valid Object Paths": between the
+-- slashes there are only letters, digits and `_`.
 use Rattle.std.specs.Prelude.{ℕ, ◌+◌, ◌-◌, ◌*◌, ◌/◌, ◌%◌, ◌==◌, ◌||◌, Bool, List, [], ◌∷◌, ◌≡◌, false, if◌then◌else◌}
 use Rattle.std.specs.Char.{is_ascii_alphanumeric, is_ascii_digit}
 use Rattle.std.specs.Int.{is_in_range}
@@ -23,7 +23,7 @@ escaped stem = flat_map escape stem
 abbrev pub hex_value : ℕ → ℕ
 hex_value digit = if is_ascii_digit digit then digit - 48 else (if is_in_range 97 102 digit then digit - 87 else 0)
 
--- the way back: `_` and the two bytes behind it are one byte, any other byte stands for itself
+-- the way back: `_` and the two bytes after it are one byte, any other byte stands for itself
 abbrev pub unescaped : List ℕ → List ℕ
 unescaped [] = []
 unescaped (first ∷ []) = first ∷ []
@@ -31,7 +31,7 @@ unescaped (first ∷ second ∷ []) = first ∷ second ∷ []
 unescaped (first ∷ high ∷ low ∷ more) =
     if first == 95 then (hex_value high * 16 + hex_value low) ∷ unescaped more else first ∷ unescaped (high ∷ low ∷ more)
 
--- the text is how the stem stands in a path
+-- the text is how a path spells the stem
 pub record IsEscapeOf (stem text : List ℕ) : Type 0 where
   pub is_stem : IsStem stem
   pub spelled : text ≡ escaped stem

@@ -1,5 +1,5 @@
 -- The name of a path as a function: the way back from `path_text` (docs/SERVICE.md, "Names and paths"). The law
--- `a_path_is_that_of_its_name` says that it is the name whose path this is.
+-- `a_path_is_that_of_its_name` says that it is the name with this path.
 use Rattle.std.specs.Prelude.{ℕ, ◌^◌, ◌&&◌, ◌==◌, not, nat_eq, nat_lt, nat_le, Bool, true, List, [], ◌∷◌, length, get_or, drop, Option, Some, None, option_map, if◌then◌else◌}
 use Rattle.std.specs.List.{list_all, list_any}
 use Rattle.std.specs.Str.{bytes_eq, is_utf8}
@@ -40,7 +40,7 @@ abbrev pub stored : List ℕ → Option (List ℕ × List ℕ) → ObjectName
 stored rest None = Collection (unescaped rest)
 stored rest (Some parts) = Item (unescaped parts.0) (record { 0 = digits_value 10 parts.1 })
 
--- the one name that may have the path: the letter at place 26 says which form it has
+-- the one name that may have the path: the letter at index 26 says which form it has
 abbrev pub name_at : List ℕ → ObjectName
 name_at path =
     if get_or path 26 0 == 111 then stored (drop 36 path) (halves (drop 36 path)) else

@@ -11,14 +11,14 @@ pub record IsAliasName (name : List ℕ) : Type 0 where
   pub fits : length name ≤ 64
   pub bytes : All (λ byte. IsTrue (is_path_byte byte)) name
 
--- the path of the service, below which the others stand, and that of the agent
+-- the path of the service, below which the others are, and that of the agent
 unfoldable pub service : List ℕ
 service = codes "/org/freedesktop/secrets"
 
 unfoldable pub agent : List ℕ
 agent = codes "/org/freedesktop/secrets/agent"
 
--- what stands before a stem, an alias's name, a session's number, a prompt's number
+-- what comes before a stem, an alias's name, a session's number, a prompt's number
 unfoldable pub collections : List ℕ
 collections = codes "/org/freedesktop/secrets/collection/"
 
@@ -49,7 +49,7 @@ HasPath (Session session) = 0 < session.0
 HasPath (Prompt prompt) = 0 < prompt.0
 HasPath _ = Unit {0}
 
--- all that a name with a path meets
+-- all that a name must meet to have a path
 abbrev pub IsName : ObjectName → Type 0
 IsName (Collection stem) = IsStem stem
 IsName (Item stem item) = IsStem stem × (item.0 < 2 ^ 32)
@@ -63,12 +63,12 @@ pub record IsPathOf (name : ObjectName) (path : List ℕ) : Type 0 where
   pub named : IsName name
   pub spelled : path ≡ path_text name
 
--- the text is the decimal digits of the number, with no sign and no leading zero
+-- the text is the decimal digits of the number, without a sign or a leading zero
 pub record IsNumber (number : ℕ) (text : List ℕ) : Type 0 where
   pub fits : number < 2 ^ 64
   pub digits : text ≡ decimal number
 
--- the path is this front, and the digits of a number from 1 up
+-- the path is this prefix, followed by the digits of a number that is at least 1
 pub record IsNumbered (front path : List ℕ) (number : ℕ) : Type 0 where
   pub some : 0 < number
   pub fits : number < 2 ^ 64
@@ -79,7 +79,7 @@ pub record IsCut (text front back : List ℕ) : Type 0 where
   pub spelled : text ≡ front ++ 47 ∷ back
   pub first : All (λ byte. byte ≢ 47) front
 
--- the path is none of the three that stand alone
+-- the path is none of the three without parts
 pub record IsNoWhole (path : List ℕ) : Type 0 where
   pub not_nothing : path ≢ codes "/"
   pub not_service : path ≢ service

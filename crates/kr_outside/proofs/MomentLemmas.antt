@@ -9,7 +9,7 @@ module _ {S : Type 0} (moment : S → ℕ) (left_since : S → ℕ → Image →
       → LeavesOnly moment left_since old old images
   LeavesOnly-none old images here = record { later = omega arith; each = here; before = λ t image le left. inl left }
 
-  -- one step more, behind which a crash leaves these images
+  -- one more step, after which a crash leaves these images
   pub LeavesOnly-step : {T E : Type 0} (old mid new : S) (result : Result T E) (images : Image → Type 0) → LeavesOnly moment left_since old mid images
       → Elapses moment left_since may_leave mid new result → ((image : Image) → may_leave new image → images image)
       → LeavesOnly moment left_since old new images
@@ -29,7 +29,7 @@ module _ {S : Type 0} (moment : S → ℕ) (left_since : S → ℕ → Image →
     before = λ t image le left. ⊎_elim (λ was. inl was) (λ is. inr (within image is)) (only.before t image le left);
   }
 
-  -- one run behind another
+  -- one run after another
   pub LeavesOnly-trans : (old mid new : S) (first second : Image → Type 0) → LeavesOnly moment left_since old mid first
       → LeavesOnly moment left_since mid new second → LeavesOnly moment left_since old new (λ image. first image ⊎ second image)
   LeavesOnly-trans old mid new first second p q = record {
@@ -40,7 +40,7 @@ module _ {S : Type 0} (moment : S → ℕ) (left_since : S → ℕ → Image →
         (λ is. inr (inr is)) (q.before t image (omega (arith, le, p.later)) left);
   }
 
-  -- one run behind another that leaves no fewer images
+  -- one run after another that leaves no fewer images
   pub LeavesOnly-behind : (old mid new : S) (first images : Image → Type 0) → ((image : Image) → first image → images image)
       → LeavesOnly moment left_since old mid first → LeavesOnly moment left_since mid new images → LeavesOnly moment left_since old new images
   LeavesOnly-behind old mid new first images within p q =

@@ -1,4 +1,4 @@
--- A piece that is written by several calls.
+-- Writing a piece by several calls.
 use Rattle.std.proofs.Common.{◌≡◌, ℕ, ◌≤◌, Bool, List, [], ◌++◌, Option, take, drop, length, refl, sym, ◌∙◌, ap, append_assoc, take-append-drop, length-drop, ◌-◌, arith}
 use Rattle.std.proofs.lemmas.List.{take_all}
 use Rattle.std.specs.Io.KnownBytes.{Appends}
@@ -6,7 +6,7 @@ use Rattle.std.proofs.KnownBytes.{Appends-nil, Appends-trans}
 use Rattle.kr_outside.specs.Faults.{KeepsSteady}
 use Rattle.kr_outside.proofs.FaultLemmas.{KeepsSteady-none, KeepsSteady-trans}
 
--- all of the piece was written but this rest, with no failure
+-- all of the piece except this rest was written, without a failure
 pub record WroteAllBut (old new : Option (List ℕ)) (before now : ℕ) (was is : Bool) (piece rest : List ℕ) : Type 0 where
   pub front : List ℕ
   pub whole : piece ≡ front ++ rest

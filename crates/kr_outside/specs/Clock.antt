@@ -1,7 +1,7 @@
--- The moments of a clock that tells them.
+-- The moments of a clock that reports them.
 use Rattle.std.specs.Prelude.{◌≡◌, ℕ, ◌+◌, ⊤, Option, None, Some}
 
--- of the moments told, the first was given, and the rest are still to come
+-- of the moments that are reported, the first was returned, and the rest are still to come
 abbrev pub GivesFirst : Option (ℕ → ℕ) → ℕ → Option (ℕ → ℕ) → Type 0
 GivesFirst None moment new = ⊤
 GivesFirst (Some coming) moment None = ⊥

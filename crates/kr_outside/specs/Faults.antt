@@ -6,15 +6,15 @@ use Rattle.std.specs.Prelude.{◌≡◌, ℕ, ◌-◌, ◌^◌, ◌<◌, ◌≤�
 abbrev pub last_count : ℕ
 last_count = 2 ^ 64 - 1
 
--- the count rose, or stands where it can't rise any more
+-- the count rose, or is where it can't rise any more
 abbrev pub Rose : ℕ → ℕ → Type 0
 Rose old new = (old < new) ⊎ (new ≡ last_count)
 
--- the contrary: the count is as before, and isn't the last one
+-- the opposite: the count is as before, and isn't the last one
 abbrev pub StandsStill : ℕ → ℕ → Type 0
 StandsStill old new = (new ≡ old) × (new ≡ last_count → ⊥)
 
--- the count never falls, and a failure is answered only where it rose
+-- the count never falls, and a failure is returned only if it rose
 pub record HasCause {T E : Type 0} (old new : ℕ) (result : Result T E) : Type 0 where
   pub later : old ≤ new
   pub failed : IsErr result → Rose old new
@@ -24,12 +24,11 @@ pub record KeepsSteady (was is : Bool) (old new : ℕ) : Type 0 where
   pub same : is ≡ was
   pub still : IsTrue was → new ≡ old
 
--- the count of a steady object could still rise, so that one which stands still has had no failure
+-- the count of a steady object isn't at its maximum, so if it doesn't rise, no call failed
 abbrev pub IsBelowLast : Bool → ℕ → Type 0
 IsBelowLast is_steady count = IsTrue is_steady → count < last_count
 
--- what is told of the last call, if it failed: a call that was refused is told, and after one that
--- succeeded there is none
+-- the last call, if it failed: this call if it was refused, and None if it succeeded
 pub record EndsAs {C T E : Type 0} (call : C) (failed : Option C) (result : Result T E) : Type 0 where
   pub refused : IsErr result → failed ≡ Some call
   pub succeeded : IsOk result → failed ≡ None

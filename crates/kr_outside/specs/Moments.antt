@@ -3,7 +3,7 @@ use Rattle.std.specs.Prelude.{ℕ, ◌≤◌, ◌<◌, ◌⊎◌, Result, IsOk}
 use Rattle.kr_outside.specs.RenameDisk.{Image}
 
 -- One step of a slot. Its clock never falls, and rises with each step that succeeds; a crash since t
--- might have left what it might have left before this step, or what it may leave behind it.
+-- might have left what it might have left before this step, or what it may leave after it.
 pub record Elapses {S T E : Type 0} (moment : S → ℕ) (left_since : S → ℕ → Image → Type 0) (may_leave : S → Image → Type 0) (old new : S) (result : Result T E) : Type 0 where
   pub later : moment old ≤ moment new
   pub rises : IsOk result → moment old < moment new

@@ -16,20 +16,19 @@ pub data Temporary : Type 0 where
   Unsynced : (bytes : List ℕ) → Temporary
   Synced : (bytes : List ℕ) → Temporary
 
--- the temporary file behind a sync that succeeded
+-- the temporary file after a sync that succeeded
 abbrev pub synced : Temporary → Temporary
 synced Unknown = Unknown
 synced (Unsynced bytes) = Synced bytes
 synced (Synced bytes) = Synced bytes
 
--- what a read of the temporary file gives, if the name stands for it
+-- what a read returns, if the name stands for the temporary file
 abbrev pub GivesTemporary : Temporary → Image → Type 0
 GivesTemporary Unknown image = Unit {0}
 GivesTemporary (Unsynced bytes) image = image ≡ Some bytes
 GivesTemporary (Synced bytes) image = image ≡ Some bytes
 
--- what a crash may leave of the temporary file, if the name stands for it: of one that isn't
--- synced any bytes
+-- what a crash may leave of the temporary file, if the name stands for it: if it isn't synced, any bytes
 abbrev pub LeavesTemporary : Temporary → Image → Type 0
 LeavesTemporary Unknown image = Unit {0}
 LeavesTemporary (Unsynced bytes) image = IsSome image
@@ -55,14 +54,14 @@ LeavesAlso before more now = (image : Image) → now image → before image ⊎ 
 abbrev pub size_of : Image → Option ℕ
 size_of image = option_map length image
 
--- the answer of a read fits in a buffer of so many bytes
+-- the result of a read fits in a buffer of this many bytes
 abbrev pub FitsIn : ℕ → Seen → Type 0
 FitsIn room Missing = Unit {0}
 FitsIn room (Whole count) = count ≤ room
 FitsIn room Longer = Unit {0}
 
--- the answer of a read of this image, and what it left in the buffer: nothing is said of the buffer
--- where there is no file; else its front is the file, or it is the front of a longer file
+-- the result of a read of this image, and what it left in the buffer: nothing is said of the buffer if there is no
+-- file; otherwise the start of the buffer is the file, or the buffer is the start of a longer file
 abbrev pub Reads : Image → List ℕ → Seen → Type 0
 Reads image buffer Missing = image ≡ None
 Reads image buffer (Whole count) = (count ≤ length buffer) × (image ≡ Some (take count buffer))

@@ -1,4 +1,4 @@
--- Entries by rising numbers: what the map does to them, and the rows that they are.
+-- Entries by rising numbers: what the map does to them, and the rows that they stand for.
 use Rattle.std.proofs.Common.{◌≡◌, ℕ, ◌<◌, ◌==◌, not, Bool, true, false, cond, nat_eq, [], ◌∷◌, ◌++◌, map, filter, find, Some, None, refl, sym, ap, subst, ◌∙◌, arith, Greater}
 use Rattle.std.specs.List.{AllByRecursion}
 use Rattle.std.specs.List.Sorted.{IsStrictlySortedBy}
@@ -105,7 +105,7 @@ pub insert-last : (entries : Entries) (n : ℕ) (row : PromptRow) → AllBelow n
 insert-last [] n row below = refl
 insert-last (e ∷ more) n row below = rw (greater n e.0 below.0) (ap (λ t. e ∷ t) (insert-last more n row below.1))
 
--- ---- the rows that entries are
+-- ---- the rows that entries stand for
 
 pub value-at : (id : ℕ) (entries : Entries) → AreNumbered entries → entry_at id entries ≡ find (λ row. nat_eq row.prompt.0 id) (values_of entries)
 value-at id [] numbered = refl

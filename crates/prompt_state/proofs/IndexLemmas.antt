@@ -14,7 +14,7 @@ use Rattle.prompt_state.specs.Kept.{AreBelow, AreInOrder, AreIndexed, AreNumbere
 use Rattle.prompt_state.proofs.EntryLemmas.{numbered-added, numbered-changed, numbered-mapped, numbered-without, value-at, values-added, values-changed, values-mapped, values-without, without-none}
 use Rattle.prompt_state.proofs.SoundLemmas.{IsKeeping, keeping-at, all-filter, no-own, numbers-added, numbers-ended, numbers-map, one-fewer, others-stay, rising-filter, sound-begun, sound-filter, sound-map}
 
--- ---- numbers that were given
+-- ---- numbers that were used
 
 all-numbers : (n owner : ℕ) (rows : List PromptRow) → AreGiven n rows → AllByRecursion (λ m. m < n) (numbers_of owner rows)
 all-numbers n owner [] given = tt
@@ -140,7 +140,7 @@ module _ (n owner : ℕ) (entries new : Entries) (pairs : List (ℕ × ℕ)) (ma
 pub all-left : (owner : ℕ) (rows : List PromptRow) (pairs : List (ℕ × ℕ)) → AreIndexed rows pairs → numbers_at owner pairs ≡ [] → rows ≡ filter (λ row. not (nat_eq row.owner.0 owner)) rows
 all-left owner rows pairs indexed none = sym (no-own owner rows (sym (indexed.same owner) ∙ none))
 
--- the agent is none of what is kept
+-- what is always true of the table doesn't depend on the agent
 pub agent-kept : (entries : Entries) (agent other : Option ConnId) (next : ℕ) (pairs : List (ℕ × ℕ)) → IsKept (prompts_of entries agent next) entries pairs → IsKept (prompts_of entries other next) entries pairs
 agent-kept entries agent other next pairs kept = record {
   sound = record { given = kept.sound.given; rising = kept.sound.rising; rounds = kept.sound.rounds; few = kept.sound.few; numbered = kept.sound.numbered };

@@ -1,4 +1,5 @@
--- A prompt completes at most once: while it is there, or its number is still to be given, one Completed is left, and else none.
+-- A prompt completes at most once: while it is there, or its number hasn't been used yet, one Completed is left,
+-- and otherwise none.
 use Rattle.std.proofs.Common.{◌≡◌, ℕ, ◌+◌, ◌<◌, ◌≤◌, Bool, true, false, if◌then◌else◌, not, nat_eq, nat_le, length, List, [], ◌∷◌, ◌++◌, map, filter, Option, Some, None, refl, sym, ap, subst, ◌∙◌, arith}
 use Rattle.std.specs.List.{AllByRecursion}
 use Rattle.std.proofs.lemmas.Bool.Decides.{nat_tests}

@@ -1,4 +1,4 @@
--- Pairs in order: the numbers of one owner after a pair is added and after one is taken away.
+-- Pairs in order: the numbers of one owner after a pair is added and after one is removed.
 use Rattle.std.proofs.Common.{◌≡◌, ℕ, ◌^◌, ◌<◌, ◌≤◌, ◌==◌, Bool, true, false, cond, not, List, [], ◌∷◌, ◌++◌, length, filter, refl, ap, subst, ◌∙◌, arith, inl, inr, Less, Greater}
 use Rattle.std.specs.List.{AllByRecursion}
 use Rattle.std.specs.List.Sorted.{IsStrictlySortedBy}
@@ -40,7 +40,7 @@ pairs_of_owner : (owner : ℕ) (pairs : List (ℕ × ℕ)) → AllByRecursion (�
 pairs_of_owner owner [] numbers = refl
 pairs_of_owner owner (k ∷ ks) numbers = rw (range_contains-owner owner k numbers.0, pairs_of_owner owner ks numbers.1) refl
 
--- a range from an owner's least pair to the greatest has the owner's pairs
+-- the range from an owner's least pair to the greatest has the owner's pairs
 pub owners_range : (owner : ℕ) (low high : ℕ × ℕ) (pairs found : List (ℕ × ℕ)) → low ≡ (owner, 0) → high ≡ (owner, 18446744073709551615)
     → found ≡ filter (range_contains pair_cmp (Included low) (Included high)) pairs → AllByRecursion (λ k. k.1 < 2 ^ 64) pairs
     → found ≡ filter (λ pair. pair.0 == owner) pairs
@@ -55,7 +55,7 @@ first_is owner k rest pairs shown = rw shown refl
 pub none_is : (owner : ℕ) (pairs : List (ℕ × ℕ)) → filter (λ pair. pair.0 == owner) pairs ≡ [] → numbers_at owner pairs ≡ []
 none_is owner pairs shown = rw shown refl
 
--- ---- one that is put at its place
+-- ---- one that is inserted
 
 none_at : (owner : ℕ) (k : ℕ × ℕ) (ks : List (ℕ × ℕ)) → owner < k.0 → AllByRecursion (λ y. pair_cmp k y ≡ Less) ks → numbers_at owner ks ≡ []
 none_at owner k [] above less = refl
@@ -106,7 +106,7 @@ numbers-added owner next other (k ∷ ks) sorted given =
           rw less (step (owner == other) refl)
     ]
 
--- ---- one that is taken away
+-- ---- one that is removed
 
 none_later : (owner number : ℕ) (k : ℕ × ℕ) (ks : List (ℕ × ℕ)) → is_pair owner number k ≡ true → AllByRecursion (λ y. pair_cmp k y ≡ Less) ks → filter (λ key. not (is_pair owner number key)) ks ≡ ks
 none_later owner number k [] is less = refl

@@ -11,7 +11,7 @@ use Rattle.prompt_state.specs.declared.row.Prompts.{Prompts}
 use Rattle.prompt_state.specs.Prompts.{AreGiven, AreRising, AreSound, IsStage, begun, changed, is_full, is_of, last_prompt, most_prompts, rows_of}
 use Rattle.prompt_state.specs.Kept.{numbers_of, IsFirst}
 
--- a change of a row that keeps whose it is, its number, and that its stage can be
+-- a change of a row that keeps its owner and its number, and keeps its stage possible
 pub record IsKeeping (h : PromptRow → PromptRow) : Type 0 where
   pub number : (row : PromptRow) → (h row).prompt ≡ row.prompt
   pub owner : (row : PromptRow) → (h row).owner ≡ row.owner

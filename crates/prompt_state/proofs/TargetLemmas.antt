@@ -1,4 +1,4 @@
--- Lists in one: what is left after one more.
+-- Two lists kept in one: what is left after one more.
 use Rattle.std.proofs.Common.{◌≡◌, ◌∙◌, ℕ, ◌+◌, zero, suc, List, [], ◌∷◌, drop, refl, ap, arith}
 use Rattle.prompt_state.specs.declared.targets.Target.{Target}
 use Rattle.prompt_state.specs.Targets.{rest_of}

@@ -1,5 +1,5 @@
--- The changes of the prompts, one by one, and which prompts each of them ends. Completed is put out for a prompt that ends, and
--- for no other, so what is true of the ends is true of Completed.
+-- The changes of the prompts, one by one, and which prompts each of them ends. Completed is sent for a prompt that
+-- ends, and for no other one, so what is true of the ends is true of Completed.
 use Rattle.std.specs.Prelude.{ℕ, ◌+◌, if◌then◌else◌, nat_eq, List, [], ◌∷◌, length, filter, map}
 use Rattle.kr_base.specs.declared.ids.ConnId.{ConnId}
 use Rattle.kr_base.specs.declared.ids.PromptId.{PromptId}
@@ -15,7 +15,7 @@ pub data Change : Type 0 where
   Begin : (owner : ConnId) → (kind : PromptKind) → Change
   -- Prompt is called
   Ask : (prompt : PromptId) → Change
-  -- the agent's answer is taken
+  -- the agent's answer is accepted
   Answer : (prompt : PromptId) → (round : ℕ) → Change
   -- the prompt is asked in its next round
   Again : (prompt : PromptId) → Change
@@ -25,7 +25,7 @@ pub data Change : Type 0 where
   Drop : (prompt : PromptId) → Change
   -- a wrong answer is counted
   Wrong : (prompt : PromptId) → Change
-  -- its wrong answers are forgotten
+  -- the number of its wrong answers is set to 0
   Clear : (prompt : PromptId) → Change
   -- it ends
   End : (prompt : PromptId) → Change
@@ -51,13 +51,13 @@ performed (Change.Register conn) prompts = registered conn prompts
 performed Change.Unregister prompts = unregistered prompts
 performed (Change.Gone conn) prompts = abandoned conn prompts
 
--- of which prompts Completed is put out: of those that the change ends, and only ending a prompt puts it out
+-- the prompts for which Completed is sent: those that the change ends; nothing else sends it
 abbrev pub completed : Change → Prompts → List Ended
 completed (Change.End prompt) prompts = map ended_row (filter (is_prompt prompt) prompts.rows)
 completed (Change.Answer prompt round) prompts = if nat_eq round last_round then map ended_row (filter (is_prompt prompt) prompts.rows) else []
 completed change prompts = []
 
--- how often Completed is put out of a prompt, over changes in order
+-- how often Completed is sent for a prompt, over changes in order
 abbrev pub completions : ℕ → List Change → Prompts → ℕ
 completions number [] prompts = 0
 completions number (change ∷ changes) prompts =

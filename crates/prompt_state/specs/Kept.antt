@@ -1,4 +1,5 @@
--- How the table keeps its prompts: rows by their numbers, and beside them the pairs of an owner's and a prompt's number.
+-- How the table keeps its prompts: rows by their numbers, and in addition the pairs of an owner's and
+-- a prompt's number.
 use Rattle.std.specs.Prelude.{◌≡◌, ℕ, ◌+◌, ◌<◌, Bool, ◌&&◌, not, nat_eq, if◌then◌else◌, List, [], ◌∷◌, map, filter, min, Option}
 use Rattle.std.specs.Ordering.{nat_cmp, ordering_then}
 use Rattle.std.specs.List.{AllByRecursion}
@@ -16,23 +17,23 @@ use Rattle.prompt_state.specs.Prompts.{AreSound, last_round}
 abbrev pub Entries : Type 0
 Entries = List (ℕ × PromptRow)
 
--- the prompts that the entries are
+-- the prompts that the entries stand for
 abbrev pub prompts_of : Entries → Option ConnId → ℕ → Prompts
 prompts_of entries agent next = record { rows = values_of entries; agent = agent; next = next }
 
--- the row of a number
+-- the row with a number
 abbrev pub entry_at : ℕ → Entries → Option PromptRow
 entry_at number entries = lookup (λ key. nat_eq key number) entries
 
--- the entries with that of a number changed
+-- the entries with that of one number changed
 abbrev pub entries_changed : ℕ → (PromptRow → PromptRow) → Entries → Entries
 entries_changed number change entries = map (λ e. if nat_eq e.0 number then (e.0, change e.1) else e) entries
 
--- the entries without that of a number
+-- the entries without that of one number
 abbrev pub entries_without : ℕ → Entries → Entries
 entries_without number entries = filter (λ e. not (nat_eq e.0 number)) entries
 
--- where a stage goes once the agent is gone, also where no round is left, which no prompt is at
+-- what a stage becomes once the agent is gone, even if no round is left, which is so for no prompt
 abbrev pub unanswered_within : Stage → Stage
 unanswered_within Made = Made
 unanswered_within (Asked round) = Asked round
@@ -76,7 +77,7 @@ pub record AreIndexed (rows : List PromptRow) (pairs : List (ℕ × ℕ)) : Type
   pub ordered : AreInOrder pairs
   pub same : (owner : ℕ) → numbers_at owner pairs ≡ numbers_of owner rows
 
--- what the table keeps
+-- what is always true of the table
 pub record IsKept (prompts : Prompts) (entries : Entries) (pairs : List (ℕ × ℕ)) : Type 0 where
   pub sound : AreSound prompts
   pub numbered : AreNumbered entries

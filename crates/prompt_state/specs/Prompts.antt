@@ -1,5 +1,5 @@
 -- Secret Service API draft 0.2, interface Prompt, and the agent of our profile (docs/SERVICE.md): the prompts, who owns
--- them, where each is on its way, and whom the agent's signal Ask and the owner's signal Completed go to.
+-- them, how far each has come, and to whom the agent's signal Ask and the owner's signal Completed go.
 use Rattle.std.specs.Prelude.{ℕ, ◌+◌, ◌<◌, ◌≤◌, Bool, true, false, ◌||◌, not, nat_eq, nat_le, nat_lt, if◌then◌else◌, List, [], ◌∷◌, ◌++◌, length, filter, map, Option, Some, None, find, filter_map, min}
 use Rattle.std.specs.List.{AllByRecursion}
 use Rattle.kr_base.specs.declared.ids.ConnId.{ConnId}
@@ -19,7 +19,7 @@ use Rattle.prompt_state.specs.Targets.{TargetLists, first_left}
 
 -- ---- numbers
 
--- how many prompts a connection may have at once
+-- the most prompts that a connection may have at once
 abbrev pub most_prompts : ℕ
 most_prompts = 64
 
@@ -35,7 +35,7 @@ last_round = 18446744073709551615
 abbrev pub most_wrong : ℕ
 most_wrong = 4294967295
 
--- the round that a stage is in, 0 before the first
+-- the round of a stage, 0 before the first
 abbrev pub round_of : Stage → ℕ
 round_of Made = 0
 round_of (Asked round) = round
@@ -86,7 +86,7 @@ is_taken conn (Some agent) = not (nat_eq agent.0 conn.0)
 abbrev pub rows_of : ConnId → List PromptRow → List PromptRow
 rows_of owner rows = filter (is_of owner) rows
 
--- whether the owner can begin no further prompt: it has as many as it may have, or no number is left
+-- whether the owner can't begin another prompt: it has as many as it may have, or no number is left
 abbrev pub is_full : ConnId → Prompts → Bool
 is_full owner prompts = nat_le most_prompts (length (rows_of owner prompts.rows)) || nat_le last_prompt prompts.next
 
@@ -121,11 +121,11 @@ abbrev pub asked_from : Option PromptRow → PromptId → Prompts → Prompts
 asked_from None prompt prompts = prompts
 asked_from (Some row) prompt prompts = if is_made row.stage then staged prompt (Asked 1) prompts else prompts
 
--- Prompt: a prompt on which it hasn't been called yet is asked in round 1; else nothing changes
+-- Prompt: a prompt on which it hasn't been called yet is asked in round 1; otherwise nothing changes
 abbrev pub asked : PromptId → Prompts → Prompts
 asked prompt prompts = asked_from (row_at prompt prompts) prompt prompts
 
--- the round that a prompt is asked in next: the one after that of its stage
+-- the round in which a prompt is asked next: the one after that of its stage
 abbrev pub next_round : Option PromptRow → ℕ
 next_round None = 1
 next_round (Some row) = round_of row.stage + 1
@@ -138,7 +138,8 @@ asked_again prompt prompts = staged prompt (Asked (next_round (row_at prompt pro
 abbrev pub ended : PromptId → Prompts → Prompts
 ended prompt prompts = record prompts { rows = filter (λ row. not (is_prompt prompt row)) prompts.rows }
 
--- an answer in a round: the key is derived in that round, but in the greatest the prompt ends, since a later round couldn't be given
+-- an answer in a round: the key is derived in that round, but in the greatest one the prompt ends, since there is
+-- no later round
 abbrev pub answered : PromptId → ℕ → Prompts → Prompts
 answered prompt round prompts = if nat_eq round last_round then ended prompt prompts else staged prompt (Deriving round) prompts
 
@@ -161,21 +162,21 @@ abbrev pub first_of_row : Option PromptRow → Option Target
 first_of_row None = None
 first_of_row (Some row) = first_of_kind row.kind
 
--- one wrong answer more
+-- one more wrong answer
 abbrev pub one_more : ℕ → ℕ
 one_more wrong = min (wrong + 1) most_wrong
 
--- the prompts with one wrong answer more for this one
+-- the prompts with one more wrong answer for this one
 abbrev pub wronged : PromptId → Prompts → Prompts
 wronged prompt prompts = changed prompt (λ row. record row { wrong = one_more row.wrong }) prompts
 
--- the prompts with no wrong answer for this one
+-- the prompts with no wrong answers for this one
 abbrev pub cleared : PromptId → Prompts → Prompts
 cleared prompt prompts = changed prompt (λ row. record row { wrong = 0 }) prompts
 
 -- ---- the agent
 
--- whether a stage is that of a prompt which is asked in this round
+-- whether a stage is that of a prompt that is asked in this round
 abbrev pub is_asked_in : ℕ → Stage → Bool
 is_asked_in round Made = false
 is_asked_in round (Asked other) = nat_eq other round
@@ -197,7 +198,7 @@ abbrev pub refusal_of : ℕ → Option PromptRow → Option PromptRefused
 refusal_of round None = Some refused.NoPrompt
 refusal_of round (Some row) = if is_asked_in round row.stage then None else Some refused.OldRound
 
--- why an answer about a prompt is refused, if it is: first, who sends it isn't the agent
+-- why an answer about a prompt is refused, if it is: first, its sender isn't the agent
 abbrev pub refusal : PromptId → ℕ → ConnId → Prompts → Option PromptRefused
 refusal prompt round from prompts =
     if is_agent from prompts then refusal_of round (row_at prompt prompts) else Some refused.NotAgent
@@ -206,7 +207,7 @@ refusal prompt round from prompts =
 abbrev pub registered : ConnId → Prompts → Prompts
 registered conn prompts = record prompts { agent = Some conn }
 
--- where a stage goes once the agent is gone: a prompt whose key is being derived is asked in the next round
+-- what a stage becomes once the agent is gone: a prompt whose key is being derived is asked in the next round
 abbrev pub unanswered : Stage → Stage
 unanswered Made = Made
 unanswered (Asked round) = Asked round
@@ -240,7 +241,7 @@ ask_in (Deriving round) agent row = None
 abbrev pub ask_to : ConnId → PromptRow → Option Ask
 ask_to agent row = ask_in row.stage agent row
 
--- what is sent for a row, if there is one: nothing without an agent, and else Ask to the agent alone
+-- what is sent for a row, if there is one: nothing without an agent, otherwise Ask to the agent alone
 abbrev pub ask_of : Option ConnId → Option PromptRow → Option Ask
 ask_of None row = None
 ask_of (Some agent) None = None
@@ -250,12 +251,12 @@ ask_of (Some agent) (Some row) = ask_to agent row
 abbrev pub ask_at : PromptId → Prompts → Option Ask
 ask_at prompt prompts = ask_of prompts.agent (row_at prompt prompts)
 
--- what is sent of these rows, to an agent if there is one
+-- what is sent for these rows, to an agent if there is one
 abbrev pub asks_of : Option ConnId → List PromptRow → List Ask
 asks_of None rows = []
 asks_of (Some agent) rows = filter_map (ask_to agent) rows
 
--- what is sent when every prompt is asked again: Ask of each prompt that is asked, by rising number
+-- what is sent when every prompt is asked again: Ask for each prompt that is asked, by rising number
 abbrev pub asks : Prompts → List Ask
 asks prompts = asks_of prompts.agent prompts.rows
 
@@ -267,7 +268,7 @@ ask_after prompt prompts = find (λ ask. nat_lt prompt.0 ask.prompt.0) (asks pro
 abbrev pub ended_row : PromptRow → Ended
 ended_row row = record { prompt = row.prompt; owner = row.owner; kind = row.kind }
 
--- ---- what each state has
+-- ---- what is true of each state
 
 -- rounds begin at 1, and a key is derived below the greatest one
 abbrev pub IsStage : Stage → Type 0

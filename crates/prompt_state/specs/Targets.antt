@@ -1,4 +1,4 @@
--- Secret Service API draft 0.2, interface Service, Unlock: the objects that a prompt is to unlock.
+-- Secret Service API draft 0.2, interface Service, Unlock: the objects that a prompt should unlock.
 use Rattle.std.specs.Prelude.{ℕ, ◌≤◌, List, [], ◌∷◌, ◌++◌, length, take, drop, Option, Some, None}
 use Rattle.prompt_state.specs.declared.targets.Target.{Target}
 
@@ -16,7 +16,7 @@ abbrev pub first_of : List Target → Option Target
 first_of [] = None
 first_of (target ∷ more) = Some target
 
--- all but the first of a list
+-- all elements of a list except the first
 abbrev pub rest_of : List Target → List Target
 rest_of [] = []
 rest_of (target ∷ more) = more

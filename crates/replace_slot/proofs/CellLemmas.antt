@@ -9,7 +9,7 @@ known_file (Known None) has = absurd has
 known_file (Known (Some bytes)) has = tt
 known_file (Doubt old new) has = absurd has
 
--- of a known file a crash leaves the one image
+-- a crash leaves the one image of a known file
 pub known_only : (file : File) (outcomes : Image → Type 0) → IsKnown file → LeavesFile file outcomes → Only (old_image file) outcomes
 known_only (Known image) outcomes known leaves = leaves
 known_only (Doubt old new) outcomes known leaves = absurd known

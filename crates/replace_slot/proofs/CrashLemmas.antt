@@ -1,16 +1,16 @@
--- What a crash leaves once the folder is synced behind a rename or a removal.
+-- What a crash leaves once the folder is synced after a rename or a removal.
 use Rattle.std.proofs.Common.{◌≡◌, ◌⊎◌, ⊎_elim, inl, inr, ℕ, List, None, Some, subst, Result, OnOk}
 use Rattle.std.proofs.lemmas.Result.{on_ok_weaker}
 use Rattle.kr_outside.specs.RenameDisk.{Image, Temporary, Synced, GivesTemporary, LeavesTemporary, Only, LeavesAnyBytes, LeavesAlso}
 use Rattle.kr_outside.proofs.RenameDiskLemmas.{LeavesAnyBytes-pair}
 
--- behind the sync there is what a read gives, where a crash could leave two images before it
+-- after the sync a crash leaves what a read returns, if it could leave two images before
 pub settled_pair : {T E : Type 0} (old new seen : Image) (mid after : Image → Type 0) (result : Result T E)
     → ((left : Image) → mid left → (left ≡ old) ⊎ (left ≡ new)) → OnOk result (LeavesAnyBytes mid ⊎ Only seen after) → OnOk result (Only seen after)
 settled_pair old new seen mid after result pair settled =
     on_ok_weaker result (λ s. ⊎_elim (λ any. absurd (LeavesAnyBytes-pair old new mid pair any)) (λ only. only) s) settled
 
--- behind a rename of a synced temporary file
+-- after a rename of a synced temporary file
 pub renamed_for_good : {T E : Type 0} (old : Image) (bytes : List ℕ) (temporary : Temporary) (seen : Image) (before mid after : Image → Type 0) (result : Result T E)
     → Only old before → temporary ≡ Synced bytes → GivesTemporary temporary seen → LeavesAlso before (LeavesTemporary temporary) mid
     → OnOk result (LeavesAnyBytes mid ⊎ Only seen after) → OnOk result (Only (Some bytes) after)
@@ -20,7 +20,7 @@ renamed_for_good old bytes temporary seen before mid after result only is gives 
     subst (λ i. OnOk result (Only i after)) has
     (settled_pair old (Some bytes) seen mid after result (λ left m. ⊎_elim (λ was. inl (only left was)) (λ now. inr now) (more left m)) settled)
 
--- behind a removal
+-- after a removal
 pub removed_for_good : {T E : Type 0} (old seen : Image) (before mid after : Image → Type 0) (result : Result T E)
     → Only old before → seen ≡ None → LeavesAlso before (λ image. image ≡ None) mid
     → OnOk result (LeavesAnyBytes mid ⊎ Only seen after) → OnOk result (Only None after)

@@ -9,13 +9,13 @@ use Rattle.replace_slot.specs.Found.{Gave, IsFound, found_file}
 use Rattle.replace_slot.specs.declared.images.Found.{Found}
 use Rattle.replace_slot.specs.declared.images.Found.TheVariants.{Old, New, Other}
 
--- an image that the read gave is the one that stands
+-- an image that the read shows is the one that the name stands for
 pub gave_seen : (answer : Seen) (buffer : List ℕ) (seen image : Image) → Reads seen buffer answer → Gave answer buffer image → seen ≡ image
 gave_seen Missing buffer seen image reads gave = reads ∙ sym gave
 gave_seen (Whole count) buffer seen image reads gave = reads.1 ∙ sym gave
 gave_seen Longer buffer seen image reads gave = absurd gave
 
--- and the one that stands is given, where the buffer is longer
+-- and the read shows the one that the name stands for, if the buffer is longer
 pub seen_gave : (answer : Seen) (buffer : List ℕ) (seen image : Image) → Reads seen buffer answer → seen ≡ image → length_of image < length buffer → Gave answer buffer image
 seen_gave Missing buffer seen image reads is short = sym is ∙ reads
 seen_gave (Whole count) buffer seen image reads is short = sym is ∙ reads.1
@@ -23,7 +23,7 @@ seen_gave Longer buffer seen image (bytes, some, long, front) is short =
     let same : length_of image ≡ length bytes = ap length_of (sym is ∙ some) in
     absurd (omega (arith, same, long, short))
 
--- one of the two images stands, so the read found one
+-- the name stands for one of the two images, so the read found one
 pub never_other : (old new seen : Image) (answer : Seen) (buffer : List ℕ) (found : Found) → (seen ≡ old) ⊎ (seen ≡ new)
     → Reads seen buffer answer → max (length_of old) (length_of new) < length buffer → IsFound answer buffer found (Doubt old new) → found ≢ Other
 never_other old new seen answer buffer Old one reads short is = λ other. cc
@@ -32,7 +32,7 @@ never_other old new seen answer buffer Other one reads short is = λ other. ⊎_
     (λ o. is.0 (seen_gave answer buffer seen old reads o (omega arith)))
     (λ n. is.1 (seen_gave answer buffer seen new reads n (omega arith))) one
 
--- what is left behind the read is the image that was found
+-- what is left after the read is the image that was found
 pub found_alone : (file : File) (seen : Image) (answer : Seen) (buffer : List ℕ) (found : Found) (before after : Image → Type 0)
     → ¬ (IsKnown file) → longest_of file < length buffer → LeavesFile file before → before seen → Reads seen buffer answer → IsFound answer buffer found file
     → LeavesAnyBytes before ⊎ Only seen after → LeavesFile (found_file found file) after

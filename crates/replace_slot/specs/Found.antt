@@ -7,13 +7,13 @@ use Rattle.replace_slot.specs.Cell.{File, Known, Doubt}
 use Rattle.replace_slot.specs.declared.images.Found.{Found}
 use Rattle.replace_slot.specs.declared.images.Found.TheVariants.{Old, New, Other}
 
--- the read with this answer, into this buffer, gave the image
+-- a read with this result left the image in this buffer
 abbrev pub Gave : Seen → List ℕ → Image → Type 0
 Gave Missing buffer image = image ≡ None
 Gave (Whole count) buffer image = image ≡ Some (take count buffer)
 Gave Longer buffer image = ⊥
 
--- the file after this was found: the newer image, or else the older one
+-- the file after this was found: the newer image, or otherwise the older one
 abbrev pub found_file : Found → File → File
 found_file found (Known image) = Known image
 found_file Old (Doubt old new) = Known old
@@ -25,22 +25,22 @@ abbrev pub BeginsWith : List ℕ → Image → Type 0
 BeginsWith buffer None = Unit {0}
 BeginsWith buffer (Some bytes) = take (length bytes) buffer ≡ bytes
 
--- the buffer shows the image that was found; of another image nothing is said
+-- the buffer shows the image that was found; nothing is said if it was neither
 abbrev pub Shows : Found → File → List ℕ → Type 0
 Shows found (Known image) buffer = Unit {0}
 Shows Old (Doubt old new) buffer = BeginsWith buffer old
 Shows New (Doubt old new) buffer = BeginsWith buffer new
 Shows Other (Doubt old new) buffer = Unit {0}
 
--- what the read with this answer, into this buffer, found: the older image where it gave that, else
--- the newer one where it gave that
+-- what a read with this result and this buffer found: the older image if the read shows it, otherwise the newer one
+-- if the read shows that
 abbrev pub IsFound : Seen → List ℕ → Found → File → Type 0
 IsFound seen buffer found (Known image) = Unit {0}
 IsFound seen buffer Old (Doubt old new) = Gave seen buffer old
 IsFound seen buffer New (Doubt old new) = ¬ (Gave seen buffer old) × Gave seen buffer new
 IsFound seen buffer Other (Doubt old new) = ¬ (Gave seen buffer old) × ¬ (Gave seen buffer new)
 
--- this was found by what the last read answered, into this buffer
+-- this was found by the last read, from its result and this buffer
 pub record IsFoundBy (answered : Option Seen) (buffer : List ℕ) (found : Found) (file : File) : Type 0 where
   pub answer : Seen
   pub told : answered ≡ Some answer

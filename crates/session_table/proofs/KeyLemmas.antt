@@ -1,4 +1,4 @@
--- Pairs in order: one that is put at its place, one that is taken away, and those of one owner.
+-- Pairs in order: one that is inserted, one that is removed, and those of one owner.
 use Rattle.std.proofs.Common.{◌≡◌, ℕ, ◌^◌, ◌<◌, ◌≤◌, ◌==◌, Bool, true, false, not, nat_le, nat_lt, List, [], ◌∷◌, ◌++◌, length, filter, refl, ap, ◌∙◌, arith, inl, inr, Less, Greater}
 use Rattle.std.specs.List.{AllByRecursion, list_any}
 use Rattle.std.specs.List.Sorted.{IsStrictlySortedBy}
@@ -29,7 +29,7 @@ is_at_pair owner session k = grind (arith, nat_tests)
 pub apart_from_less : (owner session : ℕ) (a b : ℕ × ℕ) → pair_cmp a b ≡ Less → is_pair owner session a ≡ true → is_pair owner session b ≡ false
 apart_from_less owner session a b less is = grind (arith, nat_tests)
 
--- ---- one that is put at its place
+-- ---- one that is inserted
 
 pub none_below : (owner : ℕ) (k : ℕ × ℕ) (ks : List (ℕ × ℕ)) → owner < k.0 → AllByRecursion (λ y. pair_cmp k y ≡ Less) ks → filter (λ key. nat_le key.0 owner) ks ≡ []
 none_below owner k [] above less = refl
@@ -45,7 +45,7 @@ all_above owner k (x ∷ xs) above less =
     let yes : nat_lt owner x.0 ≡ true = grind (arith, nat_tests) in
     rw yes (ap (λ t. x ∷ t) (all_above owner k xs above less.1))
 
--- the pair of a new session stands behind all of its owner
+-- the pair of a new session comes after all others of its owner
 pub insert_key-new : (owner next : ℕ) (keys : List (ℕ × ℕ)) → IsStrictlySortedBy pair_cmp keys → AllByRecursion (λ k. k.1 < next) keys
     → insert_key pair_cmp keys (owner, next) ≡ filter (λ key. nat_le key.0 owner) keys ++ (owner, next) ∷ filter (λ key. nat_lt owner key.0) keys
 insert_key-new owner next [] sorted given = refl
@@ -63,7 +63,7 @@ insert_key-new owner next (k ∷ ks) sorted given =
           rw (less, h.0, is_above, none_below owner k ks above later, all_above owner k ks above later) refl
     ]
 
--- ---- one that is taken away
+-- ---- one that is removed
 
 pub none_later : (owner session : ℕ) (k : ℕ × ℕ) (ks : List (ℕ × ℕ)) → is_pair owner session k ≡ true → AllByRecursion (λ y. pair_cmp k y ≡ Less) ks → filter (λ key. not (is_pair owner session key)) ks ≡ ks
 none_later owner session k [] is less = refl
@@ -80,7 +80,7 @@ remove_key-only owner session (k ∷ ks) sorted =
     ] in
     step (is_pair owner session k) refl
 
--- the same, where the test is spelled by the order
+-- the same, with the test written by the order
 pub remove_key-spelled : (owner session : ℕ) (keys : List (ℕ × ℕ)) → remove_key (is_at (pair_cmp (owner, session))) keys ≡ remove_key (is_pair owner session) keys
 remove_key-spelled owner session [] = refl
 remove_key-spelled owner session (k ∷ ks) = rw (is_at_pair owner session k, remove_key-spelled owner session ks) refl
@@ -111,7 +111,7 @@ first_is_there owner k rest (x ∷ xs) shown =
     ] in
     step (x.0 == owner) refl
 
--- where the owner has none, none is taken away
+-- if the owner has none, none is removed
 pub no_others : (owner : ℕ) (keys : List (ℕ × ℕ)) → filter (λ key. key.0 == owner) keys ≡ [] → filter (λ key. not (key.0 == owner)) keys ≡ keys
 no_others owner [] none = refl
 no_others owner (x ∷ xs) none =
@@ -124,7 +124,7 @@ no_others owner (x ∷ xs) none =
     ] in
     step (x.0 == owner) refl
 
--- the pairs of others stay where one of the owner's is taken away
+-- the pairs of others stay when one of the owner's is removed
 pub others_stay : (owner session : ℕ) (keys : List (ℕ × ℕ)) → filter (λ key. not (key.0 == owner)) (filter (λ key. not (is_pair owner session key)) keys) ≡ filter (λ key. not (key.0 == owner)) keys
 others_stay owner session [] = refl
 others_stay owner session (x ∷ xs) =
@@ -138,7 +138,7 @@ others_stay owner session (x ∷ xs) =
     ] in
     step (x.0 == owner) (x.1 == session) refl refl
 
--- none is left more
+-- there aren't more left
 pub no_more : (owner session : ℕ) (keys : List (ℕ × ℕ)) → length (filter (λ key. not (is_pair owner session key)) keys) ≤ length keys
 no_more owner session [] = omega arith
 no_more owner session (x ∷ xs) =
@@ -149,7 +149,7 @@ no_more owner session (x ∷ xs) =
     ] in
     step (is_pair owner session x) refl
 
--- one that is there leaves fewer behind
+-- removing one that is there leaves fewer
 pub fewer : (owner session : ℕ) (keys : List (ℕ × ℕ)) → list_any (is_pair owner session) keys ≡ true → length (filter (λ key. not (is_pair owner session key)) keys) < length keys
 fewer owner session [] there = cc
 fewer owner session (x ∷ xs) there =
@@ -162,7 +162,7 @@ fewer owner session (x ∷ xs) there =
     ] in
     step (is_pair owner session x) refl
 
--- what holds of each pair holds of those that are left
+-- what is true of each pair is true of those that are left
 pub given_stay : (next : ℕ) (p : ℕ × ℕ → Bool) (keys : List (ℕ × ℕ)) → AllByRecursion (λ key. key.1 < next) keys → AllByRecursion (λ key. key.1 < next) (filter p keys)
 given_stay next p [] given = tt
 given_stay next p (x ∷ xs) given =
@@ -181,13 +181,13 @@ pub given_longer : (next more : ℕ) (keys : List (ℕ × ℕ)) → next ≤ mor
 given_longer next more [] le given = tt
 given_longer next more (x ∷ xs) le given = (omega (arith, given.0), given_longer next more xs le given.1)
 
--- a range from an owner's least pair to the greatest has the owner's pairs
+-- the range from an owner's least pair to the greatest has the owner's pairs
 pub owners_range : (owner : ℕ) (low high : ℕ × ℕ) (keys found : List (ℕ × ℕ)) → low ≡ (owner, 0) → high ≡ (owner, 18446744073709551615)
     → found ≡ filter (range_contains pair_cmp (Included low) (Included high)) keys → AllByRecursion (λ k. k.1 < 2 ^ 64) keys
     → found ≡ filter (λ key. key.0 == owner) keys
 owners_range owner low high keys found from to between numbers = between ∙ rw (from, to) (keys_of_owner owner keys numbers)
 
--- nothing is taken away where the pair isn't there
+-- nothing is removed if the pair isn't there
 pub filter-not_there : (owner session : ℕ) (keys : List (ℕ × ℕ)) → list_any (is_pair owner session) keys ≡ false → filter (λ key. not (is_pair owner session key)) keys ≡ keys
 filter-not_there owner session [] none = refl
 filter-not_there owner session (x ∷ xs) none =

@@ -27,7 +27,7 @@ row_of key = record { owner = record { 0 = key.0 }; session = record { 0 = key.1
 abbrev pub sessions_of : List (ℕ × ℕ) → ℕ → Sessions
 sessions_of keys next = record { rows = map row_of keys; next = next }
 
--- each session's number was given: it is below the next one
+-- each session's number was used: it is below the next one
 abbrev pub AreGiven : ℕ → List (ℕ × ℕ) → Type 0
 AreGiven next keys = AllByRecursion (λ key. key.1 < next) keys
 
@@ -35,7 +35,7 @@ AreGiven next keys = AllByRecursion (λ key. key.1 < next) keys
 abbrev pub AreNumbers : List (ℕ × ℕ) → Type 0
 AreNumbers keys = AreGiven (2 ^ 64) keys
 
--- the table's pairs: in order, and each of a number that was given
+-- the table's pairs: in order, and each with a number that was used
 pub record AreKept (next : ℕ) (keys : List (ℕ × ℕ)) : Type 0 where
   pub ordered : AreInOrder keys
   pub given : AreGiven next keys

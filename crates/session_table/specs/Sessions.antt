@@ -22,7 +22,7 @@ owns owner session sessions = list_any (is_of owner session) sessions.rows
 abbrev pub rows_of : ConnId → List SessionRow → List SessionRow
 rows_of owner rows = filter (λ row. row.owner.0 == owner.0) rows
 
--- how many sessions a connection may have at once
+-- the most sessions that a connection may have at once
 abbrev pub most_sessions : ℕ
 most_sessions = 64
 
@@ -30,7 +30,7 @@ most_sessions = 64
 abbrev pub last_session : ℕ
 last_session = 18446744073709551615
 
--- whether the owner can open no further session: it has as many as it may have, or no number is left
+-- whether the owner can't open another session: it has as many as it may have, or no number is left
 abbrev pub is_full : ConnId → Sessions → Bool
 is_full owner sessions = nat_le most_sessions (length (rows_of owner sessions.rows)) || nat_le last_session sessions.next
 

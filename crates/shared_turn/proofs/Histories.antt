@@ -1,4 +1,4 @@
--- Histories that begin with others, and places that rise.
+-- Histories that begin with others, and positions that rise.
 use Rattle.std.proofs.Common.{◌≡◌, ◌⊎◌, ℕ, ◌+◌, ◌<◌, ◌≤◌, ◌≢◌, Bool, true, false, nat_le, if◌then◌else◌, List, [], ◌∷◌, ◌++◌, length, refl, sym, ap, ◌∙◌, ⊎_elim, inl, inr, arith, append-nil}
 use Rattle.std.proofs.lemmas.List.{append_assoc}
 use Rattle.std.proofs.lemmas.Bool.Decides.{nat_tests}
@@ -19,14 +19,14 @@ module _ {E : Type 0} where
   head_or d [] = d
   head_or d (x ∷ xs) = x
 
-  -- a history begins with itself, and what it begins with begins others that begin with it
+  -- a history begins with itself, and what it begins with also begins each history that begins with it
   pub starts-self : (log : List E) → StartsWith log log
   starts-self log = ([], sym (append-nil log))
 
   pub starts-more : (log seen more : List E) → StartsWith log seen → StartsWith (log ++ more) seen
   starts-more log seen more starts = (starts.0 ++ more, ap (λ l. l ++ more) starts.1 ∙ append_assoc seen starts.0 more)
 
-  -- of two beginnings of one history the shorter begins the longer
+  -- of two beginnings of one history, the shorter begins the longer
   begins : (xs ys r q : List E) → xs ++ r ≡ ys ++ q → length ys ≤ length xs → StartsWith xs ys
   unfolding tail_of head_or
   begins xs [] r q e few = (xs, refl)
@@ -73,22 +73,22 @@ module _ {E : Type 0} where
   pub length-longer : (xs ys : List E) → (length xs ≤ length (longer xs ys)) × (length ys ≤ length (longer xs ys))
   length-longer xs ys = length-if xs ys (nat_le (length ys) (length xs)) refl
 
--- places stay such where there is room for more
+-- positions stay such if the upper bound grows
 pub places-below : (from below more : ℕ) (places : List ℕ) → ArePlaces from below places → below ≤ more → ArePlaces from more places
 places-below from below more [] are less = omega (arith, are, less)
 places-below from below more (place ∷ places) are less = (are.0, places-below (place + 1) below more places are.1 less)
 
--- places from one on are such from an earlier one on
+-- positions from one bound on are such from an earlier one on
 places-from : (from earlier below : ℕ) (places : List ℕ) → earlier ≤ from → ArePlaces from below places → ArePlaces earlier below places
 places-from from earlier below [] less are = omega (arith, are, less)
 places-from from earlier below (place ∷ places) less are = (omega (arith, are.0, less), are.1)
 
--- a place after all of them is one more
+-- a position after all of them is one more
 pub places-push : (from below : ℕ) (places : List ℕ) → ArePlaces from below places → ArePlaces from (below + 1) (places ++ below ∷ [])
 places-push from below [] are = (are, omega arith)
 places-push from below (place ∷ places) are = (are.0, places-push (place + 1) below places are.1)
 
--- each place is in its bounds
+-- each position is within the bounds
 pub in-bounds : (from below : ℕ) (places : List ℕ) (place : ℕ) → ArePlaces from below places → IsIn place places → (from ≤ place) × (place < below)
 in-bounds from below [] place are is = absurd is
 in-bounds from below (first ∷ places) place are is =
@@ -100,7 +100,7 @@ in-bounds from below (first ∷ places) place are is =
     bound from below [] are = are
     bound from below (first ∷ places) are = let more = bound (first + 1) below places are.1 in omega (arith, more, are.0)
 
--- what is in the places with one more is that one, or was in them
+-- what is among the positions with one more is that one, or was among them
 pub in-push : (places : List ℕ) (last place : ℕ) → IsIn place (places ++ last ∷ []) → IsIn place places ⊎ (place ≡ last)
 in-push [] last place is = ⊎_elim (λ (same : place ≡ last). inr same) (λ (none : ⊥). absurd none) is
 in-push (first ∷ places) last place is =
@@ -117,7 +117,7 @@ in-inserted : (place : ℕ) (places : List ℕ) (x : ℕ) → IsIn x (inserted p
 in-inserted place [] x is = is
 in-inserted place (first ∷ places) x is = inserted-if place first places (nat_le place first) x is (in-inserted place places x)
 
--- what is in two lists of places as one is in one of them
+-- what is in the merged list is in one of the two
 pub in-merged : (places others : List ℕ) (x : ℕ) → IsIn x (merged places others) → IsIn x places ⊎ IsIn x others
 in-merged [] others x is = inr is
 in-merged (place ∷ places) others x is =
@@ -131,14 +131,14 @@ places-if place first from below places true is low high apart are next = (low, 
     less = let most = at-most place first is in omega (arith, most, apart)
 places-if place first from below places false is low high apart are next = (are.0, next (let more = more-than place first is in omega (arith, more)))
 
--- a place that isn't among them yet can be put among them
+-- a position that isn't among them yet can be inserted
 places-inserted : (place from below : ℕ) (places : List ℕ) → from ≤ place → place < below → (IsIn place places → ⊥) → ArePlaces from below places → ArePlaces from below (inserted place places)
 places-inserted place from below [] low high apart are = (low, omega (arith, high))
 places-inserted place from below (first ∷ places) low high apart are =
     places-if place first from below places (nat_le place first) refl low high (λ same. apart (inl same)) are
     (λ more. places-inserted place (first + 1) below places more high (λ there. apart (inr there)) are.1)
 
--- two lists of places with none in common are places as one
+-- two lists of positions with none in common are merged to positions
 pub places-merged : (from below : ℕ) (places others : List ℕ) → ((x : ℕ) → IsIn x places → IsIn x others → ⊥) → ArePlaces from below places → ArePlaces from below others
     → ArePlaces from below (merged places others)
 places-merged from below [] others apart are more = more

@@ -140,7 +140,7 @@ module _ {S B E : Type 0} (meaning : S → B → ℕ → List E → Type 0) (fro
         turn = known.turn;
       }) knows
 
-  -- the value is home where no seat has the turn whose ticket is another's
+  -- the value is in its slot if the seat whose ticket is served doesn't have the turn
   is-home : (s : State (Option S) K) (r : Rule s) (id : ℕ) (v : K) → get_elem? s.views id ≡ some v → v.ticket ≡ Some r.served → v.has_turn ≡ false → IsHome meaning from earlier r.log s.homes s.views
   is-home s r id v at ticket free = ⊎_elim (λ (home : IsHome meaning from earlier r.log s.homes s.views). home)
       (λ (out : IsOut s.homes s.views).
@@ -151,7 +151,7 @@ module _ {S B E : Type 0} (meaning : S → B → ℕ → List E → Type 0) (fro
       absurd (apart.tickets r.served ticket turn.0))
       r.slot
 
-  -- the slot is out where a seat has the turn
+  -- the slot is empty if a seat has the turn
   is-out : (s : State (Option S) K) (r : Rule s) (id : ℕ) (v : K) → get_elem? s.views id ≡ some v → v.has_turn ≡ true → s.homes ≡ none ∷ []
   is-out s r id v at turn = ⊎_elim (λ (home : IsHome meaning from earlier r.log s.homes s.views). absurd (false-true (sym (home.free id v at) ∙ turn))) (λ (out : IsOut s.homes s.views). out.empty) r.slot
 
@@ -290,7 +290,7 @@ module _ {S B E : Type 0} (meaning : S → B → ℕ → List E → Type 0) (fro
         turn = λ has. absurd (free has);
       }) knows
 
-  -- the turn is given on, with the value back in its slot
+  -- the turn is passed on, with the value back in its slot
   pub hands : (slots id : ℕ) (me : M) (value : S) → HasSlot meaning value me → Allows Rule slots id me 2 (λ n. (n + 1) % 2 ^ 64) (handed (step slots 2 1 0 none) me)
   hands slots id me value has s r deep at _ =
       let n : ℕ = get_or s.words 2 0 in
@@ -402,7 +402,7 @@ module _ {S B E : Type 0} (meaning : S → B → ℕ → List E → Type 0) (fro
       new : (u : K) → AreApart (noted v) u
       new u = record { places = λ place mine theirs. mine; tickets = λ ticket is. absurd (none-some ticket is) }
 
-  -- a seat that isn't needed any more knows nothing
+  -- a seat that was joined to another one knows nothing
   spends : (s : State (Option S) K) (r : Rule s) (other : ℕ) (w : K) → get_elem? s.views other ≡ some w → w.ticket ≡ None → w.has_turn ≡ false
       → Rule record { words = s.words; homes = s.homes; views = set s.views other spent }
   spends s r other w at none-yet free =

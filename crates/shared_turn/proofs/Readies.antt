@@ -52,11 +52,11 @@ module _ {S B E : Type 0} (meaning : S → B → ℕ → List E → Type 0) wher
     stands = stands;
   }
 
-  -- a seat with one event more
+  -- a seat with one more event
   abbrev pub with_one : (S → List E) → S → Known B E → Known B E
   with_one newest value known = record known { seen = known.seen ++ newest value; own = known.own ++ length known.seen ∷ [] }
 
-  -- the value is back in the slot, with one event more
+  -- the value is back in the slot, with one more event
   pub recorded-back : (newest : S → List E) (value : S) (event : E) (me old new : M) → IsReady me → me.0.has_turn ≡ true → old ≡ (me.0, (0, Some value) ∷ rest me.1)
       → new ≡ (with_one newest value old.0, old.1) → newest value ≡ event ∷ []
       → ((start : B) → me.0.start ≡ Some start → meaning value start me.0.before (me.0.seen ++ event ∷ [])) → HasSlot meaning value new
@@ -68,7 +68,7 @@ module _ {S B E : Type 0} (meaning : S → B → ℕ → List E → Type 0) wher
         stands = λ start at. subst (λ (l : List E). meaning value start me.0.before (me.0.seen ++ l)) (sym is) (stands start at);
       }
 
-  -- the turn was given on behind one event more
+  -- the turn was passed on after one more event
   pub recorded-ready : (newest : S → List E) (value : S) (event : E) (me old new last : M) → IsReady me → old ≡ (me.0, (0, Some value) ∷ rest me.1)
       → new ≡ (with_one newest value old.0, old.1) → newest value ≡ event ∷ [] → last ≡ without_turn new → IsReady last
   recorded-ready newest value event me old new last ready same next is given =

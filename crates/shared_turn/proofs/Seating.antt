@@ -1,4 +1,4 @@
--- Seats that know what is true go on to, where one of them changes or one more comes.
+-- Seats still know what is true when one of them changes or one more is added.
 use Rattle.std.proofs.Common.{◌≡◌, ◌⊎◌, ℕ, zero, suc, ◌+◌, ◌<◌, ◌≤◌, ◌≢◌, Bool, true, false, List, [], ◌∷◌, ◌++◌, length, set, Option, Some, None, refl, sym, ap, ◌∙◌, subst, ⊎_elim, inl, inr, arith, length-append}
 use mathlib.Core.Option.{some, some-injective, some-ne-none}
 use mathlib.Core.Option as maybe
@@ -11,13 +11,13 @@ use Rattle.shared_turn.specs.Seats.{HasTurn, IsReady}
 use Rattle.shared_turn.proofs.Histories.{in-bounds}
 use Rattle.shared_turn.specs.Rule.{one_if, tickets, spent, AreApart, IsTrue, Knows, IsHome, IsOut}
 
--- the place is there, whatever is put there
+-- the index is there, whatever is put there
 pub set-at : {A : Type 0} (l : List A) (i : ℕ) (a b : A) → get_elem? l i ≡ some a → get_elem? (set l i b) i ≡ some b
 set-at [] i a b e = absurd (some-ne-none a (sym e))
 set-at (x ∷ xs) zero a b e = refl
 set-at (x ∷ xs) (suc i) a b e = set-at xs i a b e
 
--- one thing is at a place
+-- one thing is at an index
 pub at-one : {A : Type 0} (l : List A) (i : ℕ) (a b : A) → get_elem? l i ≡ some a → get_elem? l i ≡ some b → a ≡ b
 at-one l i a b first second = some-injective a b (sym first ∙ second)
 
@@ -53,7 +53,7 @@ module _ {B E : Type 0} where
       (λ (y : (other ≢ id) × (get_elem? views other ≡ some b)). old seat other a b differ x.1 y.1) (at_set views id other w b there))
       (at_set views id seat w a at)
 
-  -- how many tickets there are
+  -- the number of tickets
   pub tickets-set : (views : List (Known B E)) (id : ℕ) (v w : Known B E) → get_elem? views id ≡ some v → tickets (set views id w) + one_if v.ticket ≡ tickets views + one_if w.ticket
   tickets-set [] id v w at = absurd (some-ne-none v (sym at))
   tickets-set (x ∷ xs) zero v w at = let same : one_if x.ticket ≡ one_if v.ticket = ap (λ (k : Known B E). one_if k.ticket) (some-injective x v at) in omega (arith, same)
@@ -76,17 +76,17 @@ module _ {S B E : Type 0} (meaning : S → B → ℕ → List E → Type 0) (fro
   true-of log drawn served v knows start is =
       ⊎_elim (λ (none : v ≡ spent). absurd (none-some start (sym (ap (λ (k : Known B E). k.start) none) ∙ is))) (λ (true-one : IsTrue meaning from earlier log drawn served v). true-one) knows
 
-  -- where a seat has a ticket, it lies between those that are served and those that are drawn
+  -- if a seat has a ticket, it isn't before the one that is served, and was drawn
   pub ticket-of : (log : List E) (drawn served : ℕ) (v : Known B E) → Knows meaning from earlier log drawn served v → (ticket : ℕ) → v.ticket ≡ Some ticket → (served ≤ ticket) × (ticket < drawn)
   ticket-of log drawn served v knows ticket is =
       ⊎_elim (λ (none : v ≡ spent). absurd (none-some ticket (sym (ap (λ (k : Known B E). k.ticket) none) ∙ is))) (λ (known : IsTrue meaning from earlier log drawn served v). known.ticket ticket is) knows
 
-  -- where a seat has the turn, its ticket is served
+  -- if a seat has the turn, its ticket is the one that is served
   pub turn-of : (log : List E) (drawn served : ℕ) (v : Known B E) → Knows meaning from earlier log drawn served v → v.has_turn ≡ true → (v.ticket ≡ Some served) × (v.seen ≡ log)
   turn-of log drawn served v knows is =
       ⊎_elim (λ (none : v ≡ spent). absurd (false-true (sym (ap (λ (k : Known B E). k.has_turn) none) ∙ is))) (λ (known : IsTrue meaning from earlier log drawn served v). known.turn is) knows
 
-  -- each place of a seat is one of the history
+  -- each position of a seat is one in the history
   pub place-of : (log : List E) (drawn served : ℕ) (v : Known B E) → Knows meaning from earlier log drawn served v → (place : ℕ) → IsIn place v.own → place < length log
   place-of log drawn served v knows place is =
       ⊎_elim (λ (none : v ≡ spent). absurd (subst (IsIn place) (ap (λ (k : Known B E). k.own) none) is))
@@ -96,7 +96,7 @@ module _ {S B E : Type 0} (meaning : S → B → ℕ → List E → Type 0) (fro
       below known = let bounds = in-bounds 0 (length v.seen) v.own place known.own is in
           let long : length log ≡ length v.seen + length known.seen.0 = ap length known.seen.1 ∙ length-append v.seen known.seen.0 in omega (arith, bounds.1, long)
 
-  -- the slot stays as it is where a seat changes that doesn't have the turn
+  -- the slot stays as it is if a seat changes that doesn't have the turn
   pub slot-stays : (log : List E) (homes : List (maybe.Option (Option S))) (views : List (Known B E)) (id : ℕ) (v w : Known B E) → get_elem? views id ≡ some v → v.has_turn ≡ false → w.has_turn ≡ false
       → IsHome meaning from earlier log homes views ⊎ IsOut homes views → IsHome meaning from earlier log homes (set views id w) ⊎ IsOut homes (set views id w)
   slot-stays log homes views id v w at old new slot = ⊎_elim (λ home. inl (at-home home)) (λ out. inr (is-out out)) slot

@@ -1,5 +1,5 @@
 -- The rule of the table. Word 0 counts the events of the run, word 1 the tickets that were drawn, and word 2 is the ticket
--- whose turn it is. The value is in slot 0, which is empty while a seat has the turn.
+-- that is served. The value is in slot 0, which is empty while a seat has the turn.
 use Rattle.std.specs.Prelude.{◌≡◌, ◌⊎◌, ℕ, ◌+◌, ◌<◌, ◌≤◌, true, false, List, [], ◌∷◌, length, Option, Some, None}
 use mathlib.Core.Option.{none, some}
 use mathlib.Core.Option as maybe
@@ -8,7 +8,7 @@ use Rattle.atomic_table.specs.Table.{State}
 use Rattle.shared_turn.specs.declared.known.Known.{Known}
 use Rattle.shared_turn.specs.Places.{StartsWith, longer, shorter, ArePlaces, IsIn, merged}
 
--- one where there is a ticket
+-- one if there is a ticket, otherwise zero
 abbrev pub one_if : Option ℕ → ℕ
 one_if None = 0
 one_if (Some ticket) = 1
@@ -22,7 +22,7 @@ module _ {B E : Type 0} where
   abbrev pub noted : Known B E → Known B E
   noted known = record { start = known.start; before = known.before; seen = known.seen; own = []; met = []; met_start = known.start; met_before = known.before; ticket = None; has_turn = false }
 
-  -- a seat that knows also what another does
+  -- a seat that also knows what another one does
   abbrev pub gathered : Known B E → Known B E → Known B E
   gathered known other = record {
     start = known.start;
@@ -40,12 +40,12 @@ module _ {B E : Type 0} where
   abbrev pub spent : Known B E
   spent = record { start = None; before = 0; seen = []; own = []; met = []; met_start = None; met_before = 0; ticket = None; has_turn = false }
 
-  -- how many of the seats have a ticket
+  -- the number of seats that have a ticket
   abbrev pub tickets : List (Known B E) → ℕ
   tickets [] = 0
   tickets (known ∷ others) = one_if known.ticket + tickets others
 
-  -- two seats have no own place in common, and no ticket
+  -- two seats have no own position in common, and no ticket
   pub record AreApart (one other : Known B E) : Type 0 where
     pub places : (place : ℕ) → IsIn place one.own → IsIn place other.own → ⊥
     pub tickets : (ticket : ℕ) → one.ticket ≡ Some ticket → other.ticket ≡ Some ticket → ⊥
@@ -60,8 +60,8 @@ module _ {S B E : Type 0} where
     pub turn : known.has_turn ≡ true
 
 module _ {S B E : Type 0} (meaning : S → B → ℕ → List E → Type 0) (from : B) (earlier : ℕ) where
-  -- What a seat knows that wasn't joined to another: the history begins with what it has seen. Where its turn has come, its
-  -- ticket is the one that is served, and it has seen the whole history.
+  -- What a seat knows that wasn't joined to another one: the history begins with what it has seen. If its turn has
+  -- come, its ticket is the one that is served, and it has seen the whole history.
   pub record IsTrue (log : List E) (drawn served : ℕ) (known : Known B E) : Type 0 where
     pub start : known.start ≡ Some from
     pub before : known.before ≡ earlier

@@ -1,21 +1,22 @@
--- What each step on the table tells: of the step, the seat before, the number found, and the seat after.
+-- What is known after each step on the table: of the step, the seat before, the number found, and the seat after.
 use Rattle.std.specs.Prelude.{◌≡◌, ℕ, true, false, List, [], ◌∷◌, ◌++◌, length, Option, Some, None}
 use Rattle.atomic_table.specs.Table.{Me, Step, rest}
 use Rattle.shared_turn.specs.declared.known.Known.{Known}
 use Rattle.shared_turn.specs.Places.{StartsWith, ArePlaces}
 
 module _ {S B E : Type 0} where
-  -- a ticket was drawn where the number was the one that was expected
+  -- a ticket was drawn if the number was the one that was expected
   pub record drawn (step : Step S) (old : Me S (Known B E)) (found : ℕ) (new : Me S (Known B E)) : Type 0 where
     pub hit : found ≡ step.first → new.0 ≡ record old.0 { ticket = Some found }
     pub miss : (found ≡ step.first → ⊥) → new.0 ≡ old.0
     pub slots : new.1 ≡ old.1
 
-  -- the turn was given on, and the slot back
+  -- the turn was passed on, and the slot given back
   abbrev pub handed : Step S → Me S (Known B E) → ℕ → Me S (Known B E) → Type 0
   handed step old found new = new ≡ ((record old.0 { ticket = None; has_turn = false }), rest old.1)
 
-  -- another seat's run began alike, what it had seen is a beginning of what this one has, and the own places rise
+  -- another seat's run began in the same way, what it had seen is a beginning of what this one has seen, and the
+  -- own positions rise
   pub record compared (step : Step S) (old : Me S (Known B E)) (found : ℕ) (new : Me S (Known B E)) : Type 0 where
     pub is : new ≡ ((record old.0 { met = [] }), old.1)
     pub start : old.0.start ≡ old.0.met_start
@@ -31,7 +32,7 @@ module _ {S B E : Type 0} (meaning : S → B → ℕ → List E → Type 0) wher
     pub is : new ≡ ((record old.0 { seen = old.0.seen ++ between; has_turn = true }), (0, Some value) ∷ old.1)
     pub stands : (start : B) → old.0.start ≡ Some start → meaning value start old.0.before (old.0.seen ++ between)
 
-  -- the turn has come where the number is the seat's ticket
+  -- the turn has come if the number is the seat's ticket
   pub record entered (step : Step (Option S)) (old : Me (Option S) (Known B E)) (found : ℕ) (new : Me (Option S) (Known B E)) : Type 0 where
     pub hit : old.0.ticket ≡ Some found → Turns old new
     pub miss : (old.0.ticket ≡ Some found → ⊥) → new ≡ old

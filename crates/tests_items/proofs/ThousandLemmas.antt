@@ -22,7 +22,7 @@ counted-row : (b : Bool) (row : ℕ × Row) (rows : Rows) (texts : List (List �
 counted-row true row rows texts more same = ap suc same
 counted-row false row rows texts more same = same
 
--- as many rows have a pair as lists of texts have it
+-- as many rows have a pair as there are lists of texts that have it
 counted : (name text : List ℕ) (rows : Rows)
     → length (ids_where (λ row. has_pair name text (attributes_of row)) rows)
     ≡ length (filter (has_texts name text) (map (λ row. texts_of (attributes_of row.1)) rows))
@@ -45,7 +45,7 @@ counted-at (pair ∷ more) rows (suc place) = counted-at more rows place
 
 -- ---- the bound of a search
 
--- so many of the thousand as have the wanted pair at a place, times the number of pairs, bound the steps
+-- the number of items that have the wanted pair at an index, times the number of pairs, bounds the steps
 pub bounded : (wanted : List (List ℕ × AttrValue)) (rows : Rows) (pairs : List (List ℕ × List ℕ)) (old new place most : ℕ)
     → IsThousand rows → texts_of wanted ≡ pairs
     → ((pair : ℕ) → pair < length wanted → new ≤ old + length (slice_index_or (pair_lists wanted rows) pair []) * length wanted)

@@ -9,7 +9,7 @@ use Rattle.item_store.specs.Rows.{Rows, attributes_of}
 abbrev pub texts_at : ℕ → List (List ℕ × List ℕ)
 texts_at i = (codes "group", decimal (i % 10)) ∷ (codes "number", decimal i) ∷ []
 
--- what each of the thousand has
+-- what each of the thousand items has
 unfoldable pub thousand : List (List (List ℕ × List ℕ))
 thousand = map texts_at (range_with_len 0 1000)
 
@@ -17,7 +17,7 @@ thousand = map texts_at (range_with_len 0 1000)
 abbrev pub IsThousand : Rows → Type 0
 IsThousand rows = map (λ row. texts_of (attributes_of row.1)) rows ≡ thousand
 
--- one of the names has the text
+-- whether one of the names has the text
 abbrev pub has_texts : List ℕ → List ℕ → List (List ℕ × List ℕ) → Bool
 has_texts name text pairs = list_any (λ pair. is_name name pair.0 && is_name text pair.1) pairs
 

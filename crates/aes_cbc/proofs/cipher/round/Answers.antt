@@ -2,7 +2,7 @@ use Rattle.std.proofs.Common.{◌++◌, ◌∙◌}
 use Rattle.aes_cbc.specs.Aes.{added, mix_columns, shift_rows, sub_bytes}
 use Rattle.aes_cbc.proofs.cipher.round.Goals as goal
 
--- each column is one call
+-- each column is computed by one call
 pub returns : goal.returns
 unfolding mix_columns shift_rows sub_bytes
 returns c =

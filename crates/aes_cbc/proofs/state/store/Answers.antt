@@ -7,7 +7,7 @@ returns-clause-front c =
     take_written c.args.at _ _ _ _ _ _ _ _ _ c.store_word.ensures.front c.store_word-2.ensures.front
     c.store_word-3.ensures.front c.store_word-4.ensures.front
 
--- each word leaves what stands behind it
+-- each word leaves what comes after it unchanged
 pub returns-clause-behind : goal.returns-clause-behind
 returns-clause-behind c =
     let at = c.args.at in

@@ -4,7 +4,7 @@ use Rattle.attribute_match.specs.Match.{is_equal, is_same_pair, text_of}
 use Rattle.attribute_match.proofs.MatchLemmas.{alike-more, unlike-at, alike-all, equal-by, unequal-by}
 use Rattle.attribute_match.proofs.matching.is_equal.Goals as goal
 
--- the lists differ at this place
+-- the lists differ at this position
 pub returns-then-not-is_same_pair-clause-value : goal.returns-then-not-is_same_pair-clause-value
 returns-then-not-is_same_pair-clause-value c =
     let off = unlike-at is_same_pair (λ (p : List ℕ × AttrValue). (p.0, text_of p.1)) c.as_slice-pairs.result.now c.as_slice-others.result.now c.loop-place.place c.index-pairs-place.result c.index-others-place.result c.loop-place-test.true (omega (arith, c.loop-place-test.true, c.if-len.false, c.len.ensures.value, c.len-2.ensures.value, ap length c.as_slice-pairs.ensures.value, ap length c.as_slice-others.ensures.value)) c.index-pairs-place.is c.index-others-place.is (sym c.if-not-is_same_pair.true ∙ c.is_same_pair.ensures) in

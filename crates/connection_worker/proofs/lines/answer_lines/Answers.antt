@@ -3,7 +3,7 @@ use Rattle.connection_worker.proofs.LineLemmas.{answers-more, answers-failed}
 use Rattle.connection_worker.proofs.HandshakeLemmas.{rose-later}
 use Rattle.connection_worker.proofs.lines.answer_lines.Goals as goal
 
--- the answer to a line wasn't written whole
+-- the answer to a line wasn't written completely
 pub returns-in-Err : goal.returns-in-Err
 returns-in-Err g c =
     let wrote = c.in-Err.ensures in

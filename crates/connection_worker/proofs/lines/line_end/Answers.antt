@@ -2,11 +2,11 @@ use Rattle.std.proofs.Common.{arith}
 use Rattle.connection_worker.proofs.LineLemmas.{ends-here, ends-nowhere}
 use Rattle.connection_worker.proofs.lines.line_end.Goals as goal
 
--- CR LF stands before and at this place
+-- CR LF is just before and at this position
 pub returns-then-bytes-place-eq10 : goal.returns-then-bytes-place-eq10
 returns-then-bytes-place-eq10 c =
     ends-here c.args.bytes.now c.loop-place.place (omega arith) c.loop-place-test.true c.if-bytes-place-eq13.true c.if-bytes-place-eq10.true c.loop-place.invariant
 
--- it stands nowhere
+-- there is no CR LF
 pub returns : goal.returns
 returns c = ends-nowhere c.args.bytes.now c.loop-place.place (omega (arith, c.loop-place-test.false)) c.loop-place.invariant

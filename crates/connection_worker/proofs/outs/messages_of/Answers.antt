@@ -3,7 +3,7 @@ use Rattle.std.proofs.lemmas.List.{take_more}
 use Rattle.connection_worker.proofs.SendingLemmas.{spells-push}
 use Rattle.connection_worker.proofs.outs.messages_of.Goals as goal
 
--- one more output stands as its message
+-- one more output is written as its message
 pub loop-out-preserved : goal.loop-out-preserved
 loop-out-preserved c =
     rw (c.in-Ok-joined.ensures, take_more c.args.outs.now c.loop-out.out-index c.out-item.result c.loop-out-test.true, ← c.out-item.is)

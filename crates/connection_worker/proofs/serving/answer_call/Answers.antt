@@ -17,13 +17,13 @@ returns-in-Err g c =
     let new = world g.D.Desk.told g.D.Desk.has_seen g.C.Clock.coming c.ask.new.desk c.ask.new.clock c.ask.new.salts in
     unasked (parts_of c.args.message.now) c.in-Ok.request old new c.args.serials.now _ c.in-Err.end c.in-Ok.ensures c.requires.idle c.in-Err.ensures
 
--- what is owed for it waits
+-- the output for it waits
 pub give-requires-clause-owed : goal.give-requires-clause-owed
 give-requires-clause-owed g c =
     let asks = c.in_default-ask.ensures in
     arrived-owed (g.D.Desk.told c.args.desk.now) (g.D.Desk.told c.ask.new.desk) asks.0 c.requires.idle asks.2.calls.same.conn asks.2.calls.state
 
--- and was given
+-- and was taken
 pub returns : goal.returns
 returns g c =
     let told = g.D.Desk.told in

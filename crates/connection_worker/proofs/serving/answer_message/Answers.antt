@@ -4,7 +4,7 @@ use Rattle.connection_worker.specs.Serving.{world}
 use Rattle.connection_worker.proofs.MessageLemmas.{answers-other, answers-call, is-one, is-not}
 use Rattle.connection_worker.proofs.serving.answer_message.Goals as goal
 
--- it is no call
+-- it isn't a call
 pub returns-then-message-ne1 : goal.returns-then-message-ne1
 returns-then-message-ne1 g c = answers-other (parts_of c.args.message.now) _ c.args.serials.now _ c.requires.idle (is-not c.args.message.now.kind c.if-message-ne1.true)
 

@@ -8,14 +8,14 @@ use Rattle.connection_worker.proofs.serving.answer_messages.Goals as goal
 pub loop-init : goal.loop-init
 loop-init g c = (refl, going-none c.args.framer.now.most c.args.framer.now.rest _ c.args.serials.now _ c.requires.idle)
 
--- the desk stays alone, and nothing is owed between two messages
+-- the desk stays alone, and nothing waits between two messages
 pub answer_message-requires-clause-alone : goal.answer_message-requires-clause-alone
 answer_message-requires-clause-alone g c = c.loop.invariant.1.answered.recorded.calls.same.alone ∙ c.requires.alone
 
 pub answer_message-requires-clause-idle : goal.answer_message-requires-clause-idle
 answer_message-requires-clause-idle g c = c.loop.invariant.1.answered.idle
 
--- no further message stands whole
+-- no further message is complete
 pub returns-in-Ok-None : goal.returns-in-Ok-None
 returns-in-Ok-None g c =
     let waits = rw c.in-Ok-None.field-0-is at c.in-Ok-None.ensures.waits in

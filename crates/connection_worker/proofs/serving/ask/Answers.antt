@@ -15,7 +15,7 @@ returns-in-Ok g c =
           (λ i. record { key = c.next.ensures.key i; stream = c.next.ensures.stream i; place = c.next.ensures.place i }),
     )
 
--- all events that can be counted were
+-- all events that can be counted were recorded
 pub returns-in-Err-EventsSpent : goal.returns-in-Err-EventsSpent
 returns-in-Err-EventsSpent g c =
     let desk = g.D.Desk in

@@ -7,14 +7,14 @@ use Rattle.connection_worker.proofs.serving.serve_by.Goals as goal
 pub loop-init : goal.loop-init
 loop-init g c = rw c.new-serials.ensures (amid-none c.args.framer _ _ _ c.requires.idle)
 
--- the desk stays alone, and nothing is owed between two messages
+-- the desk stays alone, and nothing waits between two messages
 pub answer_messages-answered-requires-clause-alone : goal.answer_messages-answered-requires-clause-alone
 answer_messages-answered-requires-clause-alone g c = c.loop.invariant.going.answered.recorded.calls.same.alone ∙ c.requires.alone
 
 pub answer_messages-answered-requires-clause-idle : goal.answer_messages-answered-requires-clause-idle
 answer_messages-answered-requires-clause-idle g c = c.loop.invariant.going.answered.idle
 
--- the serving of the messages ended all
+-- serving the messages ended the whole
 pub returns-in-Err : goal.returns-in-Err
 returns-in-Err g c =
     let told = g.D.Desk.told in
@@ -27,7 +27,7 @@ returns-in-Err g c =
     (output_of sink.written sink.faults sink.is_steady c.args.output.now) (output_of sink.written sink.faults sink.is_steady c.loop.output)
     (output_of sink.written sink.faults sink.is_steady c.answer_messages-answered.new.output) c.in-Err.end c.requires.most c.loop.invariant c.in-Err.ensures
 
--- no more bytes came
+-- no more bytes were read
 pub returns-in-Err-feed_more : goal.returns-in-Err-feed_more
 returns-in-Err-feed_more g c =
     let told = g.D.Desk.told in
@@ -48,7 +48,7 @@ returns-in-Err-feed_more g c =
     (through c.args.framer from now c.loop.framer c.answer_messages-answered.new.framer old mid new c.loop.serials c.answer_messages-answered.new.serials begun o to c.loop.invariant served.0 served.1 served.2)
     c.in-Err-feed_more.ensures
 
--- more came
+-- more bytes were read
 pub loop-preserved : goal.loop-preserved
 loop-preserved g c =
     let told = g.D.Desk.told in

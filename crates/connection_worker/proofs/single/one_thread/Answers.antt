@@ -16,7 +16,7 @@ returns-in-Err g c =
     (world desk.told desk.has_seen g.C.Clock.coming c.args.desk.now c.args.clock.now c.args.salts.now) (place desk.told desk.has_seen c.gone.new.self) c.in-Err.end c.in-Err.ensures
     (goes-alone (place desk.told desk.has_seen c.args.desk.now) (place desk.told desk.has_seen c.gone.new.self) c.requires.alone (joined-idle _ c.requires.joined) c.gone.ensures)
 
--- nothing is owed to a connection that has just joined
+-- nothing waits for a connection that has just joined
 pub serve-end-requires-clause-idle : goal.serve-end-requires-clause-idle
 serve-end-requires-clause-idle g c = joined-idle _ c.requires.joined
 

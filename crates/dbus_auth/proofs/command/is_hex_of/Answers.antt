@@ -2,7 +2,7 @@ use Rattle.std.proofs.Common.{sym, ◌∙◌, arith, length-take}
 use Rattle.dbus_auth.proofs.HexTexts.{is_hex_of-not_ok}
 use Rattle.dbus_auth.proofs.command.is_hex_of.Goals as goal
 
--- nothing was read into a room as long as the awaited bytes
+-- nothing was decoded into a room as long as the wanted bytes
 pub returns-else-is_ok : goal.returns-else-is_ok
 returns-else-is_ok c =
     c.if-is_ok.false

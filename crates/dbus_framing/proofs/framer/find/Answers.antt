@@ -1,4 +1,4 @@
--- A message further, and a message that is answered.
+-- One message further on, and a message that is returned.
 use Rattle.std.proofs.Common.{refl, subst, arith}
 use Rattle.dbus_framing.specs.declared.framer.Look.{Look}
 use Rattle.dbus_framing.specs.Looks.{Sees, SeesMessage}

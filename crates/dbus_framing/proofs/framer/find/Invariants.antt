@@ -1,4 +1,4 @@
--- What was taken is messages of ignored types.
+-- What was consumed is messages of ignored types.
 use Rattle.std.proofs.Common.{◌≡◌, ◌≤◌, [], length, drop, None}
 use Rattle.dbus_framing.specs.Streams.{Cut}
 use Rattle.dbus_framing.specs.Framers.{IsKnown, broken_in}

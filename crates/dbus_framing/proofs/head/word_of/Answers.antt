@@ -1,4 +1,4 @@
--- The four bytes, in the one order or in the other.
+-- The four bytes, in one order or the other.
 use Rattle.std.proofs.Common.{rules}
 use Rattle.dbus_marshal.specs.Wire.{number_from}
 use Rattle.dbus_framing.proofs.head.word_of.Goals as goal

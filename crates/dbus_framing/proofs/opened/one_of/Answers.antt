@@ -1,4 +1,4 @@
--- Where there isn't one value, none is taken out.
+-- If there isn't exactly one value, none is returned.
 use Rattle.std.proofs.Common.{◌≡◌, List, [], ◌∷◌, length, refl, None, arith}
 use Rattle.dbus_types.specs.declared.value.Value.{Value}
 use Rattle.dbus_types.specs.ValueViews.{values_of}

@@ -1,4 +1,4 @@
--- An array's elements are what its vector holds.
+-- An array's elements are what its vector contains.
 use Rattle.std.proofs.Common.{sym, ap, ◌∙◌}
 use Rattle.dbus_types.specs.Values.{Val}
 use Rattle.dbus_types.specs.declared.value.TypedArray.{TypedArray}

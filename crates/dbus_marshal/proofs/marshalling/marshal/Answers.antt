@@ -1,4 +1,4 @@
--- What is written behind nothing is the spelling from the place on.
+-- What is written into an empty vector is the spelling from the position on.
 use Rattle.std.proofs.Common.{false, true}
 use Rattle.std.proofs.lemmas.Result.{err_from_is_err_and}
 use Rattle.dbus_types.specs.ValueViews.{values_of}

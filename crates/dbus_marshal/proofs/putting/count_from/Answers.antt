@@ -1,4 +1,4 @@
--- The counter stands for zeros up to the place, and for the values after them.
+-- The counter stands for zeros up to the position, and for the values after them.
 use Rattle.std.proofs.Common.{ℕ, List, replicate, subst}
 use Rattle.dbus_types.specs.declared.endian.Endian.TheVariants.{Little}
 use Rattle.dbus_marshal.specs.Spelling.{all_spelled}

@@ -1,4 +1,4 @@
--- All bytes are zero exactly where those that are left are.
+-- All bytes are zero exactly if those that are left are.
 use Rattle.std.proofs.Common.{◌≡◌, length}
 use Rattle.dbus_marshal.specs.Reading.{are_zero}
 use Rattle.dbus_marshal.proofs.reading.is_zero.Given as goal

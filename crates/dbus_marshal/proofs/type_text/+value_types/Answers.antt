@@ -1,4 +1,4 @@
--- The texts of the types of a struct's fields lie between its brackets.
+-- The texts of the types of a struct's fields are between its brackets.
 use Rattle.std.proofs.Common.{List, ◌++◌, sym, ap, ◌∙◌}
 use Rattle.dbus_types.specs.Types.{Ty, text_of, texts_of}
 use Rattle.dbus_types.specs.Values.{Val, ty_of, tys_of}

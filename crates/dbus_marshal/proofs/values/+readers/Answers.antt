@@ -1,4 +1,4 @@
--- What the readers answer is what reading gives.
+-- What the readers return is the result of reading.
 use Rattle.std.proofs.Common.{List, Vec, Global, sym, ap, ◌∙◌}
 use Rattle.std.proofs.lemmas.Bool.{eqb-true, eqb-false}
 use Rattle.std.proofs.lemmas.List.{nil_from_length}

@@ -1,4 +1,4 @@
--- What was read is spelled so, and the other way.
+-- Values are read exactly if the bytes spell them.
 use Rattle.dbus_marshal.proofs.UnmarshalLaws.{answer_found, answer_only, answer_few, answer_held, answer_types, answer_fits, types_same}
 use Rattle.dbus_marshal.proofs.values.unmarshal.Goals as goal
 

@@ -1,4 +1,4 @@
--- What is written, and what the values that are left spell behind it, is what all spell; no written value has an array
+-- What is written, and what the values that are left spell after it, is what all spell; no written value has an array
 -- that is too long.
 use Rattle.std.proofs.Common.{◌≡◌, ◌++◌, drop, length}
 use Rattle.dbus_types.specs.Views.{type_of, types_of}

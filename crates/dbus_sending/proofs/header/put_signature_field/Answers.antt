@@ -1,4 +1,4 @@
--- A signature that is there is a field.
+-- A signature that isn't empty is a field.
 use Rattle.std.proofs.Common.{ℕ, List, [], ◌∷◌, OnOk, ap, subst, ◌∙◌}
 use Rattle.dbus_types.specs.declared.complete_type.BasicType.TheVariants as basics
 use Rattle.dbus_types.specs.Values.{Val}

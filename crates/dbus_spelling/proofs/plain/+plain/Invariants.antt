@@ -1,4 +1,4 @@
--- What is made, and what the values that are left spell behind it, is what all spell.
+-- What is made, and what the values that are left spell after it, is what all spell.
 use Rattle.std.proofs.Common.{◌≡◌, ◌++◌, drop, length}
 use Rattle.dbus_types.specs.Views.{type_of, types_of}
 use Rattle.dbus_types.specs.ValueViews.{each_as, all_as}

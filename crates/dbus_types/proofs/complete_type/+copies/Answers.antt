@@ -1,4 +1,4 @@
--- Each copy stands for the type that it is of.
+-- Each copy stands for the type that was copied.
 use Rattle.std.proofs.Common.{ap, sym, ◌∙◌, take_all}
 use Rattle.dbus_types.specs.Types.{struct}
 use Rattle.dbus_types.specs.Views.{type_of, types_of}

@@ -1,4 +1,4 @@
--- Each turn takes one struct of one field away.
+-- Each turn removes one struct of one field.
 use Rattle.std.proofs.Common.{◌≡◌}
 use Rattle.dbus_types.specs.Views.{type_of}
 use Rattle.dbus_types.specs.ValueViews.{core_of}

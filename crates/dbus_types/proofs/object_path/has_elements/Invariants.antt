@@ -1,4 +1,4 @@
--- What is left, behind what was read, are elements exactly where all of it is.
+-- What is left, after what was read, are elements exactly if all of it is.
 use Rattle.std.proofs.Common.{◌≡◌, length, false}
 use Rattle.dbus_types.specs.Paths.{are_elements}
 use Rattle.dbus_types.proofs.object_path.has_elements.Given as goal

@@ -1,4 +1,4 @@
--- What the readers answer is what reading gives.
+-- What the readers return is the result of reading.
 use Rattle.std.proofs.Common.{List, [], ◌∷◌, ◌++◌, sym, ap, ◌∙◌, arith}
 use Rattle.std.proofs.lemmas.Result.{err_from_is_err_and}
 use Rattle.dbus_types.specs.declared.complete_type.CompleteType.{CompleteType}

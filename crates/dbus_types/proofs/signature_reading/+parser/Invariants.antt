@@ -1,4 +1,4 @@
--- Each reader hands on fewer codes, or as many to a reader of a lower rank.
+-- Each reader passes on fewer codes, or as many to a reader of a lower rank.
 use Rattle.std.proofs.Common.{◌≡◌, ◌+◌, ◌-◌, ◌*◌, ◌≤◌, length}
 use Rattle.dbus_types.specs.Signatures.{type_at, fields_by, with_front}
 use Rattle.dbus_types.specs.Views.{types_of}

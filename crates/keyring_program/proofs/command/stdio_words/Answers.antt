@@ -4,7 +4,7 @@ use Rattle.keyring_program.specs.Command.{is_plain}
 use Rattle.keyring_program.proofs.CommandLemmas.{three_words, no_command}
 use Rattle.keyring_program.proofs.command.stdio_words.Goals as goal
 
--- the third word is a number
+-- the third argument is a number
 pub returns-in-Some : goal.returns-in-Some
 returns-in-Some c =
     let three = three_words c.args.words.now c.command-item.result c.folder-item.result c.user-item.result (omega arith) c.command-item.is c.folder-item.is c.user-item.is in

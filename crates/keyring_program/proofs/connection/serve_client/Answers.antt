@@ -17,7 +17,7 @@ use Rattle.keyring_program.specs.ServerNumber.{guid}
 use Rattle.keyring_program.proofs.ServeLemmas.{first-connection, serves, serves-none}
 use Rattle.keyring_program.proofs.connection.serve_client.Goals as goal
 
--- the desk stands over a new service, which its connection joined
+-- the desk is over a new service, which its connection joined
 pub returns : goal.returns
 returns g c =
     let desk = c.in-Ok.desk in

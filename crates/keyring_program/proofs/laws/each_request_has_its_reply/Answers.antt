@@ -5,7 +5,7 @@ use Rattle.connection_worker.specs.Written.{spelled_behind}
 use Rattle.keyring_program.specs.Events.{the_connection, joined}
 use Rattle.keyring_program.proofs.laws.each_request_has_its_reply.Goals as goal
 
--- the service behind the joining, as a desk tells it
+-- the service after the joining, as a desk sees it
 told : Told
 told = record { conn = the_connection; state = joined; count = 1; is_alone = true; is_steady = true; is_waiting = false }
 

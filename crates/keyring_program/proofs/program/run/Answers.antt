@@ -5,7 +5,7 @@ use Rattle.keyring_program.proofs.CompleteLemmas.{complete, never-usage}
 use Rattle.keyring_program.proofs.ServeLemmas.{serves-none}
 use Rattle.keyring_program.proofs.program.run.Goals as goal
 
--- the words are no command
+-- the arguments are invalid
 pub returns-in_default-clause-opened : goal.returns-in_default-clause-opened
 returns-in_default-clause-opened g c folder uid images words = absurd (c.in_default.ensures uid words.is)
 

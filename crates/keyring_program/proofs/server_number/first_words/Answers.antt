@@ -3,7 +3,7 @@ use Rattle.rand_chacha.specs.ChaCha.{key_of}
 use Rattle.connection_worker.specs.Salts.{Salting, word_of, words_at}
 use Rattle.keyring_program.proofs.server_number.first_words.Goals as goal
 
--- the cells of two words are the words
+-- the bytes of two words are the words
 cells-of : (key : List ℕ) (stream place : ℕ) (cells : List ℕ) → cells ≡ words_at key stream place
     → slice_index_or cells 0 0 ∷ slice_index_or cells 1 0 ∷ slice_index_or cells 2 0 ∷ slice_index_or cells 3 0
     ∷ slice_index_or cells 4 0 ∷ slice_index_or cells 5 0 ∷ slice_index_or cells 6 0 ∷ slice_index_or cells 7 0 ∷ [] ≡ words_at key stream place

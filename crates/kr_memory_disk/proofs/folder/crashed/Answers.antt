@@ -6,7 +6,7 @@ use Rattle.kr_memory_disk.proofs.folder.crashed.Goals as goal
 pub loop-name-init : goal.loop-name-init
 loop-name-init c = (IsPicked-none _ c.args.choice, IsCrashed-none _, refl)
 
--- one slot more
+-- one more slot
 pub loop-name-preserved : goal.loop-name-preserved
 loop-name-preserved c =
     let slot : List ℕ × SlotState = (c.in-Some.name, c.in-Some.slot) in

@@ -5,7 +5,7 @@ use Rattle.kr_memory_disk.specs.Left.{LieAt}
 use Rattle.kr_memory_disk.proofs.LeftLemmas.{LieBefore, LieBefore-more, LieBefore-all}
 use Rattle.kr_memory_disk.proofs.left.places_left.Goals as goal
 
--- one call more
+-- one more call
 pub loop-number-preserved : goal.loop-number-preserved
 loop-number-preserved c =
     let call = c.index-calls-number.result in

@@ -6,7 +6,7 @@ use Rattle.kr_memory_disk.proofs.place.standing_of.Goals as goal
 pub loop-number-init : goal.loop-number-init
 loop-number-init c = StandsBefore-none c.args.calls.now
 
--- one call more
+-- one more call
 pub loop-number-preserved : goal.loop-number-preserved
 loop-number-preserved c =
     let call = c.index-calls-number.result in

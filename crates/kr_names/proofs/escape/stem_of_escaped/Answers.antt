@@ -5,7 +5,7 @@ use Rattle.kr_names.specs.Escape.{escaped, unescaped}
 use Rattle.kr_names.proofs.EscapeLemmas.{read_back, not_refused}
 use Rattle.kr_names.proofs.escape.stem_of_escaped.Goals as goal
 
--- at each exit the stem of which the text were the spelling would have been found
+-- at each exit a stem that the text spells would have been found
 pub returns-in_default : goal.returns-in_default
 returns-in_default c = λ stem is.
     let found = read_back stem c.args.text.now c.in_ok-unescape.field-0.items (c.in_ok-unescape.ensures ∙ ap unescaped c.as_bytes.ensures.value) is in

@@ -4,7 +4,7 @@ use Rattle.kr_names.proofs.EscapeLemmas.{unescaped_other, unescaped_short, unesc
 use Rattle.kr_names.proofs.escape.unescape.Goals as goal
 use Rattle.kr_names.proofs.escape.unescape.Goals.{else-text-place-eq95-via-then-text-place-eq95+else-text-place-gt2, else-text-place-eq95-via-else-text-place-eq95}
 
--- the byte begins no escape, or too little stands behind it
+-- the byte begins no escape, or there is too little after it
 pub loop-place-preserved : goal.loop-place-preserved
 loop-place-preserved c =
     let text = c.args.text.now in

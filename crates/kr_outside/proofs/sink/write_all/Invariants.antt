@@ -2,7 +2,7 @@ use Rattle.std.proofs.Common.{length}
 use Rattle.kr_outside.proofs.WrittenLemmas.{WroteAllBut}
 use Rattle.kr_outside.proofs.sink.write_all.Given as goal
 
--- so far a front of the piece was written, and `rest` is what stands behind it
+-- so far a prefix of the piece was written, and `rest` is what comes after it
 abbrev pub invariant-loop-rest : goal.invariant-loop-rest
 invariant-loop-rest g l =
     let sink = g.O.Sink in

@@ -7,7 +7,7 @@ pub returns-in-Some-ask_to : goal.returns-in-Some-ask_to
 returns-in-Some-ask_to c =
     found-first c.args.agent c.loop-row.above c.args.rows.now.entries c.in-Some.row.now c.in-Some-ask_to.ask c.requires.numbered (sym c.in-Some.ensures) (sym c.ask_to.ensures ∙ c.in-Some-ask_to.is) ∙ c.loop-row.invariant
 
--- it isn't, so the search goes on above it
+-- it isn't, so the search continues above it
 pub loop-row-preserved : goal.loop-row-preserved
 loop-row-preserved c =
     found-later c.args.agent c.loop-row.above c.args.rows.now.entries c.in-Some.row.now c.requires.numbered c.requires.rising (sym c.in-Some.ensures) (sym c.ask_to.ensures ∙ c.in_default-ask_to.is) ∙ c.loop-row.invariant

@@ -6,7 +6,7 @@ use Rattle.prompt_state.proofs.table.take_rows.Goals as goal
 pub first_of-requires : goal.first_of-requires
 first_of-requires c = pairs-below (2 ^ 64) (values_of c.loop-number.rows.entries) c.loop-number.pairs.keys c.loop-number.invariant.given c.loop-number.invariant.indexed
 
--- one of the owner's goes, and the others stay
+-- one of the owner's is removed, and the others stay
 pub loop-number-preserved : goal.loop-number-preserved
 loop-number-preserved c =
     let taken = c.drop_row.ensures.taken in

@@ -2,7 +2,7 @@ use Rattle.std.proofs.Common.{◌∙◌, sym, ap, filter, not, ◌==◌}
 use Rattle.session_table.proofs.KeyLemmas.{no_others, others_stay, fewer, given_stay}
 use Rattle.session_table.proofs.keys.take_all.Goals as goal
 
--- one of the owner's goes, and the others stay
+-- one of the owner's is removed, and the others stay
 pub loop-session-preserved : goal.loop-session-preserved
 loop-session-preserved c = record {
   others = ap (filter (λ key. not (key.0 == c.args.owner))) c.take.ensures.others ∙ others_stay c.args.owner c.in-Some.session c.loop-session.keys.keys ∙ c.loop-session.invariant.others;

@@ -1,4 +1,4 @@
--- What was found behind the bytes that messages took.
+-- What was found after the bytes that messages consumed.
 use Rattle.std.proofs.Common.{ap, ◌∙◌, drop, arith, length-drop}
 use Rattle.dbus_framing.specs.Framers.{Framing}
 use Rattle.dbus_framing.proofs.Fronts.{behind_found, kept_broken, kept_waiting, refused_again, refused_now, waits_now, not_broken, unbroken}

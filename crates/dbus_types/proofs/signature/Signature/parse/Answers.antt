@@ -1,4 +1,4 @@
--- A text that types spell is read as they are, so no fault of it can come.
+-- A text that types spell is read as these types, so it can't be refused with a fault.
 use Rattle.std.proofs.Common.{sym, ◌∙◌, Result, subst}
 use Rattle.std.proofs.lemmas.Result.{err_from_is_err_and}
 use Rattle.dbus_types.specs.declared.signature.SignatureFault.{SignatureFault}

@@ -1,4 +1,4 @@
--- A struct's fields are what its vector or array holds.
+-- A struct's fields are what its vector or array contains.
 use Rattle.std.proofs.Common.{sym, ap, ◌∙◌, Vec, Global}
 use Rattle.dbus_types.specs.declared.value.Value.{Value}
 use Rattle.dbus_types.specs.ValueViews.{is_struct, if_not_two}

@@ -1,4 +1,4 @@
--- The fields that were given are those that the new value has.
+-- The given fields are those of the new value.
 use Rattle.std.proofs.Common.{◌≡◌, List, [], ◌∷◌, rules, refl, sym, ap, ◌∙◌, Vec, Global, arith}
 use Rattle.dbus_types.specs.declared.value.Value.{Value}
 use Rattle.dbus_types.specs.ValueViews.{if_not_two}

@@ -4,7 +4,7 @@ use Rattle.key_derivation.specs.Kdf.{vector_of}
 use Rattle.key_derivation.proofs.KdfLemmas.{length-hashed}
 use Rattle.key_derivation.proofs.derived.Derived.vector.Goals as goal
 
--- behind the first half stands no more than the second
+-- after the first half comes the second and no more
 pub returns : goal.returns
 returns c =
     let from = c.self.inside in

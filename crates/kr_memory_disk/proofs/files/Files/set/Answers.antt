@@ -6,11 +6,11 @@ use Rattle.kr_memory_disk.specs.Files.{image_in, HasDistinctNames}
 use Rattle.kr_memory_disk.proofs.FileLemmas.{image_in_others, image_in_others-other, image_in-push, image_in-push_other, distinct_others, distinct_push}
 use Rattle.kr_memory_disk.proofs.files.Files.set.Goals as goal
 
--- the files of other names, behind the room that was made
+-- the files of other names, after room was made
 abbrev others : List ℕ → List MemoryFile → List MemoryFile
 others name files = filter (λ file. not (pointwise nat_eq file.name name)) files
 
--- the file of this name is taken out, and one is added
+-- the file of this name is removed, and one is added
 pub invariant_of-self-in-Some : goal.invariant_of-self-in-Some
 invariant_of-self-in-Some c =
     let left : c.take_out.new.files.items ≡ others c.args.name c.self.inside.files.items = c.take_out.ensures.others ∙ ap (λ (f : List MemoryFile). others c.args.name f) c.in_ok-reserve.ensures.items in

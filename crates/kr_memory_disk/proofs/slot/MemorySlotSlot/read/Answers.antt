@@ -7,7 +7,7 @@ use Rattle.kr_memory_disk.specs.Slot.{slot_moment, slot_left_since, slot_may_lea
 use Rattle.kr_memory_disk.proofs.SlotLemmas.{noted_time, answered_time}
 use Rattle.kr_memory_disk.proofs.slot.MemorySlotSlot.read.Goals as goal
 
--- the call is recorded, and then its answer is kept
+-- the call is recorded, and then its result is kept
 pub returns-clause-time : goal.returns-clause-time
 returns-clause-time c =
     let answer : Result Seen refused.Failed = Ok c.match-image.seen in

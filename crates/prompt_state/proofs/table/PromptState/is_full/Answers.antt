@@ -10,6 +10,6 @@ count_of-requires c =
     let kept = c.self.invariant in
     pairs-below (2 ^ 64) (values_of c.self.inside.rows.entries) c.self.inside.owned.keys (given-wide c.self.inside.next (values_of c.self.inside.rows.entries) kept.sound.numbered kept.sound.given) kept.indexed
 
--- a count of pairs is one of rows
+-- a count of pairs is a count of rows
 pub returns-else-self : goal.returns-else-self
 returns-else-self c = rw (← c.self.view_is, ← own-count c.args.owner (values_of c.self.inside.rows.entries) c.self.inside.owned.keys c.self.invariant.indexed, ← c.count_of.ensures) (grind (arith, nat_tests))

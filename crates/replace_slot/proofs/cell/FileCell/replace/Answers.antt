@@ -51,7 +51,7 @@ returns-in-Err-publish-clause-any_moment g c = rw (← c.self.view_is) (λ was.
     (c.prepare.ensures.any_moment was)
     (c.publish.ensures.any_moment (old_image c.self.inside.file) c.args.image mid (λ left m. only left (c.prepare.ensures.crash was left m)) staged))
 
--- both steps that prepare the file had succeeded
+-- both steps that prepare the file have succeeded
 pub returns-in-Err-publish-clause-staged : goal.returns-in-Err-publish-clause-staged
 returns-in-Err-publish-clause-staged g c = rw (← c.self.view_is) (λ was _.
     let mid = c.prepare.ensures.honest ∙ was in

@@ -3,7 +3,7 @@ use Rattle.replace_slot.specs.Cell.{IsKnown, longest_of}
 use Rattle.replace_slot.proofs.FoundLemmas.{found_alone}
 use Rattle.replace_slot.proofs.cell.FileCell.resolve.Goals as goal
 
--- the image that was read is the one that is left
+-- the image that was read is the only one that a crash leaves
 pub invariant_of-self : goal.invariant_of-self
 invariant_of-self g c honest =
     let was = sym c.settle.ensures.honest ∙ honest in
@@ -16,7 +16,7 @@ invariant_of-self g c honest =
 pub returns-in-Ok-clause-crash : goal.returns-in-Ok-clause-crash
 returns-in-Ok-clause-crash g c honest = invariant_of-self g c honest
 
--- the answer of the read decides
+-- the result of the read decides
 pub returns-in-Ok-clause-by_read : goal.returns-in-Ok-clause-by_read
 returns-in-Ok-clause-by_read g c = rw (← c.self.view_is) (record {
   answer = c.in-Ok.seen;

@@ -3,7 +3,7 @@ use Rattle.session_table.proofs.KeyLemmas.{given_stay, given_append, given_longe
 use Rattle.session_table.proofs.RowLemmas.{rows_added}
 use Rattle.session_table.proofs.table.SessionTable.open.Goals as goal
 
--- the new pair is of the number that was next, and all others are below
+-- the new pair has the number that was next, and all others are below
 pub invariant_of-self-2 : goal.invariant_of-self-2
 invariant_of-self-2 c = record {
   ordered = c.add.ensures.ordered;
