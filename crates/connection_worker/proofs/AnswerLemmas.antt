@@ -15,7 +15,7 @@ use Rattle.service_machine.specs.declared.event.Event.TheVariants as event
 use Rattle.service_machine.specs.Replay.{replay}
 use Rattle.service_desk.specs.Places.{Told, Place}
 use Rattle.service_desk.proofs.RecordLemmas.{own-state}
-use Rattle.service_machine.specs.Single.{Asked, arrival, taking}
+use Rattle.service_machine.specs.Single.{TimedRequest, arrival, taking}
 use Rattle.connection_worker.specs.Serving.{IsOwed, owed, HasGiven}
 use Rattle.connection_worker.proofs.ServingLemmas.{same}
 
@@ -45,7 +45,7 @@ pub owed-all : (told : Told) (outs : List Out) → IsOwed told outs → IsOwed t
 owed-all told outs is = rw (owed-is told outs is) is
 
 -- what waits after a request is its reply
-pub arrived-rows : (conn : ConnId) (state : Rows) (a : Asked) (taken : ℕ) → state.connections.rows ≡ row_with conn [] taken ∷ []
+pub arrived-rows : (conn : ConnId) (state : Rows) (a : TimedRequest) (taken : ℕ) → state.connections.rows ≡ row_with conn [] taken ∷ []
     → (step state (arrival conn a)).connections.rows ≡ row_with conn (waiting_behind a.request.wants_reply (message_of a.request.serial (served conn a.request state).answer)) taken ∷ []
 arrived-rows conn state a taken only =
     let request = a.request in
@@ -55,7 +55,7 @@ arrived-rows conn state a taken only =
     ∙ delivered-reply request.wants_reply conn (message_of request.serial ran.answer) taken (reply-waits conn request state).small
 
 -- after a request no output is lost
-pub arrived-owed : (told new : Told) (a : Asked) → IsOwed told [] → new.conn ≡ told.conn → new.state ≡ step told.state (arrival told.conn a) → IsOwed new (owed new)
+pub arrived-owed : (told new : Told) (a : TimedRequest) → IsOwed told [] → new.conn ≡ told.conn → new.state ≡ step told.state (arrival told.conn a) → IsOwed new (owed new)
 arrived-owed told new a is conn state =
     let request = a.request in
     let out = message_of request.serial (served told.conn request told.state).answer in

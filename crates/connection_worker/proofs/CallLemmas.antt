@@ -9,7 +9,7 @@ use Rattle.call_wire.specs.CallOf.{CallOf}
 use Rattle.connection_worker.specs.declared.ending.End.{End}
 use Rattle.connection_worker.specs.declared.ending.End.TheVariants as end
 use Rattle.connection_worker.specs.Streams.{Output, GaveFront}
-use Rattle.service_machine.specs.Single.{Asked, turns}
+use Rattle.service_machine.specs.Single.{TimedRequest, turns}
 use Rattle.connection_worker.specs.Written.{given_by}
 use Rattle.connection_worker.specs.Serving.{World, place_of, IsOwed, owed, Asks, HasArrived, Gives}
 use Rattle.connection_worker.specs.Answering.{AnswersCall}
@@ -63,7 +63,7 @@ unasked parts request old new serials o end.Memory call idle asks = (
 unasked parts request old new serials o _ call idle asks = absurd asks
 
 -- what a request gives is what waits after it
-given-owed : (old mid : World) (a : Asked) → HasArrived old mid a → given_by old.told.conn old.told.state (turns old.told.conn old.told.state (a ∷ [])) ≡ owed mid.told
+given-owed : (old mid : World) (a : TimedRequest) → HasArrived old mid a → given_by old.told.conn old.told.state (turns old.told.conn old.told.state (a ∷ [])) ≡ owed mid.told
 given-owed old mid a so =
     given-turn old.told.conn old.told.state a
     ∙ ap (λ (s : Rows). waiting_for old.told.conn s.connections.rows) (sym so.calls.state) ∙ ap (λ c. waiting_for c mid.told.state.connections.rows) (sym so.calls.same.conn)

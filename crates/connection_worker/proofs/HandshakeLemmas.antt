@@ -19,7 +19,7 @@ use Rattle.connection_worker.specs.declared.ending.End.{End}
 use Rattle.connection_worker.specs.declared.ending.End.TheVariants as end
 use Rattle.connection_worker.specs.Streams.{Input, Output, Took, IsStill, GaveFront}
 use Rattle.connection_worker.specs.Lines.{Answers}
-use Rattle.connection_worker.specs.Handshakes.{Both, most_bytes, IsRefusedFor, IsRefusedSo, EndsFor, Shakes, ReadsMore, Reached, ShakesOn}
+use Rattle.connection_worker.specs.Handshakes.{Both, most_bytes, IsRefusedFor, IsRefusedSo, EndsFor, HandshakeOutcome, ReadsMore, Reached, HandshakeOutcomeAfter}
 use Rattle.connection_worker.proofs.StreamLemmas.{Took-none, Took-trans, Gave-none, Gave-trans, GaveFront-whole, GaveFront-more, GaveFront-behind}
 
 -- a count that rose in a later call
@@ -107,7 +107,7 @@ told-run at held old new how none so =
 
 -- messages follow
 pub opens : (at : Exchange) (held rest : List ℕ) (old new : Both) (framing : Framing) → Reached at held old new (silent (opened rest))
-    → framing ≡ just_fed most_bytes rest → ShakesOn at held old new (Ok framing)
+    → framing ≡ just_fed most_bytes rest → HandshakeOutcomeAfter at held old new (Ok framing)
 opens at held rest old new framing so is =
     let how = told-run at held old new (silent (opened rest)) refl so in
     record {
@@ -117,20 +117,20 @@ opens at held rest old new framing so is =
     }
 
 -- there was no memory for them
-pub no_room : (at : Exchange) (held rest : List ℕ) (old new : Both) → Reached at held old new (silent (opened rest)) → ShakesOn at held old new (Err end.Memory)
+pub no_room : (at : Exchange) (held rest : List ℕ) (old new : Both) → Reached at held old new (silent (opened rest)) → HandshakeOutcomeAfter at held old new (Err end.Memory)
 no_room at held rest old new so =
     let how = told-run at held old new (silent (opened rest)) refl so in
     record { read = so.read; took = so.took; ends = rw how (GaveFront-whole old.output new.output (concat so.answers) so.gave, so.still) }
 
 -- a framer was made for them, or there was no memory for it
 pub begins : (at : Exchange) (held rest : List ℕ) (old new : Both) (result : Result Framing End) → Reached at held old new (silent (opened rest))
-    → IfOk result (λ framing. framing ≡ just_fed most_bytes rest) → OnErr result (IsErrOf result end.Memory) → ShakesOn at held old new result
+    → IfOk result (λ framing. framing ≡ just_fed most_bytes rest) → OnErr result (IsErrOf result end.Memory) → HandshakeOutcomeAfter at held old new result
 begins at held rest old new (Ok framing) so fed memory = opens at held rest old new framing so fed
 begins at held rest old new (Err why) so fed memory = rw memory (no_room at held rest old new so)
 
 -- the handshake is refused
 pub refuses : (at : Exchange) (held : List ℕ) (old new : Both) (why : AuthFault) → Reached at held old new (silent (refused why))
-    → ShakesOn at held old new (Err (end.AuthRefused why))
+    → HandshakeOutcomeAfter at held old new (Err (end.AuthRefused why))
 refuses at held old new why so =
     let how = told-run at held old new (silent (refused why)) refl so in
     record { read = so.read; took = so.took; ends = rw how (inl refl, so.gave, so.still) }
@@ -138,7 +138,7 @@ refuses at held old new why so =
 -- the sink failed
 pub fails : (at next : Exchange) (held left : List ℕ) (old : Both) (input : Input) (mid new : Output)
     → Reached at held old (record { input = input; output = mid }) (run next left) → Rose mid.faults new.faults → GaveFront mid new (concat (run next left).answers)
-    → ShakesOn at held old (record { input = input; output = new }) (Err end.WriteFault)
+    → HandshakeOutcomeAfter at held old (record { input = input; output = new }) (Err end.WriteFault)
 fails at next held left old input mid new so rose front =
     let all : concat (run at (held ++ so.read)).answers ≡ concat so.answers ++ concat (run next left).answers =
     ap (λ (r : Run). concat r.answers) so.goes ∙ concat-append so.answers (run next left).answers in
@@ -151,7 +151,7 @@ fails at next held left old input mid new so rose front =
 -- nothing more was read
 pub reads_no_more : (at next : Exchange) (held rest left : List ℕ) (old : Both) (mid new : Input) (output : Output) (why : End)
     → Reached at held old (record { input = mid; output = output }) (silent (waiting next rest)) → ReadsMore rest left mid new (Err why)
-    → ShakesOn at held old (record { input = new; output = output }) (Err why)
+    → HandshakeOutcomeAfter at held old (record { input = new; output = output }) (Err why)
 reads_no_more at next held rest left old mid new output end.ReadFault so more =
     let how = told-run at held old (record { input = mid; output = output }) (silent (waiting next rest)) refl so in
     record {
@@ -181,7 +181,7 @@ reads_no_more at next held rest left old mid new output _ so more = absurd more
 
 -- nothing was read, or there was no memory for it
 pub never_began : (uid : ℕ) (guid left : List ℕ) (old new : Input) (output : Output) (why : End) → ReadsMore [] left old new (Err why)
-    → Shakes uid guid (record { input = old; output = output }) (record { input = new; output = output }) (Err why)
+    → HandshakeOutcome uid guid (record { input = old; output = output }) (record { input = new; output = output }) (Err why)
 never_began uid guid left old new output end.ReadFault more = record {
   read = [];
   took = more.0;
@@ -201,7 +201,7 @@ never_began uid guid left old new output _ more = absurd more
 
 -- the first byte isn't zero
 pub no_zero : (uid : ℕ) (guid held : List ℕ) (old new : Input) (output : Output) → ReadsMore [] held old new (Ok tt) → (get_or held 0 0 ≡ 0 → ⊥)
-    → Shakes uid guid (record { input = old; output = output }) (record { input = new; output = output }) (Err (end.AuthRefused fault.NoZero))
+    → HandshakeOutcome uid guid (record { input = old; output = output }) (record { input = new; output = output }) (Err (end.AuthRefused fault.NoZero))
 no_zero uid guid [] old new output more other = absurd (other refl)
 no_zero uid guid (first ∷ bytes) old new output more other = record {
   read = more.0;
@@ -211,8 +211,8 @@ no_zero uid guid (first ∷ bytes) old new output more other = record {
 
 -- it is, and lines follow
 pub began : (uid : ℕ) (guid held : List ℕ) (old mid : Input) (output : Output) (new : Both) (result : Result Framing End) → ReadsMore [] held old mid (Ok tt) → get_or held 0 0 ≡ 0
-    → ShakesOn (fresh uid guid) (drop 1 held) (record { input = mid; output = output }) new result
-    → Shakes uid guid (record { input = old; output = output }) new result
+    → HandshakeOutcomeAfter (fresh uid guid) (drop 1 held) (record { input = mid; output = output }) new result
+    → HandshakeOutcome uid guid (record { input = old; output = output }) new result
 began uid guid [] old mid output new result more is on =
     let e : length more.0 ≡ 0 = ap length (sym more.2) in
     absurd (omega (arith, e, more.3))
@@ -227,10 +227,10 @@ began uid guid (first ∷ bytes) old mid output new result more is on =
 
 -- the same for a new handshake
 pub began-at : (at : Exchange) (held behind : List ℕ) (old mid : Input) (output : Output) (new : Both) (result : Result Framing End) → at.state ≡ WaitingForAuth → behind ≡ drop 1 held
-    → ReadsMore [] held old mid (Ok tt) → get_or held 0 0 ≡ 0 → ShakesOn at behind (record { input = mid; output = output }) new result
-    → Shakes at.uid at.guid (record { input = old; output = output }) new result
+    → ReadsMore [] held old mid (Ok tt) → get_or held 0 0 ≡ 0 → HandshakeOutcomeAfter at behind (record { input = mid; output = output }) new result
+    → HandshakeOutcome at.uid at.guid (record { input = old; output = output }) new result
 began-at at held behind old mid output new result is_fresh is_behind more zero_there on =
-    let P : Exchange → Type 0 = λ t. ShakesOn t (drop 1 held) (record { input = mid; output = output }) new result in
+    let P : Exchange → Type 0 = λ t. HandshakeOutcomeAfter t (drop 1 held) (record { input = mid; output = output }) new result in
     began at.uid at.guid held old mid output new result more zero_there
     (subst P (λ i. record { uid = at.uid; guid = at.guid; state = is_fresh i }) (rw is_behind at on))
 

@@ -13,11 +13,11 @@ use Rattle.connection_worker.specs.declared.ending.End.{End}
 use Rattle.connection_worker.specs.declared.ending.End.TheVariants as end
 use Rattle.connection_worker.specs.Arrivals.{calls_in, AreRequests, FirstRequests}
 use Rattle.connection_worker.specs.Streams.{Output, Gave}
-use Rattle.service_machine.specs.Single.{Asked, requests_of, turns}
+use Rattle.service_machine.specs.Single.{TimedRequest, requests_of, turns}
 use Rattle.connection_worker.specs.Written.{given_by, spelled_behind, written_after}
 use Rattle.service_desk.proofs.RecordLemmas.{own-state}
 use Rattle.connection_worker.specs.Serving.{World, place_of, IsOwed, Recorded, EndsEarly}
-use Rattle.connection_worker.specs.Answering.{IsOne, Answered, Broke, AnswersCall, AnswersMessage, Going, AnswersEarly, AnswersAll}
+use Rattle.connection_worker.specs.Answering.{IsOne, Answered, Broke, AnswersCall, AnswersMessage, ServedPrefix, AnswersEarly, AnswersAll}
 use Rattle.connection_worker.proofs.HandshakeLemmas.{rose-later}
 use Rattle.connection_worker.proofs.RecordLemmas.{recorded-none, recorded-more, turns-append, given_by-append}
 use Rattle.connection_worker.proofs.SendingLemmas.{spelled_behind-append}
@@ -26,7 +26,7 @@ use Rattle.connection_worker.proofs.StreamLemmas.{Gave-none, Gave-trans, GaveFro
 -- ---- requests that were answered one after the other
 
 -- what requests give, one after the other
-pub given-more : (old mid : World) (asked more : List Asked) → Recorded old mid asked []
+pub given-more : (old mid : World) (asked more : List TimedRequest) → Recorded old mid asked []
     → given_by old.told.conn old.told.state (turns old.told.conn old.told.state (asked ++ more))
     ≡ given_by old.told.conn old.told.state (turns old.told.conn old.told.state asked) ++ given_by mid.told.conn mid.told.state (turns mid.told.conn mid.told.state more)
 given-more old mid asked more so =
@@ -43,7 +43,7 @@ answered-none w serials o idle = record {
   wrote = λ taken are. (Gave-none o, omega (arith, are));
 }
 
-pub answered-more : (old mid new : World) (serials next behind : ℕ) (from o to : Output) (asked more : List Asked)
+pub answered-more : (old mid new : World) (serials next behind : ℕ) (from o to : Output) (asked more : List TimedRequest)
     → Answered old mid serials next from o asked → Answered mid new next behind o to more → Answered old new serials behind from to (asked ++ more)
 answered-more old mid new serials next behind from o to asked more p q =
     let one = given_by old.told.conn old.told.state (turns old.told.conn old.told.state asked) in
@@ -67,7 +67,7 @@ ends-behind end.WriteFault count from o to x y gave ends = (rose-later from.faul
 ends-behind end.Memory count from o to x y gave ends = GaveFront-behind from o to x y gave ends
 ends-behind _ count from o to x y gave ends = absurd ends
 
-unfoldable pub broke-more : (old mid new : World) (serials next : ℕ) (from o to : Output) (asked more : List Asked) (why : End)
+unfoldable pub broke-more : (old mid new : World) (serials next : ℕ) (from o to : Output) (asked more : List TimedRequest) (why : End)
     → Answered old mid serials next from o asked → Broke mid new next o to more why → Broke old new serials from to (asked ++ more) why
 broke-more old mid new serials next from o to asked more why p q =
     let one = given_by old.told.conn old.told.state (turns old.told.conn old.told.state asked) in
@@ -85,7 +85,7 @@ broke-more old mid new serials next from o to asked more why p q =
           (ends-behind why new.told.count from o to (spelled_behind taken one) (spelled_behind (taken + length one) two) first.0 (q.wrote (taken + length one) first.1));
     }
 
-pub broke-memory : (old new : World) (serials behind : ℕ) (from to : Output) (asked : List Asked) → Answered old new serials behind from to asked → Broke old new serials from to asked end.Memory
+pub broke-memory : (old new : World) (serials behind : ℕ) (from to : Output) (asked : List TimedRequest) → Answered old new serials behind from to asked → Broke old new serials from to asked end.Memory
 broke-memory old new serials behind from to asked p = record {
   early = tt;
   refused = [];
@@ -115,25 +115,25 @@ pub answers-call : (parts : Parts) (old new : World) (serials behind : ℕ) (fro
 answers-call parts old new serials behind from to (Ok done) is answers = (answers.0 ∷ [], rw is (answers.1, tt), answers.2)
 answers-call parts old new serials behind from to (Err why) is answers = (answers.0, answers.1, is, answers.2)
 
-pub going-none : (most : ℕ) (bytes : List ℕ) (w : World) (serials : ℕ) (o : Output) → IsOwed w.told [] → Going most bytes bytes w w serials serials o o
+pub going-none : (most : ℕ) (bytes : List ℕ) (w : World) (serials : ℕ) (o : Output) → IsOwed w.told [] → ServedPrefix most bytes bytes w w serials serials o o
 going-none most bytes w serials o idle = record { asked = []; messages = []; cut = cut_none most bytes; are = tt; answered = answered-none w serials o idle }
 
 -- one more message was served
 pub going-on : (most : ℕ) (bytes rest left : List ℕ) (old mid new : World) (serials next behind : ℕ) (from o to : Output) (parts : Parts)
-    → Going most bytes rest old mid serials next from o → Cut most rest (parts ∷ []) left → AnswersMessage parts mid new next behind o to (Ok tt)
-    → Going most bytes left old new serials behind from to
+    → ServedPrefix most bytes rest old mid serials next from o → Cut most rest (parts ∷ []) left → AnswersMessage parts mid new next behind o to (Ok tt)
+    → ServedPrefix most bytes left old new serials behind from to
 going-on most bytes rest left old mid new serials next behind from o to parts so cut answers = record {
   asked = so.asked ++ answers.0;
   messages = so.messages ++ parts ∷ [];
   cut = cut_then most bytes rest left so.messages (parts ∷ []) so.cut cut;
   are =
-      rw (filter-append (λ (p : Parts). p.kind == 1) so.messages (parts ∷ []), map-append (λ (b : Asked). b.request) so.asked answers.0)
+      rw (filter-append (λ (p : Parts). p.kind == 1) so.messages (parts ∷ []), map-append (λ (b : TimedRequest). b.request) so.asked answers.0)
       (are-append (calls_in so.messages) (requests_of so.asked) (calls_in (parts ∷ [])) (requests_of answers.0) so.are answers.1);
   answered = answered-more old mid new serials next behind from o to so.asked answers.0 so.answered answers.2;
 }
 
 -- the requests so far are the first of the bytes
-pub first-so : (most : ℕ) (bytes rest : List ℕ) (old mid : World) (serials next : ℕ) (from o : Output) → (so : Going most bytes rest old mid serials next from o) → FirstRequests most bytes (requests_of so.asked)
+pub first-so : (most : ℕ) (bytes rest : List ℕ) (old mid : World) (serials next : ℕ) (from o : Output) → (so : ServedPrefix most bytes rest old mid serials next from o) → FirstRequests most bytes (requests_of so.asked)
 first-so most bytes rest old mid serials next from o so = record {
   messages = so.messages;
   rest = rest;
@@ -143,8 +143,8 @@ first-so most bytes rest old mid serials next from o so = record {
 }
 
 -- the request of one more call is among the first of the bytes
-pub first-call : (most : ℕ) (bytes rest left : List ℕ) (old mid : World) (serials next : ℕ) (from o : Output) (parts : Parts) (more : List Asked)
-    → (so : Going most bytes rest old mid serials next from o) → Cut most rest (parts ∷ []) left → (parts.kind == 1) ≡ true → IsOne parts more
+pub first-call : (most : ℕ) (bytes rest left : List ℕ) (old mid : World) (serials next : ℕ) (from o : Output) (parts : Parts) (more : List TimedRequest)
+    → (so : ServedPrefix most bytes rest old mid serials next from o) → Cut most rest (parts ∷ []) left → (parts.kind == 1) ≡ true → IsOne parts more
     → FirstRequests most bytes (requests_of (so.asked ++ more))
 first-call most bytes rest left old mid serials next from o parts [] so cut is one =
     let e : so.asked ++ [] ≡ so.asked = append-nil so.asked in rw e (first-so most bytes rest old mid serials next from o so)
@@ -154,13 +154,13 @@ first-call most bytes rest left old mid serials next from o parts (a ∷ []) so 
   cut = cut_then most bytes rest left so.messages (parts ∷ []) so.cut cut;
   more = [];
   are =
-      rw (append-nil (requests_of (so.asked ++ a ∷ [])), filter-append (λ (p : Parts). p.kind == 1) so.messages (parts ∷ []), map-append (λ (b : Asked). b.request) so.asked (a ∷ []))
+      rw (append-nil (requests_of (so.asked ++ a ∷ [])), filter-append (λ (p : Parts). p.kind == 1) so.messages (parts ∷ []), map-append (λ (b : TimedRequest). b.request) so.asked (a ∷ []))
       (are-append (calls_in so.messages) (requests_of so.asked) (calls_in (parts ∷ [])) (a.request ∷ []) so.are (rw is (one, tt)));
 }
 first-call most bytes rest left old mid serials next from o parts (a ∷ b ∷ more) so cut is one = absurd one
 
 -- the first requests are so too without the last of them
-pub first-fewer : (most : ℕ) (bytes : List ℕ) (asked last : List Asked) → FirstRequests most bytes (requests_of (asked ++ last)) → FirstRequests most bytes (requests_of asked)
+pub first-fewer : (most : ℕ) (bytes : List ℕ) (asked last : List TimedRequest) → FirstRequests most bytes (requests_of (asked ++ last)) → FirstRequests most bytes (requests_of asked)
 first-fewer most bytes asked last first = record {
   messages = first.messages;
   rest = first.rest;
@@ -168,12 +168,12 @@ first-fewer most bytes asked last first = record {
   more = requests_of last ++ first.more;
   are =
       let e : requests_of (asked ++ last) ++ first.more ≡ requests_of asked ++ (requests_of last ++ first.more) =
-      ap (λ l. l ++ first.more) (map-append (λ (b : Asked). b.request) asked last) ∙ append_assoc (requests_of asked) (requests_of last) first.more in
+      ap (λ l. l ++ first.more) (map-append (λ (b : TimedRequest). b.request) asked last) ∙ append_assoc (requests_of asked) (requests_of last) first.more in
       subst (λ l. AreRequests (calls_in first.messages) l) e first.are;
 }
 
 -- memory ran out before a message
-pub memory-early : (has : Framing) (rest : List ℕ) (old mid : World) (serials next : ℕ) (from o : Output) → Going has.most has.rest rest old mid serials next from o
+pub memory-early : (has : Framing) (rest : List ℕ) (old mid : World) (serials next : ℕ) (from o : Output) → ServedPrefix has.most has.rest rest old mid serials next from o
     → AnswersEarly has old mid serials from o end.Memory
 unfolding broke-memory
 memory-early has rest old mid serials next from o so =
@@ -187,15 +187,15 @@ all-stream most bytes rest left messages cut stream =
     rw (sym e) (stream_then most bytes rest left messages [] cut stream)
 
 -- no further message is complete
-pub going-last : (most : ℕ) (bytes rest left : List ℕ) (old mid : World) (serials next : ℕ) (from o : Output) → (so : Going most bytes rest old mid serials next from o)
-    → Stream most rest [] left → (going : Going most bytes left old mid serials next from o) × Stream most bytes going.messages left
+pub going-last : (most : ℕ) (bytes rest left : List ℕ) (old mid : World) (serials next : ℕ) (from o : Output) → (so : ServedPrefix most bytes rest old mid serials next from o)
+    → Stream most rest [] left → (going : ServedPrefix most bytes left old mid serials next from o) × Stream most bytes going.messages left
 going-last most bytes rest left old mid serials next from o so stream =
     let whole = all-stream most bytes rest left so.messages so.cut stream in
     (record { asked = so.asked; messages = so.messages; cut = whole.cut; are = so.are; answered = so.answered }, whole)
 
 -- a message at which the serving ended early
 pub broke-message : (most : ℕ) (bytes rest left : List ℕ) (old mid new : World) (serials next behind : ℕ) (from o to : Output) (parts : Parts) (why : End) (has : Framing)
-    → has.most ≡ most → has.rest ≡ bytes → Going most bytes rest old mid serials next from o → Cut most rest (parts ∷ []) left → AnswersMessage parts mid new next behind o to (Err why)
+    → has.most ≡ most → has.rest ≡ bytes → ServedPrefix most bytes rest old mid serials next from o → Cut most rest (parts ∷ []) left → AnswersMessage parts mid new next behind o to (Err why)
     → AnswersEarly has old new serials from to why
 unfolding broke-more
 broke-message most bytes rest left old mid new serials next behind from o to parts why has is_most is_bytes so cut answers =

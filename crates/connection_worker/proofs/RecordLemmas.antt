@@ -14,12 +14,12 @@ use Rattle.service_desk.specs.Places.{Place}
 use Rattle.service_desk.specs.Records.{Records, of_own}
 use Rattle.service_desk.proofs.RecordLemmas.{own-append, own-state, records-none, records-more}
 use Rattle.connection_worker.specs.Salts.{Salting}
-use Rattle.service_machine.specs.Single.{Asked, arrival, is_owed, taking, turn, turns}
+use Rattle.service_machine.specs.Single.{TimedRequest, arrival, is_owed, taking, turn, turns}
 use Rattle.connection_worker.specs.Serving.{World, place_of, GivesMoments, GivesSalts, behind_salt, Recorded, HasArrived, HasAsked, HasGiven}
 use Rattle.connection_worker.specs.Written.{given, given_by}
 use Rattle.connection_worker.proofs.ServingLemmas.{same}
 
-pub turns-append : (conn : ConnId) (state : Rows) (one more : List Asked) → turns conn state (one ++ more) ≡ turns conn state one ++ turns conn (replay state (turns conn state one)) more
+pub turns-append : (conn : ConnId) (state : Rows) (one more : List TimedRequest) → turns conn state (one ++ more) ≡ turns conn state one ++ turns conn (replay state (turns conn state one)) more
 turns-append conn state [] more = refl
 turns-append conn state (asked ∷ one) more =
     let now = turn conn state asked in
@@ -45,7 +45,7 @@ pub recorded-none : (w : World) → Recorded w w [] []
 recorded-none w = record { calls = records-none (place_of w); moments = refl; salts = refl }
 
 -- more requests after others
-pub recorded-more : (old mid new : World) (asked more refused : List Asked) → Recorded old mid asked [] → Recorded mid new more refused → Recorded old new (asked ++ more) refused
+pub recorded-more : (old mid new : World) (asked more refused : List TimedRequest) → Recorded old mid asked [] → Recorded mid new more refused → Recorded old new (asked ++ more) refused
 recorded-more old mid new asked more refused p q =
     let conn = old.told.conn in
     let first = turns conn old.told.state asked in
@@ -60,17 +60,17 @@ recorded-more old mid new asked more refused p q =
           subst (λ seen. Records (place_of old) (place_of new) seen) all
           (records-more (place_of old) (place_of mid) (place_of new) (of_own old.told.state first) (of_own mid.told.state (turns mid.told.conn mid.told.state more)) p.calls q.calls);
       moments =
-          let e : map (λ (a : Asked). a.now) ((asked ++ more) ++ refused) ≡ map (λ (a : Asked). a.now) (asked ++ []) ++ map (λ (a : Asked). a.now) (more ++ refused) =
-          ap (map (λ (a : Asked). a.now)) (append_assoc asked more refused ∙ ap (λ l. l ++ (more ++ refused)) (sym (append-nil asked))) ∙ map-append (λ (a : Asked). a.now) (asked ++ []) (more ++ refused) in
-          rw e (GivesMoments-append old.coming mid.coming new.coming (map (λ (a : Asked). a.now) (asked ++ [])) (map (λ (a : Asked). a.now) (more ++ refused)) p.moments q.moments);
+          let e : map (λ (a : TimedRequest). a.now) ((asked ++ more) ++ refused) ≡ map (λ (a : TimedRequest). a.now) (asked ++ []) ++ map (λ (a : TimedRequest). a.now) (more ++ refused) =
+          ap (map (λ (a : TimedRequest). a.now)) (append_assoc asked more refused ∙ ap (λ l. l ++ (more ++ refused)) (sym (append-nil asked))) ∙ map-append (λ (a : TimedRequest). a.now) (asked ++ []) (more ++ refused) in
+          rw e (GivesMoments-append old.coming mid.coming new.coming (map (λ (a : TimedRequest). a.now) (asked ++ [])) (map (λ (a : TimedRequest). a.now) (more ++ refused)) p.moments q.moments);
       salts =
-          let e : map (λ (a : Asked). a.salt) ((asked ++ more) ++ refused) ≡ map (λ (a : Asked). a.salt) (asked ++ []) ++ map (λ (a : Asked). a.salt) (more ++ refused) =
-          ap (map (λ (a : Asked). a.salt)) (append_assoc asked more refused ∙ ap (λ l. l ++ (more ++ refused)) (sym (append-nil asked))) ∙ map-append (λ (a : Asked). a.salt) (asked ++ []) (more ++ refused) in
-          rw e (GivesSalts-append old.salting mid.salting new.salting (map (λ (a : Asked). a.salt) (asked ++ [])) (map (λ (a : Asked). a.salt) (more ++ refused)) p.salts q.salts);
+          let e : map (λ (a : TimedRequest). a.salt) ((asked ++ more) ++ refused) ≡ map (λ (a : TimedRequest). a.salt) (asked ++ []) ++ map (λ (a : TimedRequest). a.salt) (more ++ refused) =
+          ap (map (λ (a : TimedRequest). a.salt)) (append_assoc asked more refused ∙ ap (λ l. l ++ (more ++ refused)) (sym (append-nil asked))) ∙ map-append (λ (a : TimedRequest). a.salt) (asked ++ []) (more ++ refused) in
+          rw e (GivesSalts-append old.salting mid.salting new.salting (map (λ (a : TimedRequest). a.salt) (asked ++ [])) (map (λ (a : TimedRequest). a.salt) (more ++ refused)) p.salts q.salts);
     }
 
 -- one request whose answer was taken
-pub recorded-one : (old mid : World) (new : Place) (a : Asked) → HasArrived old mid a → HasGiven (place_of mid) new
+pub recorded-one : (old mid : World) (new : Place) (a : TimedRequest) → HasArrived old mid a → HasGiven (place_of mid) new
     → Recorded old (record { told = new.told; has_seen = new.has_seen; coming = mid.coming; salting = mid.salting }) (a ∷ []) []
 recorded-one old mid new a p q =
     let conn = old.told.conn in
@@ -89,11 +89,11 @@ recorded-one old mid new a p q =
     }
 
 -- one that was refused
-pub recorded-refused : (old new : World) (a : Asked) → HasAsked old new a → Recorded old new [] (a ∷ [])
+pub recorded-refused : (old new : World) (a : TimedRequest) → HasAsked old new a → Recorded old new [] (a ∷ [])
 recorded-refused old new a p = record { calls = p.calls; moments = (new.coming, p.moment, refl); salts = (p.salt, p.salting) }
 
 -- what one request gives is what waits after it
-pub given-turn : (conn : ConnId) (state : Rows) (a : Asked) → given_by conn state (turns conn state (a ∷ [])) ≡ waiting_for conn (step state (arrival conn a)).connections.rows
+pub given-turn : (conn : ConnId) (state : Rows) (a : TimedRequest) → given_by conn state (turns conn state (a ∷ [])) ≡ waiting_for conn (step state (arrival conn a)).connections.rows
 given-turn conn state a =
     let behind = step state (arrival conn a) in
     let waiting = waiting_for conn behind.connections.rows in

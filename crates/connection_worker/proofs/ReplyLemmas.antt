@@ -12,7 +12,7 @@ use Rattle.service_desk.specs.Places.{Told, Place}
 use Rattle.service_desk.proofs.RecordLemmas.{own-own, own-answered, own-events, own-length}
 use Rattle.connection_worker.specs.Replies.{reply_to, replies_to}
 use Rattle.connection_worker.specs.Serving.{IsOwed, HasGiven}
-use Rattle.service_machine.specs.Single.{Asked, arrival, taking, turn, turns, single}
+use Rattle.service_machine.specs.Single.{TimedRequest, arrival, taking, turn, turns, single}
 use Rattle.connection_worker.specs.Written.{given_by}
 use Rattle.connection_worker.proofs.AnswerLemmas.{waiting_behind, arrived-rows, arrived-owed, given-idle}
 use Rattle.connection_worker.proofs.RecordLemmas.{given_by-append, given-turn}
@@ -29,7 +29,7 @@ taking-legal told (out ∷ outs) is =
     rw some (rw (only-desk told (out ∷ outs) is) (lt-ltb 0 (length (out ∷ outs)) (omega arith)), tt)
 
 -- after a request that was answered nothing waits
-idle-turn : (told : Told) (a : Asked) → IsOwed told [] → IsOwed (record told { state = replay told.state (turn told.conn told.state a) }) []
+idle-turn : (told : Told) (a : TimedRequest) → IsOwed told [] → IsOwed (record told { state = replay told.state (turn told.conn told.state a) }) []
 idle-turn told a idle =
     let mid : Told = record told { state = step told.state (arrival told.conn a) } in
     let owes = arrived-owed told mid a idle refl refl in
@@ -54,7 +54,7 @@ outs-of true conn out = rw (same conn.0) refl
 outs-of false conn out = refl
 
 -- one request
-reply-one : (told : Told) (a : Asked) → IsOwed told [] → given_by told.conn told.state (turn told.conn told.state a) ≡ reply_to told.conn told.state a
+reply-one : (told : Told) (a : TimedRequest) → IsOwed told [] → given_by told.conn told.state (turn told.conn told.state a) ≡ reply_to told.conn told.state a
 reply-one told a idle =
     let out = message_of a.request.serial (served told.conn a.request told.state).answer in
     let rows = arrived-rows told.conn told.state a idle.taken idle.only in
@@ -63,7 +63,7 @@ reply-one told a idle =
     ap (given_by told.conn told.state) (sym (append-nil (turn told.conn told.state a))) ∙ given-turn told.conn told.state a ∙ waits
     ∙ sym (ap (sent_to told.conn) (put_out-served told.conn a.request told.state) ∙ outs-of a.request.wants_reply told.conn out)
 
-replies : (asked : List Asked) (told : Told) → IsOwed told [] → given_by told.conn told.state (turns told.conn told.state asked) ≡ replies_to told.conn told.state asked
+replies : (asked : List TimedRequest) (told : Told) → IsOwed told [] → given_by told.conn told.state (turns told.conn told.state asked) ≡ replies_to told.conn told.state asked
 replies [] told idle = refl
 replies (a ∷ more) told idle =
     let now = turn told.conn told.state a in
@@ -73,7 +73,7 @@ replies (a ∷ more) told idle =
     given_by-append told.conn told.state now (turns told.conn next more) ∙ (λ i. one i ++ rest i)
 
 -- that the connection is gone gives nothing
-pub single-replies : (told : Told) (asked : List Asked) → IsOwed told [] → given_by told.conn told.state (single told.conn told.state asked) ≡ replies_to told.conn told.state asked
+pub single-replies : (told : Told) (asked : List TimedRequest) → IsOwed told [] → given_by told.conn told.state (single told.conn told.state asked) ≡ replies_to told.conn told.state asked
 single-replies told asked idle =
     let all = turns told.conn told.state asked in
     given_by-append told.conn told.state all (event.Gone told.conn ∷ []) ∙ append-nil (given_by told.conn told.state all) ∙ replies asked told idle

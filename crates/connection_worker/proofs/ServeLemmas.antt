@@ -14,11 +14,11 @@ use Rattle.connection_worker.specs.declared.ending.End.{End}
 use Rattle.connection_worker.specs.declared.ending.End.TheVariants as end
 use Rattle.connection_worker.specs.Arrivals.{calls_in, AllRequests, FirstRequests}
 use Rattle.connection_worker.specs.Streams.{Input, Output, Took, IsStill, Gave}
-use Rattle.service_machine.specs.Single.{Asked, requests_of, turns}
+use Rattle.service_machine.specs.Single.{TimedRequest, requests_of, turns}
 use Rattle.connection_worker.specs.Written.{written_after}
 use Rattle.connection_worker.specs.Serving.{World, IsOwed, EndsEarly}
-use Rattle.connection_worker.specs.Answering.{IsEarly, MayRefuse, Going, AnswersEarly, AnswersAll}
-use Rattle.connection_worker.specs.ServingOn.{FeedsMore, ServesOn, IsAmid, IsThrough}
+use Rattle.connection_worker.specs.Answering.{IsEarly, MayRefuse, ServedPrefix, AnswersEarly, AnswersAll}
+use Rattle.connection_worker.specs.ServingOn.{FeedsMore, ServesOn, ServedSoFar, IsThrough}
 use Rattle.connection_worker.specs.Causes.{AllServed, FirstServed, IsViolated, HasCause, HasWritten, HasRefused}
 use Rattle.connection_worker.specs.Handshakes.{most_bytes}
 use Rattle.connection_worker.proofs.HandshakeLemmas.{rose-later}
@@ -26,19 +26,19 @@ use Rattle.connection_worker.proofs.MessageLemmas.{answered-more, broke-more, ar
 use Rattle.connection_worker.proofs.StreamLemmas.{Took-none, Took-trans, GaveFront-whole}
 
 -- two stretches of messages, one after the other
-going-then : (most : ℕ) (bytes rest left : List ℕ) (old mid new : World) (serials next behind : ℕ) (from o to : Output) → Going most bytes rest old mid serials next from o
-    → Going most rest left mid new next behind o to → Going most bytes left old new serials behind from to
+going-then : (most : ℕ) (bytes rest left : List ℕ) (old mid new : World) (serials next behind : ℕ) (from o to : Output) → ServedPrefix most bytes rest old mid serials next from o
+    → ServedPrefix most rest left mid new next behind o to → ServedPrefix most bytes left old new serials behind from to
 going-then most bytes rest left old mid new serials next behind from o to p q = record {
   asked = p.asked ++ q.asked;
   messages = p.messages ++ q.messages;
   cut = cut_then most bytes rest left p.messages q.messages p.cut q.cut;
   are =
-      rw (filter-append (λ (x : Parts). x.kind == 1) p.messages q.messages, map-append (λ (b : Asked). b.request) p.asked q.asked)
+      rw (filter-append (λ (x : Parts). x.kind == 1) p.messages q.messages, map-append (λ (b : TimedRequest). b.request) p.asked q.asked)
       (are-append (calls_in p.messages) (requests_of p.asked) (calls_in q.messages) (requests_of q.asked) p.are q.are);
   answered = answered-more old mid new serials next behind from o to p.asked q.asked p.answered q.answered;
 }
 
-pub amid-none : (has : Framing) (from : Input) (w : World) (sink : Output) → IsOwed w.told [] → IsAmid has from from has w w 0 sink sink
+pub amid-none : (has : Framing) (from : Input) (w : World) (sink : Output) → IsOwed w.told [] → ServedSoFar has from from has w w 0 sink sink
 amid-none has from w sink idle = record {
   read = [];
   took = Took-none from;
@@ -48,12 +48,12 @@ amid-none has from w sink idle = record {
 }
 
 -- the complete messages were served
-pub through : (has : Framing) (from now : Input) (left more : Framing) (old mid new : World) (next behind : ℕ) (sink o to : Output) → IsAmid has from now left old mid next sink o
-    → (going : Going left.most left.rest more.rest mid new next behind o to) → Stream left.most left.rest going.messages more.rest → more.most ≡ left.most
+pub through : (has : Framing) (from now : Input) (left more : Framing) (old mid new : World) (next behind : ℕ) (sink o to : Output) → ServedSoFar has from now left old mid next sink o
+    → (going : ServedPrefix left.most left.rest more.rest mid new next behind o to) → Stream left.most left.rest going.messages more.rest → more.most ≡ left.most
     → IsThrough has from now more old new behind sink to
 unfolding going-then
 through has from now left more old mid new next behind sink o to so going stream most =
-    let g : Going has.most left.rest more.rest mid new next behind o to = record {
+    let g : ServedPrefix has.most left.rest more.rest mid new next behind o to = record {
       asked = going.asked;
       messages = going.messages;
       cut = rw (sym so.most) going.cut;
@@ -61,7 +61,7 @@ through has from now left more old mid new next behind sink o to so going stream
       answered = going.answered;
     } in
     record {
-      amid = record {
+      so_far = record {
         read = so.read;
         took = so.took;
         still = so.still;
@@ -73,9 +73,9 @@ through has from now left more old mid new next behind sink o to so going stream
 
 -- more bytes were read
 pub amid-more : (has : Framing) (from now later : Input) (left fed : Framing) (old new : World) (behind : ℕ) (sink o : Output) → IsThrough has from now left old new behind sink o
-    → FeedsMore left fed now later (Ok tt) → IsAmid has from later fed old new behind sink o
+    → FeedsMore left fed now later (Ok tt) → ServedSoFar has from later fed old new behind sink o
 amid-more has from now later left fed old new behind sink o so more =
-    let was = so.amid in
+    let was = so.so_far in
     let bytes : has.rest ++ (was.read ++ more.0) ≡ (has.rest ++ was.read) ++ more.0 = sym (append_assoc has.rest was.read more.0) in
     record {
       read = was.read ++ more.0;
@@ -95,16 +95,16 @@ amid-more has from now later left fed old new behind sink o so more =
 
 -- all complete requests were recorded
 all-so : (has : Framing) (from now : Input) (left : Framing) (old new : World) (behind : ℕ) (sink o : Output) → (so : IsThrough has from now left old new behind sink o)
-    → AllRequests has.most (has.rest ++ so.amid.read) (requests_of so.amid.going.asked) left.rest
-all-so has from now left old new behind sink o so = record { messages = so.amid.going.messages; stream = so.stream; are = so.amid.going.are }
+    → AllRequests has.most (has.rest ++ so.so_far.read) (requests_of so.so_far.going.asked) left.rest
+all-so has from now left old new behind sink o so = record { messages = so.so_far.going.messages; stream = so.stream; are = so.so_far.going.are }
 
 -- all that they gave was written
-gave-so : (has : Framing) (from now : Input) (left : Framing) (old new : World) (behind : ℕ) (sink o : Output) → (so : IsAmid has from now left old new behind sink o)
+gave-so : (has : Framing) (from now : Input) (left : Framing) (old new : World) (behind : ℕ) (sink o : Output) → (so : ServedSoFar has from now left old new behind sink o)
     → Gave sink o (written_after old.told.conn 0 old.told.state (turns old.told.conn old.told.state so.going.asked))
 gave-so has from now left old new behind sink o so = (so.going.answered.wrote 0 refl).0
 
 -- the first requests of all the bytes
-first-then : (has : Framing) (from now : Input) (left : Framing) (old mid : World) (next : ℕ) (sink o : Output) → (so : IsAmid has from now left old mid next sink o) → (asked : List Asked)
+first-then : (has : Framing) (from now : Input) (left : Framing) (old mid : World) (next : ℕ) (sink o : Output) → (so : ServedSoFar has from now left old mid next sink o) → (asked : List TimedRequest)
     → FirstRequests left.most left.rest (requests_of asked) → FirstRequests has.most (has.rest ++ so.read) (requests_of (so.going.asked ++ asked))
 first-then has from now left old mid next sink o so asked first = record {
   messages = so.going.messages ++ first.messages;
@@ -114,7 +114,7 @@ first-then has from now left old mid next sink o so asked first = record {
   are =
       rw (
         filter-append (λ (x : Parts). x.kind == 1) so.going.messages first.messages,
-        map-append (λ (b : Asked). b.request) so.going.asked asked,
+        map-append (λ (b : TimedRequest). b.request) so.going.asked asked,
         append_assoc (requests_of so.going.asked) (requests_of asked) first.more,
       )
       (are-append (calls_in so.going.messages) (requests_of so.going.asked) (calls_in first.messages) (requests_of asked ++ first.more) so.going.are first.are);
@@ -124,23 +124,23 @@ first-then has from now left old mid next sink o so asked first = record {
 
 -- all complete requests were recorded
 all-served : (has : Framing) (from now : Input) (left : Framing) (old new : World) (behind : ℕ) (sink o : Output) → has.most ≡ most_bytes
-    → (so : IsThrough has from now left old new behind sink o) → AllServed (silent (opened (has.rest ++ so.amid.read))) so.amid.going.asked left.rest
+    → (so : IsThrough has from now left old new behind sink o) → AllServed (silent (opened (has.rest ++ so.so_far.read))) so.so_far.going.asked left.rest
 all-served has from now left old new behind sink o most so = record {
-  behind = has.rest ++ so.amid.read;
+  behind = has.rest ++ so.so_far.read;
   opened = refl;
-  all = subst (λ m. AllRequests m (has.rest ++ so.amid.read) (requests_of so.amid.going.asked) left.rest) most (all-so has from now left old new behind sink o so);
+  all = subst (λ m. AllRequests m (has.rest ++ so.so_far.read) (requests_of so.so_far.going.asked) left.rest) most (all-so has from now left old new behind sink o so);
 }
 
 -- the first of them were
-first-served : (has : Framing) (bytes : List ℕ) (asked : List Asked) → has.most ≡ most_bytes → FirstRequests has.most bytes (requests_of asked) → FirstServed (silent (opened bytes)) asked
+first-served : (has : Framing) (bytes : List ℕ) (asked : List TimedRequest) → has.most ≡ most_bytes → FirstRequests has.most bytes (requests_of asked) → FirstServed (silent (opened bytes)) asked
 first-served has bytes asked most first = inr (bytes, refl, subst (λ m. FirstRequests m bytes (requests_of asked)) most first)
 
 -- no request was refused
-none-refused : (run : Run) (asked : List Asked) → FirstServed run asked → HasRefused end.Memory run asked []
+none-refused : (run : Run) (asked : List TimedRequest) → FirstServed run asked → HasRefused end.Memory run asked []
 none-refused run asked first = let e : asked ++ [] ≡ asked = append-nil asked in (omega arith, rw e first)
 
 -- why an early end comes, and what was written by then
-early-ends : (why : End) (has : Framing) (bytes : List ℕ) (asked : List Asked) (text : List ℕ) (count : ℕ) (from to : Input) (sink after : Output) → has.most ≡ most_bytes → IsStill from to
+early-ends : (why : End) (has : Framing) (bytes : List ℕ) (asked : List TimedRequest) (text : List ℕ) (count : ℕ) (from to : Input) (sink after : Output) → has.most ≡ most_bytes → IsStill from to
     → FirstRequests has.most bytes (requests_of asked) → EndsEarly why count sink after text → HasCause why (silent (opened bytes)) asked count from to sink after × HasWritten why sink after text
 early-ends end.EventsSpent has bytes asked text count from to sink after most same first ends = ((ends.0, first-served has bytes asked most first, same), ends.1)
 early-ends end.WriteFault has bytes asked text count from to sink after most same first ends = ((ends.0, first-served has bytes asked most first, same), ends.1)
@@ -148,7 +148,7 @@ early-ends end.Memory has bytes asked text count from to sink after most same fi
 early-ends _ has bytes asked text count from to sink after most same first ends = absurd ends
 
 -- the request that was refused is the next one
-early-refused : (why : End) (has : Framing) (bytes : List ℕ) (asked refused : List Asked) → has.most ≡ most_bytes → IsEarly why → MayRefuse why refused
+early-refused : (why : End) (has : Framing) (bytes : List ℕ) (asked refused : List TimedRequest) → has.most ≡ most_bytes → IsEarly why → MayRefuse why refused
     → FirstRequests has.most bytes (requests_of (asked ++ refused)) → HasRefused why (silent (opened bytes)) asked refused
 early-refused end.EventsSpent has bytes asked refused most early few first = (few, first-served has bytes (asked ++ refused) most first)
 early-refused end.WriteFault has bytes asked refused most early few first = few
@@ -156,7 +156,7 @@ early-refused end.Memory has bytes asked refused most early few first = (few, fi
 early-refused _ has bytes asked refused most early few first = absurd early
 
 broke-end : (has : Framing) (from now : Input) (left : Framing) (old mid new : World) (next : ℕ) (sink o to : Output) (why : End) → has.most ≡ most_bytes
-    → IsAmid has from now left old mid next sink o → AnswersEarly left mid new next o to why → ServesOn has from now old new sink to why
+    → ServedSoFar has from now left old mid next sink o → AnswersEarly left mid new next o to why → ServesOn has from now old new sink to why
 unfolding broke-more
 broke-end has from now left old mid new next sink o to why most so early =
     let all = so.going.asked ++ early.0 in
@@ -193,10 +193,10 @@ shown violation.InvalidType to rest breaks = breaks
 
 -- serving the complete messages ended the whole
 pub answers-end : (has : Framing) (from now : Input) (left more : Framing) (old mid new : World) (next behind : ℕ) (sink o to : Output) (why : End) → has.most ≡ most_bytes
-    → IsAmid has from now left old mid next sink o → AnswersAll left more mid new next behind o to (Err why) → ServesOn has from now old new sink to why
+    → ServedSoFar has from now left old mid next sink o → AnswersAll left more mid new next behind o to (Err why) → ServesOn has from now old new sink to why
 unfolding going-then
 answers-end has from now left more old mid new next behind sink o to (end.Violation cause) most so answers =
-    let g : Going has.most left.rest more.rest mid new next behind o to = record {
+    let g : ServedPrefix has.most left.rest more.rest mid new next behind o to = record {
       asked = answers.0.asked;
       messages = answers.0.messages;
       cut = rw (sym so.most) answers.0.cut;
@@ -237,60 +237,60 @@ stays a b c x p q = let e : x ++ [] ≡ x = append-nil x in rw (sym e) (Took-tra
 pub feeds-end : (has : Framing) (from now later : Input) (left fed : Framing) (old new : World) (behind : ℕ) (sink o : Output) (why : End) → has.most ≡ most_bytes
     → IsThrough has from now left old new behind sink o → FeedsMore left fed now later (Err why) → ServesOn has from later old new sink o why
 feeds-end has from now later left fed old new behind sink o end.ReadFault most so feeds = record {
-  read = so.amid.read;
-  took = stays from now later so.amid.read so.amid.took feeds.0;
-  asked = so.amid.going.asked;
+  read = so.so_far.read;
+  took = stays from now later so.so_far.read so.so_far.took feeds.0;
+  asked = so.so_far.going.asked;
   refused = [];
-  recorded = so.amid.going.answered.recorded;
-  idle = so.amid.going.answered.idle;
+  recorded = so.so_far.going.answered.recorded;
+  idle = so.so_far.going.answered.idle;
   few = refl;
-  cause = (rose-later from.faults now.faults later.faults so.amid.took.later feeds.1, inr (left.rest, all-served has from now left old new behind sink o most so));
-  wrote = gave-so has from now left old new behind sink o so.amid;
+  cause = (rose-later from.faults now.faults later.faults so.so_far.took.later feeds.1, inr (left.rest, all-served has from now left old new behind sink o most so));
+  wrote = gave-so has from now left old new behind sink o so.so_far;
 }
 feeds-end has from now later left fed old new behind sink o end.Done most so feeds = record {
-  read = so.amid.read;
-  took = stays from now later so.amid.read so.amid.took feeds.0;
-  asked = so.amid.going.asked;
+  read = so.so_far.read;
+  took = stays from now later so.so_far.read so.so_far.took feeds.0;
+  asked = so.so_far.going.asked;
   refused = [];
-  recorded = so.amid.going.answered.recorded;
-  idle = so.amid.going.answered.idle;
+  recorded = so.so_far.going.answered.recorded;
+  idle = so.so_far.going.answered.idle;
   few = refl;
-  cause = (rw (sym feeds.2) (all-served has from now left old new behind sink o most so), feeds.1, feeds.3 ∙ so.amid.still);
-  wrote = gave-so has from now left old new behind sink o so.amid;
+  cause = (rw (sym feeds.2) (all-served has from now left old new behind sink o most so), feeds.1, feeds.3 ∙ so.so_far.still);
+  wrote = gave-so has from now left old new behind sink o so.so_far;
 }
 feeds-end has from now later left fed old new behind sink o (end.Violation violation.EndInside) most so feeds = record {
-  read = so.amid.read;
-  took = stays from now later so.amid.read so.amid.took feeds.0;
-  asked = so.amid.going.asked;
+  read = so.so_far.read;
+  took = stays from now later so.so_far.read so.so_far.took feeds.0;
+  asked = so.so_far.going.asked;
   refused = [];
-  recorded = so.amid.going.answered.recorded;
-  idle = so.amid.going.answered.idle;
+  recorded = so.so_far.going.answered.recorded;
+  idle = so.so_far.going.answered.idle;
   few = refl;
-  cause = ((left.rest, all-served has from now left old new behind sink o most so, (feeds.2, feeds.1)), feeds.3 ∙ so.amid.still);
-  wrote = gave-so has from now left old new behind sink o so.amid;
+  cause = ((left.rest, all-served has from now left old new behind sink o most so, (feeds.2, feeds.1)), feeds.3 ∙ so.so_far.still);
+  wrote = gave-so has from now left old new behind sink o so.so_far;
 }
 feeds-end has from now later left fed old new behind sink o end.Memory most so feeds =
-    let bytes : has.rest ++ (so.amid.read ++ feeds.0) ≡ (has.rest ++ so.amid.read) ++ feeds.0 = sym (append_assoc has.rest so.amid.read feeds.0) in
-    let asked = so.amid.going.asked in
-    let first : FirstRequests has.most (has.rest ++ (so.amid.read ++ feeds.0)) (requests_of asked) =
+    let bytes : has.rest ++ (so.so_far.read ++ feeds.0) ≡ (has.rest ++ so.so_far.read) ++ feeds.0 = sym (append_assoc has.rest so.so_far.read feeds.0) in
+    let asked = so.so_far.going.asked in
+    let first : FirstRequests has.most (has.rest ++ (so.so_far.read ++ feeds.0)) (requests_of asked) =
     rw bytes (record {
-      messages = so.amid.going.messages;
+      messages = so.so_far.going.messages;
       rest = left.rest ++ feeds.0;
-      cut = cut_more has.most (has.rest ++ so.amid.read) feeds.0 left.rest so.amid.going.messages so.amid.going.cut;
+      cut = cut_more has.most (has.rest ++ so.so_far.read) feeds.0 left.rest so.so_far.going.messages so.so_far.going.cut;
       more = [];
-      are = rw (append-nil (requests_of asked)) so.amid.going.are;
+      are = rw (append-nil (requests_of asked)) so.so_far.going.are;
     }) in
-    let served = first-served has (has.rest ++ (so.amid.read ++ feeds.0)) asked most first in
+    let served = first-served has (has.rest ++ (so.so_far.read ++ feeds.0)) asked most first in
     record {
-      read = so.amid.read ++ feeds.0;
-      took = Took-trans from now later so.amid.read feeds.0 so.amid.took feeds.1;
+      read = so.so_far.read ++ feeds.0;
+      took = Took-trans from now later so.so_far.read feeds.0 so.so_far.took feeds.1;
       asked = asked;
       refused = [];
-      recorded = so.amid.going.answered.recorded;
-      idle = so.amid.going.answered.idle;
-      few = none-refused (silent (opened (has.rest ++ (so.amid.read ++ feeds.0)))) asked served;
-      cause = (served, feeds.2 ∙ so.amid.still);
-      wrote = GaveFront-whole sink o (written_after old.told.conn 0 old.told.state (turns old.told.conn old.told.state asked)) (gave-so has from now left old new behind sink o so.amid);
+      recorded = so.so_far.going.answered.recorded;
+      idle = so.so_far.going.answered.idle;
+      few = none-refused (silent (opened (has.rest ++ (so.so_far.read ++ feeds.0)))) asked served;
+      cause = (served, feeds.2 ∙ so.so_far.still);
+      wrote = GaveFront-whole sink o (written_after old.told.conn 0 old.told.state (turns old.told.conn old.told.state asked)) (gave-so has from now left old new behind sink o so.so_far);
     }
 feeds-end has from now later left fed old new behind sink o _ most so feeds = absurd feeds
 

@@ -17,9 +17,9 @@ use Rattle.service_desk.proofs.RecordLemmas.{own-append, own-state, own-count, r
 use Rattle.connection_worker.specs.declared.ending.End.{End}
 use Rattle.connection_worker.specs.declared.ending.End.TheVariants as end
 use Rattle.connection_worker.specs.Causes.{AllServed, FirstServed, HasCause, HasWritten, HasRefused}
-use Rattle.connection_worker.specs.Handshakes.{IsRefusedFor, EndsFor, Shakes}
+use Rattle.connection_worker.specs.Handshakes.{IsRefusedFor, EndsFor, HandshakeOutcome}
 use Rattle.connection_worker.specs.Streams.{Input, Output, IsStill, Gave}
-use Rattle.service_machine.specs.Single.{Asked, turns, single}
+use Rattle.service_machine.specs.Single.{TimedRequest, turns, single}
 use Rattle.connection_worker.specs.Written.{given_by, spelled_behind, written_after, taken_by, written}
 use Rattle.connection_worker.specs.Serving.{World, place_of, HasJoined, IsOwed, Recorded}
 use Rattle.connection_worker.specs.ServingOn.{ServesOn}
@@ -48,7 +48,7 @@ taken-none : (told : Told) → HasJoined told → taken_by told.conn told.state.
 taken-none told joined = rw joined (rw (same told.conn.0) refl)
 
 -- the events of the whole
-single-records : (old mid : World) (asked refused : List Asked) (new : Place) → Recorded old mid asked refused → Records (place_of mid) new (of_own mid.told.state (event.Gone mid.told.conn ∷ []))
+single-records : (old mid : World) (asked refused : List TimedRequest) (new : Place) → Recorded old mid asked refused → Records (place_of mid) new (of_own mid.told.state (event.Gone mid.told.conn ∷ []))
     → Records (place_of old) new (of_own old.told.state (single old.told.conn old.told.state asked))
 single-records old mid asked refused new so gone =
     let conn = old.told.conn in
@@ -62,7 +62,7 @@ single-records old mid asked refused new so gone =
     (records-more (place_of old) (place_of mid) new (of_own old.told.state first) (of_own mid.told.state (event.Gone mid.told.conn ∷ [])) so.calls gone)
 
 -- that it is gone gives nothing, so the text is that of the requests
-single-text : (old : World) (asked : List Asked) → HasJoined old.told → written old.told.conn old.told.state (single old.told.conn old.told.state asked)
+single-text : (old : World) (asked : List TimedRequest) → HasJoined old.told → written old.told.conn old.told.state (single old.told.conn old.told.state asked)
     ≡ written_after old.told.conn 0 old.told.state (turns old.told.conn old.told.state asked)
 single-text old asked joined =
     let conn = old.told.conn in
@@ -82,15 +82,15 @@ opened-more uid guid (first ∷ bytes) more rest is =
     ∙ ap (λ (e : shaking.End). continued (record { answers = (shaking.handshake uid guid (first ∷ bytes)).answers; end = e }) more) is
 
 -- what was served of bytes after an open handshake
-all-run : (run : shaking.Run) (bytes : List ℕ) (asked : List Asked) (rest : List ℕ) → run.end ≡ shaking.opened bytes → AllServed (shaking.silent (shaking.opened bytes)) asked rest → AllServed run asked rest
+all-run : (run : shaking.Run) (bytes : List ℕ) (asked : List TimedRequest) (rest : List ℕ) → run.end ≡ shaking.opened bytes → AllServed (shaking.silent (shaking.opened bytes)) asked rest → AllServed run asked rest
 all-run run bytes asked rest is all = record { behind = all.behind; opened = is ∙ all.opened; all = all.all }
 
-first-run : (run : shaking.Run) (bytes : List ℕ) (asked : List Asked) → run.end ≡ shaking.opened bytes → FirstServed (shaking.silent (shaking.opened bytes)) asked → FirstServed run asked
+first-run : (run : shaking.Run) (bytes : List ℕ) (asked : List TimedRequest) → run.end ≡ shaking.opened bytes → FirstServed (shaking.silent (shaking.opened bytes)) asked → FirstServed run asked
 first-run run bytes asked is (inl none) = inl none
 first-run run bytes asked is (inr some) = inr (some.0, is ∙ some.1, some.2)
 
 -- why the whole ended, if the calls after the handshake did
-cause-after : (how : End) (run : shaking.Run) (bytes : List ℕ) (asked : List Asked) (count : ℕ) (from mid to : Input) (sink o out : Output) → run.end ≡ shaking.opened bytes
+cause-after : (how : End) (run : shaking.Run) (bytes : List ℕ) (asked : List TimedRequest) (count : ℕ) (from mid to : Input) (sink o out : Output) → run.end ≡ shaking.opened bytes
     → from.faults ≤ mid.faults → IsStill from mid → sink.faults ≤ o.faults → HasCause how (shaking.silent (shaking.opened bytes)) asked count mid to o out → HasCause how run asked count from to sink out
 cause-after end.Done run bytes asked count from mid to sink o out is later same put cause = (all-run run bytes asked [] is cause.0, cause.1, cause.2 ∙ same)
 cause-after (end.Violation why) run bytes asked count from mid to sink o out is later same put cause = ((cause.0.0, all-run run bytes asked cause.0.0 is cause.0.1, cause.0.2), cause.1 ∙ same)
@@ -109,7 +109,7 @@ cause-after end.Memory run bytes asked count from mid to sink o out is later sam
 cause-after _ run bytes asked count from mid to sink o out is later same put cause = absurd cause
 
 -- the request that was refused
-refused-after : (how : End) (run : shaking.Run) (bytes : List ℕ) (asked refused : List Asked) → run.end ≡ shaking.opened bytes → HasRefused how (shaking.silent (shaking.opened bytes)) asked refused
+refused-after : (how : End) (run : shaking.Run) (bytes : List ℕ) (asked refused : List TimedRequest) → run.end ≡ shaking.opened bytes → HasRefused how (shaking.silent (shaking.opened bytes)) asked refused
     → HasRefused how run asked refused
 refused-after end.EventsSpent run bytes asked refused is few = (few.0, first-run run bytes (asked ++ refused) is few.1)
 refused-after end.Memory run bytes asked refused is few = (few.0, first-run run bytes (asked ++ refused) is few.1)
@@ -134,7 +134,7 @@ shaking-ends _ run count from to sink out ends = absurd ends
 -- ---- the whole
 
 pub served-behind : (uid : ℕ) (guid : List ℕ) (from mid to : Input) (sink o out : Output) (old served : World) (new : Place) (framing : Framing) (how : End)
-    → Shakes uid guid (record { input = from; output = sink }) (record { input = mid; output = o }) (Ok framing) → HasJoined old.told → ServesOn framing mid to old served o out how
+    → HandshakeOutcome uid guid (record { input = from; output = sink }) (record { input = mid; output = o }) (Ok framing) → HasJoined old.told → ServesOn framing mid to old served o out how
     → Records (place_of served) new (of_own served.told.state (event.Gone served.told.conn ∷ []))
     → IsServed uid guid from to sink out old (record { told = new.told; has_seen = new.has_seen; coming = served.coming; salting = served.salting }) how
 served-behind uid guid from mid to sink o out old served new framing how shakes joined serves gone =
@@ -160,7 +160,7 @@ served-behind uid guid from mid to sink o out old served new framing how shakes 
     }
 
 pub served-not : (uid : ℕ) (guid : List ℕ) (from to : Input) (sink out : Output) (old : World) (new : Place) (how : End)
-    → Shakes uid guid (record { input = from; output = sink }) (record { input = to; output = out }) (Err how)
+    → HandshakeOutcome uid guid (record { input = from; output = sink }) (record { input = to; output = out }) (Err how)
     → Records (place_of old) new (of_own old.told.state (event.Gone old.told.conn ∷ []))
     → IsServed uid guid from to sink out old (record { told = new.told; has_seen = new.has_seen; coming = old.coming; salting = old.salting }) how
 served-not uid guid from to sink out old new how shakes gone =

@@ -6,7 +6,7 @@ use Rattle.service_machine.specs.declared.event.Event.{Event}
 use Rattle.service_machine.specs.declared.event.Event.TheVariants as event
 use Rattle.service_machine.specs.Step.{step}
 use Rattle.service_machine.specs.Replay.{replay}
-use Rattle.service_machine.specs.Single.{Asked, arrival, is_owed, taking, turn, turns, single}
+use Rattle.service_machine.specs.Single.{TimedRequest, arrival, is_owed, taking, turn, turns, single}
 use Rattle.service_desk.specs.Records as records
 use Rattle.service_desk.proofs.RecordLemmas.{own-append}
 use Rattle.connection_worker.specs.Written.{given_by}
@@ -34,11 +34,11 @@ taken-behind conn state events more one two =
     given_by-append conn state events more ∙ (λ i. one i ++ two i) ∙ sym (given-append (records.of_own state events) (records.of_own (replay state events) more))
     ∙ ap (λ seen. records.given seen) (sym (own-append state events more))
 
-taken-turns : (conn : ConnId) (state : Rows) (asked : List Asked) → given_by conn state (turns conn state asked) ≡ records.given (records.of_own state (turns conn state asked))
+taken-turns : (conn : ConnId) (state : Rows) (asked : List TimedRequest) → given_by conn state (turns conn state asked) ≡ records.given (records.of_own state (turns conn state asked))
 taken-turns conn state [] = refl
 taken-turns conn state (a ∷ more) =
     let next = replay state (turn conn state a) in
     taken-behind conn state (turn conn state a) (turns conn next more) (taken-owed conn (step state (arrival conn a))) (taken-turns conn next more)
 
-pub taken-single : (conn : ConnId) (state : Rows) (asked : List Asked) → given_by conn state (single conn state asked) ≡ records.given (records.of_own state (single conn state asked))
+pub taken-single : (conn : ConnId) (state : Rows) (asked : List TimedRequest) → given_by conn state (single conn state asked) ≡ records.given (records.of_own state (single conn state asked))
 taken-single conn state asked = taken-behind conn state (turns conn state asked) (event.Gone conn ∷ []) (taken-turns conn state asked) refl

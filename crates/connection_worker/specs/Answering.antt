@@ -9,18 +9,18 @@ use Rattle.connection_worker.specs.declared.ending.End.TheVariants as end
 use Rattle.connection_worker.specs.Arrivals.{calls_in, AreRequests, FirstRequests}
 use Rattle.connection_worker.specs.Sending.{AreBehind}
 use Rattle.connection_worker.specs.Serving.{World, IsOwed, Recorded, EndsEarly}
-use Rattle.service_machine.specs.Single.{Asked, requests_of, turns}
+use Rattle.service_machine.specs.Single.{TimedRequest, requests_of, turns}
 use Rattle.connection_worker.specs.Streams.{Output, Gave}
 use Rattle.connection_worker.specs.Written.{given_by, written_after}
 
 -- the request of this message, or none
-abbrev pub IsOne : Parts → List Asked → Type 0
+abbrev pub IsOne : Parts → List TimedRequest → Type 0
 IsOne parts [] = Unit {0}
 IsOne parts (asked ∷ []) = CallOf parts asked.request
 IsOne parts (asked ∷ other ∷ more) = ⊥
 
 -- These requests were recorded, and all that they gave was written.
-pub record Answered (old new : World) (serials behind : ℕ) (from to : Output) (asked : List Asked) : Type 0 where
+pub record Answered (old new : World) (serials behind : ℕ) (from to : Output) (asked : List TimedRequest) : Type 0 where
   pub recorded : Recorded old new asked []
   pub idle : IsOwed new.told []
   pub wrote : (taken : ℕ) → AreBehind taken serials
@@ -35,15 +35,15 @@ IsEarly end.Memory = Unit {0}
 IsEarly _ = ⊥
 
 -- at which of these ends a request may have been refused
-abbrev pub MayRefuse : End → List Asked → Type 0
+abbrev pub MayRefuse : End → List TimedRequest → Type 0
 MayRefuse end.EventsSpent refused = length refused ≤ 1
 MayRefuse end.Memory refused = length refused ≤ 1
 MayRefuse _ refused = refused ≡ []
 
 -- These requests were recorded, and then the serving ended early, perhaps at a request that was refused.
-pub record Broke (old new : World) (serials : ℕ) (from to : Output) (asked : List Asked) (why : End) : Type 0 where
+pub record Broke (old new : World) (serials : ℕ) (from to : Output) (asked : List TimedRequest) (why : End) : Type 0 where
   pub early : IsEarly why
-  pub refused : List Asked
+  pub refused : List TimedRequest
   pub few : MayRefuse why refused
   pub recorded : Recorded old new asked refused
   pub idle : IsOwed new.told []
@@ -52,20 +52,20 @@ pub record Broke (old new : World) (serials : ℕ) (from to : Output) (asked : L
 
 -- the call was answered, or the serving ended early
 abbrev pub AnswersCall : Parts → World → World → ℕ → ℕ → Output → Output → Result Unit End → Type 0
-AnswersCall parts old new serials behind from to (Ok done) = (asked : Asked) × CallOf parts asked.request × Answered old new serials behind from to (asked ∷ [])
+AnswersCall parts old new serials behind from to (Ok done) = (asked : TimedRequest) × CallOf parts asked.request × Answered old new serials behind from to (asked ∷ [])
 AnswersCall parts old new serials behind from to (Err why) =
-    (asked : List Asked) × (broke : Broke old new serials from to asked why) × IsOne parts (asked ++ broke.refused)
+    (asked : List TimedRequest) × (broke : Broke old new serials from to asked why) × IsOne parts (asked ++ broke.refused)
 
 -- a message was served, with the request in it if it is a call; or the serving ended early at a call
 abbrev pub AnswersMessage : Parts → World → World → ℕ → ℕ → Output → Output → Result Unit End → Type 0
 AnswersMessage parts old new serials behind from to (Ok done) =
-    (asked : List Asked) × AreRequests (calls_in (parts ∷ [])) (requests_of asked) × Answered old new serials behind from to asked
+    (asked : List TimedRequest) × AreRequests (calls_in (parts ∷ [])) (requests_of asked) × Answered old new serials behind from to asked
 AnswersMessage parts old new serials behind from to (Err why) =
-    (asked : List Asked) × (broke : Broke old new serials from to asked why) × ((parts.kind == 1) ≡ true) × IsOne parts (asked ++ broke.refused)
+    (asked : List TimedRequest) × (broke : Broke old new serials from to asked why) × ((parts.kind == 1) ≡ true) × IsOne parts (asked ++ broke.refused)
 
 -- So far: a prefix of the bytes is messages, whose requests were recorded and answered; this rest is left over.
-pub record Going (most : ℕ) (bytes rest : List ℕ) (old new : World) (serials behind : ℕ) (from to : Output) : Type 0 where
-  pub asked : List Asked
+pub record ServedPrefix (most : ℕ) (bytes rest : List ℕ) (old new : World) (serials behind : ℕ) (from to : Output) : Type 0 where
+  pub asked : List TimedRequest
   pub messages : List Parts
   pub cut : Cut most bytes messages rest
   pub are : AreRequests (calls_in messages) (requests_of asked)
@@ -74,13 +74,13 @@ pub record Going (most : ℕ) (bytes rest : List ℕ) (old new : World) (serials
 -- the serving ended early, after the first requests
 abbrev pub AnswersEarly : Framing → World → World → ℕ → Output → Output → End → Type 0
 AnswersEarly has old new serials from to why =
-    (asked : List Asked) × (broke : Broke old new serials from to asked why) × FirstRequests has.most has.rest (requests_of (asked ++ broke.refused))
+    (asked : List TimedRequest) × (broke : Broke old new serials from to asked why) × FirstRequests has.most has.rest (requests_of (asked ++ broke.refused))
 
 -- The complete messages were served, and no further one is complete; or after them a violation shows; or the
 -- serving ended early.
 abbrev pub AnswersAll : Framing → Framing → World → World → ℕ → ℕ → Output → Output → Result Unit End → Type 0
 AnswersAll has left old new serials behind from to (Ok done) =
-    (going : Going has.most has.rest left.rest old new serials behind from to) × Stream has.most has.rest going.messages left.rest × (left.most ≡ has.most)
+    (going : ServedPrefix has.most has.rest left.rest old new serials behind from to) × Stream has.most has.rest going.messages left.rest × (left.most ≡ has.most)
 AnswersAll has left old new serials behind from to (Err (end.Violation cause)) =
-    (going : Going has.most has.rest left.rest old new serials behind from to) × Stream has.most has.rest going.messages left.rest × Breaks has.most left.rest cause
+    (going : ServedPrefix has.most has.rest left.rest old new serials behind from to) × Stream has.most has.rest going.messages left.rest × Breaks has.most left.rest cause
 AnswersAll has left old new serials behind from to (Err why) = AnswersEarly has old new serials from to why

@@ -11,17 +11,17 @@ use Rattle.connection_worker.specs.declared.ending.End.{End}
 use Rattle.connection_worker.specs.declared.ending.End.TheVariants as end
 use Rattle.connection_worker.specs.Arrivals.{AllRequests, FirstRequests}
 use Rattle.connection_worker.specs.Handshakes.{most_bytes, Awaits, IsRefusedFor}
-use Rattle.service_machine.specs.Single.{Asked, requests_of}
+use Rattle.service_machine.specs.Single.{TimedRequest, requests_of}
 use Rattle.connection_worker.specs.Streams.{Input, Output, IsStill, Gave, GaveFront}
 
 -- all complete requests after the handshake were recorded, and the rest is this one
-pub record AllServed (run : shaking.Run) (asked : List Asked) (rest : List ℕ) : Type 0 where
+pub record AllServed (run : shaking.Run) (asked : List TimedRequest) (rest : List ℕ) : Type 0 where
   pub behind : List ℕ
   pub opened : run.end ≡ shaking.opened behind
   pub all : AllRequests most_bytes behind (requests_of asked) rest
 
 -- the first of them were recorded, or the handshake isn't open and none was
-abbrev pub FirstServed : shaking.Run → List Asked → Type 0
+abbrev pub FirstServed : shaking.Run → List TimedRequest → Type 0
 FirstServed run asked = (asked ≡ []) ⊎ ((behind : List ℕ) × (run.end ≡ shaking.opened behind) × FirstRequests most_bytes behind (requests_of asked))
 
 -- The rest after the messages shows this violation. Bytes never show EndInside; it comes if the input ended
@@ -33,7 +33,7 @@ IsViolated cause to rest = Breaks most_bytes rest cause
 -- The cause of each end: by the run of the handshake over the bytes read, the requests that were recorded, the number of
 -- the run's events up to then, and the streams before and after. The input's count of faults rose if the input failed,
 -- and didn't rise at any other end.
-abbrev pub HasCause : End → shaking.Run → List Asked → ℕ → Input → Input → Output → Output → Type 0
+abbrev pub HasCause : End → shaking.Run → List TimedRequest → ℕ → Input → Input → Output → Output → Type 0
 -- BEGIN came, each call of the messages was recorded, and the input ended between two messages
 HasCause end.Done run asked count from to sink after = AllServed run asked [] × IsAtEnd to.left × IsStill from to
 -- BEGIN came, each call of the messages was recorded, and the rest breaks a rule
@@ -60,7 +60,7 @@ HasWritten _ sink after text = Gave sink after text
 
 -- The requests for which a moment and a salt were taken and which weren't recorded, after those that were: at most
 -- one, the next one, if no further event can be counted or memory ran out; none at every other end.
-abbrev pub HasRefused : End → shaking.Run → List Asked → List Asked → Type 0
+abbrev pub HasRefused : End → shaking.Run → List TimedRequest → List TimedRequest → Type 0
 HasRefused end.EventsSpent run asked refused = (length refused ≤ 1) × FirstServed run (asked ++ refused)
 HasRefused end.Memory run asked refused = (length refused ≤ 1) × FirstServed run (asked ++ refused)
 HasRefused _ run asked refused = refused ≡ []

@@ -51,7 +51,7 @@ EndsFor RefusedFor run old new (Err end.Memory) = GaveFront old.output new.outpu
 EndsFor RefusedFor run old new (Err _) = ⊥
 
 -- what a handshake read, and how it ended
-pub record Shakes (uid : ℕ) (guid : List ℕ) (old new : Both) (result : Result Framing End) : Type 0 where
+pub record HandshakeOutcome (uid : ℕ) (guid : List ℕ) (old new : Both) (result : Result Framing End) : Type 0 where
   pub read : List ℕ
   pub took : Took old.input new.input read
   pub ends : EndsFor IsRefusedFor (shaking.handshake uid guid read) old new result
@@ -75,7 +75,7 @@ pub record Reached (at : Exchange) (held : List ℕ) (old new : Both) (further :
   pub goes : shaking.run at (held ++ read) ≡ record { answers = answers ++ further.answers; end = further.end }
 
 -- what a handshake read after bytes that are held and begin a line, and how it ended
-pub record ShakesOn (at : Exchange) (held : List ℕ) (old new : Both) (result : Result Framing End) : Type 0 where
+pub record HandshakeOutcomeAfter (at : Exchange) (held : List ℕ) (old new : Both) (result : Result Framing End) : Type 0 where
   pub read : List ℕ
   pub took : Took old.input new.input read
   pub ends : EndsFor IsRefusedSo (shaking.run at (held ++ read)) old new result

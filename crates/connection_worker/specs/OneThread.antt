@@ -6,7 +6,7 @@ use Rattle.service_desk.specs.Records.{Records, of_own}
 use Rattle.connection_worker.specs.declared.ending.End.{End}
 use Rattle.connection_worker.specs.Causes.{HasCause, HasWritten, HasRefused}
 use Rattle.connection_worker.specs.Serving.{World, place_of, GivesMoments, GivesSalts}
-use Rattle.service_machine.specs.Single.{Asked, turns, single}
+use Rattle.service_machine.specs.Single.{TimedRequest, turns, single}
 use Rattle.connection_worker.specs.Streams.{Input, Output, Took}
 use Rattle.connection_worker.specs.Written.{written}
 
@@ -14,13 +14,13 @@ use Rattle.connection_worker.specs.Written.{written}
 pub record IsServed (uid : ℕ) (guid : List ℕ) (from to : Input) (sink after : Output) (old new : World) (how : End) : Type 0 where
   pub read : List ℕ
   pub took : Took from to read
-  pub asked : List Asked
+  pub asked : List TimedRequest
   -- the desk recorded the events of these requests and that the connection is gone, and no others
   pub recorded : Records (place_of old) (place_of new) (of_own old.told.state (single old.told.conn old.told.state asked))
   -- a moment and a salt were taken for these too
-  pub refused : List Asked
+  pub refused : List TimedRequest
   pub few : HasRefused how (handshake uid guid read) asked refused
-  pub moments : GivesMoments old.coming (map (λ (a : Asked). a.now) (asked ++ refused)) new.coming
-  pub salts : GivesSalts old.salting (map (λ (a : Asked). a.salt) (asked ++ refused)) new.salting
+  pub moments : GivesMoments old.coming (map (λ (a : TimedRequest). a.now) (asked ++ refused)) new.coming
+  pub salts : GivesSalts old.salting (map (λ (a : TimedRequest). a.salt) (asked ++ refused)) new.salting
   pub cause : HasCause how (handshake uid guid read) asked (old.told.count + length (turns old.told.conn old.told.state asked)) from to sink after
   pub wrote : HasWritten how sink after (concat (handshake uid guid read).answers ++ written old.told.conn old.told.state (single old.told.conn old.told.state asked))

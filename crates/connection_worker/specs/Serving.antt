@@ -13,7 +13,7 @@ use Rattle.connection_worker.specs.declared.ending.End.{End}
 use Rattle.connection_worker.specs.declared.ending.End.TheVariants as end
 use Rattle.connection_worker.specs.Salts.{Salting, words_at}
 use Rattle.connection_worker.specs.Sending.{AreBehind}
-use Rattle.service_machine.specs.Single.{Asked, arrival, taking, turns}
+use Rattle.service_machine.specs.Single.{TimedRequest, arrival, taking, turns}
 use Rattle.connection_worker.specs.Written.{spelled_behind}
 use Rattle.connection_worker.specs.Streams.{Output, Gave, GaveFront}
 
@@ -62,10 +62,10 @@ GivesSalts old (salt ∷ salts) new = (salt ≡ words_at old.key old.stream old.
 
 -- The desk recorded these requests, each with a moment of the clock and a salt; and a moment and a salt were taken for
 -- these further ones, which weren't recorded.
-pub record Recorded (old new : World) (asked refused : List Asked) : Type 0 where
+pub record Recorded (old new : World) (asked refused : List TimedRequest) : Type 0 where
   pub calls : Records (place_of old) (place_of new) (of_own old.told.state (turns old.told.conn old.told.state asked))
-  pub moments : GivesMoments old.coming (map (λ (a : Asked). a.now) (asked ++ refused)) new.coming
-  pub salts : GivesSalts old.salting (map (λ (a : Asked). a.salt) (asked ++ refused)) new.salting
+  pub moments : GivesMoments old.coming (map (λ (a : TimedRequest). a.now) (asked ++ refused)) new.coming
+  pub salts : GivesSalts old.salting (map (λ (a : TimedRequest). a.salt) (asked ++ refused)) new.salting
 
 -- Why the serving ended early, and what was then written of this text: all of it if no further event can be
 -- counted; a prefix of it if the sink failed or memory ran out.
@@ -76,14 +76,14 @@ EndsEarly end.Memory count from to text = GaveFront from to text
 EndsEarly _ count from to text = ⊥
 
 -- After one request was recorded, before the output for it is taken.
-pub record HasArrived (old new : World) (asked : Asked) : Type 0 where
+pub record HasArrived (old new : World) (asked : TimedRequest) : Type 0 where
   pub calls : Records (place_of old) (place_of new) (of_own old.told.state (arrival old.told.conn asked ∷ []))
   pub moment : GivesFirst old.coming asked.now new.coming
   pub salt : asked.salt ≡ words_at old.salting.key old.salting.stream old.salting.place
   pub salting : new.salting ≡ behind_salt old.salting
 
 -- A moment and a salt were taken for a request that wasn't recorded.
-pub record HasAsked (old new : World) (asked : Asked) : Type 0 where
+pub record HasAsked (old new : World) (asked : TimedRequest) : Type 0 where
   pub calls : Records (place_of old) (place_of new) []
   pub moment : GivesFirst old.coming asked.now new.coming
   pub salt : asked.salt ≡ words_at old.salting.key old.salting.stream old.salting.place
@@ -91,9 +91,9 @@ pub record HasAsked (old new : World) (asked : Asked) : Type 0 where
 
 -- the request was recorded; or it was refused, for its cause
 abbrev pub Asks : Request → World → World → Result Unit End → Type 0
-Asks request old new (Ok done) = (asked : Asked) × (asked.request ≡ request) × HasArrived old new asked
-Asks request old new (Err end.EventsSpent) = (asked : Asked) × (asked.request ≡ request) × HasAsked old new asked × IsSpent old.told.count
-Asks request old new (Err end.Memory) = (asked : Asked) × (asked.request ≡ request) × HasAsked old new asked
+Asks request old new (Ok done) = (asked : TimedRequest) × (asked.request ≡ request) × HasArrived old new asked
+Asks request old new (Err end.EventsSpent) = (asked : TimedRequest) × (asked.request ≡ request) × HasAsked old new asked × IsSpent old.told.count
+Asks request old new (Err end.Memory) = (asked : TimedRequest) × (asked.request ≡ request) × HasAsked old new asked
 Asks request old new (Err _) = ⊥
 
 -- the desk returned the outputs that waited: a Take was recorded if there were any

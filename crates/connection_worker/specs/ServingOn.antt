@@ -8,10 +8,10 @@ use Rattle.dbus_framing.specs.Framers.{Framing}
 use Rattle.dbus_framing.specs.Streams.{Stream}
 use Rattle.connection_worker.specs.declared.ending.End.{End}
 use Rattle.connection_worker.specs.declared.ending.End.TheVariants as end
-use Rattle.connection_worker.specs.Answering.{Going}
+use Rattle.connection_worker.specs.Answering.{ServedPrefix}
 use Rattle.connection_worker.specs.Causes.{HasCause, HasWritten, HasRefused}
 use Rattle.connection_worker.specs.Serving.{World, IsOwed, Recorded}
-use Rattle.service_machine.specs.Single.{Asked, turns}
+use Rattle.service_machine.specs.Single.{TimedRequest, turns}
 use Rattle.connection_worker.specs.Streams.{Input, Output, Took, IsStill}
 use Rattle.connection_worker.specs.Written.{written_after}
 
@@ -29,8 +29,8 @@ FeedsMore has left from to (Err _) = ⊥
 pub record ServesOn (has : Framing) (from to : Input) (old new : World) (sink after : Output) (how : End) : Type 0 where
   pub read : List ℕ
   pub took : Took from to read
-  pub asked : List Asked
-  pub refused : List Asked
+  pub asked : List TimedRequest
+  pub refused : List TimedRequest
   pub recorded : Recorded old new asked refused
   pub idle : IsOwed new.told []
   pub few : HasRefused how (silent (opened (has.rest ++ read))) asked refused
@@ -38,14 +38,14 @@ pub record ServesOn (has : Framing) (from to : Input) (old new : World) (sink af
   pub wrote : HasWritten how sink after (written_after old.told.conn 0 old.told.state (turns old.told.conn old.told.state asked))
 
 -- So far: these bytes were read, and the messages so far in them and in what the framer held are served.
-pub record IsAmid (has : Framing) (from now : Input) (left : Framing) (old new : World) (behind : ℕ) (sink out : Output) : Type 0 where
+pub record ServedSoFar (has : Framing) (from now : Input) (left : Framing) (old new : World) (behind : ℕ) (sink out : Output) : Type 0 where
   pub read : List ℕ
   pub took : Took from now read
   pub still : IsStill from now
   pub most : left.most ≡ has.most
-  pub going : Going has.most (has.rest ++ read) left.rest old new 0 behind sink out
+  pub going : ServedPrefix has.most (has.rest ++ read) left.rest old new 0 behind sink out
 
 -- the same, and no further message is complete
 pub record IsThrough (has : Framing) (from now : Input) (left : Framing) (old new : World) (behind : ℕ) (sink out : Output) : Type 0 where
-  pub amid : IsAmid has from now left old new behind sink out
-  pub stream : Stream has.most (has.rest ++ amid.read) amid.going.messages left.rest
+  pub so_far : ServedSoFar has from now left old new behind sink out
+  pub stream : Stream has.most (has.rest ++ so_far.read) so_far.going.messages left.rest

@@ -6,14 +6,14 @@ ghost use Rattle.service_desk.specs.Places.{Told};
 ghost use Rattle.service_desk.specs.Records as records;
 ghost use Rattle.connection_worker.specs.Replies.{replies_to};
 ghost use Rattle.connection_worker.specs.Serving.{IsOwed};
-ghost use Rattle.service_machine.specs.Single.{Asked, single};
+ghost use Rattle.service_machine.specs.Single.{TimedRequest, single};
 ghost use Rattle.connection_worker.specs.Written.{given_by};
 
 /// What the only connection is given is the reply to each request that wants one, in the order of
 /// the requests, and nothing else: each reply is the one that the request's row of the table of
 /// calls gives in the state after the requests before it.
 pub fn each_request_is_answered_at_once()
-    ensures { (told : Told) (asked : List Asked) → IsOwed told []
+    ensures { (told : Told) (asked : List TimedRequest) → IsOwed told []
         → given_by told.conn told.state (single told.conn told.state asked)
         ≡ replies_to told.conn told.state asked }
 {}
@@ -21,7 +21,7 @@ pub fn each_request_is_answered_at_once()
 /// What the events give to the only connection is what the calls of its desk returned: the outputs
 /// of its takes, in order.
 pub fn what_is_given_was_taken()
-    ensures { (conn : ConnId) (state : Rows) (asked : List Asked)
+    ensures { (conn : ConnId) (state : Rows) (asked : List TimedRequest)
         → given_by conn state (single conn state asked)
         ≡ records.given (records.of_own state (single conn state asked)) }
 {}

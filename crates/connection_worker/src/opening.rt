@@ -2,7 +2,7 @@
 ghost use Rattle.std.specs.Prelude.{◌≡◌, ◌≤◌, ◌<◌, ℕ, IfOk, OnErr, IsErrOf, List, drop, length, vec_len};
 ghost use Rattle.dbus_framing.specs.Framers.{just_fed};
 ghost use Rattle.connection_worker.specs.Streams.{input_of, output_of};
-ghost use Rattle.connection_worker.specs.Handshakes.{Shakes, ShakesOn, ReadsMore, most_bytes};
+ghost use Rattle.connection_worker.specs.Handshakes.{HandshakeOutcome, HandshakeOutcomeAfter, ReadsMore, most_bytes};
 
 use crate::ending::End;
 use crate::lines::{Turn, answer_lines};
@@ -16,7 +16,7 @@ use std::sync::Wait;
 const PIECE: usize = 65_536;
 
 /// The most bytes that an incoming message may have.
-const MOST: u32 = 1_048_576;
+const MOST_MESSAGE_BYTES: u32 = 1_048_576;
 
 // Reads a piece, and appends it to the bytes that are held.
 fn read_more<I: Source>(input: &mut I, piece: &mut [u8], held: &mut Vec<u8>) -> Result<(), End>
@@ -52,7 +52,7 @@ fn framer_behind(bytes: &Vec<u8>, count: usize) -> Result<Framer, End>
         framer ≡ just_fed most_bytes (drop count bytes.now.items)) }
     ensures memory { OnErr result (IsErrOf result End.Memory) }
 {
-    let mut framer = Framer::new(*bytes.allocator(), MOST);
+    let mut framer = Framer::new(*bytes.allocator(), MOST_MESSAGE_BYTES);
     let (_, rest) = bytes.as_slice().split_at(count);
     match framer.feed(rest) {
         Ok(()) => Ok(framer),
@@ -70,7 +70,7 @@ fn shake<R: Wait, I: Source, O: Sink>(
     piece: &mut [u8],
 ) -> Result<Framer, End>
     requires { 0 < length piece.old }
-    ensures { ShakesOn auth held.items
+    ensures { HandshakeOutcomeAfter auth held.items
         (record {
           input = input_of I.left I.faults I.is_steady input.old;
           output = output_of O.written O.faults O.is_steady output.old;
@@ -108,7 +108,7 @@ pub fn handshake<R: AllocGlobal + Wait, I: Source, O: Sink>(
     output: &mut O,
 ) -> Result<Framer, End>
     requires { auth.state ≡ State.WaitingForAuth }
-    ensures { Shakes auth.uid auth.guid
+    ensures { HandshakeOutcome auth.uid auth.guid
         (record {
           input = input_of I.left I.faults I.is_steady input.old;
           output = output_of O.written O.faults O.is_steady output.old;

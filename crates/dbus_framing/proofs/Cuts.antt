@@ -7,7 +7,7 @@ use Rattle.dbus_types.specs.declared.endian.Endian.{Endian}
 use Rattle.dbus_framing.specs.declared.violation.Violation.{Violation}
 use Rattle.dbus_framing.specs.declared.head.Head.{Head}
 use Rattle.dbus_framing.specs.Messages.{Parts, IsMessage, head_of, message_at}
-use Rattle.dbus_framing.specs.Streams.{joined, AreMessages, is_kept, Cut, BeginsNone, Stream, Breaks, early, late, BreaksNone, Turn, fed, answered, fed_in, answered_in, Went}
+use Rattle.dbus_framing.specs.Streams.{joined, AreMessages, is_kept, Cut, BeginsNone, Stream, Breaks, early, late, BreaksNone, Turn, fed, answered, fed_in, answered_in, LeavesRest}
 use Rattle.dbus_framing.proofs.Heads.{head_stays}
 use Rattle.dbus_framing.proofs.Readings.{message_head, message_read, same_head, one_meaning}
 
@@ -185,7 +185,7 @@ short_break most bytes head known short = λ cause broken. fits_not most bytes c
 
 -- ---- any turns of a framer
 
-pub went_cut : (most : ℕ) (turns : List Turn) (rest : List ℕ) → Went most turns rest → Cut most (fed_in turns) (answered_in turns) rest
+pub went_cut : (most : ℕ) (turns : List Turn) (rest : List ℕ) → LeavesRest most turns rest → Cut most (fed_in turns) (answered_in turns) rest
 went_cut most [] rest went = subst (λ (bytes : List ℕ). Cut most [] [] bytes) (sym went) (cut_none most [])
 went_cut most (fed piece ∷ before) rest went =
     subst (λ (bytes : List ℕ). Cut most (fed_in before ++ piece) (answered_in before) bytes) (sym went.2)
@@ -193,7 +193,7 @@ went_cut most (fed piece ∷ before) rest went =
 went_cut most (answered messages ∷ before) rest went =
     cut_then most (fed_in before) went.0 rest (answered_in before) messages (went_cut most before went.0 went.1) went.2
 
-pub went_begins : (most : ℕ) (turns : List Turn) (left rest : List ℕ) (messages : List Parts) → Went most turns left → Stream most (fed_in turns) messages rest
+pub went_begins : (most : ℕ) (turns : List Turn) (left rest : List ℕ) (messages : List Parts) → LeavesRest most turns left → Stream most (fed_in turns) messages rest
     → (further : List Parts) × (messages ≡ answered_in turns ++ further) × Stream most left further rest
 went_begins most turns left rest messages went stream = answers_begin most (fed_in turns) left rest (answered_in turns) messages (went_cut most turns left went) stream
 

@@ -68,7 +68,7 @@ answered_in (answered messages ∷ before) = answered_in before ++ messages
 
 -- A framer to which nothing was fed went through these turns, the last one first, each as its call promises it, and
 -- has these bytes left.
-abbrev pub Went : ℕ → List Turn → List ℕ → Type 0
-Went most [] rest = rest ≡ []
-Went most (fed piece ∷ before) rest = (left : List ℕ) × Went most before left × (rest ≡ left ++ piece)
-Went most (answered messages ∷ before) rest = (left : List ℕ) × Went most before left × Cut most left messages rest
+abbrev pub LeavesRest : ℕ → List Turn → List ℕ → Type 0
+LeavesRest most [] rest = rest ≡ []
+LeavesRest most (fed piece ∷ before) rest = (left : List ℕ) × LeavesRest most before left × (rest ≡ left ++ piece)
+LeavesRest most (answered messages ∷ before) rest = (left : List ℕ) × LeavesRest most before left × Cut most left messages rest

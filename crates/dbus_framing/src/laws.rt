@@ -4,7 +4,7 @@ ghost use Rattle.std.specs.Prelude.{◌≡◌, ◌<◌, ℕ, ◌++◌, List, [],
 ghost use Rattle.dbus_framing.specs.declared.violation.Violation.{Violation};
 ghost use Rattle.dbus_framing.specs.declared.violation.Violation.TheVariants as violation;
 ghost use Rattle.dbus_framing.specs.Messages.{Parts, IsHeaderAndBody, IsMessage};
-ghost use Rattle.dbus_framing.specs.Streams.{Cut, Stream, BeginsNone, Breaks, Turn, Went, fed_in, answered_in};
+ghost use Rattle.dbus_framing.specs.Streams.{Cut, Stream, BeginsNone, Breaks, Turn, LeavesRest, fed_in, answered_in};
 
 /// No spelling of a message begins another one, not even under another limit: what was sent is read
 /// again, whatever follows it.
@@ -61,7 +61,7 @@ pub fn answers_begin_the_stream()
 /// of all bytes that were fed, in whatever pieces they came.
 pub fn answers_begin_the_stream_of_any_pieces()
     ensures { (most : ℕ) (turns : List Turn) (left rest : List ℕ) (messages : List Parts)
-        → Went most turns left → Stream most (fed_in turns) messages rest
+        → LeavesRest most turns left → Stream most (fed_in turns) messages rest
         → (further : List Parts) × (messages ≡ answered_in turns ++ further)
         × Stream most left further rest }
 {}

@@ -17,7 +17,7 @@ mod ring;
 
 pub use alias_file::AliasFile;
 pub use found_aliases::FoundAliases;
-pub use limits::{Limits, MOST};
+pub use limits::{LIMITS, Limits};
 pub use loading::{Loaded, load, load_within};
 pub use opening::LeftAlone;
 pub use refused::LoadRefused;

@@ -13,7 +13,7 @@ pub struct Limits {
 
 /// The limits of `load`: 67,108,864 bytes in one keyring file, 1,024 collections, 100,000 items in all and
 /// 268,435,456 bytes in all keyring files.
-pub const MOST: Limits = Limits {
+pub const LIMITS: Limits = Limits {
     one_file: 67_108_864,
     collections: 1_024,
     items: 100_000,

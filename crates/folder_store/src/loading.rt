@@ -13,7 +13,7 @@ ghost use Rattle.folder_store.specs.Ring.{HasFailedSlot, HasLoadCause, IsAsFound
 ghost use Rattle.folder_store.specs.Walk.{Visits, Walk, plain};
 
 use crate::found_aliases::{FoundAliases, found_by};
-use crate::limits::{Limits, MOST};
+use crate::limits::{LIMITS, Limits};
 use crate::names::{in_order, stem_of_name};
 use crate::opening::{LeftAlone, Opening};
 use crate::reading::{read_settled, read_within};
@@ -63,7 +63,7 @@ pub fn load<F: Folder>(alloc: Global, folder: &mut F) -> Result<Loaded<F::Cell>,
         (F.is_steady folder.old) }
     ensures never { IsTrue (F.is_steady folder.old) → ¬ (IsErrOf result LoadRefused.Folder) }
 {
-    load_within(alloc, folder, &MOST)
+    load_within(alloc, folder, &LIMITS)
 }
 
 /// Loads a folder as `load` does, with other limits.

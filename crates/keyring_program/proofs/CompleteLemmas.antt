@@ -17,11 +17,11 @@ use Rattle.connection_worker.specs.Handshakes.{most_bytes, Awaits, IsRefusedFor}
 use Rattle.connection_worker.specs.declared.ending.End as ending
 use Rattle.connection_worker.specs.declared.ending.End.TheVariants as end
 use Rattle.connection_worker.specs.Causes.{AllServed, FirstServed, IsViolated, HasCause}
-use Rattle.service_machine.specs.Single.{Asked, requests_of}
+use Rattle.service_machine.specs.Single.{TimedRequest, requests_of}
 use Rattle.connection_worker.specs.Streams.{Input, Output}
 use Rattle.keyring_program.specs.Events.{events_until, events_of, the_connection}
 use Rattle.keyring_program.specs.ServerNumber.{guid}
-use Rattle.keyring_program.specs.Serves.{Serves, shaken}
+use Rattle.keyring_program.specs.Serves.{Serves, handshake_run}
 use Rattle.keyring_program.specs.WholeInput.{IsWholeInput}
 use Rattle.keyring_program.specs.declared.status.Status.{Status}
 use Rattle.keyring_program.specs.declared.status.Status.TheVariants as status
@@ -61,25 +61,25 @@ end-more run more = by_end run.end
     by_end (opened rest) = refl
 
 -- a handshake that is refused or open stays so
-opened-more : (uid : ℕ) (seed read more rest : List ℕ) → (shaken uid seed read).end ≡ opened rest → (shaken uid seed (read ++ more)).end ≡ opened (rest ++ more)
+opened-more : (uid : ℕ) (seed read more rest : List ℕ) → (handshake_run uid seed read).end ≡ opened rest → (handshake_run uid seed (read ++ more)).end ≡ opened (rest ++ more)
 opened-more uid seed [] more rest is = let e = sym (ap (λ (r : Run). r.end) (handshake-nothing uid (guid seed))) ∙ is in cc
 opened-more uid seed (first ∷ bytes) more rest is =
-    ap (λ (r : Run). r.end) (handshake-append uid (guid seed) first bytes more) ∙ end-more (shaken uid seed (first ∷ bytes)) more ∙ ap (λ e. with-more e more) is
+    ap (λ (r : Run). r.end) (handshake-append uid (guid seed) first bytes more) ∙ end-more (handshake_run uid seed (first ∷ bytes)) more ∙ ap (λ e. with-more e more) is
 
-refused-more : (uid : ℕ) (seed read more : List ℕ) (why : AuthFault) → (shaken uid seed read).end ≡ refused why → (shaken uid seed (read ++ more)).end ≡ refused why
+refused-more : (uid : ℕ) (seed read more : List ℕ) (why : AuthFault) → (handshake_run uid seed read).end ≡ refused why → (handshake_run uid seed (read ++ more)).end ≡ refused why
 refused-more uid seed [] more why is = let e = sym (ap (λ (r : Run). r.end) (handshake-nothing uid (guid seed))) ∙ is in cc
 refused-more uid seed (first ∷ bytes) more why is =
-    ap (λ (r : Run). r.end) (handshake-append uid (guid seed) first bytes more) ∙ end-more (shaken uid seed (first ∷ bytes)) more ∙ ap (λ e. with-more e more) is
+    ap (λ (r : Run). r.end) (handshake-append uid (guid seed) first bytes more) ∙ end-more (handshake_run uid seed (first ∷ bytes)) more ∙ ap (λ e. with-more e more) is
 
 -- so it isn't refused if the whole is open
-never-refused : (uid : ℕ) (seed read left behind : List ℕ) (to : Input) (why : AuthFault) → to.left ≡ Some left → (shaken uid seed (read ++ left)).end ≡ opened behind
-    → IsRefusedFor (shaken uid seed read).end to why → ⊥
+never-refused : (uid : ℕ) (seed read left behind : List ℕ) (to : Input) (why : AuthFault) → to.left ≡ Some left → (handshake_run uid seed (read ++ left)).end ≡ opened behind
+    → IsRefusedFor (handshake_run uid seed read).end to why → ⊥
 never-refused uid seed read left behind to fault.NoZero told is-open is = let e = sym (refused-more uid seed read left fault.NoZero is) ∙ is-open in cc
 never-refused uid seed read left behind to fault.LineTooLong told is-open is = let e = sym (refused-more uid seed read left fault.LineTooLong is) ∙ is-open in cc
 never-refused uid seed read left behind to fault.BeginTooSoon told is-open is = let e = sym (refused-more uid seed read left fault.BeginTooSoon is) ∙ is-open in cc
 never-refused uid seed read left behind to fault.EndedEarly told is-open is =
     let none : left ≡ [] = at-end to.left left told is.1 in
-    let here : (shaken uid seed read).end ≡ opened behind = ap (λ l. (shaken uid seed l).end) (sym (ap (λ l. read ++ l) none ∙ append-nil read)) ∙ is-open in
+    let here : (handshake_run uid seed read).end ≡ opened behind = ap (λ l. (handshake_run uid seed l).end) (sym (ap (λ l. read ++ l) none ∙ append-nil read)) ∙ is-open in
     subst Awaits here is.0
 
 -- ---- the messages
@@ -120,7 +120,7 @@ never-violated behind left rest messages all to violation.BadBody told stream is
 never-violated behind left rest messages all to violation.InvalidType told stream is whole = never-broken behind left rest messages all violation.InvalidType stream is whole
 
 -- requests of the first messages stay so, whatever follows
-first-more : (behind left : List ℕ) (asked : List Asked) → FirstRequests most_bytes behind (requests_of asked) → FirstRequests most_bytes (behind ++ left) (requests_of asked)
+first-more : (behind left : List ℕ) (asked : List TimedRequest) → FirstRequests most_bytes behind (requests_of asked) → FirstRequests most_bytes (behind ++ left) (requests_of asked)
 first-more behind left asked first = record {
   messages = first.messages;
   rest = first.rest ++ left;
@@ -129,7 +129,7 @@ first-more behind left asked first = record {
   are = first.are;
 }
 
-until-of : (asked : List Asked) → length (events_of asked) ≡ length (events_until asked) + 1
+until-of : (asked : List TimedRequest) → length (events_of asked) ≡ length (events_until asked) + 1
 until-of asked = length-append (events_until asked) (event.Gone the_connection ∷ [])
 
 -- ---- the whole
@@ -144,25 +144,25 @@ complete uid seed bytes coming from to sink behind how so whole told input outpu
     left : List ℕ
     left = front.0
 
-    is-open : (shaken uid seed (so.read ++ left)).end ≡ opened whole.behind
-    is-open = ap (λ l. (shaken uid seed l).end) (sym front.1) ∙ whole.opened
+    is-open : (handshake_run uid seed (so.read ++ left)).end ≡ opened whole.behind
+    is-open = ap (λ l. (handshake_run uid seed l).end) (sym front.1) ∙ whole.opened
 
-    joined : (rest : List ℕ) → (shaken uid seed so.read).end ≡ opened rest → whole.behind ≡ rest ++ left
+    joined : (rest : List ℕ) → (handshake_run uid seed so.read).end ≡ opened rest → whole.behind ≡ rest ++ left
     joined rest is = let e = sym is-open ∙ opened-more uid seed so.read left rest is in cc
 
-    stream : (rest : List ℕ) → (shaken uid seed so.read).end ≡ opened rest → Stream most_bytes (rest ++ left) whole.messages []
+    stream : (rest : List ℕ) → (handshake_run uid seed so.read).end ≡ opened rest → Stream most_bytes (rest ++ left) whole.messages []
     stream rest is = subst (λ l. Stream most_bytes l whole.messages []) (joined rest is) whole.stream
 
-    few : (asked : List Asked) → FirstServed (shaken uid seed so.read) asked → most_events ≤ length (events_until asked) → ⊥
+    few : (asked : List TimedRequest) → FirstServed (handshake_run uid seed so.read) asked → most_events ≤ length (events_until asked) → ⊥
     few asked (inl none) many = let one : length (events_until asked) ≡ 1 = ap (λ l. length (events_until l)) none in omega (arith, one, many)
     few asked (inr first) many =
         let all = subst (λ l. FirstRequests most_bytes l (requests_of asked)) (sym (joined first.0 first.1)) (first-more first.0 left asked first.2) in
         omega (arith, whole.few asked all, until-of asked, many)
 
-    by_cause : (how : ending.End) → HasCause how (shaken uid seed so.read) so.asked (length (events_until so.asked)) from to sink behind → (status_of how ≡ status.Done) ⊎ (status_of how ≡ status.Memory)
+    by_cause : (how : ending.End) → HasCause how (handshake_run uid seed so.read) so.asked (length (events_until so.asked)) from to sink behind → (status_of how ≡ status.Done) ⊎ (status_of how ≡ status.Memory)
     by_cause end.Done cause = inl refl
     by_cause (end.Violation which) cause =
-        let all : AllServed (shaken uid seed so.read) so.asked cause.0.0 = cause.0.1 in
+        let all : AllServed (handshake_run uid seed so.read) so.asked cause.0.0 = cause.0.1 in
         absurd (never-violated all.behind left cause.0.0 all.all.messages whole.messages to which front.2 all.all.stream cause.0.2 (stream all.behind all.opened))
     by_cause (end.AuthRefused why) cause = absurd (never-refused uid seed so.read left whole.behind to why front.2 is-open cause.0)
     by_cause end.ReadFault cause = absurd (still from.faults to.faults input cause.0)

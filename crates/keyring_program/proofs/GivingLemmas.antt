@@ -4,7 +4,7 @@ use Rattle.rand_chacha.specs.ChaCha.{key_of}
 use Rattle.kr_outside.specs.Clock.{GivesFirst}
 use Rattle.connection_worker.specs.Salts.{Salting, words_at, salt_of}
 use Rattle.connection_worker.specs.Serving.{GivesMoments, GivesSalts, behind_salt}
-use Rattle.service_machine.specs.Single.{Asked}
+use Rattle.service_machine.specs.Single.{TimedRequest}
 use Rattle.keyring_program.specs.Events.{the_connection, AreGivenFrom, HaveMoments, HaveSalts}
 
 -- a moment, and those after it
@@ -19,15 +19,15 @@ moments-next moment moments all coming place now behind is further (Some next) f
       further next (λ k. first.1 k ∙ is (k + 1) ∙ ap coming (shift k)) more,
     )
 
-moments-from : (asked refused : List Asked) (coming : ℕ → ℕ) (place : ℕ) (now : ℕ → ℕ) (behind : Option (ℕ → ℕ)) → ((k : ℕ) → now k ≡ coming (place + k))
-    → GivesMoments (Some now) (map (λ (a : Asked). a.now) (asked ++ refused)) behind → AreGivenFrom place coming (map (λ (a : Asked). a.now) asked)
+moments-from : (asked refused : List TimedRequest) (coming : ℕ → ℕ) (place : ℕ) (now : ℕ → ℕ) (behind : Option (ℕ → ℕ)) → ((k : ℕ) → now k ≡ coming (place + k))
+    → GivesMoments (Some now) (map (λ (a : TimedRequest). a.now) (asked ++ refused)) behind → AreGivenFrom place coming (map (λ (a : TimedRequest). a.now) asked)
 moments-from [] refused coming place now behind is gives = tt
 moments-from (a ∷ asked) refused coming place now behind is gives =
-    moments-next a.now (map (λ (a : Asked). a.now) asked) (map (λ (a : Asked). a.now) (asked ++ refused)) coming place now behind is
+    moments-next a.now (map (λ (a : TimedRequest). a.now) asked) (map (λ (a : TimedRequest). a.now) (asked ++ refused)) coming place now behind is
     (λ next so more. moments-from asked refused coming (place + 1) next behind so more) gives.0 gives.1 gives.2
 
 -- the first moments of the clock
-pub have-moments : (coming behind : Option (ℕ → ℕ)) (asked refused : List Asked) → GivesMoments coming (map (λ (a : Asked). a.now) (asked ++ refused)) behind → HaveMoments coming asked
+pub have-moments : (coming behind : Option (ℕ → ℕ)) (asked refused : List TimedRequest) → GivesMoments coming (map (λ (a : TimedRequest). a.now) (asked ++ refused)) behind → HaveMoments coming asked
 have-moments None behind asked refused gives = tt
 have-moments (Some coming) behind asked refused gives =
     let here : (k : ℕ) → k ≡ 0 + k = λ k. omega arith in
@@ -37,8 +37,8 @@ have-moments (Some coming) behind asked refused gives =
 two-on : (k : ℕ) → (2 * k % 2 ^ 68 + 2) % 2 ^ 68 ≡ 2 * (k + 1) % 2 ^ 68
 two-on k = omega arith
 
-salts-from : (asked refused : List Asked) (seed : List ℕ) (stream k : ℕ) (old new : Salting) → old.key ≡ key_of seed → old.stream ≡ stream → old.place ≡ 2 * k % 2 ^ 68
-    → GivesSalts old (map (λ (a : Asked). a.salt) (asked ++ refused)) new → AreGivenFrom k (salt_of seed stream) (map (λ (a : Asked). a.salt) asked)
+salts-from : (asked refused : List TimedRequest) (seed : List ℕ) (stream k : ℕ) (old new : Salting) → old.key ≡ key_of seed → old.stream ≡ stream → old.place ≡ 2 * k % 2 ^ 68
+    → GivesSalts old (map (λ (a : TimedRequest). a.salt) (asked ++ refused)) new → AreGivenFrom k (salt_of seed stream) (map (λ (a : TimedRequest). a.salt) asked)
 salts-from [] refused seed stream k old new key same place gives = tt
 salts-from (a ∷ asked) refused seed stream k old new key same place gives = (
   gives.0 ∙ (λ i. words_at (key i) (same i) (place i)),
@@ -46,7 +46,7 @@ salts-from (a ∷ asked) refused seed stream k old new key same place gives = (
 )
 
 -- the first salts of the connection
-pub have-salts : (seed : List ℕ) (new : Salting) (asked refused : List Asked)
-    → GivesSalts (record { key = key_of seed; stream = the_connection.0; place = 0 }) (map (λ (a : Asked). a.salt) (asked ++ refused)) new → HaveSalts seed asked
+pub have-salts : (seed : List ℕ) (new : Salting) (asked refused : List TimedRequest)
+    → GivesSalts (record { key = key_of seed; stream = the_connection.0; place = 0 }) (map (λ (a : TimedRequest). a.salt) (asked ++ refused)) new → HaveSalts seed asked
 have-salts seed new asked refused gives =
     salts-from asked refused seed the_connection.0 0 (record { key = key_of seed; stream = the_connection.0; place = 0 }) new refl refl refl gives

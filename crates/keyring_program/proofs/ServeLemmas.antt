@@ -18,12 +18,12 @@ use Rattle.connection_worker.specs.declared.ending.End.TheVariants as end
 use Rattle.connection_worker.specs.Causes.{HasCause, HasWritten}
 use Rattle.connection_worker.specs.OneThread.{IsServed}
 use Rattle.connection_worker.specs.Serving.{World, HasJoined, GivesSalts}
-use Rattle.service_machine.specs.Single.{Asked, turns, single}
+use Rattle.service_machine.specs.Single.{TimedRequest, turns, single}
 use Rattle.connection_worker.specs.Streams.{Input, Output}
 use Rattle.connection_worker.specs.Written.{written}
 use Rattle.keyring_program.specs.Events.{the_connection, joined, events_until, text_of, HaveMoments}
 use Rattle.keyring_program.specs.ServerNumber.{guid}
-use Rattle.keyring_program.specs.Serves.{Serves, shaken}
+use Rattle.keyring_program.specs.Serves.{Serves, handshake_run}
 use Rattle.keyring_program.specs.Status.{IsOnlyEnd, status_of}
 use Rattle.keyring_program.specs.declared.status.Status.TheVariants as status
 use Rattle.keyring_program.proofs.GivingLemmas.{have-moments, have-salts}
@@ -49,7 +49,7 @@ just-joined told conn state = ap (λ (s : Rows). s.connections.rows) state ∙ a
 -- ---- the end
 
 -- only the ends of the only connection come
-pub only-end : (how : End) (run : Run) (asked : List Asked) (count : ℕ) (from to : Input) (sink behind : Output)
+pub only-end : (how : End) (run : Run) (asked : List TimedRequest) (count : ℕ) (from to : Input) (sink behind : Output)
     → HasCause how run asked count from to sink behind → IsOnlyEnd how
 only-end end.OtherEnded run asked count from to sink behind cause = absurd cause
 only-end end.Overrun run asked count from to sink behind cause = absurd cause
@@ -71,7 +71,7 @@ pub serves : (uid : ℕ) (seed : List ℕ) (from to : Input) (sink behind : Outp
     → old.told.conn ≡ the_connection → old.told.state ≡ joined → old.told.count ≡ 1 → old.salting ≡ record { key = key_of seed; stream = the_connection.0; place = 0 }
     → IsServed uid (guid seed) from to sink behind old new how → Serves uid seed old.coming from to sink behind (status_of how)
 serves uid seed from to sink behind old new how conn state count salting so =
-    let run = shaken uid seed so.read in
+    let run = handshake_run uid seed so.read in
     let text : concat run.answers ++ written old.told.conn old.told.state (single old.told.conn old.told.state so.asked) ≡ text_of run so.asked =
     λ i. concat run.answers ++ written (conn i) (state i) (single (conn i) (state i) so.asked) in
     let counted : old.told.count + length (turns old.told.conn old.told.state so.asked) ≡ length (events_until so.asked) =
@@ -83,7 +83,7 @@ serves uid seed from to sink behind old new how conn state count salting so =
       asked = so.asked;
       legal = (joins, at-start old.told.conn old.told.state conn state (λ c s. Legal s (single c s so.asked)) (own-legal old.told.state (single old.told.conn old.told.state so.asked) so.recorded.answered));
       moments = have-moments old.coming new.coming so.asked so.refused so.moments;
-      salts = have-salts seed new.salting so.asked so.refused (subst (λ s. GivesSalts s (map (λ (a : Asked). a.salt) (so.asked ++ so.refused)) new.salting) salting so.salts);
+      salts = have-salts seed new.salting so.asked so.refused (subst (λ s. GivesSalts s (map (λ (a : TimedRequest). a.salt) (so.asked ++ so.refused)) new.salting) salting so.salts);
       how = how;
       status_is = refl;
       cause = subst (λ n. HasCause how run so.asked n from to sink behind) counted so.cause;
@@ -93,7 +93,7 @@ serves uid seed from to sink behind old new how conn state count salting so =
 -- there was no memory before the first byte
 pub serves-none : (uid : ℕ) (seed : List ℕ) (coming : Option (ℕ → ℕ)) (from : Input) (sink : Output) → Serves uid seed coming from from sink sink status.Memory
 serves-none uid seed coming from sink =
-    let text = text_of (shaken uid seed []) [] in
+    let text = text_of (handshake_run uid seed []) [] in
     record {
       read = [];
       took = record { consumed = Consumes-nil from.left; later = omega arith; steady = KeepsSteady-none from.is_steady from.faults };

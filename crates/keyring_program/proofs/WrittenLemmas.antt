@@ -17,7 +17,7 @@ use Rattle.service_machine.specs.Replay.{replay}
 use Rattle.connection_worker.specs.Arrivals.{calls_in, AreRequests}
 use Rattle.connection_worker.specs.Handshakes.{most_bytes}
 use Rattle.connection_worker.specs.Causes.{AllServed}
-use Rattle.service_machine.specs.Single.{Asked, requests_of, arrival, taking, turns}
+use Rattle.service_machine.specs.Single.{TimedRequest, requests_of, arrival, taking, turns}
 use Rattle.connection_worker.specs.Written.{given, given_by, spelled_behind}
 use Rattle.keyring_program.specs.Events.{the_connection, joined, events_of, text_of}
 
@@ -26,18 +26,18 @@ abbrev pub OneCall : Type 0
 OneCall = (parts : Parts) (one other : Request) → CallOf parts one → CallOf parts other → one.call ≡ other.call
 
 -- two requests that get the same answer
-record Alike (one other : Asked) : Type 0 where
+record Alike (one other : TimedRequest) : Type 0 where
   call : one.request.call ≡ other.request.call
   serial : one.request.serial ≡ other.request.serial
   wants_reply : one.request.wants_reply ≡ other.request.wants_reply
 
 -- so are all of two lists
-abbrev AreAlike : List Asked → List Asked → Type 0
+abbrev AreAlike : List TimedRequest → List TimedRequest → Type 0
 AreAlike [] [] = Unit {0}
 AreAlike (one ∷ ones) (other ∷ others) = Alike one other × AreAlike ones others
 AreAlike _ _ = ⊥
 
-alike-of : OneCall → (calls : List Parts) (one other : List Asked) → AreRequests calls (requests_of one) → AreRequests calls (requests_of other) → AreAlike one other
+alike-of : OneCall → (calls : List Parts) (one other : List TimedRequest) → AreRequests calls (requests_of one) → AreRequests calls (requests_of other) → AreAlike one other
 alike-of same [] [] [] p q = tt
 alike-of same [] [] (b ∷ other) p q = absurd q
 alike-of same [] (a ∷ one) other p q = absurd p
@@ -53,7 +53,7 @@ alike-of same (parts ∷ calls) (a ∷ one) (b ∷ other) p q = (
 )
 
 -- they lead to one state
-step-alike : (state : Rows) (a b : Asked) → Alike a b → step state (arrival the_connection a) ≡ step state (arrival the_connection b)
+step-alike : (state : Rows) (a b : TimedRequest) → Alike a b → step state (arrival the_connection a) ≡ step state (arrival the_connection b)
 step-alike state a b p = λ i.
     let after = ran the_connection (plan_of (p.call i)) state in
     with_delivered ((if p.wants_reply i then record { to = the_connection; out = message_of (p.serial i) after.answer } ∷ [] else []) ++ after.sends) after.state
@@ -65,10 +65,10 @@ given_by-append state (event ∷ events) more =
     ∙ sym (append_assoc (given the_connection state event) (given_by the_connection (step state event) events) (given_by the_connection (replay (step state event) events) more))
 
 -- what is given after a request, and then for further ones
-abbrev behind : Rows → List Asked → List Event
+abbrev behind : Rows → List TimedRequest → List Event
 behind state more = taking the_connection state ++ turns the_connection (replay state (taking the_connection state)) more
 
-given-alike : (one other : List Asked) (state : Rows) → AreAlike one other → given_by the_connection state (turns the_connection state one) ≡ given_by the_connection state (turns the_connection state other)
+given-alike : (one other : List TimedRequest) (state : Rows) → AreAlike one other → given_by the_connection state (turns the_connection state one) ≡ given_by the_connection state (turns the_connection state other)
 given-alike [] [] state p = refl
 given-alike [] (b ∷ other) state p = absurd p
 given-alike (a ∷ one) [] state p = absurd p
@@ -82,11 +82,11 @@ given-alike (a ∷ one) (b ∷ other) state p =
     ∙ ap (λ s. given_by the_connection s (behind s other)) (step-alike state a b p.0)
 
 -- that the connection is gone gives nothing
-given-all : (asked : List Asked) → given_by the_connection opened_rows (events_of asked) ≡ given_by the_connection joined (turns the_connection joined asked)
+given-all : (asked : List TimedRequest) → given_by the_connection opened_rows (events_of asked) ≡ given_by the_connection joined (turns the_connection joined asked)
 given-all asked =
     given_by-append joined (turns the_connection joined asked) (event.Gone the_connection ∷ []) ∙ append-nil (given_by the_connection joined (turns the_connection joined asked))
 
-pub one-text : OneCall → (run : Run) (one other : List Asked) (rest left : List ℕ) → AllServed run one rest → AllServed run other left → text_of run one ≡ text_of run other
+pub one-text : OneCall → (run : Run) (one other : List TimedRequest) (rest left : List ℕ) → AllServed run one rest → AllServed run other left → text_of run one ≡ text_of run other
 one-text same run one other rest left p q =
     let bytes : p.behind ≡ q.behind = let e = sym p.opened ∙ q.opened in cc in
     let stream = subst (λ l. Stream most_bytes l p.all.messages rest) bytes p.all.stream in

@@ -8,7 +8,7 @@ use Rattle.service_machine.specs.declared.event.Event.{Event}
 use Rattle.service_machine.specs.declared.event.Event.TheVariants as event
 use Rattle.service_machine.specs.Step.{opened_rows, step}
 use Rattle.connection_worker.specs.Salts.{salt_of}
-use Rattle.service_machine.specs.Single.{Asked, turns}
+use Rattle.service_machine.specs.Single.{TimedRequest, turns}
 use Rattle.connection_worker.specs.Written.{written}
 
 -- the connection of the standard streams
@@ -20,15 +20,15 @@ abbrev pub joined : Rows
 joined = step opened_rows (event.Connect the_connection)
 
 -- The events of these requests: the connection joins, then each request arrives and what waits is taken.
-abbrev pub events_until : List Asked → List Event
+abbrev pub events_until : List TimedRequest → List Event
 events_until asked = event.Connect the_connection ∷ turns the_connection joined asked
 
 -- all events of a run: at last the connection is gone
-abbrev pub events_of : List Asked → List Event
+abbrev pub events_of : List TimedRequest → List Event
 events_of asked = events_until asked ++ event.Gone the_connection ∷ []
 
 -- the output of the run of a handshake and of these requests
-abbrev pub text_of : Run → List Asked → List ℕ
+abbrev pub text_of : Run → List TimedRequest → List ℕ
 text_of run asked = concat run.answers ++ written the_connection opened_rows (events_of asked)
 
 -- the values of a function, from this argument on
@@ -37,10 +37,10 @@ AreGivenFrom place give [] = Unit {0}
 AreGivenFrom place give (value ∷ values) = (value ≡ give place) × AreGivenFrom (place + 1) give values
 
 -- the moments at which the requests came are the first of the clock, if it reports them
-abbrev pub HaveMoments : Option (ℕ → ℕ) → List Asked → Type 0
+abbrev pub HaveMoments : Option (ℕ → ℕ) → List TimedRequest → Type 0
 HaveMoments None asked = Unit {0}
-HaveMoments (Some coming) asked = AreGivenFrom 0 coming (map (λ (a : Asked). a.now) asked)
+HaveMoments (Some coming) asked = AreGivenFrom 0 coming (map (λ (a : TimedRequest). a.now) asked)
 
 -- the salts of the requests are the first of the connection under this seed
-abbrev pub HaveSalts : List ℕ → List Asked → Type 0
-HaveSalts seed asked = AreGivenFrom 0 (salt_of seed the_connection.0) (map (λ (a : Asked). a.salt) asked)
+abbrev pub HaveSalts : List ℕ → List TimedRequest → Type 0
+HaveSalts seed asked = AreGivenFrom 0 (salt_of seed the_connection.0) (map (λ (a : TimedRequest). a.salt) asked)

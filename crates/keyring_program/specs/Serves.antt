@@ -5,7 +5,7 @@ use Rattle.service_machine.specs.Step.{opened_rows}
 use Rattle.service_machine.specs.Replay.{Legal}
 use Rattle.connection_worker.specs.declared.ending.End.{End}
 use Rattle.connection_worker.specs.Causes.{HasCause, HasWritten}
-use Rattle.service_machine.specs.Single.{Asked}
+use Rattle.service_machine.specs.Single.{TimedRequest}
 use Rattle.connection_worker.specs.Streams.{Input, Output, Took}
 use Rattle.keyring_program.specs.Events.{events_until, events_of, text_of, HaveMoments, HaveSalts}
 use Rattle.keyring_program.specs.ServerNumber.{guid}
@@ -13,8 +13,8 @@ use Rattle.keyring_program.specs.Status.{status_of}
 use Rattle.keyring_program.specs.declared.status.Status.{Status}
 
 -- the run of the handshake with this user, under this seed, over the bytes read
-abbrev pub shaken : ℕ → List ℕ → List ℕ → Run
-shaken uid seed read = handshake uid (guid seed) read
+abbrev pub handshake_run : ℕ → List ℕ → List ℕ → Run
+handshake_run uid seed read = handshake uid (guid seed) read
 
 -- The run of the user's client under this seed, with a clock that returns these moments: these bytes were read, and
 -- these requests in them recorded, each with a moment and a salt; their events are legal from the service's start, and
@@ -23,11 +23,11 @@ shaken uid seed read = handshake uid (guid seed) read
 pub record Serves (uid : ℕ) (seed : List ℕ) (coming : Option (ℕ → ℕ)) (from to : Input) (sink after : Output) (status : Status) : Type 0 where
   pub read : List ℕ
   pub took : Took from to read
-  pub asked : List Asked
+  pub asked : List TimedRequest
   pub legal : Legal opened_rows (events_of asked)
   pub moments : HaveMoments coming asked
   pub salts : HaveSalts seed asked
   pub how : End
   pub status_is : status ≡ status_of how
-  pub cause : HasCause how (shaken uid seed read) asked (length (events_until asked)) from to sink after
-  pub wrote : HasWritten how sink after (text_of (shaken uid seed read) asked)
+  pub cause : HasCause how (handshake_run uid seed read) asked (length (events_until asked)) from to sink after
+  pub wrote : HasWritten how sink after (text_of (handshake_run uid seed read) asked)

@@ -9,7 +9,7 @@ use crate::OutOfMemory;
 use std::alloc::{AllocError, Global};
 
 /// The most ids that a chunk has, unless no memory was left to split it.
-const MOST: usize = 512;
+const MOST_IN_CHUNK: usize = 512;
 
 /// Some ids of a list, one after the other, and how many ids come before them. A change in the middle of
 /// a long list moves only the ids of one chunk.
@@ -143,7 +143,7 @@ fn split(alloc: Global, chunks: &mut Vec<Chunk>, place: usize)
 {
     let ids = part_at(chunks.as_slice(), place);
     let half = ids.len() / 2;
-    if half < MOST / 2 {
+    if half < MOST_IN_CHUNK / 2 {
         return;
     }
     let Ok(ids) = Vec::from_slice(alloc, &ids[half..]) else {

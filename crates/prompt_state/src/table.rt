@@ -16,7 +16,7 @@ use std::marker::Model;
 use thiserror::Error;
 
 /// The most prompts that a connection may have at once.
-const MOST: usize = 64;
+const MOST_PROMPTS: usize = 64;
 
 /// Why a call about a prompt or the agent is refused.
 #[derive(Clone, Copy, Debug, PartialEq, Eq, Error)]
@@ -135,7 +135,7 @@ impl PromptState {
     pub fn is_full(&self, owner: ConnId) -> bool
         ensures { result ≡ is_full owner self.now }
     {
-        self.next == u64::MAX || owned::count_of(&self.owned, owner.0) >= MOST
+        self.next == u64::MAX || owned::count_of(&self.owned, owner.0) >= MOST_PROMPTS
     }
 
     /// The agent, if there is one.

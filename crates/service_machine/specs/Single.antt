@@ -10,17 +10,17 @@ use Rattle.service_machine.specs.Step.{step}
 use Rattle.service_machine.specs.Replay.{replay}
 
 -- a request as it is recorded: with the moment at which it came, and its salt
-pub record Asked : Type 0 where
+pub record TimedRequest : Type 0 where
   pub request : Request
   pub now : ℕ
   pub salt : List ℕ
 
 -- the requests alone
-abbrev pub requests_of : List Asked → List Request
-requests_of asked = map (λ (a : Asked). a.request) asked
+abbrev pub requests_of : List TimedRequest → List Request
+requests_of asked = map (λ (a : TimedRequest). a.request) asked
 
 -- the event of a request
-abbrev pub arrival : ConnId → Asked → Event
+abbrev pub arrival : ConnId → TimedRequest → Event
 arrival conn asked = event.Arrive (record { conn = conn; request = asked.request; now = asked.now; salt = asked.salt })
 
 -- whether something waits for the connection
@@ -32,14 +32,14 @@ abbrev pub taking : ConnId → Rows → List Event
 taking conn state = if is_owed conn state then event.Take conn ∷ [] else []
 
 -- a request arrives, and then what waits is taken
-abbrev pub turn : ConnId → Rows → Asked → List Event
+abbrev pub turn : ConnId → Rows → TimedRequest → List Event
 turn conn state asked = arrival conn asked ∷ taking conn (step state (arrival conn asked))
 
 -- requests one after the other
-abbrev pub turns : ConnId → Rows → List Asked → List Event
+abbrev pub turns : ConnId → Rows → List TimedRequest → List Event
 turns conn state [] = []
 turns conn state (asked ∷ more) = turn conn state asked ++ turns conn (replay state (turn conn state asked)) more
 
 -- all events of the connection behind its Connect: its requests, and at last it is gone
-abbrev pub single : ConnId → Rows → List Asked → List Event
+abbrev pub single : ConnId → Rows → List TimedRequest → List Event
 single conn state asked = turns conn state asked ++ event.Gone conn ∷ []

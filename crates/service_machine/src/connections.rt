@@ -13,7 +13,7 @@ use std::collections::BTreeMap;
 use std::marker::Model;
 
 /// How many connections may be there at once.
-const MOST: usize = 256;
+const MOST_CONNECTIONS: usize = 256;
 
 /// The connections. A contract sees their rows by rising number, the number of the next one, and the
 /// one that has room for one more output.
@@ -57,7 +57,7 @@ impl Connections {
         ensures room { result ≡ false → (length self.now.rows < most_connections)
             × (self.now.next < last_connection) }
     {
-        self.desks.len() >= MOST || self.next == u64::MAX
+        self.desks.len() >= MOST_CONNECTIONS || self.next == u64::MAX
     }
 
     /// Adds a connection, and gives it the next number.

@@ -11,7 +11,7 @@ use std::alloc::Global;
 use std::mem;
 
 /// How many bytes may wait for a connection.
-const MOST: u64 = 8_912_896;
+const MOST_WAITING: u64 = 8_912_896;
 
 /// A connection, as it is kept.
 #[derive(Drop)]
@@ -76,7 +76,7 @@ impl Desk {
             return;
         }
         let size = size_of_out(&out);
-        if size > MOST - self.size {
+        if size > MOST_WAITING - self.size {
             self.overrun = true;
             return;
         }

@@ -10,7 +10,7 @@ use std::marker::Model;
 use thiserror::Error;
 
 /// The most sessions that a connection may have at once.
-const MOST: usize = 64;
+const MOST_SESSIONS: usize = 64;
 
 /// Why a session wasn't opened or closed.
 #[derive(Clone, Copy, Debug, PartialEq, Eq, Error)]
@@ -113,7 +113,7 @@ impl SessionTable {
     pub fn is_full(&self, owner: ConnId) -> bool
         ensures { result ≡ is_full owner self.now }
     {
-        self.next == u64::MAX || keys::count_of(&self.keys, owner.0) >= MOST
+        self.next == u64::MAX || keys::count_of(&self.keys, owner.0) >= MOST_SESSIONS
     }
 
     /// Closes all sessions of a connection. It takes no memory.

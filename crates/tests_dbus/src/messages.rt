@@ -58,7 +58,7 @@ fn in_two(alloc: Global, most: u32, front: &[u8], back: &[u8]) -> Result<String,
     Ok(text)
 }
 
-const MOST: u32 = 1_048_576;
+const MOST_BYTES: u32 = 1_048_576;
 
 // A call of OpenSession of 149 bytes, and its description.
 const OPEN_SESSION: &str =
@@ -102,7 +102,7 @@ fn stream_told(alloc: Global) -> Result<String, Fail> {
 
 // Feeds the stream in pieces, and returns how many bytes are left.
 fn in_pieces(alloc: Global, size: usize, stream: &[u8], text: &mut String) -> Result<usize, Fail> {
-    let mut framer = Framer::new(alloc, MOST);
+    let mut framer = Framer::new(alloc, MOST_BYTES);
     for piece in stream.chunks(size.max(1)) {
         feed(&mut framer, piece, text)?;
     }
@@ -139,7 +139,7 @@ fn is_told_in_two(
     told: &str,
 ) -> Result<(), Fail> {
     let (front, back) = stream.split_at(cut.min(stream.len()));
-    let text = in_two(rt.alloc(), MOST, front, back)?;
+    let text = in_two(rt.alloc(), MOST_BYTES, front, back)?;
     assert_eq!(rt; text.as_str(), told, "cut at {cut}");
     Ok(())
 }
@@ -158,7 +158,7 @@ fn a_stream_in_any_two_pieces_is_the_same_messages(rt: HostRuntime) -> Result<()
 fn behind_a_call(alloc: Global, message: &[u8]) -> Result<String, Fail> {
     let mut stream = bytes_of(alloc, OPEN_SESSION)?;
     stream.extend_from_slice(message)?;
-    in_two(alloc, MOST, stream.as_slice(), b"\0l")
+    in_two(alloc, MOST_BYTES, stream.as_slice(), b"\0l")
 }
 
 fn breaks_behind_a_call(
@@ -312,14 +312,14 @@ fn longest_is_told(rt: &(impl AllocGlobal + Abort)) -> Result<(), Fail> {
     let array = vec![in rt.alloc(); 7u8; 1_048_516]?;
     let longest = bytes_of(rt.alloc(), LONGEST)?;
     let (front, back) = (longest.as_slice(), array.as_slice());
-    is_told_of(rt, MOST, front, back, "1 1 Ping 1 1048576;")
+    is_told_of(rt, MOST_BYTES, front, back, "1 1 Ping 1 1048576;")
 }
 
 fn longer_is_too_large(rt: &(impl AllocGlobal + Abort)) -> Result<(), Fail> {
     let begun = bytes_of(rt.alloc(), TOO_LONG)?;
     let (few, last) = begun.as_slice().split_at(begun.len().min(15));
-    is_told_of(rt, MOST, few, b"", "")?;
-    is_told_of(rt, MOST, few, last, "TooLarge;")
+    is_told_of(rt, MOST_BYTES, few, b"", "")?;
+    is_told_of(rt, MOST_BYTES, few, last, "TooLarge;")
 }
 
 #[test]
