@@ -1,7 +1,7 @@
 ghost use Rattle.std.specs.Prelude.{◌≡◌, ℕ, ◌+◌, ◌*◌, ◌<◌, ◌≤◌, List, [], IfOk, OnOk, OnErr, length, map, slice_index_or};
 ghost use Rattle.kr_base.specs.IdLists.{with_id, without_id};
 ghost use Rattle.attribute_match.specs.Match.{has_pair, text_of};
-ghost use Rattle.attribute_index.specs.Index.{IsAtJust, IsFound, IsMoved, IsPut, IsSame, IsTaken, ids_at, wanted_lists};
+ghost use Rattle.attribute_index.specs.Index.{IsAtJust, IsFound, IsMoved, IsPut, IsSame, IsTaken, ids_at, is_own, wanted_lists};
 
 use crate::finding::{all_of, in_all};
 use crate::names::{put_all, take_all};
@@ -122,6 +122,41 @@ impl AttributeIndex {
         }
         take_all(self.alloc, &mut self.names, before.as_slice(), after, id);
         Ok(())
+    }
+
+    /// Puts an id, which is at the pairs of the attributes before, at those of the attributes after too.
+    pub fn put_also(
+        &mut self,
+        id: ItemId,
+        before: &Attributes,
+        after: &Attributes,
+    ) -> Result<(), OutOfMemory>
+        requires { IsAtJust before.now id.0 self.old.names }
+        ensures put { OnOk result (IsPut (is_own after.now before.now) id.0
+            self.old.names self.new.names) }
+        ensures unchanged { OnErr result (IsSame self.old.names self.new.names) }
+        ensures all { self.new.all ≡ self.old.all }
+    {
+        fits(id.0);
+        if let Err(_) = put_all(self.alloc, &mut self.names, after.as_slice(), before, id) {
+            return Err(AllocError);
+        }
+        Ok(())
+    }
+
+    /// Takes an id out at the pairs of the attributes that aren't among the others. It takes no memory.
+    pub fn take_but(&mut self, id: ItemId, attributes: &Attributes, others: &Attributes)
+        ensures taken { IsTaken (is_own attributes.now others.now) id.0
+            self.old.names self.new.names }
+        ensures all { self.new.all ≡ self.old.all }
+    {
+        take_all(
+            self.alloc,
+            &mut self.names,
+            attributes.as_slice(),
+            others,
+            id,
+        );
     }
 
     /// All ids, lent.
