@@ -1,0 +1,3 @@
+pub mod ChangedLemmas
+pub mod TableLemmas
+pub mod LookupLemmas

@@ -1,0 +1,18 @@
+//! The aliases and their file (Secret Service API draft 0.2, methods SetAlias and ReadAlias;
+//! docs/SERVICE.md, "Aliases"). A change is prepared first, which takes all its memory, and then stored:
+//! the file is replaced whole. Callers may rely on these: the aliases that are read are those that the
+//! file's known image gives or, in doubt, its older one; pairs whose collection is gone are dropped at
+//! each change; after `Ok` each crash leaves the new text, and within a call the old one or the new one;
+//! a doubt is resolved before anything is stored.
+#![tactic(auto)]
+
+mod change;
+mod laws;
+mod next;
+mod refused;
+mod table;
+
+pub use change::AliasChange;
+pub use laws::{a_set_alias_is_read, other_aliases_stay};
+pub use refused::AliasRefused;
+pub use table::AliasTable;
