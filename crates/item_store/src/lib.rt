@@ -7,6 +7,7 @@
 
 mod fault;
 mod laws;
+mod moving;
 mod rows;
 mod store;
 mod swapping;
@@ -14,6 +15,7 @@ mod uncounted;
 
 pub use fault::ItemFault;
 pub use laws::rising_rows_are_one_list;
+pub use moving::Moving;
 pub use rows::Row;
 pub use store::ItemStore;
 pub use swapping::Swap;

@@ -1,4 +1,4 @@
-ghost use Rattle.std.specs.Prelude.{◌≡◌, ℕ, ◌+◌, ◌<◌, ◌≤◌, ◌↔◌, ◌++◌, ◌∷◌, List, [], IfOk, IfSome, OnOk, OnErr, IsErrOf, IsSome, Some, None, true, IfNone, false, ◌*◌, if◌then◌else◌, slice_index_or, nat_eq, length, map};
+ghost use Rattle.std.specs.Prelude.{◌≡◌, ℕ, ◌+◌, ◌<◌, ◌≤◌, ◌↔◌, ◌++◌, ◌∷◌, List, [], IfOk, IfErr, IfSome, OnOk, OnErr, IsErrOf, IsSome, Some, None, true, IfNone, false, ◌*◌, if◌then◌else◌, slice_index_or, nat_eq, length, map};
 ghost use Rattle.std.specs.Option.{is_some, option_copied, option_map};
 ghost use Rattle.attribute_match.specs.Match.{has_pair, matches as matches_all};
 ghost use Rattle.kr_base.specs.IdLists.{with_id};
@@ -6,8 +6,10 @@ ghost use Rattle.std.specs.List.{AllByRecursion, IsDistinct};
 ghost use Rattle.std.specs.Map.{keys_of};
 ghost use Rattle.attribute_index.specs.Index.{IsAtJust, IsMoved, IsPut, IsSame};
 ghost use Rattle.item_store.specs.Rows.{HasJustRows, IsKept, IsRising, attributes_of, candidates, first_id, has_just, ids_where, most_attributes, next_id, pair_lists, row_at, rows_changed, rows_without};
+ghost use Rattle.item_store.specs.Moves.{with_attributes};
 ghost use Rattle.item_store.specs.Swapping.{with_parts};
 
+use crate::moving::{Moving, begin};
 use crate::uncounted::{first_equal, found};
 use crate::{ItemFault, Row, Swap, rows, swapping};
 use attribute_index::AttributeIndex;
@@ -34,6 +36,14 @@ impl Model for ItemStore {
     ghost view = { λ s. s.rows.entries };
 
     ghost invariant = { λ s. IsKept s.rows.entries s.index };
+}
+
+/// The items of these rows and this index.
+pub fn store_of(rows: BTreeMap<u32, Row>, index: AttributeIndex) -> ItemStore
+    requires { IsKept rows.entries index }
+    ensures { result ≡ rows.entries }
+{
+    ItemStore { rows, index }
 }
 
 /// How many attributes an item may have that a call gives.
@@ -172,6 +182,29 @@ impl ItemStore {
             return Err(ItemFault::OutOfMemory);
         }
         Ok(())
+    }
+
+    /// Begins a change of an item's attributes, and of when it was changed; the item is there. The change takes
+    /// all of its memory here.
+    ///
+    /// Where no memory is left, the items are given back as they were.
+    pub fn begin_attributes(
+        self,
+        id: ItemId,
+        attributes: Attributes,
+        now: u64,
+    ) -> Result<Moving, ItemStore>
+        requires { is_some (row_at id.0 self) ≡ true }
+        ensures before { IfOk result (λ moving. moving.before ≡ self) }
+        ensures after { IfOk result (λ moving. moving.after
+            ≡ rows_changed id.0 (with_attributes attributes now) self) }
+        ensures unchanged { IfErr result (λ back. back ≡ self) }
+    {
+        let ItemStore { rows, index } = self;
+        match begin(rows, index, id.0, attributes, now) {
+            Ok(moving) => Ok(moving),
+            Err((rows, index)) => Err(ItemStore { rows, index }),
+        }
     }
 
     /// Takes an item out. Refused with `NoItem` where there is none. It takes no memory.

@@ -1,0 +1,179 @@
+// While the attributes of an item change, its id is at the pairs of both. So the change takes all of its memory
+// before it is certain that it is made, and takes none to be ended either way.
+ghost use Rattle.std.specs.Prelude.{◌≡◌, true, IfOk, IfErr, IfSome, OnOk, OnErr};
+ghost use Rattle.std.specs.Option.{is_some};
+ghost use Rattle.attribute_index.specs.Index.{IsPut, IsSame, IsTaken, is_own};
+ghost use Rattle.item_store.specs.Moves.{with_attributes};
+ghost use Rattle.item_store.specs.Rows.{IsKept, attributes_of, row_at, rows_changed};
+
+use crate::store::store_of;
+use crate::swapping::swap_attributes;
+use crate::{ItemStore, Row};
+use attribute_index::AttributeIndex;
+use kr_base::{Attributes, ItemId, OutOfMemory};
+use std::collections::BTreeMap;
+use std::marker::Model;
+
+/// The items of one collection while the attributes of one of them change. A contract sees the rows before
+/// and after.
+#[derive(Drop)]
+pub struct Moving {
+    rows: BTreeMap<u32, Row>,
+    index: AttributeIndex,
+    number: u32,
+    // The attributes before, and when the item was changed before.
+    attributes: Attributes,
+    modified: u64,
+}
+
+impl Model for Moving {
+    ghost use Rattle.item_store.specs.Rows.{rows_changed};
+    ghost use Rattle.item_store.specs.Moves.{IsMoving, Moves, with_attributes};
+
+    ghost Value = { Moves };
+
+    ghost view = { λ m. record {
+      before = rows_changed m.number (with_attributes m.attributes m.modified) m.rows.entries;
+      after = m.rows.entries;
+    } };
+
+    ghost invariant = { λ m. IsMoving m.rows.entries m.index m.number m.attributes m.modified };
+}
+
+impl Moving {
+    /// The rows after the change, lent.
+    pub fn rows(&self) -> &BTreeMap<u32, Row>
+        ensures { result.now.entries ≡ self.now.after }
+    {
+        &self.rows
+    }
+
+    /// The items after the change. It takes no memory.
+    pub fn finish(self) -> ItemStore
+        ensures { result ≡ self.after }
+    {
+        let Moving {
+            rows,
+            index,
+            number,
+            attributes,
+            ..
+        } = self;
+        let mut index = index;
+        take_old(&rows, &mut index, number, &attributes);
+        store_of(rows, index)
+    }
+
+    /// The items before the change, which isn't made. It takes no memory.
+    pub fn undo(self) -> ItemStore
+        ensures { result ≡ self.before }
+    {
+        let Moving {
+            rows,
+            index,
+            number,
+            attributes,
+            modified,
+        } = self;
+        let mut rows = rows;
+        let mut index = index;
+        let mut attributes = attributes;
+        let mut modified = modified;
+        take_new(&rows, &mut index, number, &attributes);
+        swap_attributes(&mut rows, number, &mut attributes, &mut modified);
+        store_of(rows, index)
+    }
+}
+
+/// Begins a change of the attributes of a row's item. Where no memory is left, the rows and the index are
+/// given back.
+pub fn begin(
+    rows: BTreeMap<u32, Row>,
+    index: AttributeIndex,
+    number: u32,
+    attributes: Attributes,
+    now: u64,
+) -> Result<Moving, (BTreeMap<u32, Row>, AttributeIndex)>
+    requires kept { IsKept rows.entries index }
+    requires there { is_some (row_at number rows.entries) ≡ true }
+    ensures before { IfOk result (λ moving. moving.before ≡ rows.entries) }
+    ensures after { IfOk result (λ moving. moving.after
+        ≡ rows_changed number (with_attributes attributes now) rows.entries) }
+    ensures unchanged { IfErr result (λ parts. parts.0.entries ≡ rows.entries) }
+    ensures still_kept { IfErr result (λ parts. IsKept parts.0.entries parts.1) }
+{
+    let mut rows = rows;
+    let mut index = index;
+    let mut attributes = attributes;
+    let mut modified = now;
+    if let Err(_) = put_id(&rows, &mut index, number, &attributes) {
+        return Err((rows, index));
+    }
+    swap_attributes(&mut rows, number, &mut attributes, &mut modified);
+    Ok(Moving {
+        rows,
+        index,
+        number,
+        attributes,
+        modified,
+    })
+}
+
+/// Puts the id of a row at the pairs of other attributes too.
+fn put_id(
+    rows: &BTreeMap<u32, Row>,
+    index: &mut AttributeIndex,
+    number: u32,
+    attributes: &Attributes,
+) -> Result<(), OutOfMemory>
+    requires there { is_some (row_at number rows.now.entries) ≡ true }
+    requires kept { IsKept rows.now.entries index.old }
+    ensures put { OnOk result (IfSome (row_at number rows.now.entries)
+        (λ row. IsPut (is_own attributes.now (attributes_of row)) number
+        index.old.names index.new.names)) }
+    ensures unchanged { OnErr result (IsSame index.old.names index.new.names) }
+    ensures all { index.new.all ≡ index.old.all }
+{
+    match rows.get(&number) {
+        Some(row) => index.put_also(ItemId(number), &row.item.attributes, attributes),
+        None => unreachable!(),
+    }
+}
+
+/// Takes the id of a row out at the pairs of other attributes that aren't the item's own.
+fn take_old(
+    rows: &BTreeMap<u32, Row>,
+    index: &mut AttributeIndex,
+    number: u32,
+    attributes: &Attributes,
+)
+    requires { is_some (row_at number rows.now.entries) ≡ true }
+    ensures taken { IfSome (row_at number rows.now.entries)
+        (λ row. IsTaken (is_own attributes.now (attributes_of row)) number
+        index.old.names index.new.names) }
+    ensures all { index.new.all ≡ index.old.all }
+{
+    match rows.get(&number) {
+        Some(row) => index.take_but(ItemId(number), attributes, &row.item.attributes),
+        None => unreachable!(),
+    }
+}
+
+/// Takes the id of a row out at the pairs of the item's own attributes that aren't among the others.
+fn take_new(
+    rows: &BTreeMap<u32, Row>,
+    index: &mut AttributeIndex,
+    number: u32,
+    attributes: &Attributes,
+)
+    requires { is_some (row_at number rows.now.entries) ≡ true }
+    ensures taken { IfSome (row_at number rows.now.entries)
+        (λ row. IsTaken (is_own (attributes_of row) attributes.now) number
+        index.old.names index.new.names) }
+    ensures all { index.new.all ≡ index.old.all }
+{
+    match rows.get(&number) {
+        Some(row) => index.take_but(ItemId(number), &row.item.attributes, attributes),
+        None => unreachable!(),
+    }
+}
