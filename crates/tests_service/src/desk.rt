@@ -22,20 +22,25 @@ fn request(serial: &str, call: Result<Call, CallFault>) -> Result<Request, Fail>
     })
 }
 
+// A return with this serial, in words.
+fn return_told(number: u32, body: &Body) -> &'static str {
+    match body {
+        Body::Session(_) if number == 1 => "a session",
+        Body::Empty if number == 2 => "a pong",
+        _ => "other outputs",
+    }
+}
+
+fn out_told(out: &Out) -> &'static str {
+    match out {
+        Out::Return { to, body } => return_told(to.number, body),
+        Out::Error { to: _, name: _ } => "other outputs",
+    }
+}
+
 fn outs_told(outs: &[Out]) -> &'static str {
     match outs {
-        [
-            Out::Return {
-                to: Serial { number: 1 },
-                body: Body::Session(_),
-            },
-        ] => "a session",
-        [
-            Out::Return {
-                to: Serial { number: 2 },
-                body: Body::Empty,
-            },
-        ] => "a pong",
+        [out] => out_told(out),
         _ => "other outputs",
     }
 }
