@@ -1,0 +1,9 @@
+mod ChangeLemmas
+mod KeyLemmas
+mod OpenedLemmas
+mod OrderLemmas
+mod PartsLemmas
+mod PreparedLemmas
+mod SearchLemmas
+mod StateLemmas
+mod StepLemmas

@@ -1,0 +1,32 @@
+use Rattle.std.proofs.Common.{◌≡◌, ℕ, Some, None, inl, inr, rules}
+use Rattle.key_derivation.specs.Kdf.{key_of, vector_of}
+use Rattle.replace_slot.specs.Cell.{HasFile}
+use Rattle.collection_store.proofs.StateLemmas.{has_part, there_image, kept_unlocked, known_so, opens_so, state_unlocked}
+use Rattle.collection_store.proofs.collection.Collection.unlock.Goals as goal
+
+pub unreachable-requires : goal.unreachable-requires
+unreachable-requires g c =
+    let there : HasFile c.self.inside.cell.file = rw (← c.self.view_is) at c.requires.there in
+    there_image c.self.inside.cell.file there c.in-None.ensures
+
+pub content_of-requires : goal.content_of-requires
+content_of-requires g c =
+    let there : HasFile c.self.inside.cell.file = rw (← c.self.view_is) at c.requires.there in
+    rw c.bytes.ensures (has_part c.self.inside.cell.file _ c.in-Some.image.now there c.in-Some.ensures c.self.invariant.shows)
+
+pub invariant_of-self : goal.invariant_of-self
+invariant_of-self g c =
+    let there : HasFile c.self.inside.cell.file = rw (← c.self.view_is) at c.requires.there in
+    let locked = rw (← c.self.view_is) at c.requires.locked in
+    let opens = rw (c.bytes.ensures, ← c.key-2.ensures, ← c.vector.ensures) at c.in_ok-content.ensures.opened in
+    rw c.replace-written.ensures.after (kept_unlocked c.a_file_that_is_spelled_so_is_read.ensures c.self.inside.cell.file c.self.inside.told c.self.inside.newer _ c.in-Some.image.now c.key-2.result c.vector.result c.in_ok-content.content c.in-Ok.parts.0 c.in-Ok.parts.1 c.replace-written.result c.self.invariant locked there c.in-Some.ensures opens c.in-Ok.ensures.rows c.in-Ok.ensures.ids c.in-Ok.ensures.hashed c.in-Ok.ensures.same c.replace-written.ensures.value)
+
+pub returns-clause-unlocked : goal.returns-clause-unlocked
+returns-clause-unlocked g c =
+    let there : HasFile c.self.inside.cell.file = rw (← c.self.view_is) at c.requires.there in
+    let locked = rw (← c.self.view_is) at c.requires.locked in
+    let opens = rw c.bytes.ensures at c.in_ok-content.ensures.opened in
+    rw (← c.self.view_is) (known_so _ c.self.inside.cell.file c.in-Some.image.now there c.in-Some.ensures (opens_so _ c.in-Some.image.now (key_of c.args.key) (vector_of c.args.key) c.in_ok-content.content opens (rw (c.key-2.ensures, c.vector.ensures, c.replace-written.ensures.after) (state_unlocked c.self.inside.cell.slot c.self.inside.cell.file c.self.inside.told _ (key_of c.args.key) (vector_of c.args.key) c.in_ok-content.content c.in-Ok.parts.0 c.in-Ok.parts.1 c.replace-written.result locked c.in-Ok.ensures.rows c.replace-written.ensures.value))))
+
+pub returns-clause-refused : goal.returns-clause-refused
+returns-clause-refused g c = λ refused is. absurd cc

@@ -1,0 +1,55 @@
+use Rattle.std.proofs.Common.{◌≡◌, ◌∙◌, cond, nat_eq, List, Some, None, Result, Ok, IfOk, map, ap, refl, subst, sym, rules}
+use Rattle.std.specs.Prelude.{IfErr}
+use Rattle.std.specs.List.Sorted.{IsStrictlyIncreasing}
+use Rattle.keyring_file.specs.declared.clear.ClearItem.{ClearItem}
+use Rattle.keyring_seal.specs.Arranged.{Row}
+use Rattle.item_store.specs.Swapping.{with_parts}
+use Rattle.item_store.specs.declared.fault.ItemFault.{ItemFault}
+use Rattle.item_store.specs.declared.rows.Row.{Row as StoreRow}
+use Rattle.collection_store.specs.Changes.{replaced, with_label, with_secret}
+use Rattle.collection_store.specs.Preparing.{IsPrepared, MayRefuse}
+use Rattle.collection_store.specs.declared.change.Changed.{Changed}
+use Rattle.collection_store.specs.declared.change.Changed.TheVariants as changed
+use Rattle.collection_store.proofs.StepLemmas.{edited_none, made_of as made_as, none_made, parts_hashed, parts_ids, parts_made, parts_rows}
+use Rattle.collection_store.proofs.preparing.prepare_label.Goals as goal
+
+pub returns-then-not-has_item-clause-refused : goal.returns-then-not-has_item-clause-refused
+returns-then-not-has_item-clause-refused c = none_made c.args.id.0 c.args.told.now c.args.items.now _ c.requires (sym c.has_item.ensures ∙ c.if-not-has_item.true)
+
+pub prepare_parts-requires-clause-ids : goal.prepare_parts-requires-clause-ids
+prepare_parts-requires-clause-ids c =
+    let told = c.args.told.now in
+    let same : c.in-Ok.edited.items ≡ told.items = search rules in
+    let edited : c.in-Ok.edited.items ≡ map (λ (y : ClearItem). cond (nat_eq y.id.0 c.args.id.0) (y) y) told.items = same ∙ sym (edited_none c.args.id.0 told.items) in
+    parts_ids c.args.id.0 (λ (y : ClearItem). y) (λ (row : StoreRow). record row { item = with_parts (record { label = Some c.args.label; value = None; modified = c.args.frame.now.time }) row.item }) (with_label c.args.frame.now.time c.args.label) (λ y r. refl) told c.args.items.now c.in-Ok.edited.items c.requires edited (λ y. refl)
+
+pub prepare_parts-requires-clause-rising : goal.prepare_parts-requires-clause-rising
+prepare_parts-requires-clause-rising c =
+    let told = c.args.told.now in
+    let same : c.in-Ok.edited.items ≡ told.items = search rules in
+    let edited : c.in-Ok.edited.items ≡ map (λ (y : ClearItem). cond (nat_eq y.id.0 c.args.id.0) (y) y) told.items = same ∙ sym (edited_none c.args.id.0 told.items) in
+    let ids = parts_ids c.args.id.0 (λ (y : ClearItem). y) (λ (row : StoreRow). record row { item = with_parts (record { label = Some c.args.label; value = None; modified = c.args.frame.now.time }) row.item }) (with_label c.args.frame.now.time c.args.label) (λ y r. refl) told c.args.items.now c.in-Ok.edited.items c.requires edited (λ y. refl) in
+    subst (λ t. IsStrictlyIncreasing t) (sym ids) c.clear-clear.ensures.by_id
+
+pub prepare_parts-requires-clause-hashed : goal.prepare_parts-requires-clause-hashed
+prepare_parts-requires-clause-hashed c =
+    let told = c.args.told.now in
+    let same : c.in-Ok.edited.items ≡ told.items = search rules in
+    let edited : c.in-Ok.edited.items ≡ map (λ (y : ClearItem). cond (nat_eq y.id.0 c.args.id.0) (y) y) told.items = same ∙ sym (edited_none c.args.id.0 told.items) in
+    parts_hashed c.args.id.0 (λ (y : ClearItem). y) (λ (row : StoreRow). record row { item = with_parts (record { label = Some c.args.label; value = None; modified = c.args.frame.now.time }) row.item }) (with_label c.args.frame.now.time c.args.label) (λ y r. refl) told c.args.items.now c.in-Ok.edited.items c.requires edited (λ row is. is)
+
+pub returns-clause-prepared : goal.returns-clause-prepared
+returns-clause-prepared c =
+    let told = c.args.told.now in
+    let same : c.in-Ok.edited.items ≡ told.items = search rules in
+    let edited : c.in-Ok.edited.items ≡ map (λ (y : ClearItem). cond (nat_eq y.id.0 c.args.id.0) (y) y) told.items = same ∙ sym (edited_none c.args.id.0 told.items) in
+    let made = parts_made c.args.id.0 (λ (y : ClearItem). y) (λ (row : StoreRow). record row { item = with_parts (record { label = Some c.args.label; value = None; modified = c.args.frame.now.time }) row.item }) (with_label c.args.frame.now.time c.args.label) (λ y r. refl) told c.args.items.now c.in-Ok.edited.items c.requires edited (changed.Changed c.args.id) (sym c.has_item.ensures ∙ c.if-not-has_item.false) in
+    subst (λ m. IfOk c.prepare_parts.result (IsPrepared c.args.frame.now told m c.args.items.now c.prepare_parts.new.items)) (sym made) c.prepare_parts.ensures.prepared
+
+pub returns-clause-refused : goal.returns-clause-refused
+returns-clause-refused c =
+    let told = c.args.told.now in
+    let same : c.in-Ok.edited.items ≡ told.items = search rules in
+    let edited : c.in-Ok.edited.items ≡ map (λ (y : ClearItem). cond (nat_eq y.id.0 c.args.id.0) (y) y) told.items = same ∙ sym (edited_none c.args.id.0 told.items) in
+    let made = parts_made c.args.id.0 (λ (y : ClearItem). y) (λ (row : StoreRow). record row { item = with_parts (record { label = Some c.args.label; value = None; modified = c.args.frame.now.time }) row.item }) (with_label c.args.frame.now.time c.args.label) (λ y r. refl) told c.args.items.now c.in-Ok.edited.items c.requires edited (changed.Changed c.args.id) (sym c.has_item.ensures ∙ c.if-not-has_item.false) in
+    subst (λ m. IfErr c.prepare_parts.result (MayRefuse c.args.frame.now told m)) (sym made) c.prepare_parts.ensures.refused

@@ -1,0 +1,15 @@
+use Rattle.std.proofs.Common.{◌≡◌, rules}
+use Rattle.keyring_file.specs.declared.clear.ClearItem.{ClearItem}
+use Rattle.keyring_seal.specs.Order.{by_number}
+use Rattle.collection_store.proofs.OrderLemmas.{rising_by_id, version_by_id}
+use Rattle.collection_store.proofs.told.Told.new.Goals as goal
+
+pub invariant_of-result : goal.invariant_of-result
+invariant_of-result c =
+    let made : c.new-items.result ≡ by_number (λ (item : ClearItem). item.id.0) c.clear.inside.items = search rules in
+    version_by_id c.clear.inside.minor c.clear.inside.items c.new-items.result made c.clear.invariant
+
+pub invariant_of-result-2 : goal.invariant_of-result-2
+invariant_of-result-2 c =
+    let made : c.new-items.result ≡ by_number (λ (item : ClearItem). item.id.0) c.clear.inside.items = search rules in
+    rising_by_id c.clear.inside.items c.new-items.result made

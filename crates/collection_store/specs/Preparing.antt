@@ -1,0 +1,80 @@
+-- A change that is prepared: all is made that takes memory, and no call of the device was made.
+use Rattle.std.specs.Prelude.{◌≡◌, ℕ, ◌+◌, ◌<◌, ◌≤◌, min, List, [], ◌∷◌, ◌++◌, length, map, Option, None, Some, Result, Ok, Err}
+use Rattle.std.specs.List.{AllByRecursion}
+use Rattle.std.specs.Map.{keys_of}
+use Rattle.std.specs.Option.{option_map}
+use Rattle.attribute_hash.specs.Hash.{hashes}
+use Rattle.keyring_file.specs.Clear.{ClearPart}
+use Rattle.keyring_file.specs.ClearText.{most_iterations}
+use Rattle.keyring_file.specs.declared.area.FullItem.{FullItem}
+use Rattle.keyring_file.specs.declared.clear.ClearItem.{ClearItem}
+use Rattle.keyring_seal.specs.Arranged.{Row}
+use Rattle.keyring_seal.specs.Whole.{most_bytes, sealed}
+use Rattle.item_store.specs.Rows.{Rows, row_at}
+use Rattle.item_store.specs.declared.fault.ItemFault.{ItemFault}
+use Rattle.item_store.specs.declared.rows.Row.{Row as StoreRow}
+use Rattle.collection_store.specs.Changes.{content_stored, minor_made}
+use Rattle.collection_store.specs.Resting.{finished, undone}
+use Rattle.collection_store.specs.State.{HasClear, IsOpened, ids_of, rows_with}
+use Rattle.collection_store.specs.declared.candidate.Frame.{Frame}
+use Rattle.collection_store.specs.declared.change.Changed.{Changed}
+use Rattle.collection_store.specs.declared.preparing.Prepared.{Prepared}
+use Rattle.collection_store.specs.declared.refused.ChangeRefused.{ChangeRefused}
+use Rattle.collection_store.specs.declared.refused.ChangeRefused.TheVariants as refused
+
+-- an item as the clear part has it, with the item as the area has it, where there is one
+abbrev pub with_item : ClearItem → Option FullItem → List Row
+with_item item None = []
+with_item item (Some full) = (item, full) ∷ []
+
+-- the items of the clear part, each with the item of its id, where there is one
+abbrev pub looked : List ClearItem → Rows → List Row
+looked [] items = []
+looked (item ∷ more) items = with_item item (option_map (λ (row : StoreRow). row.item) (row_at item.id.0 items)) ++ looked more items
+
+-- each item of the clear part has the hashes of its own attributes
+abbrev pub AreHashed : List Row → Type 0
+AreHashed rows = AllByRecursion (λ (row : Row). row.0.hashed ≡ hashes row.1.attributes) rows
+
+-- the clear part and the items are those of one content that can be stored
+pub record IsInStep (told : ClearPart) (items : Rows) : Type 0 where
+  pub ids : ids_of told.items ≡ keys_of items
+  pub hashed : AreHashed (rows_with told items)
+  pub iterations : told.iterations ≤ most_iterations
+
+-- the clear part that is stored with these items
+abbrev pub next_of : Frame → ClearPart → List ClearItem → ClearPart
+next_of frame told items = record told { modified = frame.time; items = items; minor = minor_made told.minor items }
+
+-- how many bytes the file may have
+abbrev pub most_in : Frame → ℕ
+most_in frame = min most_bytes (frame.longest + frame.room)
+
+-- what a change makes of the rows, with its answer, or why it can't be made; the front is the clear part but for its items
+module _ (frame : Frame) (front : ClearPart) (made : Result (List Row × Changed) ItemFault) where
+  -- the change is made: its file is ready, and the items are those of it but for the rest
+  pub record IsPrepared (old new : Rows) (ready : Prepared) : Type 0 where
+    pub rows : List Row
+    pub is_made : made ≡ Ok (rows, ready.answer)
+    pub image : ready.image ≡ sealed (content_stored frame.time front rows) frame.key frame.vector
+    pub within : length ready.image ≤ most_in frame
+    pub clear : ready.next ≡ (content_stored frame.time front rows).clear
+    pub items : rows_with ready.next (finished ready.rest new) ≡ rows
+    pub undone : undone ready.rest new ≡ old
+    pub has : HasClear ready.image ready.next
+    pub opened : IsOpened ready.image ready.next frame.key frame.vector (finished ready.rest new) ready.next
+
+  -- the file of what the change makes would have more bytes than it may
+  pub record IsOver : Type 0 where
+    pub rows : List Row
+    pub answer : Changed
+    pub is_made : made ≡ Ok (rows, answer)
+    pub over : most_in frame < length (sealed (content_stored frame.time front rows) frame.key frame.vector)
+
+  -- why a change isn't prepared
+  abbrev pub MayRefuse : ChangeRefused → Type 0
+  MayRefuse (refused.Item fault) = made ≡ Err fault
+  MayRefuse refused.TooLarge = IsOver
+  MayRefuse refused.FaultBefore = ⊥
+  MayRefuse refused.FaultUnsure = ⊥
+  MayRefuse refused.OutOfMemory = Unit {0}

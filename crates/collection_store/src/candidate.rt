@@ -1,0 +1,187 @@
+// The clear part that a change stores, beside the one that is shown until then.
+
+ghost use Rattle.std.specs.Prelude.{◌≡◌, ◌++◌, ◌≤◌, ◌<◌, ◌+◌, IfOk, OnOk, IsErrOf, Ok, min, length, map};
+ghost use Rattle.std.specs.Option.{option_copied, option_map};
+ghost use Rattle.std.specs.List.{AllByRecursion, list_all};
+ghost use Rattle.std.specs.List.Sorted.{IsStrictlyIncreasing};
+ghost use Rattle.attribute_hash.specs.Hash.{hashes};
+ghost use Rattle.kr_base.specs.Attributes.{is_name};
+ghost use Rattle.keyring_file.specs.Clear.{plain_content};
+ghost use Rattle.keyring_file.specs.ClearText.{most_iterations};
+ghost use Rattle.keyring_seal.specs.Arranged.{of_rows};
+ghost use Rattle.keyring_seal.specs.Whole.{most_bytes, opened, sealed};
+ghost use Rattle.collection_store.specs.Changes.{minor_made};
+ghost use Rattle.item_store.specs.Rows.{row_at};
+ghost use Rattle.collection_store.specs.Preparing.{looked, with_item};
+ghost use Rattle.collection_store.specs.State.{HasClear, ids_of};
+
+use crate::sealing::image_of;
+use crate::told::Told;
+use item_store::Row;
+use keyring_file::{Clear, ClearItem, FullItem};
+use keyring_seal::SealRefused;
+use kr_base::{ItemId, OutOfMemory, Text};
+use kr_items::Items;
+use replace_slot::Image;
+use std::alloc::Global;
+use std::collections::BTreeMap;
+
+/// What a change is stored with: the time, how long the file may become, and the key.
+#[derive(Clone, Copy)]
+pub struct Frame {
+    /// When the change is made, in seconds since 1970.
+    pub time: u64,
+    /// How many bytes the longest image has.
+    pub longest: usize,
+    /// How many bytes more the file may have.
+    pub room: u64,
+    /// The key under which it is stored.
+    pub key: [u8; 16],
+    /// The vector under which it is stored.
+    pub vector: [u8; 16],
+}
+
+/// Whether a content type is the plain one.
+fn is_plain(content: &Text) -> bool
+    ensures { result ≡ is_name plain_content content.now }
+{
+    content.as_bytes() == b"text/plain".as_slice()
+}
+
+/// Whether each content type is the plain one.
+fn all_plain(items: &[ClearItem]) -> bool
+    ensures { result ≡ list_all (λ item. is_name plain_content item.content) items.now }
+{
+    for item in items {
+        if !is_plain(&item.content) {
+            return false;
+        }
+    }
+    true
+}
+
+/// The number of the version: once a content type wasn't the plain one it is 1.
+fn minor_for(minor: u8, items: &[ClearItem]) -> u8
+    ensures { result ≡ minor_made minor items.now }
+{
+    if all_plain(items) { minor } else { 1 }
+}
+
+/// A clear part that is like another one, but for its label, its salt, its iterations, its items and when
+/// it was changed.
+pub fn next_told(
+    clear: &Clear,
+    name: Text,
+    salt: [u8; 8],
+    iterations: u32,
+    now: u64,
+    items: Vec<ClearItem>,
+) -> Told
+    requires { IsStrictlyIncreasing (ids_of items.items) }
+    ensures { result ≡ record clear.now {
+      name = name;
+      salt = salt;
+      iterations = iterations;
+      modified = now;
+      items = items.items;
+      minor = minor_made clear.now.minor items.items;
+    } }
+{
+    let minor = minor_for(clear.minor, items.as_slice());
+    Told::rising(Clear {
+        name,
+        created: clear.created,
+        modified: now,
+        flags: clear.flags,
+        timeout: clear.timeout,
+        iterations,
+        salt,
+        items: Items::new(items),
+        minor,
+    })
+}
+
+/// The item of an id. None where there is no such item.
+fn item_of(rows: &BTreeMap<u32, Row>, id: ItemId) -> Option<&FullItem>
+    ensures { option_copied result ≡ option_map (λ row. row.item) (row_at id.0 rows.now.entries) }
+{
+    match rows.get(&id.0) {
+        Some(row) => Some(&row.item),
+        None => None,
+    }
+}
+
+/// Puts an item of the clear part with its item after the others, where there is one.
+fn put_lent<'a>(
+    lent: &mut Vec<(&'a ClearItem, &'a FullItem)>,
+    clear_item: &'a ClearItem,
+    item: Option<&'a FullItem>,
+) -> Result<(), OutOfMemory>
+    ensures { OnOk result (map (λ row. (row.0.now, row.1.now)) lent.new.items
+        ≡ map (λ row. (row.0.now, row.1.now)) lent.old.items
+        ++ with_item clear_item.now (option_copied item.entry)) }
+{
+    if let Some(item) = item {
+        lent.push((clear_item, item))?;
+    }
+    Ok(())
+}
+
+/// The items of the clear part, each with the item of its id, where there is one.
+fn lent_rows<'a>(
+    alloc: Global,
+    items: &'a [ClearItem],
+    rows: &'a BTreeMap<u32, Row>,
+) -> Result<Vec<(&'a ClearItem, &'a FullItem)>, OutOfMemory>
+    ensures { IfOk result (λ lent. map (λ row. (row.0.now, row.1.now)) lent.items
+        ≡ looked items.now rows.now.entries) }
+{
+    let mut lent = Vec::with_capacity(alloc, items.len())?;
+    for place in 0..items.len() {
+        put_lent(&mut lent, &items[place], item_of(rows, items[place].id))?;
+    }
+    Ok(lent)
+}
+
+/// The file of a clear part and the items.
+///
+/// Refused with `TooLarge` exactly where it would have more bytes than it may, or more than 67,108,864.
+pub fn sealed_next(
+    alloc: Global,
+    frame: &Frame,
+    next: &Told,
+    rows: &BTreeMap<u32, Row>,
+) -> Result<Image, SealRefused>
+    requires there { map (λ row. row.0) (looked next.now.items rows.now.entries) ≡ next.now.items }
+    requires hashed { AllByRecursion (λ row. row.0.hashed ≡ hashes row.1.attributes)
+        (looked next.now.items rows.now.entries) }
+    requires iterations { next.now.iterations ≤ most_iterations }
+    ensures sealed { IfOk result (λ image. image ≡ sealed
+        (of_rows next.now (looked next.now.items rows.now.entries))
+        frame.now.key frame.now.vector) }
+    ensures opens { IfOk result (λ image. opened image frame.now.key frame.now.vector
+        ≡ Ok (of_rows next.now (looked next.now.items rows.now.entries))) }
+    ensures clear { IfOk result (λ image. HasClear image
+        (of_rows next.now (looked next.now.items rows.now.entries)).clear) }
+    ensures fits { IfOk result (λ image. length image
+        ≤ min most_bytes (frame.now.longest + frame.now.room)) }
+    ensures too_large { IsErrOf result SealRefused.TooLarge
+        → min most_bytes (frame.now.longest + frame.now.room) < length (sealed
+        (of_rows next.now (looked next.now.items rows.now.entries))
+        frame.now.key frame.now.vector) }
+{
+    let clear = next.clear();
+    let lent = match lent_rows(alloc, clear.items.as_slice(), rows) {
+        Ok(lent) => lent,
+        Err(_) => return Err(SealRefused::OutOfMemory),
+    };
+    image_of(
+        alloc,
+        frame.longest,
+        frame.room,
+        clear,
+        lent.as_slice(),
+        frame.key,
+        frame.vector,
+    )
+}

@@ -1,0 +1,588 @@
+ghost use Rattle.std.specs.Prelude.{◌≡◌, ◌≢◌, ℕ, ◌+◌, ◌≤◌, ◌<◌, ◌⊎◌, ◌↔◌, IsTrue, IsSome, IfSome, IfOk, OnOk, OnErr, IsErrOf, Some, None, Ok, Err, map, length};
+ghost use Rattle.std.specs.Option.{option_copied, option_map};
+ghost use Rattle.item_store.specs.declared.fault.ItemFault.{ItemFault as Fault};
+ghost use Rattle.key_derivation.specs.Kdf.{key_of, vector_of};
+ghost use Rattle.kr_outside.specs.Faults.{HasCause, KeepsSteady, Rose};
+ghost use Rattle.kr_outside.specs.Moments.{LeavesOnly};
+ghost use Rattle.keyring_file.specs.ClearText.{most_iterations};
+ghost use Rattle.keyring_seal.specs.Arranged.{arranged_rows};
+ghost use Rattle.keyring_seal.specs.Whole.{opened, sealed};
+ghost use Rattle.replace_slot.specs.Cell.{Known, Doubt, FailedAfter, FailedBefore, IsKnown, IsKnownFile, IsOneOf, LeavesFile, longest_of, old_image};
+ghost use Rattle.replace_slot.specs.Found.{IsFoundBy, Shows as ShowsBytes, found_file};
+ghost use Rattle.collection_store.specs.Changes.{content_created, content_rekeyed};
+ghost use Rattle.collection_store.specs.Outcomes.{IfFaultBefore, IfFaultUnsure, IfNoMemory, IfTooLarge, IsChanged, IsCreateFault, IsFault, IsNewImage, IsOldOrNew, IsOldOrSealed, IsSame, IsStored, IsTooLarge, IsTooLargeOrNoMemory, IsUnsure, MayBeChanged, made_of, most_for, slot_of};
+ghost use Rattle.collection_store.specs.Reading.{Fits, Opens, Unlocks, content_at, found as found_in, item_at};
+ghost use Rattle.collection_store.specs.State.{HasClear, HasMostItems, IsHeld, Shows, by_id, has_image as has_image_of, shown_image, shown_of, told_after};
+
+use crate::candidate::Frame;
+use crate::holding::{Open, answered, frame_of, prepare_in, prepare_key, show_again, store};
+use crate::opening::{arranged_parts, content_of};
+use crate::sealing::image_of;
+use crate::told::Told;
+use crate::{Change, ChangeRefused, Changed, CreateRefused, UnlockRefused};
+use item_store::ItemStore;
+use key_derivation::Derived;
+use keyring_file::{Clear, FullItem, a_file_that_is_spelled_so_is_read};
+use keyring_seal::SealRefused;
+use kr_base::{Attributes, ItemId, OutOfMemory, Text};
+use kr_items::Items;
+use kr_outside::{DeviceCall, Slot};
+use replace_slot::{FaultRead, FileCell, Found, RemoveFault, ReplaceFault};
+use std::alloc::Global;
+use std::marker::Model;
+use std::mem;
+
+/// A collection: its file, the clear part that is shown, and while it is unlocked its key and its items.
+/// The file of an unlocked one is known, and opens under the key to the items.
+#[derive(Drop)]
+pub struct Collection<S: Slot> {
+    alloc: Global,
+    cell: FileCell<S>,
+    // The clear part that is shown; while the collection is unlocked, with the hashes of the items' own
+    // attributes.
+    told: Told,
+    // The clear part of the newer image of a doubt, which is shown once that image was found.
+    newer: Option<Told>,
+    held: Option<Open>,
+}
+
+impl<S: Slot> Model for Collection<S> {
+    ghost use Rattle.std.specs.Option.{option_map};
+    ghost use Rattle.collection_store.specs.State.{CollectionState, IsKept, held_of, shown_of};
+    ghost use Rattle.collection_store.specs.Storing.{parts_of};
+
+    ghost Value = { CollectionState S };
+
+    ghost view = { λ c. record {
+      slot = c.cell.slot;
+      file = c.cell.file;
+      clear = shown_of c.told
+          (option_map parts_of c.held);
+      held = held_of c.told
+          (option_map parts_of c.held);
+    } };
+
+    ghost invariant = { λ c. IsKept c.cell.file c.told c.newer
+        (option_map parts_of c.held) };
+}
+
+impl<S: Slot> Collection<S> {
+    /// A collection whose file was read, locked.
+    pub fn loaded(
+        alloc: Global,
+        cell: FileCell<S>,
+        clear: Clear,
+    ) -> Result<Collection<S>, OutOfMemory>
+        requires { IsKnownFile (λ bytes. HasClear bytes clear) cell.file }
+        ensures slot { IfOk result (λ made. made.slot ≡ cell.slot) }
+        ensures file { IfOk result (λ made. made.file ≡ cell.file) }
+        ensures clear { IfOk result (λ made. made.clear ≡ by_id clear) }
+        ensures locked { IfOk result (λ made. made.held ≡ None) }
+    {
+        let told = Told::new(alloc, clear)?;
+        Ok(Collection {
+            alloc,
+            cell,
+            told,
+            newer: None,
+            held: None,
+        })
+    }
+
+    /// Makes a collection without items and stores it. It is unlocked.
+    ///
+    /// Refused with `TooLarge` where its file would have more than 67,108,864 bytes or more than there is room,
+    /// before any call of the device; with `FaultBefore` where the file couldn't be written; and with
+    /// `FaultUnsure` where it is there or it isn't.
+    pub fn create(
+        alloc: Global,
+        cell: FileCell<S>,
+        label: Text,
+        key: Derived,
+        now: u64,
+        room: u64,
+    ) -> Result<Collection<S>, CreateRefused<S>>
+        requires none { cell.file ≡ Known None }
+        requires iterations { key.iterations ≤ most_iterations }
+        ensures stored { IfOk result (IsStored (content_created now label key.salt key.iterations)
+            (key_of key) (vector_of key)) }
+
+        // The refusals, in their order, and what each of them hands back.
+        ensures too_large { IfTooLarge result (λ back. (back ≡ cell) × most_for room cell.file
+            < length (sealed (content_created now label key.salt key.iterations)
+            (key_of key) (vector_of key))) }
+        ensures measured { most_for room cell.file
+            < length (sealed (content_created now label key.salt key.iterations)
+            (key_of key) (vector_of key)) → IsTooLargeOrNoMemory result }
+        ensures before { IfFaultBefore result (λ back. back.file ≡ cell.file) }
+        ensures unsure { IfFaultUnsure result (λ made. (made.file ≡ Doubt None
+            (Some (sealed (content_created now label key.salt key.iterations)
+            (key_of key) (vector_of key)))) × (made.held ≡ None)
+            × (made.clear ≡ (content_created now label key.salt key.iterations).clear)) }
+        ensures memory { IfNoMemory result (λ back. back ≡ cell) }
+
+        // What a crash leaves at each moment, and the cause of each fault, seen on what is handed back.
+        ensures any_moment { IsTrue (S.is_honest cell.slot) → LeavesOnly S.moment S.left_since
+            cell.slot (slot_of result) (IsOldOrSealed cell.file
+            (content_created now label key.salt key.iterations) (key_of key) (vector_of key)) }
+        ensures cause { IsCreateFault result
+            → Rose (S.faults cell.slot) (S.faults (slot_of result)) }
+        ensures honest { S.is_honest (slot_of result) ≡ S.is_honest cell.slot }
+        ensures steady { KeepsSteady (S.is_steady cell.slot) (S.is_steady (slot_of result))
+            (S.faults cell.slot) (S.faults (slot_of result)) }
+    {
+        let clear = Clear {
+            name: label,
+            created: now,
+            modified: now,
+            flags: 0,
+            timeout: 0,
+            iterations: key.iterations(),
+            salt: key.salt(),
+            items: Items::empty(alloc),
+            minor: 0,
+        };
+        let image = match image_of(
+            alloc,
+            cell.longest(),
+            room,
+            &clear,
+            &[],
+            key.key(),
+            key.vector(),
+        ) {
+            Ok(image) => image,
+            Err(SealRefused::TooLarge) => return Err(CreateRefused::TooLarge(cell)),
+            Err(SealRefused::OutOfMemory) => return Err(CreateRefused::OutOfMemory(cell)),
+        };
+        let told = Told::rising(clear);
+        let mut cell = cell;
+        match cell.replace(image) {
+            Ok(()) => Ok(Collection {
+                alloc,
+                cell,
+                told,
+                newer: None,
+                held: Some(Open {
+                    key: key.key(),
+                    vector: key.vector(),
+                    items: ItemStore::new(alloc),
+                    written: None,
+                }),
+            }),
+            Err(ReplaceFault::FaultBefore) => Err(CreateRefused::FaultBefore(cell)),
+            Err(ReplaceFault::FaultUnsure) => Err(CreateRefused::FaultUnsure(Collection {
+                alloc,
+                cell,
+                told,
+                newer: None,
+                held: None,
+            })),
+        }
+    }
+
+    /// Whether a key may open the file: the collection is locked, its file is known, and the salt and the
+    /// iterations are the file's.
+    pub fn fits(&self, key: &Derived) -> bool
+        ensures { IsTrue result ↔ Fits self.now.file self.now.clear self.now.held key.now }
+    {
+        self.held.is_none()
+            && self.cell.is_known()
+            && self.cell.image().is_some()
+            && key.salt() == self.told.clear().salt
+            && key.iterations() == self.told.clear().iterations
+    }
+
+    /// Unlocks the collection with a key that fits.
+    ///
+    /// Refused with `WrongPassword` where the check of the area differs, and with `Damaged` where the area has
+    /// another fault. The collection stays locked then.
+    pub fn unlock(&mut self, key: Derived) -> Result<(), UnlockRefused>
+        requires { Fits self.old.file self.old.clear self.old.held key }
+        ensures unlocked { OnOk result (IsKnownFile (λ bytes. Opens bytes (key_of key)
+            (vector_of key) (λ content. self.new ≡ record self.old {
+              held = Some (record {
+                key = key_of key;
+                vector = vector_of key;
+                rows = arranged_rows content;
+              });
+            }))
+            self.old.file) }
+
+        // Each refusal by what opening the file gives. After it all is as before.
+        ensures refused { (refused : UnlockRefused) → IsErrOf result refused
+            → (refused ≡ UnlockRefused.OutOfMemory) ⊎ IsKnownFile (λ bytes.
+            Unlocks (opened bytes (key_of key) (vector_of key)) refused) self.old.file }
+        ensures unchanged { OnErr result (self.new ≡ self.old) }
+    {
+        a_file_that_is_spelled_so_is_read();
+        let image = match self.cell.image() {
+            Some(image) => image,
+            None => unreachable!(),
+        };
+        let content = content_of(self.alloc, image.bytes(), &key)?;
+        let (told, items) = match arranged_parts(self.alloc, content) {
+            Ok(parts) => parts,
+            Err(_) => return Err(UnlockRefused::OutOfMemory),
+        };
+        let written = mem::replace(&mut self.told, told);
+        self.held = Some(Open {
+            key: key.key(),
+            vector: key.vector(),
+            items,
+            written: Some(written),
+        });
+        Ok(())
+    }
+
+    /// Locks the collection: its key and its items are dropped. It takes no memory.
+    pub fn lock(&mut self)
+        ensures { self.new ≡ record self.old { held = None } }
+    {
+        show_again(&mut self.told, &mut self.held);
+    }
+
+    /// Changes the collection or one of its items, and stores it. The file may grow by `room` bytes.
+    ///
+    /// Refused with `Item` where the items can't be changed so, with `TooLarge` where the file would have more
+    /// than 67,108,864 bytes or grow by more than there is room, with `FaultBefore` where the new file couldn't
+    /// be written, and with `FaultUnsure` where it is there or it isn't. All memory is taken before the first
+    /// call of the device.
+    pub fn change(&mut self, change: Change, now: u64, room: u64) -> Result<Changed, ChangeRefused>
+        requires { IsSome self.old.held }
+        ensures changed { IfOk result (λ answer. IfSome self.old.held (λ held.
+            IsChanged change now self.old held self.new answer)) }
+
+        // The refusals, in their order.
+        ensures item { (fault : Fault) → IsErrOf result (ChangeRefused.Item fault)
+            → IfSome self.old.held (λ held. made_of change now self.old held ≡ Err fault) }
+        ensures no_item { (fault : Fault) → IfSome self.old.held (λ held.
+            made_of change now self.old held ≡ Err fault
+            → IsErrOf result (ChangeRefused.Item fault)
+            ⊎ IsErrOf result ChangeRefused.OutOfMemory) }
+        ensures too_large { IsErrOf result ChangeRefused.TooLarge → IfSome self.old.held (λ held.
+            IsTooLarge change now self.old held room) }
+        ensures measured { IfSome self.old.held (λ held.
+            IsTooLarge change now self.old held room → IsErrOf result ChangeRefused.TooLarge
+            ⊎ IsErrOf result ChangeRefused.OutOfMemory) }
+        ensures unsure { IsErrOf result ChangeRefused.FaultUnsure → IfSome self.old.held (λ held.
+            MayBeChanged change now self.old held self.new) }
+
+        // After any other refusal all is as before, and without a fault the slot is untouched.
+        ensures unchanged { OnErr result (IsErrOf result ChangeRefused.FaultUnsure
+            ⊎ IsSame self.old self.new) }
+        ensures untouched { OnErr result (IsFault result
+            ⊎ (self.new.slot ≡ self.old.slot)) }
+
+        // A crash leaves the old file or the new one at each moment of the call, and none but the old one up
+        // to `FaultBefore`.
+        ensures crash { IsTrue (S.is_honest self.new.slot)
+            → LeavesFile self.new.file (S.may_leave self.new.slot) }
+        ensures any_moment { IsTrue (S.is_honest self.old.slot) → IfSome self.old.held (λ held.
+            LeavesOnly S.moment S.left_since self.old.slot self.new.slot
+            (IsOldOrNew change now self.old held)) }
+        ensures old_alone { IsTrue (S.is_honest self.old.slot)
+            → OnErr result (IsErrOf result ChangeRefused.FaultUnsure
+            ⊎ LeavesOnly S.moment S.left_since self.old.slot self.new.slot
+            (IsOneOf self.old.file)) }
+
+        // Each fault has its cause, which is a call of the device.
+        ensures cause { IsFault result → Rose (S.faults self.old.slot) (S.faults self.new.slot) }
+        ensures before_call { IsErrOf result ChangeRefused.FaultBefore
+            → FailedBefore (S.failed self.new.slot) }
+        ensures unsure_call { IsErrOf result ChangeRefused.FaultUnsure → IfSome self.old.held
+            (λ held. FailedAfter DeviceCall.Rename (IsTrue (S.is_honest self.old.slot)
+            → IsNewImage change now self.old held (S.seen self.new.slot))
+            (S.failed self.new.slot)) }
+        ensures honest { S.is_honest self.new.slot ≡ S.is_honest self.old.slot }
+        ensures steady { KeepsSteady (S.is_steady self.old.slot) (S.is_steady self.new.slot)
+            (S.faults self.old.slot) (S.faults self.new.slot) }
+    {
+        let frame = frame_of(&self.held, self.cell.longest(), now, room);
+        match prepare_in(self.alloc, &frame, &self.told, &mut self.held, change) {
+            Ok(prepared) => store(
+                &mut self.cell,
+                &mut self.told,
+                &mut self.newer,
+                &mut self.held,
+                &frame,
+                prepared,
+            ),
+            Err(refused) => {
+                self.cell.untouched();
+                Err(refused)
+            }
+        }
+    }
+
+    /// Stores the collection under another key, which is kept from then on.
+    ///
+    /// Refused as `change` is, but for `Item`.
+    pub fn rekey(&mut self, key: Derived, now: u64, room: u64) -> Result<(), ChangeRefused>
+        requires unlocked { IsSome self.old.held }
+        requires iterations { key.iterations ≤ most_iterations }
+        ensures stored { OnOk result (IfSome self.old.held (λ held. IsStored
+            (content_rekeyed now key.salt key.iterations self.old.clear held.rows)
+            (key_of key) (vector_of key) self.new)) }
+
+        ensures no_item { (fault : Fault) → ¬ (IsErrOf result (ChangeRefused.Item fault)) }
+        ensures too_large { IsErrOf result ChangeRefused.TooLarge → IfSome self.old.held (λ held.
+            most_for room self.old.file < length (sealed
+            (content_rekeyed now key.salt key.iterations self.old.clear held.rows)
+            (key_of key) (vector_of key))) }
+        ensures measured { IfSome self.old.held (λ held. most_for room self.old.file
+            < length (sealed (content_rekeyed now key.salt key.iterations self.old.clear held.rows)
+            (key_of key) (vector_of key)) → IsErrOf result ChangeRefused.TooLarge
+            ⊎ IsErrOf result ChangeRefused.OutOfMemory) }
+        ensures unsure { IsErrOf result ChangeRefused.FaultUnsure → IfSome self.old.held (λ held.
+            IsUnsure (content_rekeyed now key.salt key.iterations self.old.clear held.rows)
+            (key_of key) (vector_of key) self.old self.new) }
+        ensures unchanged { OnErr result (IsErrOf result ChangeRefused.FaultUnsure
+            ⊎ IsSame self.old self.new) }
+        ensures untouched { OnErr result (IsFault result
+            ⊎ (self.new.slot ≡ self.old.slot)) }
+
+        // At each moment of the call a crash leaves the file that opens under the old key, or the one that
+        // opens under the new key.
+        ensures crash { IsTrue (S.is_honest self.new.slot)
+            → LeavesFile self.new.file (S.may_leave self.new.slot) }
+        ensures any_moment { IsTrue (S.is_honest self.old.slot) → IfSome self.old.held (λ held.
+            LeavesOnly S.moment S.left_since self.old.slot self.new.slot
+            (IsOldOrSealed self.old.file
+            (content_rekeyed now key.salt key.iterations self.old.clear held.rows)
+            (key_of key) (vector_of key))) }
+
+        ensures cause { IsFault result → Rose (S.faults self.old.slot) (S.faults self.new.slot) }
+        ensures honest { S.is_honest self.new.slot ≡ S.is_honest self.old.slot }
+        ensures steady { KeepsSteady (S.is_steady self.old.slot) (S.is_steady self.new.slot)
+            (S.faults self.old.slot) (S.faults self.new.slot) }
+    {
+        let frame = Frame {
+            time: now,
+            longest: self.cell.longest(),
+            room,
+            key: key.key(),
+            vector: key.vector(),
+        };
+        let prepared = prepare_key(
+            self.alloc,
+            &frame,
+            &self.told,
+            &self.held,
+            key.salt(),
+            key.iterations(),
+        );
+        match prepared {
+            Ok(prepared) => answered(store(
+                &mut self.cell,
+                &mut self.told,
+                &mut self.newer,
+                &mut self.held,
+                &frame,
+                prepared,
+            )),
+            Err(refused) => {
+                self.cell.untouched();
+                Err(refused)
+            }
+        }
+    }
+
+    /// Removes the file. The collection is then locked and has no file.
+    ///
+    /// Refused with `FaultUnsure` where the name couldn't be taken away or the folder couldn't be synced: the
+    /// collection is locked, and its file in doubt. It takes no memory.
+    pub fn delete(&mut self) -> Result<(), RemoveFault>
+        requires { IsSome self.old.held }
+        ensures removed { OnOk result (self.new.file ≡ Known None) }
+        ensures unsure { OnErr result (self.new.file ≡ Doubt (old_image self.old.file) None) }
+        ensures locked { self.new.held ≡ None }
+        ensures clear { self.new.clear ≡ self.old.clear }
+
+        ensures crash { IsTrue (S.is_honest self.new.slot)
+            → LeavesFile self.new.file (S.may_leave self.new.slot) }
+        ensures any_moment { IsTrue (S.is_honest self.old.slot)
+            → LeavesOnly S.moment S.left_since self.old.slot self.new.slot
+            (IsOneOf (Doubt (old_image self.old.file) None)) }
+
+        ensures cause { HasCause (S.faults self.old.slot) (S.faults self.new.slot) result }
+        ensures honest { S.is_honest self.new.slot ≡ S.is_honest self.old.slot }
+        ensures steady { KeepsSteady (S.is_steady self.old.slot) (S.is_steady self.new.slot)
+            (S.faults self.old.slot) (S.faults self.new.slot) }
+    {
+        show_again(&mut self.told, &mut self.held);
+        self.cell.remove()
+    }
+
+    /// Ends a doubt as `FileCell::resolve` does: the file is read into the buffer, and is then known to have
+    /// the image that was found. It takes no memory.
+    ///
+    /// Refused with `FaultRead` where the folder couldn't be synced or the file couldn't be read; the doubt
+    /// stays.
+    pub fn resolve(&mut self, buffer: &mut [u8]) -> Result<Found, FaultRead>
+        requires doubt { ¬ (IsKnown self.old.file) }
+        requires room { longest_of self.old.file < length buffer.old }
+
+        ensures found { IfOk result (λ found. self.new.file ≡ found_file found self.old.file) }
+        ensures by_read { IfOk result (λ found.
+            IsFoundBy (S.answered self.new.slot) buffer.new found self.old.file) }
+        ensures shown { IfOk result (λ found. ShowsBytes found self.old.file buffer.new) }
+        ensures one { IsTrue (S.is_honest self.old.slot)
+            → IfOk result (λ found. found ≢ Found.Other) }
+        ensures shows { OnOk result (Shows (shown_image self.new.file) self.new.clear) }
+        ensures locked { self.new.held ≡ None }
+        ensures unchanged { OnErr result (IsSame self.old self.new) }
+
+        ensures crash { IsTrue (S.is_honest self.new.slot)
+            → LeavesFile self.new.file (S.may_leave self.new.slot) }
+        ensures any_moment { IsTrue (S.is_honest self.old.slot)
+            → LeavesOnly S.moment S.left_since self.old.slot self.new.slot
+            (IsOneOf self.old.file) }
+
+        ensures cause { HasCause (S.faults self.old.slot) (S.faults self.new.slot) result }
+        ensures honest { S.is_honest self.new.slot ≡ S.is_honest self.old.slot }
+        ensures steady { KeepsSteady (S.is_steady self.old.slot) (S.is_steady self.new.slot)
+            (S.faults self.old.slot) (S.faults self.new.slot) }
+    {
+        let found = self.cell.resolve(buffer)?;
+        show_found(found, &mut self.told, &mut self.newer);
+        Ok(found)
+    }
+
+    /// The cell of a collection that goes. It takes no memory.
+    pub fn into_cell(self) -> FileCell<S>
+        ensures slot { result.slot ≡ self.slot }
+        ensures file { result.file ≡ self.file }
+    {
+        self.cell
+    }
+
+    /// A law: while nothing is done with the collection, a crash leaves one of its file's images at each
+    /// moment. It does nothing.
+    pub fn untouched(&self)
+        ensures any_moment { IsTrue (S.is_honest self.now.slot)
+            → LeavesOnly S.moment S.left_since self.now.slot self.now.slot
+            (IsOneOf self.now.file) }
+    {
+        self.cell.untouched();
+    }
+
+    /// Whether the collection is unlocked.
+    pub fn is_open(&self) -> bool
+        ensures value { IsTrue result ↔ IsSome self.now.held }
+        ensures opens { IsHeld self.now.file self.now.held }
+        ensures shows { Shows (shown_image self.now.file) self.now.clear }
+    {
+        self.held.is_some()
+    }
+
+    /// Whether the file is known.
+    pub fn is_known(&self) -> bool
+        ensures { IsTrue result ↔ IsKnown self.now.file }
+    {
+        self.cell.is_known()
+    }
+
+    /// How many bytes the longest image has; 0 for no file.
+    pub fn longest(&self) -> usize
+        ensures { result ≡ longest_of self.now.file }
+    {
+        self.cell.longest()
+    }
+
+    /// The greatest number of items in one of the images; 0 for no file.
+    pub fn most_items(&self) -> usize
+        ensures { HasMostItems self.now.file result }
+    {
+        if !has_image(&self.cell) {
+            return 0;
+        }
+        let count = self.told.clear().items.len();
+        match &self.newer {
+            Some(newer) => count.max(newer.clear().items.len()),
+            None => count,
+        }
+    }
+
+    /// The label.
+    pub fn label(&self) -> &Text
+        ensures { result.now ≡ self.now.clear.name }
+    {
+        &self.told.clear().name
+    }
+
+    /// When the collection was made, in seconds since 1970.
+    pub fn created(&self) -> u64
+        ensures { result ≡ self.now.clear.created }
+    {
+        self.told.clear().created
+    }
+
+    /// When the collection was changed last, in seconds since 1970.
+    pub fn modified(&self) -> u64
+        ensures { result ≡ self.now.clear.modified }
+    {
+        self.told.clear().modified
+    }
+
+    /// The salt of the file.
+    pub fn salt(&self) -> [u8; 8]
+        ensures { result ≡ self.now.clear.salt }
+    {
+        self.told.clear().salt
+    }
+
+    /// The iterations of the file.
+    pub fn iterations(&self) -> u32
+        ensures { result ≡ self.now.clear.iterations }
+    {
+        self.told.clear().iterations
+    }
+
+    /// The content type of an item, also while the collection is locked. None where there is no such item.
+    pub fn content(&self, id: ItemId) -> Option<&Text>
+        ensures { option_copied result ≡ content_at id.0 self.now.clear.items }
+    {
+        self.told.content(id)
+    }
+
+    /// An item. None exactly where the collection is locked or has no such item.
+    pub fn item(&self, id: ItemId) -> Option<&FullItem>
+        ensures { option_copied result ≡ item_at id.0 self.now.held }
+    {
+        match &self.held {
+            Some(held) => held.items.item(id),
+            None => None,
+        }
+    }
+
+    /// The ids of the items that match the wanted attributes, in rising order: by the items, or while the
+    /// collection is locked by the hashes in the clear part (Secret Service API, "Lookup Attributes").
+    pub fn search(&self, wanted: &Attributes) -> Result<Vec<ItemId>, OutOfMemory>
+        ensures { IfOk result (λ ids. map (λ id. id.0) ids.items
+            ≡ found_in wanted.now self.now.clear self.now.held) }
+    {
+        match &self.held {
+            Some(held) => held.items.search(wanted),
+            None => self.told.search(self.alloc, wanted),
+        }
+    }
+}
+
+/// Shows the clear part of the image that was found.
+fn show_found(found: Found, told: &mut Told, newer: &mut Option<Told>)
+    ensures told { told.new ≡ told_after found told.old newer.old }
+    ensures newer { newer.new ≡ None }
+{
+    match (found, newer.take()) {
+        (Found::New, Some(part)) => *told = part,
+        _ => {}
+    }
+}
+
+/// Whether one of the images is a file.
+fn has_image<S: Slot>(cell: &FileCell<S>) -> bool
+    ensures { result ≡ has_image_of cell.now.file }
+{
+    cell.image().is_some() || cell.newer().is_some()
+}

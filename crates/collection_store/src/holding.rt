@@ -1,0 +1,220 @@
+// What an unlocked collection holds, and how a prepared change is stored.
+
+ghost use Rattle.std.specs.Prelude.{◌≡◌, ◌≢◌, ◌+◌, ◌≤◌, ◌<◌, ◌⊎◌, IsTrue, IsSome, IfSome, IfOk, IfErr, OnOk, OnErr, IsErrOf, Ok, Some, None, length};
+ghost use Rattle.std.specs.Option.{option_map};
+ghost use Rattle.kr_outside.specs.Faults.{KeepsSteady, Rose};
+ghost use Rattle.kr_outside.specs.Moments.{LeavesOnly};
+ghost use Rattle.replace_slot.specs.Cell.{Doubt, FailedAfter, FailedBefore, IsKnown, IsOneOf, LeavesFile, old_image};
+ghost use Rattle.keyring_file.specs.ClearText.{most_iterations};
+ghost use Rattle.collection_store.specs.Changes.{name_made, rows_made};
+ghost use Rattle.collection_store.specs.Outcomes.{IsFault};
+ghost use Rattle.collection_store.specs.Preparing.{IsInStep};
+ghost use Rattle.collection_store.specs.Resting.{finished, undone};
+ghost use Rattle.collection_store.specs.State.{IsById, IsKept, shown_of};
+ghost use Rattle.collection_store.specs.Storing.{AreBefore, AreStored, AreUnsure, IsPreparedIn, IsReady, MayRefuseIn, finished_open, frame_for, without_answer, parts_of, undone_open};
+
+use crate::candidate::Frame;
+use crate::preparing::{Prepared, prepare, prepare_front};
+use crate::rest::Rest;
+use crate::told::Told;
+use crate::{Change, ChangeRefused, Changed};
+use item_store::ItemStore;
+use kr_outside::{DeviceCall, Slot};
+use replace_slot::{FileCell, ReplaceFault};
+use std::alloc::Global;
+
+/// What an unlocked collection has beside its file and the clear part.
+#[derive(Drop)]
+pub struct Open {
+    pub key: [u8; 16],
+    pub vector: [u8; 16],
+    pub items: ItemStore,
+    // The clear part as the file has it, where hashes in it aren't those of the items' own attributes. It is
+    // shown, also once the collection is locked again, until the first change is stored.
+    pub written: Option<Told>,
+}
+
+/// Drops what is held. The clear part is again the one that the file has.
+pub fn show_again(told: &mut Told, held: &mut Option<Open>)
+    ensures told { told.new ≡ shown_of told.old (option_map parts_of held.old) }
+    ensures held { held.new ≡ None }
+{
+    if let Some(held) = held.take() {
+        let Open { written, .. } = held;
+        if let Some(written) = written {
+            *told = written;
+        }
+    }
+}
+
+/// The items are brought to those of the new file, and the key is kept under which it is stored.
+fn keep(held: &mut Option<Open>, frame: &Frame, rest: Rest)
+    ensures { held.new ≡ option_map (finished_open frame.now rest) held.old }
+{
+    if let Some(open) = held {
+        rest.finish(&mut open.items);
+        open.key = frame.key;
+        open.vector = frame.vector;
+        open.written = None;
+    }
+}
+
+/// The items are brought back to those of the old file.
+fn bring_back(held: &mut Option<Open>, rest: Rest)
+    ensures { held.new ≡ option_map (undone_open rest) held.old }
+{
+    if let Some(open) = held {
+        rest.undo(&mut open.items);
+    }
+}
+
+/// Replaces the file by one that is prepared, and shows and keeps what is stored. It takes no memory.
+///
+/// Refused with `FaultBefore`, after which all is as it was before it was prepared, or with `FaultUnsure`,
+/// after which what was held is dropped.
+pub fn store<S: Slot>(
+    cell: &mut FileCell<S>,
+    told: &mut Told,
+    newer: &mut Option<Told>,
+    held: &mut Option<Open>,
+    frame: &Frame,
+    prepared: Prepared,
+) -> Result<Changed, ChangeRefused>
+    requires kept { IsKept cell.old.file told.old newer.old
+        (option_map parts_of (option_map (undone_open prepared.rest) held.old)) }
+    requires unlocked { IsSome held.old }
+    requires ready { IfSome held.old (IsReady frame.now prepared) }
+
+    ensures stored { IfOk result (AreStored frame.now prepared newer.old held.old
+        cell.new.file told.new newer.new held.new) }
+    ensures before { IsErrOf result ChangeRefused.FaultBefore → AreBefore prepared
+        cell.old.file told.old newer.old held.old cell.new.file told.new newer.new held.new }
+    ensures unsure { IsErrOf result ChangeRefused.FaultUnsure → AreUnsure prepared
+        cell.old.file told.old held.old cell.new.file told.new newer.new held.new }
+    ensures faults { OnErr result (IsFault result) }
+    ensures kept { IsKept cell.new.file told.new newer.new (option_map parts_of held.new) }
+
+    ensures crash { IsTrue (S.is_honest cell.new.slot)
+        → LeavesFile cell.new.file (S.may_leave cell.new.slot) }
+    ensures any_moment { IsTrue (S.is_honest cell.old.slot)
+        → LeavesOnly S.moment S.left_since cell.old.slot cell.new.slot
+        (IsOneOf (Doubt (old_image cell.old.file) (Some prepared.image))) }
+    ensures old_alone { IsTrue (S.is_honest cell.old.slot)
+        → IsErrOf result ChangeRefused.FaultBefore
+        → LeavesOnly S.moment S.left_since cell.old.slot cell.new.slot
+        (IsOneOf cell.old.file) }
+
+    ensures cause { IsFault result → Rose (S.faults cell.old.slot) (S.faults cell.new.slot) }
+    ensures before_call { IsErrOf result ChangeRefused.FaultBefore
+        → FailedBefore (S.failed cell.new.slot) }
+    ensures unsure_call { IsErrOf result ChangeRefused.FaultUnsure
+        → FailedAfter DeviceCall.Rename (IsTrue (S.is_honest cell.old.slot)
+        → S.seen cell.new.slot ≡ Some prepared.image) (S.failed cell.new.slot) }
+    ensures honest { S.is_honest cell.new.slot ≡ S.is_honest cell.old.slot }
+    ensures steady { KeepsSteady (S.is_steady cell.old.slot) (S.is_steady cell.new.slot)
+        (S.faults cell.old.slot) (S.faults cell.new.slot) }
+{
+    let Prepared {
+        next,
+        image,
+        rest,
+        answer,
+    } = prepared;
+    let _rising = next.clear();
+    match cell.replace(image) {
+        Ok(()) => {
+            keep(held, frame, rest);
+            *told = next;
+            Ok(answer)
+        }
+        Err(ReplaceFault::FaultBefore) => {
+            bring_back(held, rest);
+            Err(ChangeRefused::FaultBefore)
+        }
+        Err(ReplaceFault::FaultUnsure) => {
+            show_again(told, held);
+            *newer = Some(next);
+            Err(ChangeRefused::FaultUnsure)
+        }
+    }
+}
+
+/// What a change is stored with, under the key that is held.
+pub fn frame_of(held: &Option<Open>, longest: usize, now: u64, room: u64) -> Frame
+    requires { IsSome held.now }
+    ensures { option_map (frame_for now longest room) held.now ≡ Some result }
+{
+    match held {
+        Some(held) => Frame {
+            time: now,
+            longest,
+            room,
+            key: held.key,
+            vector: held.vector,
+        },
+        None => unreachable!(),
+    }
+}
+
+/// Prepares a change of what is held.
+pub fn prepare_in(
+    alloc: Global,
+    frame: &Frame,
+    told: &Told,
+    held: &mut Option<Open>,
+    change: Change,
+) -> Result<Prepared, ChangeRefused>
+    requires unlocked { IsSome held.old }
+    requires step { IfSome held.old (λ was. IsInStep told.now was.items) }
+    ensures prepared { IfOk result (IsPreparedIn frame.now
+        (record told.now { name = name_made change told.now.name }) told.now
+        (rows_made change frame.now.time) held.old held.new) }
+    ensures refused { IfErr result (MayRefuseIn frame.now
+        (record told.now { name = name_made change told.now.name }) told.now
+        (rows_made change frame.now.time) held.old) }
+    ensures unchanged { OnErr result (held.new ≡ held.old) }
+{
+    match held {
+        Some(open) => prepare(alloc, frame, told, &mut open.items, change),
+        None => unreachable!(),
+    }
+}
+
+/// Prepares that what is held is stored under another key.
+pub fn prepare_key(
+    alloc: Global,
+    frame: &Frame,
+    told: &Told,
+    held: &Option<Open>,
+    salt: [u8; 8],
+    iterations: u32,
+) -> Result<Prepared, ChangeRefused>
+    requires unlocked { IsSome held.now }
+    requires step { IfSome held.now (λ was. IsInStep told.now was.items) }
+    requires iterations { iterations ≤ most_iterations }
+    ensures prepared { IfOk result (IsPreparedIn frame.now
+        (record told.now { salt = salt; iterations = iterations }) told.now
+        (λ rows. Ok (rows, Changed.Named)) held.now held.now) }
+    ensures refused { IfErr result (MayRefuseIn frame.now
+        (record told.now { salt = salt; iterations = iterations }) told.now
+        (λ rows. Ok (rows, Changed.Named)) held.now) }
+{
+    let name = match told.clear().name.copy() {
+        Ok(name) => name,
+        Err(_) => return Err(ChangeRefused::OutOfMemory),
+    };
+    match held {
+        Some(open) => prepare_front(alloc, frame, told, &open.items, name, salt, iterations),
+        None => unreachable!(),
+    }
+}
+
+/// The same, but for what was changed.
+pub fn answered(given: Result<Changed, ChangeRefused>) -> Result<(), ChangeRefused>
+    ensures { result ≡ without_answer given }
+{
+    match given {
+        Ok(_) => Ok(()),
+        Err(refused) => Err(refused),
+    }
+}

@@ -1,0 +1,139 @@
+// What an unlocked collection holds is made of the content that its file opens to.
+
+ghost use Rattle.std.specs.Prelude.{◌≡◌, ◌⊎◌, IfOk, IsErrOf, Ok, length, map};
+ghost use Rattle.std.specs.List.{AllByRecursion, zip};
+ghost use Rattle.std.specs.List.Sorted.{IsStrictlyIncreasing};
+ghost use Rattle.std.specs.Map.{keys_of};
+ghost use Rattle.attribute_hash.specs.Hash.{hashes};
+ghost use Rattle.key_derivation.specs.Kdf.{key_of, vector_of};
+ghost use Rattle.keyring_file.specs.Clear.{ClearPart};
+ghost use Rattle.keyring_seal.specs.Arranged.{IsSealable, arranged_rows, hashed_row, row_number};
+ghost use Rattle.keyring_seal.specs.Whole.{IsFileOf, opened};
+ghost use Rattle.collection_store.specs.Reading.{Unlocks};
+ghost use Rattle.collection_store.specs.State.{HasClear, by_id, ids_of, rows_with, without_hashes};
+
+use crate::UnlockRefused;
+use crate::order::in_order;
+use crate::told::Told;
+use attribute_hash::hashed;
+use item_store::{ItemStore, rising_rows_are_one_list};
+use key_derivation::Derived;
+use keyring_file::{AreaFault, Clear, ClearItem, FullItem, a_file_that_is_spelled_so_is_read};
+use keyring_seal::{Content, OpenFault, open};
+use keyring_text::ReadRefused;
+use kr_base::{ItemId, OutOfMemory};
+use kr_items::Items;
+use std::alloc::Global;
+
+/// The content of a file whose clear part was read.
+pub fn content_of(alloc: Global, file: &[u8], key: &Derived) -> Result<Content, UnlockRefused>
+    requires { (clear : ClearPart) × HasClear file.now clear }
+    ensures opened { IfOk result (λ content.
+        opened file.now (key_of key.now) (vector_of key.now) ≡ Ok content) }
+    ensures is_file { IfOk result (IsFileOf file.now (key_of key.now) (vector_of key.now)) }
+    ensures sealable { IfOk result IsSealable }
+    ensures refused { (refused : UnlockRefused) → IsErrOf result refused
+        → (refused ≡ UnlockRefused.OutOfMemory)
+        ⊎ Unlocks (opened file.now (key_of key.now) (vector_of key.now)) refused }
+{
+    a_file_that_is_spelled_so_is_read();
+    match open(alloc, file, key) {
+        Ok(content) => Ok(content),
+        Err(ReadRefused::Fault(OpenFault::Area(AreaFault::CheckDiffers))) => {
+            Err(UnlockRefused::WrongPassword)
+        }
+        Err(ReadRefused::Fault(OpenFault::Area(fault))) => Err(UnlockRefused::Damaged(fault)),
+        Err(ReadRefused::Fault(OpenFault::Clear(_))) => unreachable!(),
+        Err(ReadRefused::OutOfMemory) => Err(UnlockRefused::OutOfMemory),
+    }
+}
+
+/// The items, each as both parts of the file have it.
+fn joined(
+    alloc: Global,
+    clear: Vec<ClearItem>,
+    items: Vec<FullItem>,
+) -> Result<Vec<(ClearItem, FullItem)>, OutOfMemory>
+    ensures { IfOk result (λ made. made.items ≡ zip clear.items items.items) }
+{
+    let mut rows = Vec::with_capacity(alloc, clear.len())?;
+    let mut items = items.into_iter();
+    for clear_item in clear {
+        let Some(item) = items.next() else {
+            break;
+        };
+        rows.push((clear_item, item))?;
+    }
+    Ok(rows)
+}
+
+/// The clear part's items, with the hashes of the items' own attributes, and the items.
+fn parted(
+    alloc: Global,
+    rows: Vec<(ClearItem, FullItem)>,
+) -> Result<(Vec<ClearItem>, Vec<(ItemId, u32, FullItem)>), OutOfMemory>
+    ensures clear { IfOk result (λ made.
+        made.0.items ≡ map (λ row. (hashed_row row).0) rows.items) }
+    ensures items { IfOk result (λ made.
+        made.1.items ≡ map (λ row. (row.0.id, row.0.kind, row.1)) rows.items) }
+{
+    let mut clear = Vec::with_capacity(alloc, rows.len())?;
+    let mut items = Vec::with_capacity(alloc, rows.len())?;
+    for (clear_item, item) in rows {
+        let ClearItem {
+            id,
+            kind,
+            content,
+            ..
+        } = clear_item;
+        clear.push(ClearItem {
+            id,
+            kind,
+            hashed: Items::new(hashed(alloc, &item.attributes)?),
+            content,
+        })?;
+        items.push((id, kind, item))?;
+    }
+    Ok((clear, items))
+}
+
+/// The clear part of a content by rising ids, with the hashes of the items' own attributes, and its items.
+pub fn arranged_parts(alloc: Global, content: Content) -> Result<(Told, ItemStore), OutOfMemory>
+    requires { IsSealable content }
+    ensures rows { IfOk result (λ made. rows_with made.0 made.1 ≡ arranged_rows content) }
+    ensures ids { IfOk result (λ made. ids_of made.0.items ≡ keys_of made.1) }
+    ensures hashed { IfOk result (λ made. AllByRecursion
+        (λ row. row.0.hashed ≡ hashes row.1.attributes) (rows_with made.0 made.1)) }
+    ensures same { IfOk result (λ made.
+        without_hashes made.0 ≡ without_hashes (by_id content.clear)) }
+{
+    let Content { clear, items } = content;
+    let Clear {
+        name,
+        created,
+        modified,
+        flags,
+        timeout,
+        iterations,
+        salt,
+        items: clear_items,
+        minor,
+    } = clear;
+    let rows = joined(alloc, clear_items.into_vec(), items.into_vec())?;
+    let ordered = in_order(alloc, rows)?;
+    let (clear_items, given) = parted(alloc, ordered)?;
+    rising_rows_are_one_list();
+    let items = ItemStore::loaded(given)?;
+    let told = Told::rising(Clear {
+        name,
+        created,
+        modified,
+        flags,
+        timeout,
+        iterations,
+        salt,
+        items: Items::new(clear_items),
+        minor,
+    });
+    Ok((told, items))
+}
