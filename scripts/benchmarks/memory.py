@@ -112,7 +112,7 @@ def ping_with(signature, body):
 def measure(folder):
     ours = rattle_program(folder / "rattle", "memory_bench", MEMORY_PROGRAM, lines_of(["kr_base", "dbus_types", "dbus_marshal"]), " hex")
     (folder / "rings").mkdir()
-    program = [keyringd(), "stdio", folder / "rings", "1000"]
+    program = [keyringd(folder / "keyringd"), "stdio", folder / "rings", "1000"]
     starter = c_program(folder, "starter", STARTER_C)
     for name, (signature, lead, chunk, less) in SHAPES.items():
         count = 1040000 // len(chunk)

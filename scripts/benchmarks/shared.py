@@ -47,30 +47,37 @@ def peak(words, given=os.devnull):
         return int(run([sys.executable, "-c", program, *words], stdin=bytes_of)) * 1024
 
 
+def laid_out(folder, lines):
+    """A scratch repository with these crates, without the wrong bodies."""
+    for line in lines:
+        name = line.partition(":")[0]
+        left_out = shutil.ignore_patterns("out", "must-fail", "wrong-bodies")
+        shutil.copytree(ROOT / "crates" / name, folder / "crates" / name, ignore=left_out)
+    (folder / "crates.txt").write_text("\n".join(lines) + "\n")
+    shutil.copy2(ROOT / "HANDLES", folder / "HANDLES")
+    run(["git", "init", "-q", folder])
+
+
 def rattle_program(folder, name, text, lines, more="", proofs=None):
     """The built program, in a scratch repository over these crates. It takes over what the gate proved of them on this machine.
     `proofs` has the program's own proof files, by their paths."""
-    names = [line.split(":")[0] for line in lines]
-    for it in names:
-        shutil.copytree(ROOT / "crates" / it, folder / "crates" / it, ignore=shutil.ignore_patterns("out", "must-fail", "wrong-bodies"))
-    (folder / "crates" / name / "src").mkdir(parents=True)
-    (folder / "crates" / name / "src/main.rt").write_text(text)
-    for path, proof in (proofs or {}).items():
-        place = folder / "crates" / name / "proofs" / path
-        place.parent.mkdir(parents=True)
-        place.write_text(proof)
-    (folder / "crates.txt").write_text("\n".join([*lines, f"{name}: " + " ".join(names) + more]) + "\n")
-    shutil.copy2(ROOT / "HANDLES", folder / "HANDLES")
-    run(["git", "init", "-q", folder])
-    run(["rt", "fmt"], cwd=folder / "crates" / name)
-    run(["rt", "ci", name], cwd=folder)
-    return folder / "crates" / name / "out" / name
+    laid_out(folder, lines)
+    own = folder / "crates" / name
+    for path, file in {"src/main.rt": text, **{f"proofs/{it}": proof for it, proof in (proofs or {}).items()}}.items():
+        (own / path).parent.mkdir(parents=True)
+        (own / path).write_text(file)
+    with open(folder / "crates.txt", "a") as listed:
+        listed.write(f"{name}: " + " ".join(line.partition(":")[0] for line in lines) + more + "\n")
+    run(["rt", "fmt"], cwd=own)
+    run(["rt", "ci"], cwd=folder)
+    return own / "out" / name
 
 
-def keyringd():
-    """The program of this repository, built. It takes over what the gate proved."""
-    run(["rt", "ci", "keyringd"], cwd=ROOT)
-    return ROOT / "crates/keyringd/out/keyringd"
+def keyringd(folder):
+    """The program of this repository, built in a scratch repository. It takes over what the gate proved."""
+    laid_out(folder, lines_of(["keyringd"]))
+    run(["rt", "ci"], cwd=folder)
+    return folder / "crates/keyringd/out/keyringd"
 
 
 def c_program(folder, name, text, *more):

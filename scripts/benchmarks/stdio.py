@@ -66,7 +66,7 @@ def measure(folder):
     flags = run(["pkg-config", "--cflags", "--libs", "dbus-1"]).split()
     theirs = c_program(folder, "dbus_stdio", STDIO_C, "-D_GNU_SOURCE", *flags)
     (folder / "rings").mkdir()
-    ours = [keyringd(), "stdio", folder / "rings", "1000"]
+    ours = [keyringd(folder / "keyringd"), "stdio", folder / "rings", "1000"]
     streams = {count: stream_of(folder / f"{count}", count) for count in (PINGS, 10 * PINGS)}
     mine, written = best_piped(ours, streams[PINGS])
     peer, wanted = best_piped([theirs], streams[PINGS])
