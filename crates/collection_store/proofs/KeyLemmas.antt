@@ -120,6 +120,13 @@ module _ {S : Type 0} (now longest room : ℕ) (key vector salt : List ℕ) (ite
   unsure_key None ready slot_now file_now told_now newer_now held_now long kept p u = tt
   unsure_key (Some w) ready slot_now file_now told_now newer_now held_now long kept p u = unsure_key_at w ready slot_now file_now told_now newer_now held_now long kept p u
 
+  -- what the slot has after an unsure end is the file under the new key
+  pub image_key : (was : Option Open) (ready : Prepared) (left : Image) → longest ≡ longest_of file → IsKept file told newer (option_map parts_of was) → IsPreparedIn frame (keyed salt iterations told) told kept_rows was was ready
+      → left ≡ Some ready.image
+      → IfSome (held_of told (option_map parts_of was)) (λ held. left ≡ Some (sealed (content_rekeyed now salt iterations (shown_of told (option_map parts_of was)) held.rows) key vector))
+  image_key None ready left long kept p is = tt
+  image_key (Some w) ready left long kept p is = let core = key_core w ready long kept p in is ∙ ap (λ t. Some t) core.image
+
   pub fits_key : (was : Option Open) (ready : Prepared) (Q : Type 0) → longest ≡ longest_of file → IsKept file told newer (option_map parts_of was) → IsPreparedIn frame (keyed salt iterations told) told kept_rows was was ready
       → IfSome (held_of told (option_map parts_of was)) (λ held. most_for room file < length (sealed (content_rekeyed now salt iterations (shown_of told (option_map parts_of was)) held.rows) key vector) → Q)
   fits_key None ready Q long kept p = tt

@@ -3,7 +3,7 @@ use Rattle.std.proofs.Common.{◌≡◌, ℕ, ◌≤◌, List, length, Result, O
 use Rattle.keyring_text.specs.Fields.{IsBytes}
 use Rattle.keyring_text.specs.Reading.{◌>>=◌}
 use Rattle.keyring_file.specs.Clear.{ClearPart}
-use Rattle.keyring_file.specs.ClearText.{ClearText, most_iterations}
+use Rattle.keyring_file.specs.ClearText.{ClearText, HasClear, most_iterations}
 use Rattle.keyring_file.specs.Reading.{clear_read}
 use Rattle.keyring_file.specs.declared.area.FullItem.{FullItem}
 use Rattle.keyring_file.specs.declared.fault.AreaFault.{AreaFault}
@@ -12,7 +12,6 @@ use Rattle.keyring_seal.specs.declared.content.Content.{Content}
 use Rattle.keyring_seal.specs.declared.opening.OpenFault.{OpenFault}
 use Rattle.keyring_seal.specs.declared.opening.OpenFault.TheVariants as open_fault
 use Rattle.keyring_seal.specs.Whole.{in_area_part, in_clear_part, opened}
-use Rattle.collection_store.specs.State.{HasClear}
 
 -- a text of a clear part is read as that clear part
 abbrev pub Spelled : Type 0

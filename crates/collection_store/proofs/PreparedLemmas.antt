@@ -26,7 +26,8 @@ use Rattle.item_store.specs.declared.fault.ItemFault.{ItemFault}
 use Rattle.collection_store.specs.Changes.{content_stored, minor_made}
 use Rattle.collection_store.specs.Preparing.{AreHashed, IsOver, IsPrepared, looked, most_in}
 use Rattle.collection_store.specs.Resting.{finished, undone}
-use Rattle.collection_store.specs.State.{HasClear, IsOpened, ids_of, rows_with}
+use Rattle.collection_store.specs.State.{IsOpened, ids_of, rows_with}
+use Rattle.keyring_file.specs.ClearText.{HasClear}
 use Rattle.collection_store.specs.declared.candidate.Frame.{Frame}
 use Rattle.collection_store.specs.declared.change.Changed.{Changed}
 use Rattle.collection_store.specs.declared.preparing.Prepared.{Prepared}

@@ -27,7 +27,8 @@ use Rattle.collection_store.specs.Storing.{IsReady, finished_open, parts_of, und
 use Rattle.collection_store.specs.declared.candidate.Frame.{Frame}
 use Rattle.collection_store.specs.declared.holding.Open.{Open}
 use Rattle.collection_store.specs.declared.preparing.Prepared.{Prepared}
-use Rattle.collection_store.specs.State.{CollectionState, HasClear, HasItems, HasMostItems, IsById, IsHeld, IsKept, IsNewer, IsOpened, IsOpenedFile, OpensTo, Parts, Shows, by_id, has_image, held_of, ids_of, rows_with, shown_image, shown_of, told_after, unhashed, without_hashes}
+use Rattle.collection_store.specs.State.{CollectionState, HasItems, HasMostItems, IsById, IsHeld, IsKept, IsNewer, IsOpened, IsOpenedFile, OpensTo, Parts, Shows, by_id, has_image, held_of, ids_of, rows_with, shown_image, shown_of, told_after, unhashed, without_hashes}
+use Rattle.keyring_file.specs.ClearText.{HasClear}
 
 -- a file whose clear part was read
 pub kept_loaded : (file : File) (clear told : ClearPart) → IsKnownFile (λ bytes. HasClear bytes clear) file → told ≡ by_id clear → IsKept file told None None

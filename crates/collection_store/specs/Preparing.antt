@@ -5,7 +5,7 @@ use Rattle.std.specs.Map.{keys_of}
 use Rattle.std.specs.Option.{option_map}
 use Rattle.attribute_hash.specs.Hash.{hashes}
 use Rattle.keyring_file.specs.Clear.{ClearPart}
-use Rattle.keyring_file.specs.ClearText.{most_iterations}
+use Rattle.keyring_file.specs.ClearText.{HasClear, most_iterations}
 use Rattle.keyring_file.specs.declared.area.FullItem.{FullItem}
 use Rattle.keyring_file.specs.declared.clear.ClearItem.{ClearItem}
 use Rattle.keyring_seal.specs.Arranged.{Row}
@@ -15,7 +15,7 @@ use Rattle.item_store.specs.declared.fault.ItemFault.{ItemFault}
 use Rattle.item_store.specs.declared.rows.Row.{Row as StoreRow}
 use Rattle.collection_store.specs.Changes.{content_stored, minor_made}
 use Rattle.collection_store.specs.Resting.{finished, undone}
-use Rattle.collection_store.specs.State.{HasClear, IsOpened, ids_of, rows_with}
+use Rattle.collection_store.specs.State.{IsOpened, ids_of, rows_with}
 use Rattle.collection_store.specs.declared.candidate.Frame.{Frame}
 use Rattle.collection_store.specs.declared.change.Changed.{Changed}
 use Rattle.collection_store.specs.declared.preparing.Prepared.{Prepared}

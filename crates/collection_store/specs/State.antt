@@ -11,7 +11,7 @@ use Rattle.replace_slot.specs.Cell.{File, Known, Doubt, IsKnownFile, new_image, 
 use Rattle.replace_slot.specs.declared.images.Found.{Found}
 use Rattle.replace_slot.specs.declared.images.Found.TheVariants.{Old, New, Other}
 use Rattle.keyring_file.specs.Clear.{ClearPart}
-use Rattle.keyring_file.specs.ClearText.{ClearText}
+use Rattle.keyring_file.specs.ClearText.{HasClear}
 use Rattle.keyring_file.specs.declared.clear.ClearItem.{ClearItem}
 use Rattle.item_store.specs.Rows.{Rows}
 use Rattle.keyring_seal.specs.Arranged.{Row, arranged_rows}
@@ -35,10 +35,6 @@ pub record CollectionState (S : Type 0) : Type 0 where
   pub held : Option Held
 
 -- ---- what is shown
-
--- the file has this clear part
-abbrev pub HasClear : List ℕ → ClearPart → Type 0
-HasClear file clear = (area : List ℕ) × ClearText file clear area
 
 -- the numbers of the items
 abbrev pub ids_of : List ClearItem → List ℕ

@@ -7,7 +7,8 @@ use Rattle.item_store.specs.declared.fault.ItemFault.{ItemFault}
 use Rattle.keyring_seal.specs.Arranged.{Row}
 use Rattle.collection_store.specs.Preparing.{IsPrepared, MayRefuse}
 use Rattle.collection_store.specs.Resting.{finished, undone}
-use Rattle.collection_store.specs.State.{HasClear, IsOpened, Parts, rows_with, shown_of}
+use Rattle.collection_store.specs.State.{IsOpened, Parts, rows_with, shown_of}
+use Rattle.keyring_file.specs.ClearText.{HasClear}
 use Rattle.collection_store.specs.declared.candidate.Frame.{Frame}
 use Rattle.collection_store.specs.declared.change.Changed.{Changed}
 use Rattle.collection_store.specs.declared.holding.Open.{Open}

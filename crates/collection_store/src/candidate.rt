@@ -7,13 +7,13 @@ ghost use Rattle.std.specs.List.Sorted.{IsStrictlyIncreasing};
 ghost use Rattle.attribute_hash.specs.Hash.{hashes};
 ghost use Rattle.kr_base.specs.Attributes.{is_name};
 ghost use Rattle.keyring_file.specs.Clear.{plain_content};
-ghost use Rattle.keyring_file.specs.ClearText.{most_iterations};
+ghost use Rattle.keyring_file.specs.ClearText.{HasClear, most_iterations};
 ghost use Rattle.keyring_seal.specs.Arranged.{of_rows};
 ghost use Rattle.keyring_seal.specs.Whole.{most_bytes, opened, sealed};
 ghost use Rattle.collection_store.specs.Changes.{minor_made};
 ghost use Rattle.item_store.specs.Rows.{row_at};
 ghost use Rattle.collection_store.specs.Preparing.{looked, with_item};
-ghost use Rattle.collection_store.specs.State.{HasClear, ids_of};
+ghost use Rattle.collection_store.specs.State.{ids_of};
 
 use crate::sealing::image_of;
 use crate::told::Told;

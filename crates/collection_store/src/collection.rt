@@ -4,7 +4,7 @@ ghost use Rattle.item_store.specs.declared.fault.ItemFault.{ItemFault as Fault};
 ghost use Rattle.key_derivation.specs.Kdf.{key_of, vector_of};
 ghost use Rattle.kr_outside.specs.Faults.{HasCause, KeepsSteady, Rose};
 ghost use Rattle.kr_outside.specs.Moments.{LeavesOnly};
-ghost use Rattle.keyring_file.specs.ClearText.{most_iterations};
+ghost use Rattle.keyring_file.specs.ClearText.{HasClear, most_iterations};
 ghost use Rattle.keyring_seal.specs.Arranged.{arranged_rows};
 ghost use Rattle.keyring_seal.specs.Whole.{opened, sealed};
 ghost use Rattle.replace_slot.specs.Cell.{Known, Doubt, FailedAfter, FailedBefore, IsKnown, IsKnownFile, IsOneOf, LeavesFile, longest_of, old_image};
@@ -12,7 +12,7 @@ ghost use Rattle.replace_slot.specs.Found.{IsFoundBy, Shows as ShowsBytes, found
 ghost use Rattle.collection_store.specs.Changes.{content_created, content_rekeyed};
 ghost use Rattle.collection_store.specs.Outcomes.{IfFaultBefore, IfFaultUnsure, IfNoMemory, IfTooLarge, IsChanged, IsCreateFault, IsFault, IsNewImage, IsOldOrNew, IsOldOrSealed, IsSame, IsStored, IsTooLarge, IsTooLargeOrNoMemory, IsUnsure, MayBeChanged, made_of, most_for, slot_of};
 ghost use Rattle.collection_store.specs.Reading.{Fits, Opens, Unlocks, content_at, found as found_in, item_at};
-ghost use Rattle.collection_store.specs.State.{HasClear, HasMostItems, IsHeld, Shows, by_id, has_image as has_image_of, shown_image, shown_of, told_after};
+ghost use Rattle.collection_store.specs.State.{HasMostItems, IsHeld, Shows, by_id, has_image as has_image_of, shown_image, shown_of, told_after};
 
 use crate::candidate::Frame;
 use crate::holding::{Open, answered, frame_of, prepare_in, prepare_key, show_again, store};
@@ -351,8 +351,20 @@ impl<S: Slot> Collection<S> {
             (IsOldOrSealed self.old.file
             (content_rekeyed now key.salt key.iterations self.old.clear held.rows)
             (key_of key) (vector_of key))) }
+        ensures old_alone { IsTrue (S.is_honest self.old.slot)
+            → OnErr result (IsErrOf result ChangeRefused.FaultUnsure
+            ⊎ LeavesOnly S.moment S.left_since self.old.slot self.new.slot
+            (IsOneOf self.old.file)) }
 
+        // Each fault has its cause, which is a call of the device.
         ensures cause { IsFault result → Rose (S.faults self.old.slot) (S.faults self.new.slot) }
+        ensures before_call { IsErrOf result ChangeRefused.FaultBefore
+            → FailedBefore (S.failed self.new.slot) }
+        ensures unsure_call { IsErrOf result ChangeRefused.FaultUnsure → IfSome self.old.held
+            (λ held. FailedAfter DeviceCall.Rename (IsTrue (S.is_honest self.old.slot)
+            → S.seen self.new.slot ≡ Some (sealed
+            (content_rekeyed now key.salt key.iterations self.old.clear held.rows)
+            (key_of key) (vector_of key))) (S.failed self.new.slot)) }
         ensures honest { S.is_honest self.new.slot ≡ S.is_honest self.old.slot }
         ensures steady { KeepsSteady (S.is_steady self.old.slot) (S.is_steady self.new.slot)
             (S.faults self.old.slot) (S.faults self.new.slot) }

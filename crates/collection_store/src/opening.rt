@@ -10,7 +10,8 @@ ghost use Rattle.keyring_file.specs.Clear.{ClearPart};
 ghost use Rattle.keyring_seal.specs.Arranged.{IsSealable, arranged_rows, hashed_row, row_number};
 ghost use Rattle.keyring_seal.specs.Whole.{IsFileOf, opened};
 ghost use Rattle.collection_store.specs.Reading.{Unlocks};
-ghost use Rattle.collection_store.specs.State.{HasClear, by_id, ids_of, rows_with, without_hashes};
+ghost use Rattle.collection_store.specs.State.{by_id, ids_of, rows_with, without_hashes};
+ghost use Rattle.keyring_file.specs.ClearText.{HasClear};
 
 use crate::UnlockRefused;
 use crate::order::in_order;

@@ -5,7 +5,7 @@ ghost use Rattle.std.specs.List.{zip};
 ghost use Rattle.std.specs.List.Sorted.{IsStrictlyIncreasing};
 ghost use Rattle.std.specs.Option.{is_some, option_map};
 ghost use Rattle.keyring_file.specs.Clear.{ClearPart};
-ghost use Rattle.keyring_file.specs.ClearText.{most_iterations};
+ghost use Rattle.keyring_file.specs.ClearText.{HasClear, most_iterations};
 ghost use Rattle.keyring_seal.specs.Arranged.{of_rows};
 ghost use Rattle.keyring_seal.specs.Whole.{opened, sealed};
 ghost use Rattle.item_store.specs.Rows.{next_id, first_id, has_just, ids_where, most_attributes, row_at, rows_changed as items_changed};
@@ -13,7 +13,7 @@ ghost use Rattle.item_store.specs.Swapping.{with_parts};
 ghost use Rattle.item_store.specs.declared.fault.ItemFault.{ItemFault as Fault};
 ghost use Rattle.collection_store.specs.Changes.{equal_id, made_new, name_made, replaced, rows_changed, rows_made};
 ghost use Rattle.collection_store.specs.Preparing.{AreHashed, IsInStep, IsPrepared, MayRefuse, looked, most_in, next_of};
-ghost use Rattle.collection_store.specs.State.{HasClear, ids_of, rows_with};
+ghost use Rattle.collection_store.specs.State.{ids_of, rows_with};
 
 use crate::candidate::{Frame, next_told, sealed_next};
 use crate::copying::{copies, copies_and, copies_with_content, copies_with_hashes, copies_without};

@@ -5,10 +5,9 @@ ghost use Rattle.std.specs.List.{AllByRecursion};
 ghost use Rattle.std.specs.List.Sorted.{IsStrictlyIncreasing};
 ghost use Rattle.attribute_hash.specs.Hash.{hashes};
 ghost use Rattle.keyring_file.specs.Clear.{IsOfVersion};
-ghost use Rattle.keyring_file.specs.ClearText.{most_iterations};
+ghost use Rattle.keyring_file.specs.ClearText.{HasClear, most_iterations};
 ghost use Rattle.keyring_seal.specs.Arranged.{of_lent};
 ghost use Rattle.keyring_seal.specs.Whole.{most_bytes, opened, sealed};
-ghost use Rattle.collection_store.specs.State.{HasClear};
 
 use keyring_file::{Clear, ClearItem, FullItem, a_file_that_is_read_is_spelled_so};
 use keyring_seal::{SealRefused, seal_rows};

@@ -3,7 +3,7 @@ use Rattle.keyring_file.specs.Clear.{ClearPart, IsOfVersion}
 use Rattle.keyring_seal.specs.Arranged.{of_lent, of_rows}
 use Rattle.keyring_seal.specs.declared.content.Content.{Content}
 use Rattle.collection_store.specs.Preparing.{looked}
-use Rattle.collection_store.specs.State.{HasClear}
+use Rattle.keyring_file.specs.ClearText.{HasClear}
 use Rattle.collection_store.proofs.PreparedLemmas.{lent_kept, lent_rising, lent_version, see}
 use Rattle.collection_store.proofs.candidate.sealed_next.Goals as goal
 

@@ -3,8 +3,8 @@ use Rattle.std.specs.Option.{option_map}
 use Rattle.collection_store.specs.State.{held_of}
 use Rattle.collection_store.specs.Storing.{parts_of}
 use Rattle.collection_store.specs.declared.refused.ChangeRefused.TheVariants as refused
-use Rattle.collection_store.proofs.ChangeLemmas.{err_of, in_step, is_back, is_ready, is_unlocked, no_other, same_now}
-use Rattle.collection_store.proofs.KeyLemmas.{before_key, before_or_told, err_told, fault_or_told, fault_told, fits_key, kept_rows, keyed, large_key, measured_key, moments_key, moments_none, none_key, no_key_fault, stored_key, unsure_key}
+use Rattle.collection_store.proofs.ChangeLemmas.{call_so, err_of, in_step, is_back, is_ready, is_unlocked, no_other, same_now}
+use Rattle.collection_store.proofs.KeyLemmas.{before_key, before_or_told, err_told, fault_or_told, fault_told, fits_key, image_key, kept_rows, keyed, large_key, measured_key, moments_key, moments_none, none_key, no_key_fault, stored_key, unsure_key}
 use Rattle.collection_store.proofs.collection.Collection.rekey.Goals as goal
 
 pub prepare_key-prepared-requires-clause-step : goal.prepare_key-prepared-requires-clause-step
@@ -66,3 +66,21 @@ returns-clause-any_moment g c = λ honest. rw (← c.key-2.ensures, ← c.vector
 
 pub returns-clause-cause : goal.returns-clause-cause
 returns-clause-cause g c = λ is. absurd (no_key_fault {S = g.row.S.Denot} c.args.now c.longest.result c.args.room c.key-2.result c.vector.result c.salt.result c.iterations.result c.self.inside.cell.slot c.self.inside.cell.file c.self.inside.told c.self.inside.newer c.self.inside.held c.in-Err.refused c.in-Err.ensures.refused is)
+
+pub returns-in-Ok-clause-old_alone : goal.returns-in-Ok-clause-old_alone
+returns-in-Ok-clause-old_alone g c = λ honest. rw (c.answered.ensures, ← c.self.view_is) (before_or_told _ c.store.result c.store.ensures.faults (λ is. c.store.ensures.old_alone (rw (← c.self.view_is) at honest) is))
+
+pub returns-in-Ok-clause-before_call : goal.returns-in-Ok-clause-before_call
+returns-in-Ok-clause-before_call g c = λ is. c.store.ensures.before_call (err_told c.store.result refused.FaultBefore (sym c.answered.ensures ∙ is))
+
+pub returns-in-Ok-clause-unsure_call : goal.returns-in-Ok-clause-unsure_call
+returns-in-Ok-clause-unsure_call g c = λ is. rw (← c.key-2.ensures, ← c.vector.ensures, ← c.salt.ensures, ← c.iterations.ensures, ← c.self.view_is) (call_so (held_of c.self.inside.told (option_map parts_of c.self.inside.held)) _ _ _ _ _ (λ seen. image_key {S = g.row.S.Denot} c.args.now c.longest.result c.args.room c.key-2.result c.vector.result c.salt.result c.iterations.result c.self.inside.cell.slot c.self.inside.cell.file c.self.inside.told c.self.inside.newer c.self.inside.held c.in-Ok.prepared _ c.longest.ensures c.self.invariant c.in-Ok.ensures.prepared seen) (c.store.ensures.unsure_call (err_told c.store.result refused.FaultUnsure (sym c.answered.ensures ∙ is))))
+
+pub returns-clause-old_alone : goal.returns-clause-old_alone
+returns-clause-old_alone g c = λ honest. inr (rw (← c.self.view_is) (c.untouched.ensures.any_moment (rw (← c.self.view_is) at honest)))
+
+pub returns-clause-before_call : goal.returns-clause-before_call
+returns-clause-before_call g c = λ is. absurd (no_key_fault {S = g.row.S.Denot} c.args.now c.longest.result c.args.room c.key-2.result c.vector.result c.salt.result c.iterations.result c.self.inside.cell.slot c.self.inside.cell.file c.self.inside.told c.self.inside.newer c.self.inside.held c.in-Err.refused c.in-Err.ensures.refused (inl is))
+
+pub returns-clause-unsure_call : goal.returns-clause-unsure_call
+returns-clause-unsure_call g c = λ is. absurd (no_key_fault {S = g.row.S.Denot} c.args.now c.longest.result c.args.room c.key-2.result c.vector.result c.salt.result c.iterations.result c.self.inside.cell.slot c.self.inside.cell.file c.self.inside.told c.self.inside.newer c.self.inside.held c.in-Err.refused c.in-Err.ensures.refused (inr is))
