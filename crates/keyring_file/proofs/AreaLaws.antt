@@ -1,4 +1,4 @@
--- The area: what is read is spelled so, and what is spelled so is read.
+-- The area: it spells what is read from it, and what it spells is read.
 use Rattle.std.proofs.Common.{◌≡◌, ℕ, ◌<◌, Bool, true, false, cond, nat_eq, List, ◌++◌, length, take, drop, Result, Ok, Err, refl, sym, ap, subst, ◌∙◌, arith}
 use Rattle.std.specs.Cmp.{unsigned_Decides}
 use Rattle.std.specs.Cmp.Lexicographic.{pointwise, pointwise_decides}
@@ -151,7 +151,7 @@ in_area_ok : {A : Type 0} (r : Result A FieldFault) (x : A) → in_area r ≡ Ok
 in_area_ok (Ok y) x e = cc
 in_area_ok (Err f) x e = absurd cc
 
--- what was found where the check agreed
+-- what was found if the check agreed
 pub record Checked (b : Bool) (r : Result (List FullItem) FieldFault) (items : List FullItem) : Type 0 where
   pub same : b ≡ true
   pub was : r ≡ Ok items
@@ -202,7 +202,7 @@ short-unchecked area lt =
     let same : take 16 area ≡ md5 (drop 16 area) = (pointwise_decides unsigned_Decides (take 16 area) (md5 (drop 16 area))).0 e in
     omega (arith, length-take 16 area, ap length same, length-md5 (drop 16 area)))
 
--- a refusal behind the check
+-- a refusal after the check
 pub area_fails : (e : ReadRefused FieldFault) (area : List ℕ) (n : ℕ) (rest : List ℕ) → rest ≡ drop 16 area → is_checked area ≡ true → Fails e (items_read n rest) → Fails (area_refused e) (area_read n area)
 unfolding area_read
 area_fails e area n rest rest-is on h =

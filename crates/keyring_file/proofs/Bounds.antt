@@ -1,4 +1,4 @@
--- How many bytes the elements take at least.
+-- The fewest bytes that the elements take.
 use Rattle.std.proofs.Common.{◌≡◌, ℕ, ◌+◌, ◌*◌, ◌≤◌, List, [], ◌∷◌, length, ap, ◌∙◌, arith}
 use Rattle.std.proofs.lemmas.List.{length-append}
 use Rattle.kr_base.specs.declared.hashed.HashedPair.{HashedPair}

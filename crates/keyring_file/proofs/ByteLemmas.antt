@@ -1,4 +1,4 @@
--- What is written of known items is bytes.
+-- The canonical area of known items consists of bytes.
 use Rattle.std.proofs.Common.{◌≡◌, ℕ, zero, suc, ◌+◌, ◌/◌, ◌%◌, ◌<◌, Bool, true, false, cond, ◌&&◌, ltb, List, [], ◌∷◌, ◌++◌, length, replicate, refl, sym, ap, subst, ◌∙◌, arith, inl, inr}
 use Rattle.std.specs.Int.{w32, w64, to_be_bytes, to_le_bytes}
 use Rattle.std.specs.List.{flat_map, AllByRecursion}

@@ -1,4 +1,4 @@
--- The canonical texts are texts of what they were written for.
+-- Each canonical text is a text of what it was written for.
 use Rattle.std.proofs.Common.{◌≡◌, ℕ, ◌<◌, ◌^◌, Bool, true, false, cond, eqb, List, [], ◌∷◌, ◌++◌, length, refl, sym, ap, subst, ◌∙◌, append_assoc, arith}
 use Rattle.std.specs.Cmp.Lexicographic.{slice_cmp}
 use Rattle.std.specs.List.{flat_map, AllByRecursion}
@@ -47,7 +47,7 @@ string-spelled s lt = some lt refl
 text-spelled : (t : List ℕ) → IsText t → IsShort t → SpellsText t (string t)
 text-spelled t is lt = record { text = is; string = string-spelled t lt }
 
--- one text behind the other
+-- one text after the other
 joined : {P Q : List ℕ → Type 0} (front back : List ℕ) → P front → Q back → Joined P Q (front ++ back)
 joined front back p q = record { front = front; back = back; parts = refl; is_first = p; is_second = q }
 
@@ -119,7 +119,7 @@ regroup : (m v n c d f t i s z l k a : List ℕ)
     → ((m ++ (v ++ (n ++ (c ++ (d ++ (f ++ (t ++ (i ++ (s ++ z))))))))) ++ (l ++ k)) ++ a ≡ (m ++ (v ++ ((n ++ (c ++ (d ++ (f ++ (t ++ i))))) ++ ((s ++ z) ++ l)))) ++ (k ++ a)
 regroup m v n c d f t i s z l k a = simp append_assoc
 
--- the canonical clear part, with an area behind it
+-- the canonical clear part, followed by an area
 pub clear-written : (clear : ClearPart) (area : List ℕ) → IsSoundClear clear → IsShortClear clear → IsAreaLength (length area) → length area < 2 ^ 32 → ClearText (clear_text clear (length area) ++ area) clear area
 clear-written c area sound short blocks lt =
     let items = list_text (clear_item_text c.minor) c.items in
@@ -152,7 +152,7 @@ value-spelled (value.Number n) known short = joined (number 1) (number n) refl (
 attribute-spelled : (p : List ℕ × AttrValue) → IsKnownPair p → IsShortAttribute p → SpellsAttribute p (attribute_text p)
 attribute-spelled p known short = joined (string p.0) (value_text p.1) (text-spelled p.0 known.name short.name) (value-spelled p.1 known.value short.value)
 
--- what is in order already is left in order
+-- a pair that comes before a list in order is put in front of it
 in_order-with : {V : Type 0} (pair : List ℕ × V) (xs : List (List ℕ × V)) → IsInOrder (pair ∷ xs) → with_pair pair xs ≡ pair ∷ xs
 unfolding IsStrictlySortedBy
 in_order-with pair [] h = refl

@@ -1,4 +1,5 @@
--- The clear part: what is read is spelled so, what is spelled so is read, and a part of it is Short.
+-- The clear part: its text spells what is read from it, what a text spells is read, and a proper
+-- prefix is Short.
 use Rattle.std.proofs.Common.{◌≡◌, ℕ, ◌<◌, Bool, true, false, cond, nat_eq, eqb, List, [], ◌++◌, length, take, Result, Ok, Err, refl, sym, ap, ◌∙◌, arith}
 use Rattle.std.specs.Cmp.Lexicographic.{nat_list_cmp_total}
 use Rattle.std.proofs.lemmas.Bool.{eqb-true, eqb-false}

@@ -1,4 +1,5 @@
--- The whole file: what is read is spelled so, what is spelled so is read, and a part of it is Short.
+-- The whole file: it spells what is read from it, what it spells is read, and a proper prefix of it
+-- is Short.
 use Rattle.std.proofs.Common.{◌≡◌, ℕ, ◌+◌, ◌-◌, ◌%◌, ◌≤◌, ◌<◌, min, Bool, true, false, cond, ◌||◌, nat_eq, ltb, leb, List, [], ◌∷◌, ◌++◌, length, take, drop, Result, Ok, Err, refl, sym, ap, subst, ◌∙◌, arith, inl, inr}
 use Rattle.std.specs.Cmp.{unsigned_Decides}
 use Rattle.std.specs.Cmp.Lexicographic.{pointwise, pointwise_decides}
@@ -28,7 +29,7 @@ same_bytes x y e = (pointwise_decides unsigned_Decides x y).0 e
 equal_bytes : (x y : List ℕ) → x ≡ y → pointwise nat_eq x y ≡ true
 equal_bytes x y e = (pointwise_decides unsigned_Decides x y).1 e
 
--- what was found where both tests went well
+-- what was found if both tests succeeded
 pub record BothWell (a b : Bool) (bytes rest : List ℕ) : Type 0 where
   pub same : a ≡ true
   pub long : b ≡ false
@@ -74,7 +75,7 @@ magic_law =
 
 -- ---- the version
 
--- one byte, at most so much
+-- this byte, which is at most `most`
 pub record IsByte (most b : ℕ) (text : List ℕ) : Type 0 where
   pub is : text ≡ b ∷ []
   pub le : b ≤ most
@@ -101,7 +102,7 @@ byte-cut most x text n b lt =
 byte_law : (most : ℕ) → Reads clear_fault.Short (IsByte most) (λ bytes. version_byte_at most bytes)
 byte_law most = record { takes = λ bytes x rest fits e. byte-takes most bytes x rest e; again = λ x text rest h b. byte-again most x text rest b; cut = λ x text n h b lt. byte-cut most x text n b lt }
 
--- some byte, at most so much
+-- some byte, which is at most `most`
 pub record SomeByte (most : ℕ) (text : List ℕ) : Type 0 where
   pub b : ℕ
   pub is : IsByte most b text
@@ -179,7 +180,7 @@ front_law =
 abbrev front_of : ClearPart → Front
 front_of c = record { name = c.name; created = c.created; modified = c.modified; flags = c.flags; timeout = c.timeout; iterations = c.iterations }
 
--- the same, where the iterations aren't too many
+-- the same, with iterations that aren't too many
 abbrev LimitedText : Front → List ℕ → Type 0
 LimitedText f =
     Joined (SpellsText f.name) (Joined (SpellsTime f.created) (Joined (SpellsTime f.modified) (Joined (SpellsNumber f.flags) (Joined (SpellsNumber f.timeout) (SpellsIterations f.iterations)))))
@@ -309,7 +310,7 @@ TailText area = Joined (SpellsNumber (length area)) (Exactly area)
 abbrev there : List ℕ → Result (List ℕ) ClearFault
 there area = Ok area
 
--- what was found where no test refused
+-- what was found if no test refused it
 pub record AllWell (a b c : Bool) (rest area : List ℕ) : Type 0 where
   pub first : a ≡ false
   pub second : b ≡ false

@@ -84,7 +84,8 @@ module _ {V : Type 0} where
   or-some (Some w) v rest e = refl
   or-some None v rest e = absurd cc
 
-  -- the first name is below all others, so where the name is the first one none of them has it
+  -- the first name is less than all others, so if the name is the first one, none of the others has
+  -- it
   less-case : (name : List ℕ) (pair x : List ℕ × V) (xs : List (List ℕ × V)) (t : Bool) → is_name name pair.0 ≡ t → IsInOrder (x ∷ xs) → by_bytes pair.0 x.0 ≡ Less
       → cond t (Some pair.1) (value_at name (x ∷ xs)) ≡ option_or (value_at name (x ∷ xs)) (cond t (Some pair.1) None)
   less-case name pair x xs true p h lt =
@@ -129,7 +130,7 @@ module _ {V : Type 0} where
   pub gathers : (pairs : List (List ℕ × V)) → Gathers pairs (gathered pairs)
   gathers pairs = record { ordered = in_order-gathered pairs; values = λ name. values-gathered name pairs }
 
--- what a call gathered is what reading puts in order
+-- what a call gathered is the pairs put in order
 pub in_order-is : {V E : Type 0} (r : Result (List (List ℕ × V)) E) (pairs : List (List ℕ × V)) → ((ps one other : List (List ℕ × V)) → Gathers ps one → Gathers ps other → one ≡ other) → IfOk r (λ m. Gathers pairs m) → IfOk r (λ m. m ≡ gathered pairs)
 in_order-is (Ok m) pairs one g = one pairs m (gathered pairs) g (gathers pairs)
 in_order-is (Err e) pairs one g = tt

@@ -1,4 +1,4 @@
--- What is read behind a key has that key.
+-- What is read after a key has that key.
 use Rattle.std.proofs.Common.{◌≡◌, ℕ, nat_eq, List, Result, Ok, Err, sym, ap, ◌∙◌, inl, inr, arith}
 use Rattle.std.specs.Cmp.{nat_cmp_is}
 use Rattle.std.specs.Ordering.{nat_cmp, is_eq}

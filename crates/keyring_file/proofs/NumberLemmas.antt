@@ -40,7 +40,7 @@ any-seen : {A K : Type 0} (same : K → K → Bool) (key : A → K) (q : K) (xs 
 any-seen same key q [] seen = refl
 any-seen same key q (x ∷ xs) seen = any-seen same key q xs (key x ∷ seen) ∙ or-turn (same q (key x)) (list_any (λ y. same q (key y)) xs) (list_any (same q) seen)
 
--- one that stands there is one that was seen
+-- a key is among the elements exactly if it was seen
 pub stood-seen : {A K : Type 0} (same : K → K → Bool) (key : A → K) (xs : List A) (q : K) → list_any (λ x. same q (key x)) xs ≡ list_any (same q) (seen_after key xs [])
 stood-seen same key xs q = sym (any-seen same key q xs [] ∙ or-off (list_any (λ x. same q (key x)) xs))
 
@@ -50,14 +50,14 @@ any-push p (y ∷ xs) x = ap (λ b. p y || b) (any-push p xs x) ∙ or-swap (p y
 
 -- ---- rising numbers
 
--- a number that isn't below the bound is none of theirs
+-- no item has a number that isn't below the bound
 pub not-there : (items : List ClearItem) (below id : ℕ) → AllByRecursion (λ item. item.id.0 < below) items → below ≤ id → has_number items id ≡ false
 not-there [] below id all le = refl
 not-there (item ∷ items) below id all le =
     let off : nat_eq id item.id.0 ≡ false = ne_eqb id item.id.0 (λ e. omega (arith, e, all.0, le)) in
     ap (λ b. b || has_number items id) off ∙ not-there items below id all.1 le
 
--- with it they are below the next number
+-- with this number, all are below the next one
 pub still-below : (items : List ClearItem) (item : ClearItem) (below id : ℕ) → AllByRecursion (λ item. item.id.0 < below) items → below ≤ id → item.id.0 ≡ id → AllByRecursion (λ item. item.id.0 < id + 1) (items ++ item ∷ [])
 still-below [] item below id all le e = (omega (arith, e), tt)
 still-below (first ∷ items) item below id all le e = (omega (arith, all.0, le), still-below items item below id all.1 le e)
@@ -74,21 +74,21 @@ any-put : (p : ℕ → Bool) (ks : List ℕ) (k : ℕ) → list_any p (insert_ke
 any-put p [] k = refl
 any-put p (x ∷ xs) k = at_order p k x xs (nat_cmp k x) (ranked k x (nat_cmp k x) refl) (any-put p xs k)
 
--- one item more, and its number in the set
+-- one more item, and its number in the set
 pub gathered-push : (items : List ClearItem) (item : ClearItem) (keys more : List ℕ) (id : ℕ) → IsGathered items keys → more ≡ insert_key nat_cmp keys id → item.id.0 ≡ id → IsGathered (items ++ item ∷ []) more
 gathered-push items item keys more id gathered put e q =
     ap (λ ks. list_any (λ k. nat_eq q k) ks) put ∙ any-put (λ k. nat_eq q k) keys id ∙ ap (λ b. nat_eq q id || b) (gathered q) ∙ ap (λ n. nat_eq q n || has_number items q) (sym e) ∙ sym (any-push (λ x. nat_eq q x.id.0) items item)
 
--- the set finds a number where one of the items has it
+-- a number is new to the set exactly if no item has it
 pub new-alike : (items : List ClearItem) (keys : List ℕ) (id : ℕ) (new : Bool) → IsGathered items keys → new ≡ not (list_any (λ x. is_eq (nat_cmp id x)) keys) → new ≡ not (has_number items id)
 new-alike items keys id new gathered e = e ∙ ap (λ b. not b) (any-alike (λ x. is_eq (nat_cmp id x)) (λ x. nat_eq id x) (λ x. cmp-eq id x) keys ∙ gathered id)
 
--- no test is both
+-- no test is both true and false
 pub both : {X : Type 0} (b : Bool) → b ≡ true → b ≡ false → X
 both true e f = absurd cc
 both false e f = absurd cc
 
--- the set once one item more was gone over
+-- the set after the loop's next item
 pub gathered-more : (items : List ClearItem) (i : ℕ) (item : ClearItem) (keys more : List ℕ) → i < length items → item ≡ get_or items i item → IsGathered (take i items) keys → more ≡ insert_key nat_cmp keys item.id.0 → IsGathered (take (i + 1) items) more
 gathered-more items i item keys more lt is gathered put =
     let parts : take (i + 1) items ≡ take i items ++ item ∷ [] = take_more items i item lt ∙ ap (λ x. take i items ++ x ∷ []) (sym is) in

@@ -55,6 +55,6 @@ items-plain bytes items rest e =
     let a = bind_ok (id_at bytes) (λ n. so_many_items_at 0 n.0 n.1) (items, rest) e in
     keyed-all id_at nat_eq clear_fault.DuplicateId (item_behind 0) IsPlain (λ k bs x r h. item-plain k bs x r (field_ok (clear_item_at 0 k bs) (x, r) h)) a.x.0 [] a.x.1 items rest a.then_is
 
--- what the type of a clear part keeps
+-- what the type of a clear part guarantees
 pub of_version : (minor : ℕ) (bytes : List ℕ) (items : List ClearItem) (rest : List ℕ) → minor ≤ 1 → clear_items_at minor bytes ≡ Ok (items, rest) → IsOfVersion minor items
 of_version minor bytes items rest known e = record { known = known; plain = λ z. items-plain bytes items rest (subst (λ m. clear_items_at m bytes ≡ Ok (items, rest)) z e) }

@@ -1,4 +1,4 @@
--- A refusal of a field stays the refusal that it is.
+-- A refusal of a field is the refusal of the part that it becomes.
 use Rattle.std.proofs.Common.{Result, refl}
 use Rattle.keyring_text.specs.declared.fault.FieldFault.{FieldFault}
 use Rattle.keyring_text.specs.declared.fault.ReadRefused.{ReadRefused}

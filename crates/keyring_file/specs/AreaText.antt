@@ -1,4 +1,4 @@
--- GNOME keyring file format: the encrypted area once it is decrypted, as a relation between its bytes and the items.
+-- GNOME keyring file format: the decrypted area, as a relation between its bytes and the items.
 use Rattle.std.specs.Prelude.{ℕ, List}
 use Rattle.md5.specs.Md5.{md5}
 use Rattle.kr_base.specs.Attributes.{is_name, Gathers}
@@ -18,7 +18,7 @@ SpellsValue (value.Number n) = Exactly (number 1) ⨾ SpellsNumber n
 abbrev pub SpellsAttribute : List ℕ × AttrValue → List ℕ → Type 0
 SpellsAttribute pair = SpellsText pair.0 ⨾ SpellsValue pair.1
 
--- attributes, in whatever order, no name twice
+-- attributes in any order, no name twice
 pub record SpellsAttributes (attributes : List (List ℕ × AttrValue)) (bytes : List ℕ) : Type 0 where
   pub pairs : List (List ℕ × AttrValue)
   pub gathers : Gathers pairs attributes

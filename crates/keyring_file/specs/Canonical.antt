@@ -1,4 +1,4 @@
--- GNOME keyring file format: the one text of each part that is written.
+-- GNOME keyring file format: the one text in which each part is written.
 use Rattle.std.specs.Prelude.{ℕ, ◌-◌, ◌%◌, List, [], ◌++◌, length, replicate, nat_eq, if◌then◌else◌}
 use Rattle.std.specs.List.{flat_map}
 use Rattle.md5.specs.Md5.{md5}
@@ -35,7 +35,7 @@ content_text minor content = if nat_eq minor 0 then [] else string content
 abbrev pub clear_item_text : ℕ → ClearItem → List ℕ
 clear_item_text minor item = number item.id.0 ++ (number item.kind ++ (list_text pair_text item.hashed ++ content_text minor item.content))
 
--- so many zero bytes: reserved numbers and padding
+-- this many zero bytes: reserved numbers or padding
 abbrev pub zeros : ℕ → List ℕ
 zeros n = replicate n 0
 
@@ -47,7 +47,7 @@ name_text clear = string clear.name ++ (time clear.created ++ time clear.modifie
 abbrev pub limits_text : ClearPart → List ℕ
 limits_text clear = number clear.flags ++ (number clear.timeout ++ (number clear.iterations ++ (clear.salt ++ zeros 16)))
 
--- the clear part up to the number of items
+-- what comes before the number of items in the clear part
 abbrev pub front_text : ClearPart → List ℕ
 front_text clear =
     magic
@@ -71,7 +71,7 @@ value_text (value.Number n) = number 1 ++ number n
 abbrev pub attribute_text : List ℕ × AttrValue → List ℕ
 attribute_text pair = string pair.0 ++ value_text pair.1
 
--- an access entry: the reserved string is none, the reserved number 0
+-- an access entry: the reserved string is absent, the reserved number is 0
 abbrev pub access_text : Access → List ℕ
 access_text access = number access.allowed ++ (string access.display ++ (string access.path ++ (number none_length ++ number 0)))
 
@@ -83,7 +83,7 @@ label_text item = string item.label ++ (string item.value ++ (time item.created 
 abbrev pub lists_text : FullItem → List ℕ
 lists_text item = list_text attribute_text item.attributes ++ list_text access_text item.access
 
--- an item: the reserved string is none, the reserved numbers are 0
+-- an item: the reserved string is absent, the reserved numbers are 0
 abbrev pub item_text : FullItem → List ℕ
 item_text item =
     string item.label
@@ -92,7 +92,7 @@ item_text item =
     ++ (time item.modified
     ++ (number none_length ++ (zeros 16 ++ (list_text attribute_text item.attributes ++ list_text access_text item.access))))))
 
--- how many zero bytes reach a whole number of blocks of 16
+-- how many zero bytes fill up a whole number of blocks of 16 bytes
 abbrev pub padding : ℕ → ℕ
 padding n = (16 - n % 16) % 16
 

@@ -1,9 +1,9 @@
--- GNOME keyring file format: what the clear part of a file tells.
+-- GNOME keyring file format: what the clear part of a file contains.
 use Rattle.std.specs.Prelude.{◌≡◌, ℕ, ◌+◌, ◌≤◌, List, [], ◌∷◌, length, codes}
 use Rattle.std.specs.List.{AllByRecursion}
 use Rattle.keyring_file.specs.declared.clear.ClearItem.{ClearItem}
 
--- the clear part, without where it lies in memory
+-- the clear part, as a value
 pub record ClearPart : Type 0 where
   pub name : List ℕ
   pub created : ℕ
@@ -23,12 +23,12 @@ plain_content = codes "text/plain"
 abbrev pub IsPlain : ClearItem → Type 0
 IsPlain item = item.content ≡ plain_content
 
--- what the version, 0.0 or 0.1, says of the content types
+-- the version is 0.0 or 0.1, and in version 0.0 every item has the plain content type
 pub record IsOfVersion (minor : ℕ) (items : List ClearItem) : Type 0 where
   pub known : minor ≤ 1
   pub plain : minor ≡ 0 → AllByRecursion IsPlain items
 
--- how many hashed attributes all items have together
+-- the number of hashed attributes of all items together
 abbrev pub pairs_in : List ClearItem → ℕ
 pairs_in [] = 0
 pairs_in (item ∷ more) = length item.hashed + pairs_in more

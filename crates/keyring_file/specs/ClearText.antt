@@ -1,5 +1,5 @@
--- GNOME keyring file format: the clear part, as a relation between a whole file, what its clear part tells, and its encrypted area.
--- Version 0.1 is ours (docs/KEYRING_FILES.md, "Version 0.1").
+-- GNOME keyring file format: the clear part, as a relation between a whole file, what its clear part contains, and its encrypted
+-- area. Version 0.1 is ours (docs/KEYRING_FILES.md, "Version 0.1").
 use Rattle.std.specs.Prelude.{◌≡◌, ℕ, ◌<◌, ◌≤◌, ◌%◌, List, [], ◌∷◌, ◌++◌, length, codes, nat_eq}
 use Rattle.kr_base.specs.Attributes.{is_name}
 use Rattle.kr_base.specs.declared.hashed.HashedPair.{HashedPair}
@@ -18,7 +18,7 @@ magic = codes "GnomeKeyring" ++ 10 ∷ 13 ∷ 0 ∷ 10 ∷ []
 abbrev pub version : ℕ → List ℕ
 version minor = 0 ∷ minor ∷ 0 ∷ 0 ∷ []
 
--- how many times a password may be hashed
+-- the most times that a password may be hashed
 abbrev pub most_iterations : ℕ
 most_iterations = 1000000
 
@@ -72,7 +72,7 @@ pub record IsSalt (salt bytes : List ℕ) : Type 0 where
 abbrev pub SpellsSalt : List ℕ → List ℕ → Type 0
 SpellsSalt salt = IsSalt salt ⨾ IsSpan 16
 
--- all of the clear part but the length of the area
+-- all of the clear part except the length of the area
 abbrev pub SpellsClear : ClearPart → List ℕ → Type 0
 SpellsClear clear = Exactly magic ⨾ SpellsVersion clear.minor ⨾ SpellsFront clear ⨾ SpellsSalt clear.salt ⨾ SpellsClearItems clear.minor clear.items
 
@@ -81,7 +81,7 @@ pub record IsAreaLength (len : ℕ) : Type 0 where
   pub blocks : len % 16 ≡ 0
   pub some : 16 ≤ len
 
--- the file is a clear part that tells `clear`, and behind it the encrypted area with its length in front
+-- the file spells the clear part, the length of the encrypted area, and the area
 pub record ClearText (file : List ℕ) (clear : ClearPart) (area : List ℕ) : Type 0 where
   pub blocks : IsAreaLength (length area)
   pub text : (SpellsClear clear ⨾ SpellsNumber (length area) ⨾ Exactly area) file

@@ -1,5 +1,5 @@
--- What the types keep of a clear part and of items, as facts of their values: a text is one, bytes are bytes, and a number has the
--- range of its type.
+-- What the types of a clear part and of items guarantee, as facts about their values: a text is a text, bytes are bytes, and a
+-- number is within the range of its type.
 use Rattle.std.specs.Prelude.{◌≡◌, ℕ, ◌<◌, ◌^◌, List, length}
 use Rattle.std.specs.List.{AllByRecursion}
 use Rattle.kr_base.specs.Attributes.{IsInOrder}
@@ -12,13 +12,13 @@ use Rattle.keyring_file.specs.declared.area.FullItem.{FullItem}
 use Rattle.keyring_file.specs.declared.clear.ClearItem.{ClearItem}
 use Rattle.keyring_file.specs.Clear.{ClearPart, IsOfVersion}
 
--- an item of the clear part, but for its hashes
+-- an item of the clear part, except for its hashes
 pub record IsKnownClearItem (item : ClearItem) : Type 0 where
   pub id : item.id.0 < 2 ^ 32
   pub kind : item.kind < 2 ^ 32
   pub content : IsText item.content
 
--- a clear part, but for its items
+-- a clear part, except for its items
 pub record IsKnownClear (clear : ClearPart) : Type 0 where
   pub name : IsText clear.name
   pub created : clear.created < 2 ^ 64

@@ -1,4 +1,4 @@
--- What is kept of the numbers of items while they are read.
+-- What is kept of the items' numbers while the items are read.
 use Rattle.std.specs.Prelude.{◌≡◌, ℕ, ◌<◌, Bool, true, false, List, nat_eq}
 use Rattle.std.specs.List.{AllByRecursion, list_any}
 use Rattle.keyring_text.specs.Seen.{stood_in}
@@ -13,7 +13,7 @@ has_number items id = list_any (λ item. nat_eq id item.id.0) items
 abbrev pub IsGathered : List ClearItem → List ℕ → Type 0
 IsGathered items keys = (id : ℕ) → stood_in nat_eq (λ k. k) keys id ≡ has_number items id
 
--- a number above all those of the items while they rise, and from then on their set
+-- while the numbers rise, a bound above all of them; after that, their set
 pub record Keeps (items : List ClearItem) (numbers : Numbers) : Type 0 where
   pub bounded : numbers.rising ≡ true → AllByRecursion (λ item. item.id.0 < numbers.below) items
   pub gathered : numbers.rising ≡ false → IsGathered items numbers.ids.keys

@@ -1,4 +1,4 @@
--- Reading the two texts of a keyring file from the left, with the first fault that is met.
+-- Reading the two texts of a keyring file from the left: a value, or the first fault.
 use Rattle.std.specs.Prelude.{ℕ, ◌%◌, min, Bool, ◌||◌, List, [], ◌∷◌, length, take, drop, Result, Ok, Err, nat_lt, nat_le, nat_eq, if◌then◌else◌}
 use Rattle.std.specs.Cmp.Lexicographic.{pointwise}
 use Rattle.md5.specs.Md5.{md5}
@@ -34,7 +34,7 @@ clear_fault field.BadText = clear.BadText
 clear_fault field.BadKind = clear.BadKind
 clear_fault field.DuplicateName = clear.DuplicateName
 
--- a field of the clear part
+-- the result of reading a field, with its fault as a fault of the clear part
 abbrev pub in_clear : {A : Type 0} → Result A FieldFault → Result A ClearFault
 in_clear (Ok x) = Ok x
 in_clear (Err fault) = Err (clear_fault fault)
@@ -55,11 +55,11 @@ pair_at name bytes = do
   found ← hashed_at bytes
   Ok (record { name = name; value = found.0 }, found.1)
 
--- a hashed attribute, where `stood` tells whether its name stood before
+-- a hashed attribute; `stood` says whether a name occurred before
 abbrev pub new_pair_at : (List ℕ → Bool) → List ℕ → Result (HashedPair × List ℕ) FieldFault
 new_pair_at stood bytes = new_at text_at field.DuplicateName pair_at stood bytes
 
--- so many hashed attributes
+-- this many hashed attributes
 unfoldable pub so_many_pairs_at : ℕ → List ℕ → Result (List HashedPair × List ℕ) FieldFault
 so_many_pairs_at count bytes = keyed_at text_at is_name field.DuplicateName pair_at [] count bytes
 
@@ -85,15 +85,15 @@ clear_item_at minor id bytes = do
 abbrev pub id_at : List ℕ → Result (ℕ × List ℕ) ClearFault
 id_at bytes = in_clear (number_at bytes)
 
--- what follows it, in the clear part
+-- the same, with a fault of the clear part
 abbrev pub item_behind : ℕ → ℕ → List ℕ → Result (ClearItem × List ℕ) ClearFault
 item_behind minor id bytes = in_clear (clear_item_at minor id bytes)
 
--- an item of the clear part, where `stood` tells whether its number stood before
+-- an item of the clear part; `stood` says whether a number occurred before
 abbrev pub new_item_at : ℕ → (ℕ → Bool) → List ℕ → Result (ClearItem × List ℕ) ClearFault
 new_item_at minor stood bytes = new_at id_at clear.DuplicateId (item_behind minor) stood bytes
 
--- so many items of the clear part
+-- this many items of the clear part
 unfoldable pub so_many_items_at : ℕ → ℕ → List ℕ → Result (List ClearItem × List ℕ) ClearFault
 so_many_items_at minor count bytes = keyed_at id_at nat_eq clear.DuplicateId (item_behind minor) [] count bytes
 
@@ -103,13 +103,13 @@ clear_items_at minor bytes = do
   count ← id_at bytes
   so_many_items_at minor count.0 count.1
 
--- The first 16 bytes. One that is there and differs is Magic, also where others are missing.
+-- The first 16 bytes. If one is there and differs it is Magic, even if others are missing.
 unfoldable pub magic_at : List ℕ → Result (Unit {0} × List ℕ) ClearFault
 magic_at bytes =
     let n = min (length bytes) 16 in
     if pointwise nat_eq (take n bytes) (take n magic) then (if nat_lt (length bytes) 16 then Err clear.Short else Ok (tt, drop 16 bytes)) else Err clear.Magic
 
--- one byte of the version, which is at most so much
+-- one byte of the version, which may be at most this
 abbrev pub version_byte_at : ℕ → List ℕ → Result (ℕ × List ℕ) ClearFault
 version_byte_at most [] = Err clear.Short
 version_byte_at most (b ∷ rest) = if nat_lt most b then Err clear.Version else Ok (b, rest)
@@ -139,7 +139,7 @@ front_at bytes = do
   modified ← time_at created.1
   numbers_after name.0 created.0 modified.0 modified.1
 
--- the same, where the iterations aren't too many
+-- the same, with iterations that aren't too many
 unfoldable pub limited_at : List ℕ → Result (Front × List ℕ) ClearFault
 limited_at bytes = in_clear (front_at bytes) >>= checked (λ f. nat_le f.iterations most_iterations) clear.TooManyIterations
 
@@ -162,7 +162,7 @@ items_after minor front bytes = do
   items ← clear_items_at minor salt.1
   Ok (clear_of minor front salt.0 items.0, items.1)
 
--- all of the clear part but the length of the area
+-- all of the clear part except the length of the area
 unfoldable pub clear_at : List ℕ → Result (ClearPart × List ℕ) ClearFault
 clear_at bytes = do
   behind ← magic_at bytes
@@ -170,7 +170,7 @@ clear_at bytes = do
   front ← limited_at minor.1
   items_after minor.0 front.0 front.1
 
--- whether bytes of this number can't be an area
+-- whether an area can't have this length
 abbrev pub is_no_area_length : ℕ → Bool
 is_no_area_length n = nat_lt n 16 || nat_lt 0 (n % 16)
 
@@ -179,7 +179,7 @@ abbrev pub area_of : ℕ → List ℕ → Result (List ℕ) ClearFault
 area_of len bytes =
     if is_no_area_length len then Err clear.AreaLength else if nat_lt (length bytes) len then Err clear.Short else if nat_lt len (length bytes) then Err clear.Trailing else Ok bytes
 
--- the area, with its length in front
+-- the area, after its length
 unfoldable pub encrypted_at : List ℕ → Result (List ℕ) ClearFault
 encrypted_at bytes = do
   len ← in_clear (number_at bytes)
@@ -205,7 +205,7 @@ area_fault field.BadText = area.BadText
 area_fault field.BadKind = area.BadKind
 area_fault field.DuplicateName = area.DuplicateName
 
--- a field of the area
+-- the result of reading a field, with its fault as a fault of the area
 abbrev pub in_area : {A : Type 0} → Result A FieldFault → Result A AreaFault
 in_area (Ok x) = Ok x
 in_area (Err fault) = Err (area_fault fault)
@@ -226,11 +226,11 @@ attribute_at name bytes = do
   found ← value_at bytes
   Ok ((name, found.0), found.1)
 
--- an attribute, where `stood` tells whether its name stood before
+-- an attribute; `stood` says whether a name occurred before
 abbrev pub new_attribute_at : (List ℕ → Bool) → List ℕ → Result ((List ℕ × AttrValue) × List ℕ) FieldFault
 new_attribute_at stood bytes = new_at text_at field.DuplicateName attribute_at stood bytes
 
--- so many attributes, in the order of the file
+-- this many attributes, in the order of the file
 unfoldable pub so_many_attributes_at : ℕ → List ℕ → Result (List (List ℕ × AttrValue) × List ℕ) FieldFault
 so_many_attributes_at count bytes = keyed_at text_at is_name field.DuplicateName attribute_at [] count bytes
 
@@ -261,7 +261,7 @@ access_at bytes = do
   path ← text_at display.1
   reserved_after (record { allowed = allowed.0; display = display.0; path = path.0 }) path.1
 
--- so many access entries
+-- this many access entries
 unfoldable pub so_many_accesses_at : ℕ → List ℕ → Result (List Access × List ℕ) FieldFault
 so_many_accesses_at count bytes = all_at access_at count bytes
 
@@ -295,7 +295,7 @@ item_at bytes = do
   modified ← time_at created.1
   lists_after label.0 secret.0 created.0 modified.0 modified.1
 
--- so many items, and then padding
+-- this many items; whatever follows them is padding
 unfoldable pub items_read : ℕ → List ℕ → Result (List FullItem) FieldFault
 items_read count bytes = do
   items ← all_at item_at count bytes
@@ -305,7 +305,7 @@ items_read count bytes = do
 unfoldable pub is_checked : List ℕ → Bool
 is_checked area = pointwise nat_eq (take 16 area) (md5 (drop 16 area))
 
--- a decrypted area of so many items
+-- a decrypted area of this many items
 unfoldable pub area_read : ℕ → List ℕ → Result (List FullItem) AreaFault
 area_read count bytes =
     if is_checked bytes then in_area (items_read count (drop 16 bytes)) else Err area.CheckDiffers

@@ -1,4 +1,5 @@
--- A clear part that can be written and read again: what its types keep, and which names and numbers stand once.
+-- A clear part that can be written and read again: what its types guarantee, and which names and numbers occur
+-- only once.
 use Rattle.std.specs.Prelude.{ℕ, ◌<◌, ◌≤◌, ◌^◌, map, nat_eq}
 use Rattle.std.specs.List.{AllByRecursion, IsDistinct}
 use Rattle.kr_base.specs.Attributes.{is_name}

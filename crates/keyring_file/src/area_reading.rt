@@ -16,7 +16,7 @@ use kr_items::Items;
 use md5::{Digest, Md5};
 use std::alloc::Global;
 
-/// A value with its kind, and the bytes behind it.
+/// A value with its kind, and the bytes after it.
 #[tactic(auto, unfolding(crate::specs::Reading::value_at))]
 fn value_at(alloc: Global, bytes: &[u8]) -> Result<(AttrValue, &[u8]), ReadRefused<FieldFault>>
     ensures { Gives (λ x. (x.0, x.1.now)) result (reading.value_at bytes.now) }
@@ -35,7 +35,7 @@ fn value_at(alloc: Global, bytes: &[u8]) -> Result<(AttrValue, &[u8]), ReadRefus
     }
 }
 
-/// An attribute whose name isn't among those that stood before, and the bytes behind it.
+/// An attribute whose name isn't one of those read before, and the bytes after it.
 fn new_attribute_at<'a>(
     alloc: Global,
     names: &mut Names<'a>,
@@ -53,7 +53,7 @@ fn new_attribute_at<'a>(
     Ok(((name, value), rest))
 }
 
-/// So many attributes of one item, in the order of the file.
+/// This many attributes of one item, in the order of the file.
 fn so_many_attributes_at(
     alloc: Global,
     count: u32,
@@ -62,7 +62,7 @@ fn so_many_attributes_at(
     ensures { Gives (λ x. (x.0.items, x.1.now)) result
         (reading.so_many_attributes_at count bytes.now) }
 {
-    // No more than the first element would take: a number that is merely claimed reserves nothing.
+    // At most what the first push would reserve: a number that is merely claimed reserves no memory.
     let mut pairs = Vec::with_capacity(alloc, if count < 4 { count as usize } else { 4 })?;
     let mut names = no_names(alloc);
     let mut rest = bytes;
@@ -87,7 +87,7 @@ fn listed_attributes_at(
     Ok((pairs, rest))
 }
 
-/// The attributes that the pairs are, put in order.
+/// The pairs as attributes, put in order.
 fn in_order(alloc: Global, pairs: Vec<(Text, AttrValue)>) -> Result<Attributes, OutOfMemory>
     ensures { IfOk result (λ made. made ≡ gathered pairs.items) }
 {
@@ -136,7 +136,7 @@ fn access_at(alloc: Global, bytes: &[u8]) -> Result<(Access, &[u8]), ReadRefused
     )
 }
 
-/// So many access entries.
+/// This many access entries.
 fn so_many_accesses_at(
     alloc: Global,
     count: u32,
@@ -220,7 +220,7 @@ fn item_at(alloc: Global, bytes: &[u8]) -> Result<(FullItem, &[u8]), ReadRefused
     lists_after(alloc, label, value, created, modified, rest)
 }
 
-/// So many items, and then padding.
+/// This many items; whatever follows them is padding.
 #[tactic(auto, unfolding(crate::specs::Reading::items_read))]
 fn items_of(
     alloc: Global,
@@ -229,7 +229,7 @@ fn items_of(
 ) -> Result<Vec<FullItem>, ReadRefused<FieldFault>>
     ensures { Gives (λ x. x.items) result (reading.items_read count bytes.now) }
 {
-    // As many as are wanted, but no more than the bytes can hold.
+    // Room for as many as are wanted, but for no more than the bytes can contain.
     let mut items = Vec::with_capacity(alloc, count.min(bytes.len() / 52))?;
     let mut rest = bytes;
     for _ in 0..count {
@@ -295,21 +295,22 @@ fn area_of(
     }
 }
 
-/// The items of a decrypted area (GNOME keyring file format), of which there are as many as in the
-/// clear part. `CheckDiffers` where the first 16 bytes aren't the MD5 of the rest; else the fault is
-/// the first one from the left.
+/// The items of a decrypted area (GNOME keyring file format). `items` is their number, as the clear
+/// part has it. `CheckDiffers` if the first 16 bytes aren't the MD5 of the rest; otherwise the fault
+/// is the first one from the left.
 pub fn read_area(
     alloc: Global,
     area: &[u8],
     items: usize,
 ) -> Result<Vec<FullItem>, ReadRefused<AreaFault>>
-    // What is read is spelled so, and what is spelled so is read, unless memory runs out.
+    // The area spells the items that are returned, and items that it spells are returned, unless
+    // memory runs out.
     ensures found { IfOk result (λ v. AreaText area.now v.items) }
     ensures count { IfOk result (λ v. length v.items ≡ items) }
     ensures only { (these : List FullItem) → length these ≡ items → AreaText area.now these
         → Gives (λ v. v.items) result (Ok these) }
 
-    // Which fault it is.
+    // Which fault is returned.
     ensures exact { Gives (λ v. v.items) result (reading.area_read items area.now) }
 
     // Each item takes at least 52 bytes of the area.

@@ -48,7 +48,7 @@ fn put_attributes(out: &mut Vec<u8>, pairs: &[(Text, AttrValue)]) -> Result<(), 
     Ok(())
 }
 
-/// Writes an access entry. The reserved string is none, and the reserved number 0.
+/// Writes an access entry. The reserved string is absent, and the reserved number is 0.
 fn put_access(out: &mut Vec<u8>, access: &Access) -> Result<(), OutOfMemory>
     requires { IsShortAccess access.now }
     ensures { OnOk result (out.new.items ≡ out.old.items ++ access_text access.now) }
@@ -100,8 +100,8 @@ fn put_lists(out: &mut Vec<u8>, item: &FullItem) -> Result<(), OutOfMemory>
     put_accesses(out, item.access.as_slice())
 }
 
-/// Writes an item of the area at the end (GNOME keyring file format). The reserved string is none, and the
-/// reserved numbers are 0.
+/// Writes an item of the area at the end of a vector (GNOME keyring file format). The reserved string is
+/// absent, and the reserved numbers are 0.
 pub fn put_item(out: &mut Vec<u8>, item: &FullItem) -> Result<(), OutOfMemory>
     requires { IsShortItem item.now }
     ensures { OnOk result (out.new.items ≡ out.old.items ++ item_text item.now) }
@@ -134,8 +134,8 @@ fn put_padding(out: &mut Vec<u8>, len: usize) -> Result<(), OutOfMemory>
     Ok(())
 }
 
-/// Ends an area: the fewest zero bytes of padding go behind the items, which stand behind 16 bytes for the
-/// check, and the MD5 of all behind these goes into them.
+/// Completes an area, whose items come after 16 bytes for the check: appends the fewest zero bytes of
+/// padding, and puts the MD5 of all that follows the 16 bytes into these.
 pub fn close_area(area: &mut Vec<u8>) -> Result<(), OutOfMemory>
     requires { 16 ≤ length area.old.items }
     ensures { OnOk result (area.new.items ≡ checked (padded (drop 16 area.old.items))) }

@@ -2,12 +2,12 @@ use kr_base::{HashedPair, ItemId, Text};
 use kr_items::Items;
 use std::marker::Model;
 
-/// An item as the clear part of a file tells it.
+/// An item as the clear part of a file has it.
 #[derive(Drop, PartialEq, Eq)]
 pub struct ClearItem {
     /// The item's number within its collection.
     pub id: ItemId,
-    /// The item's type, which is kept as it was read.
+    /// The item's type, kept as it was read.
     pub kind: u32,
     /// The names of the attributes with the hashes of their values, in the order of the file.
     pub hashed: Items<HashedPair>,
@@ -15,23 +15,23 @@ pub struct ClearItem {
     pub content: Text,
 }
 
-/// The clear part of a keyring file. Its type keeps that the version is 0.0 or 0.1, and that in
-/// version 0.0 every item has the content type `text/plain`.
+/// The clear part of a keyring file. Its type guarantees that the version is 0.0 or 0.1, and that
+/// in version 0.0 every item has the content type `text/plain`.
 #[derive(Drop)]
 pub struct Clear {
     /// The collection's label.
     pub name: Text,
-    /// When the collection was made, in seconds since 1970.
+    /// When the collection was created, in seconds since 1970.
     pub created: u64,
-    /// When the collection was changed last, in seconds since 1970.
+    /// When the collection was last changed, in seconds since 1970.
     pub modified: u64,
-    /// Flags, which are kept as they were read.
+    /// Flags, kept as they were read.
     pub flags: u32,
-    /// The timeout in seconds, which is kept as it was read.
+    /// The timeout in seconds, kept as it was read.
     pub timeout: u32,
     /// How many times the password is hashed.
     pub iterations: u32,
-    /// What is hashed behind the password.
+    /// What is hashed after the password.
     pub salt: [u8; 8],
     /// The items, in the order of the file.
     pub items: Items<ClearItem>,

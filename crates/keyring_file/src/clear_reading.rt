@@ -18,7 +18,7 @@ use kr_base::{HashedPair, HashedValue, ItemId, OutOfMemory, Text};
 use kr_items::Items;
 use std::alloc::Global;
 
-/// A hashed value with its kind, and the bytes behind it.
+/// A hashed value with its kind, and the bytes after it.
 #[tactic(auto, unfolding(crate::specs::Reading::hashed_at))]
 fn hashed_at(alloc: Global, bytes: &[u8]) -> Result<(HashedValue, &[u8]), ReadRefused<FieldFault>>
     ensures { Gives (λ x. (x.0, x.1.now)) result (reading.hashed_at bytes.now) }
@@ -37,7 +37,7 @@ fn hashed_at(alloc: Global, bytes: &[u8]) -> Result<(HashedValue, &[u8]), ReadRe
     }
 }
 
-/// A hashed attribute whose name isn't among those that stood before, and the bytes behind it.
+/// A hashed attribute whose name isn't one of those read before, and the bytes after it.
 #[tactic(auto, unfolding(crate::specs::Reading::pair_at))]
 fn new_pair_at<'a>(
     alloc: Global,
@@ -56,7 +56,7 @@ fn new_pair_at<'a>(
     Ok((HashedPair { name, value }, rest))
 }
 
-/// So many hashed attributes of one item.
+/// This many hashed attributes of one item.
 fn so_many_pairs_at(
     alloc: Global,
     count: u32,
@@ -64,7 +64,7 @@ fn so_many_pairs_at(
 ) -> Result<(Vec<HashedPair>, &[u8]), ReadRefused<FieldFault>>
     ensures { Gives (λ x. (x.0.items, x.1.now)) result (reading.so_many_pairs_at count bytes.now) }
 {
-    // No more than the first element would take: a number that is merely claimed reserves nothing.
+    // At most what the first push would reserve: a number that is merely claimed reserves no memory.
     let mut pairs = Vec::with_capacity(alloc, if count < 4 { count as usize } else { 4 })?;
     let mut names = no_names(alloc);
     let mut rest = bytes;
@@ -188,7 +188,7 @@ fn item_behind(
     }
 }
 
-/// An item whose number is none of those of the items before it, and the bytes behind it.
+/// An item whose number isn't that of an item before it, and the bytes after it.
 fn new_item_at<'a>(
     alloc: Global,
     minor: u8,
@@ -209,7 +209,7 @@ fn new_item_at<'a>(
     Ok((item, rest))
 }
 
-/// So many items of the clear part.
+/// This many items of the clear part.
 fn so_many_items_at(
     alloc: Global,
     minor: u8,
@@ -219,8 +219,8 @@ fn so_many_items_at(
     ensures { Gives (λ x. (x.0.items, x.1.now)) result
         (reading.so_many_items_at minor count bytes.now) }
 {
-    // As many as are claimed, but no more than the bytes can hold, 12 for an item here and 52 in the
-    // area: a number that is merely claimed reserves nothing.
+    // Room for as many as are claimed, but for no more than the bytes can contain, 12 for an item
+    // here and 52 in the area: a number that is merely claimed reserves no memory.
     let mut items = Vec::with_capacity(alloc, (count as usize).min(bytes.len() / 64))?;
     let mut numbers = no_numbers(alloc);
     let mut rest = bytes;
@@ -249,7 +249,7 @@ fn clear_items_at(
 /// The first 16 bytes of every keyring file.
 pub const MAGIC: [u8; 16] = *b"GnomeKeyring\n\r\0\n";
 
-/// The bytes behind the first 16, which are those of a keyring file.
+/// The bytes after the first 16, which must be those of every keyring file.
 #[tactic(auto, unfolding(crate::specs::Reading::magic_at))]
 fn magic_at(bytes: &[u8]) -> Result<&[u8], ReadRefused<ClearFault>>
     ensures { Gives (λ x. (tt, x.now)) result (reading.magic_at bytes.now) }
@@ -265,7 +265,7 @@ fn magic_at(bytes: &[u8]) -> Result<&[u8], ReadRefused<ClearFault>>
     Ok(rest)
 }
 
-/// One byte of the version, which is at most so much.
+/// One byte of the version, which may be at most `most`.
 fn version_byte_at(bytes: &[u8], most: u8) -> Result<(u8, &[u8]), ReadRefused<ClearFault>>
     ensures read { Gives (λ x. (x.0, x.1.now)) result (reading.version_byte_at most bytes.now) }
     ensures few { IfOk result (λ x. x.0 ≤ most) }
@@ -294,7 +294,7 @@ fn version_at(bytes: &[u8]) -> Result<(u8, &[u8]), ReadRefused<ClearFault>>
     Ok((minor, rest))
 }
 
-/// What stands in the clear part up to the iterations.
+/// The fields of the clear part from the name to the iterations.
 #[derive(Drop)]
 struct Front {
     name: Text,
@@ -305,7 +305,7 @@ struct Front {
     iterations: u32,
 }
 
-/// The three numbers that follow the name and the two times.
+/// The front with this name and these times, whose three numbers are read.
 #[tactic(auto, unfolding(crate::specs::Reading::numbers_after))]
 fn numbers_after(
     name: Text,
@@ -342,7 +342,7 @@ fn front_at(alloc: Global, bytes: &[u8]) -> Result<(Front, &[u8]), ReadRefused<F
     numbers_after(name, created, modified, rest)
 }
 
-/// The same, where the iterations aren't too many.
+/// The front. `TooManyIterations` if there are more than 1,000,000 iterations.
 #[tactic(auto, unfolding(crate::specs::Reading::limited_at))]
 fn limited_at(alloc: Global, bytes: &[u8]) -> Result<(Front, &[u8]), ReadRefused<ClearFault>>
     ensures { Gives (λ x. (x.0, x.1.now)) result (reading.limited_at bytes.now) }
@@ -358,7 +358,7 @@ fn limited_at(alloc: Global, bytes: &[u8]) -> Result<(Front, &[u8]), ReadRefused
     }
 }
 
-/// The salt as it lies in the file, and the bytes behind it and four reserved numbers.
+/// The salt, borrowed from the file, and the bytes after the four reserved numbers that follow it.
 #[tactic(auto, unfolding(crate::specs::Reading::salt_at))]
 fn salt_at(bytes: &[u8]) -> Result<(&[u8], &[u8]), ReadRefused<FieldFault>>
     ensures read { Gives (λ x. (x.0.now, x.1.now)) result (reading.salt_at bytes.now) }
@@ -369,7 +369,7 @@ fn salt_at(bytes: &[u8]) -> Result<(&[u8], &[u8]), ReadRefused<FieldFault>>
     Ok((salt, rest))
 }
 
-/// The same, with a refusal of the clear part.
+/// The same, refused with a fault of the clear part.
 fn clear_salt_at(bytes: &[u8]) -> Result<(&[u8], &[u8]), ReadRefused<ClearFault>>
     ensures read { Gives (λ x. (x.0.now, x.1.now)) result (in_clear (reading.salt_at bytes.now)) }
     ensures eight { IfOk result (λ x. length x.0.now ≡ 8) }
@@ -426,7 +426,7 @@ fn items_after(
     Ok((clear, rest))
 }
 
-/// All of the clear part but the length of the area.
+/// All of the clear part except the length of the area.
 #[tactic(auto, unfolding(crate::specs::Reading::clear_at))]
 fn clear_at(alloc: Global, file: &[u8]) -> Result<(Clear, &[u8]), ReadRefused<ClearFault>>
     ensures { Gives (λ x. (x.0, x.1.now)) result (reading.clear_at file.now) }
@@ -437,7 +437,7 @@ fn clear_at(alloc: Global, file: &[u8]) -> Result<(Clear, &[u8]), ReadRefused<Cl
     items_after(alloc, minor, front, rest)
 }
 
-/// The area, which is all that is left, and has its length in front.
+/// The area, which is all that is left after its length.
 #[tactic(auto, unfolding(crate::specs::Reading::encrypted_at))]
 fn encrypted_at(bytes: &[u8]) -> Result<&[u8], ReadRefused<ClearFault>>
     ensures { Gives (λ x. x.now) result (reading.encrypted_at bytes.now) }
@@ -456,7 +456,7 @@ fn encrypted_at(bytes: &[u8]) -> Result<&[u8], ReadRefused<ClearFault>>
     Ok(area)
 }
 
-/// The clear part, and the encrypted area behind it.
+/// The clear part, and the encrypted area after it.
 #[tactic(auto, unfolding(crate::specs::Reading::clear_read))]
 fn parts_of(alloc: Global, file: &[u8]) -> Result<(Clear, &[u8]), ReadRefused<ClearFault>>
     ensures { Gives (λ x. (x.0, x.1.now)) result (reading.clear_read file.now) }
@@ -466,7 +466,7 @@ fn parts_of(alloc: Global, file: &[u8]) -> Result<(Clear, &[u8]), ReadRefused<Cl
     Ok((clear, area))
 }
 
-/// The clear part, and the place of the encrypted area.
+/// The clear part, and the place at which the encrypted area begins.
 fn placed(alloc: Global, file: &[u8]) -> Result<(Clear, usize), ReadRefused<ClearFault>>
     ensures exact { Gives (part_and_area file.now) result (reading.clear_read file.now) }
     ensures place { IfOk result (λ x. x.1 ≤ length file.now) }
@@ -480,20 +480,21 @@ fn placed(alloc: Global, file: &[u8]) -> Result<(Clear, usize), ReadRefused<Clea
     }
 }
 
-/// The clear part of a keyring file, and the place of the encrypted area (GNOME keyring file format).
-/// The fault is the first one from the left, whatever its number; where a field passes the end of the
-/// file, it stands where the field starts.
+/// The clear part of a keyring file, and the place at which the encrypted area begins, counted from
+/// the start of the file (GNOME keyring file format). The fault is the first one from the left,
+/// whatever the order of the variants; if a field goes past the end of the file, the fault is where
+/// the field begins.
 pub fn read_clear(alloc: Global, file: &[u8]) -> Result<(Clear, usize), ReadRefused<ClearFault>>
-    // What is read is spelled so, and what is spelled so is read, unless memory runs out.
+    // The file spells what is returned, and what it spells is returned, unless memory runs out.
     ensures found { IfOk result (λ x. ClearText file.now x.0 (drop x.1 file.now)) }
     ensures place { IfOk result (λ x. x.1 ≤ length file.now) }
     ensures only { (clear : ClearPart) (area : List ℕ) → ClearText file.now clear area
         → Gives (part_and_area file.now) result (Ok (clear, area)) }
 
-    // Which fault it is.
+    // Which fault is returned.
     ensures exact { Gives (part_and_area file.now) result (reading.clear_read file.now) }
 
-    // A part of a file is Short.
+    // A proper prefix of a valid file is `Short`.
     ensures cut { (whole area : List ℕ) (clear : ClearPart) (n : ℕ) → ClearText whole clear area
         → n < length whole → file.now ≡ take n whole
         → Gives (part_and_area file.now) result (Err clear_fault.Short) }

@@ -49,8 +49,8 @@ fn put_pairs(out: &mut Vec<u8>, pairs: &[HashedPair]) -> Result<(), OutOfMemory>
     Ok(())
 }
 
-/// Writes an item of the clear part at the end (GNOME keyring file format). Version 0.0 leaves the content
-/// type out.
+/// Writes an item of the clear part at the end of a vector (GNOME keyring file format). Version 0.0 leaves
+/// out the content type.
 pub fn put_clear_item(out: &mut Vec<u8>, minor: u8, item: &ClearItem) -> Result<(), OutOfMemory>
     requires { IsShortClearItem item.now }
     ensures { OnOk result (out.new.items ≡ out.old.items ++ clear_item_text minor item.now) }
@@ -95,7 +95,7 @@ fn put_name(out: &mut Vec<u8>, clear: &Clear) -> Result<(), OutOfMemory>
     put_time(out, clear.modified)
 }
 
-/// Writes the flags, the timeout, the iterations and the salt with the reserved numbers behind it.
+/// Writes the flags, the timeout, the iterations, the salt and the reserved numbers after it.
 fn put_limits(out: &mut Vec<u8>, clear: &Clear) -> Result<(), OutOfMemory>
     ensures { OnOk result (out.new.items ≡ out.old.items ++ canonical.limits_text clear.now) }
 {
@@ -106,7 +106,8 @@ fn put_limits(out: &mut Vec<u8>, clear: &Clear) -> Result<(), OutOfMemory>
     put_reserved(out)
 }
 
-/// Writes the clear part up to the number of items at the end (GNOME keyring file format).
+/// Writes what comes before the number of items in the clear part, at the end of a vector (GNOME keyring
+/// file format).
 pub fn put_front(out: &mut Vec<u8>, clear: &Clear) -> Result<(), OutOfMemory>
     requires { IsShort clear.now.name }
     ensures { OnOk result (out.new.items ≡ out.old.items ++ front_text clear.now) }
@@ -117,7 +118,7 @@ pub fn put_front(out: &mut Vec<u8>, clear: &Clear) -> Result<(), OutOfMemory>
 }
 
 /// The canonical text of a clear part, with the length of the encrypted area at its end (GNOME keyring
-/// file format). The items stand in the order of the list.
+/// file format). The items are in the order of the list.
 pub fn write_clear(alloc: Global, clear: &Clear, area_length: u32) -> Result<Vec<u8>, OutOfMemory>
     requires { IsShortClear clear.now }
     ensures { IfOk result (λ v. v.items ≡ clear_text clear.now area_length) }

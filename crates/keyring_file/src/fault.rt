@@ -3,16 +3,16 @@ ghost use Rattle.std.specs.Prelude.{◌≡◌};
 /// What is wrong with the clear part of a file: the first fault from the left.
 #[derive(Clone, Copy, Debug, Drop, PartialEq, Eq, thiserror::Error)]
 pub enum ClearFault {
-    /// One of the first 16 bytes is there and differs.
+    /// One of the first 16 bytes is present and differs.
     #[error("Magic")]
     Magic,
     /// Major, crypto or hash isn't 0, or minor is above 1.
     #[error("Version")]
     Version,
-    /// A field passes the end of the file.
+    /// A field goes past the end of the file.
     #[error("Short")]
     Short,
-    /// A text isn't UTF-8, or holds a zero byte.
+    /// A text isn't UTF-8, or contains a zero byte.
     #[error("BadText")]
     BadText,
     /// There are more than 1,000,000 iterations.
@@ -21,16 +21,16 @@ pub enum ClearFault {
     /// The length of the area isn't a multiple of 16, or is 0.
     #[error("AreaLength")]
     AreaLength,
-    /// Bytes stand behind the area.
+    /// There are bytes after the area.
     #[error("Trailing")]
     Trailing,
-    /// The number of an item stands twice.
+    /// Two items have the same number.
     #[error("DuplicateId")]
     DuplicateId,
     /// The kind of a hashed attribute is neither 0 nor 1.
     #[error("BadKind")]
     BadKind,
-    /// A name stands twice among the hashed attributes of one item.
+    /// A name occurs twice among the hashed attributes of one item.
     #[error("DuplicateName")]
     DuplicateName,
 }
@@ -41,16 +41,16 @@ pub enum AreaFault {
     /// The first 16 bytes aren't the MD5 of the rest.
     #[error("CheckDiffers")]
     CheckDiffers,
-    /// A field passes the end of the area.
+    /// A field goes past the end of the area.
     #[error("Short")]
     Short,
-    /// A text isn't UTF-8, or holds a zero byte.
+    /// A text isn't UTF-8, or contains a zero byte.
     #[error("BadText")]
     BadText,
     /// The kind of an attribute is neither 0 nor 1.
     #[error("BadKind")]
     BadKind,
-    /// A name stands twice among the attributes of one item.
+    /// A name occurs twice among the attributes of one item.
     #[error("DuplicateName")]
     DuplicateName,
 }

@@ -13,19 +13,20 @@ ghost use Rattle.keyring_file.specs.Known.{IsKnownItem};
 ghost use Rattle.keyring_file.specs.Sound.{IsSoundClear};
 ghost use Rattle.keyring_file.specs.Reading.{clear_read, area_read};
 
-/// A file that is read is a text of what was read.
+/// If reading a file succeeds, the file is a text of what was read.
 pub fn a_file_that_is_read_is_spelled_so()
     ensures { (file area : List ℕ) (clear : ClearPart) → IsBytes file
         → clear_read file ≡ Ok (clear, area) → ClearText file clear area }
 {}
 
-/// A text of a clear part is read as that clear part.
+/// A text of a clear part and an area is read as these two.
 pub fn a_file_that_is_spelled_so_is_read()
     ensures { (file area : List ℕ) (clear : ClearPart) → ClearText file clear area
         → clear_read file ≡ Ok (clear, area) }
 {}
 
-/// An area that is read is a text of what was read.
+/// If reading an area succeeds, the area is a text of what was read, which is as many items as were
+/// asked for.
 pub fn an_area_that_is_read_is_spelled_so()
     ensures { (area : List ℕ) (count : ℕ) (items : List FullItem) → IsBytes area
         → area_read count area ≡ Ok items → AreaText area items × (length items ≡ count) }
@@ -37,14 +38,15 @@ pub fn an_area_that_is_spelled_so_is_read()
         → area_read (length items) area ≡ Ok items }
 {}
 
-/// What is written of a clear part is a text of it, whatever area is put behind it.
+/// The canonical text of a clear part, followed by any area of a possible length, is a text of the
+/// two.
 pub fn a_canonical_clear_part_is_spelled_so()
     ensures { (clear : ClearPart) (area : List ℕ) → IsSoundClear clear → IsShortClear clear
         → IsAreaLength (length area) → length area < 2 ^ 32
         → ClearText (clear_text clear (length area) ++ area) clear area }
 {}
 
-/// What is written of items is bytes, and a text of them.
+/// The canonical area of items is a text of them, and consists of bytes.
 pub fn a_canonical_area_is_spelled_so()
     ensures text { (items : List FullItem) → AllByRecursion IsKnownItem items
         → AllByRecursion IsShortItem items → AreaText (area_text items) items }

@@ -1,6 +1,6 @@
-//! The two texts of a keyring file (GNOME keyring file format): the clear part with the encrypted area
-//! behind it, and the area once it is decrypted. Both are read exactly, with the first fault from the
-//! left, and written in the one canonical form.
+//! The two texts of a keyring file (GNOME keyring file format): the clear part followed by the
+//! encrypted area, and the decrypted area. Both are read exactly, or refused with the first fault from
+//! the left, and are written in one canonical form.
 #![tactic(auto)]
 
 mod area;

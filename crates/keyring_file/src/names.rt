@@ -6,8 +6,8 @@ use kr_base::OutOfMemory;
 use std::alloc::Global;
 use std::collections::BTreeSet;
 
-/// The names of one list while it is read. The first eight stand in a row, which takes no memory, and
-/// those behind them in a set.
+/// The names read so far in one list. The first eight are in a row, which takes no memory, and those
+/// after them are in a set.
 #[derive(Drop)]
 pub struct Names<'a> {
     few: [&'a [u8]; 8],
@@ -15,7 +15,7 @@ pub struct Names<'a> {
     many: BTreeSet<&'a [u8]>,
 }
 
-/// What is kept of no names. It takes no memory.
+/// No names. It takes no memory.
 pub fn no_names<'a>(alloc: Global) -> Names<'a>
     ensures { (q : List ℕ) → has_name result q ≡ false }
 {
@@ -34,17 +34,17 @@ fn is_same(name: &[u8], other: &[u8]) -> bool
     name == other
 }
 
-/// Whether the name stands in the row.
+/// Whether the name is in the row.
 fn is_in_row(names: &Names<'_>, name: &[u8]) -> bool
     ensures { result ≡ has_in_row names.now name.now }
 {
-    // The bound keeps within the row, whatever the count.
+    // The bound keeps this within the row, whatever the count.
     names.few[..names.count.min(8)]
         .iter()
         .any(|kept| is_same(name, kept))
 }
 
-/// Whether the name is none of those that stood before. Where it is none, it is kept with them.
+/// Whether the name isn't one of those kept so far. If it isn't, it is added to them.
 pub fn is_new_name<'a>(names: &mut Names<'a>, name: &'a [u8]) -> Result<bool, OutOfMemory>
     ensures test { IfOk result (λ new. new ≡ not (has_name names.old name.now)) }
     ensures kept { IfOk result (λ new. new ≡ true → AddsName names.old names.new name.now) }
@@ -52,7 +52,7 @@ pub fn is_new_name<'a>(names: &mut Names<'a>, name: &'a [u8]) -> Result<bool, Ou
     if is_in_row(names, name) {
         return Ok(false);
     }
-    // The row is filled first: behind a name in the set none is put into it.
+    // The row is filled first: once there is a name in the set, none is put into the row.
     if names.count < 8 && names.many.is_empty() {
         names.few[names.count] = name;
         names.count += 1;

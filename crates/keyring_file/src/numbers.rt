@@ -7,8 +7,8 @@ use kr_base::OutOfMemory;
 use std::alloc::Global;
 use std::collections::BTreeSet;
 
-/// What is kept of the numbers of items while these are read. As long as each number is above those
-/// before it, a bound is enough; from then on there is a set.
+/// What is kept of the items' numbers while the items are read. As long as each number is greater
+/// than those before it, a bound is enough; after that there is a set.
 #[derive(Drop)]
 pub struct Numbers {
     rising: bool,
@@ -16,7 +16,7 @@ pub struct Numbers {
     ids: BTreeSet<u32>,
 }
 
-/// What is kept of no items. It takes no memory.
+/// What is kept before the first item. It takes no memory.
 pub fn no_numbers(alloc: Global) -> Numbers
     ensures none { Keeps [] result }
     ensures rising { result.rising ≡ true }
@@ -40,7 +40,7 @@ fn set_of(alloc: Global, items: &[ClearItem]) -> Result<BTreeSet<u32>, OutOfMemo
     Ok(ids)
 }
 
-/// Sees to it that the set is there.
+/// Builds the set, unless it is there already.
 fn gather(alloc: Global, numbers: &mut Numbers, items: &[ClearItem]) -> Result<(), OutOfMemory>
     requires { Keeps items.now numbers.old }
     ensures set { OnOk result (IsGathered items.now numbers.new.ids.keys) }
@@ -53,7 +53,7 @@ fn gather(alloc: Global, numbers: &mut Numbers, items: &[ClearItem]) -> Result<(
     Ok(())
 }
 
-/// Whether none of the items has the number. Where none has it, it is kept with theirs.
+/// Whether no item has this number. If none has it, it is kept with theirs.
 pub fn is_new(
     alloc: Global,
     numbers: &mut Numbers,
