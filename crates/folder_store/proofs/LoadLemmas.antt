@@ -1,4 +1,4 @@
--- The whole call: the names, the way over them, and the file of the aliases.
+-- The whole call: listing the names, going through them, and reading the file of the aliases.
 use Rattle.std.proofs.Common.{◌≡◌, ◌⊎◌, ⊎_elim, inl, inr, ◌↔◌, ℕ, List, [], ◌∷◌, Bool, IsTrue, IsSome, None, Some, suc, arith, sym, ◌∙◌, ap, subst}
 use Rattle.std.specs.List.{Contains}
 use Rattle.std.specs.List.Sorted.{IsPermutation, IsSortedByKey, IsStrictlySortedBy}
@@ -23,28 +23,28 @@ use Rattle.folder_store.proofs.NameLemmas.{aliases_no_ring}
 use Rattle.folder_store.proofs.OpenedLemmas.{AreTold, all_found, cons_cases, no_file}
 use Rattle.folder_store.proofs.StemLemmas.{one_stem, used_stem, cells_by_stem, rows_by_stem}
 
--- the aliases that were found are those that the image gives
+-- the aliases that were found are those of the image
 pub gives_found : {S : Type 0} (honest : Bool) (image : Image) (aliases : FoundAliases S) → AreFound honest image aliases → IsTrue honest → GivesAliases image (pairs_in aliases)
 gives_found honest image (found.Read file) are is = subst (λ f. IsKnownImage (λ known. GivesAliases known file.pairs) f) (are.1 is).0 are.0
 gives_found honest None (found.LeftAlone slot) are is = absurd (are is)
 gives_found honest (Some bytes) (found.LeftAlone slot) are is = too_long bytes (are is)
 
--- and those of an equal one
+-- what was found of an image was found of an equal one
 pub found_same_aliases : {S : Type 0} (honest : Bool) (one two : Image) (aliases : FoundAliases S) → (IsTrue honest → one ≡ two) → AreFound honest one aliases → AreFound honest two aliases
 found_same_aliases honest one two (found.Read file) same are = (are.0, λ is. ((are.1 is).0 ∙ ap Known (same is), subst (λ (i : Image). ¬ (IsLonger longest i)) (same is) (are.1 is).1))
 found_same_aliases honest one two (found.LeftAlone slot) same are = λ is. subst (λ (i : Image). IsLonger longest i) (same is) (are is)
 
--- files told of images are told of equal ones
+-- files that are among the images are among equal ones
 told_same : (images other : List ℕ → Image) → ((name : List ℕ) → images name ≡ other name) → (files : List (List ℕ × List ℕ)) → AreTold images files → AreTold other files
 told_same images other same [] told = tt
 told_same images other same (file ∷ files) (here, told) = (sym (same file.0) ∙ here, told_same images other same files told)
 
 module _ {F S : Type 0} (limits : Limits) (found : Image → S → Type 0) (honest : Bool) (images : F → List ℕ → Image) (may_leave : F → List ℕ → Image → Type 0) (made : F → List (List ℕ)) where
-  -- no slot of `aliases` was made on the way
+  -- no slot for `aliases` was made while the names were gone through
   pub off_way : (one two : F) (names : List (List ℕ)) (opening : OpeningState S) → Walk limits honest images may_leave made one two names (plain opening) → ¬ (Contains (made two) aliases)
   off_way one two names opening walk has = aliases_no_ring (walk.slots aliases has).1.0 (walk.slots aliases has).1.1
 
-  -- what load_aliases asks for
+  -- what load_aliases requires
   pub aliases_alone : (one two : F) (names : List (List ℕ)) (opening : OpeningState S) → Walk limits honest images may_leave made one two names (plain opening)
       → IsTrue honest → ¬ (Contains (made two) aliases) × Only (images two aliases) (may_leave two aliases)
   aliases_alone one two names opening walk is =

@@ -1,4 +1,4 @@
--- What the name of a keyring file says of the stem.
+-- What the name of a keyring file says about its stem.
 use Rattle.std.proofs.Common.{◌≡◌, ℕ, ◌+◌, List, [], ◌∷◌, ◌++◌, length, refl, sym, ◌∙◌, ap, subst, arith, inl, inr, ◌↔◌}
 use Rattle.std.proofs.lemmas.List.{length-append}
 use Rattle.std.proofs.lemmas.Cmp.{eq_by_cmp_equiv}
@@ -11,7 +11,7 @@ use Rattle.folder_store.proofs.OpenedLemmas.{by_name}
 use Rattle.kr_base.specs.Stem.{IsStem, IsNoStem}
 use Rattle.folder_store.specs.Names.{ending, aliases, IsRingName}
 
--- what stands before one ending is one text
+-- texts that are equal with the same ending are equal without it
 pub one_front : (a b e : List ℕ) → a ++ e ≡ b ++ e → a ≡ b
 one_front [] [] e same = refl
 one_front [] (y ∷ b) e same =
@@ -31,12 +31,12 @@ no_stem front (inr (inl long)) is = absurd (omega (arith, is.fits, long))
 no_stem front (inr (inr (inl slash))) is = is.no_slash slash
 no_stem front (inr (inr (inr zero))) is = is.text.no_zero zero
 
--- a name with this front, which is no stem, is no keyring file's
+-- a name whose front isn't a stem isn't that of a keyring file
 pub no_ring_name : (name front stem : List ℕ) → name ≡ front ++ ending → IsNoStem front → IsRingName name stem → ⊥
 no_ring_name name front stem spelled off is =
     no_stem front off (subst IsStem (one_front stem front ending (sym is.spelled ∙ spelled)) is.is_stem)
 
--- the file of the aliases is no keyring file
+-- the file of the aliases isn't a keyring file
 pub aliases_no_ring : (stem : List ℕ) → IsRingName aliases stem → ⊥
 unfolding aliases ending
 aliases_no_ring stem is =

@@ -1,4 +1,4 @@
--- From the way over the names to what a start makes of the images.
+-- From going through the names to what a start makes of the images.
 use Rattle.std.proofs.Common.{◌≡◌, ◌⊎◌, ⊎_elim, inl, inr, ◌↔◌, ℕ, List, [], ◌∷◌, ◌++◌, true, false, None, Some, IsSome, suc, zero, refl, sym, ◌∙◌, ap, subst, arith}
 use Rattle.std.specs.List.{Contains, AllByRecursion}
 use Rattle.std.specs.Map.{keys_of}
@@ -17,7 +17,7 @@ use Rattle.folder_store.specs.declared.limits.Limits.{Limits}
 use Rattle.folder_store.specs.Names.{aliases}
 use Rattle.folder_store.specs.Opened.{Opening, Opened}
 
--- the files of which an image stands at each name
+-- each of the files is the image of its name
 abbrev pub AreTold : (List ℕ → Image) → List (List ℕ × List ℕ) → Type 0
 AreTold images files = AllByRecursion (λ file. images file.0 ≡ Some file.1) files
 
@@ -44,7 +44,7 @@ by_eq Greater is = absurd (let never : ⊥ = cc in never)
 pub by_name : (name other : List ℕ) → is_name name other ≡ true → name ≡ other
 by_name name other is = exact_bytes name other (by_eq (slice_cmp nat_cmp name other) is)
 
--- a name stands for its file, or isn't among them
+-- a name stands for its file, or isn't the name of one of the files
 found : (images : List ℕ → Image) (files : List (List ℕ × List ℕ)) (name : List ℕ) → AreTold images files
     → (value_at name files ≡ images name) ⊎ ((value_at name files ≡ None) × ¬ (Contains (keys_of files) name))
 found images [] name told = inr (refl, λ has. absurd (omega (arith, has.1)))
@@ -66,7 +66,7 @@ pub no_file : (image : Image) → ¬ (IsSome image) → image ≡ None
 no_file None off = refl
 no_file (Some bytes) off = absurd (off refl)
 
--- the files are all that the images have
+-- the files are all those of the images
 pub all_found : (images : List ℕ → Image) (files : List (List ℕ × List ℕ)) (names : List (List ℕ)) → keys_of files ≡ names → AreTold images files
     → ((name : List ℕ) → Contains names name ↔ IsSome (images name)) → (name : List ℕ) → images name ≡ value_at name files
 all_found images files names keys told listed name = ⊎_elim
@@ -74,7 +74,7 @@ all_found images files names keys told listed name = ⊎_elim
     (λ absent. no_file (images name) (λ some. absent.1 (subst (λ l. Contains l name) (sym keys) ((listed name).1 some))) ∙ sym absent.0)
     (found images files name told)
 
--- of equal images a start makes the same
+-- a start makes the same of equal images
 pub opened_same : (limits : Limits) (images other : List ℕ → Image) (opening : Opening) (pairs : List (List ℕ × List ℕ)) → ((name : List ℕ) → images name ≡ other name)
     → Opened limits images opening pairs → Opened limits other opening pairs
 opened_same limits images other opening pairs same is = record {

@@ -27,7 +27,7 @@ items_rows rings ring = ap items_in (rows_push rings ring) ∙ items_push (rows_
 pub bytes_rows : {S : Type 0} (rings : List (RingState S)) (ring : RingState S) → bytes_in (rows_of (rings ++ ring ∷ [])) ≡ bytes_in (rows_of rings) + length (row_of ring).image
 bytes_rows rings ring = ap bytes_in (rows_push rings ring) ∙ bytes_push (rows_of rings) (row_of ring)
 
--- what two facts on one answer say together
+-- two facts about one result, together
 pub both : {T E P Q R : Type 0} (r : Result T E) → (P → Q → R) → OnOk r P → OnOk r Q → OnOk r R
 both (Ok x) joins p q = joins p q
 both (Err e) joins p q = tt
@@ -36,13 +36,13 @@ both (Err e) joins p q = tt
 abbrev row_with : List ℕ → ClearPart → List ℕ → RingRow
 row_with stem clear image = record { stem = stem; clear = clear; image = image }
 
--- a collection of a known file, whose image is made of these bytes, without its slot
+-- a collection of a known file, whose image has these bytes, without its slot
 pub row_known : {S : Type 0} (ring : RingState S) (cell : CellState S) (slot : S) (stem image bytes : List ℕ) (clear : ClearPart) → ring ≡ record { stem = stem; cell = cell; clear = clear }
     → cell ≡ record { slot = slot; file = Known (Some image) } → image ≡ bytes → row_of ring ≡ record { stem = stem; clear = clear; image = bytes }
 row_known {S = S} ring cell slot stem image bytes clear is known same =
     ap row_of is ∙ ap (λ (c : CellState S). row_of (record { stem = stem; cell = c; clear = clear })) known ∙ ap (row_with stem clear) same
 
--- one collection more is listed
+-- one more collection is listed
 pub plain_lists : {S : Type 0} (old new : OpeningState S) (ring : RingState S) (stem image : List ℕ) (clear : ClearPart) → new.rings ≡ old.rings ++ ring ∷ []
     → new.used ≡ old.used ++ stem ∷ [] → row_of ring ≡ record { stem = stem; clear = clear; image = image } → plain new ≡ lists stem clear image (plain old)
 plain_lists old new ring stem image clear rings used row = λ i. record {
@@ -50,7 +50,7 @@ plain_lists old new ring stem image clear rings used row = λ i. record {
   used = used i;
 }
 
--- what was read, and no clear part where nothing was
+-- the clear part that was read, or the given one if none was
 abbrev clear_of : Result (ClearPart × List ℕ) ClearFault → ClearPart → ClearPart
 clear_of (Ok x) instead = x.0
 clear_of (Err e) instead = instead
@@ -61,7 +61,7 @@ one_clear read x y one other = ap (λ (r : Result (ClearPart × List ℕ) ClearF
 pub no_both : (x : ClearPart × List ℕ) (f : ClearFault) → Ok x ≡ Err f → ⊥
 no_both x f same = let never : ⊥ = cc in never
 
--- a file that reads as this clear part can't be listed by another one
+-- a file that doesn't fit with its clear part fits with none, as it has only one
 pub left_out : (limits : Limits) (rows : List RingRow) (image : List ℕ) (clear : ClearPart) → ((other : ClearPart) (area : List ℕ) → ClearText image other area → other ≡ clear)
     → ¬ (Fits limits rows clear image) → (other : ClearPart) → HasClear image other → ¬ (Fits limits rows other image)
 left_out limits rows image clear alone off other (area, is) fits = off (subst (λ k. Fits limits rows k image) (alone other area is) fits)

@@ -31,11 +31,11 @@ stems_push : (rings : List RingRow) (ring : RingRow) → stems (rings ++ ring �
 stems_push [] ring = refl
 stems_push (first ∷ rings) ring = ap (λ l. first.stem ∷ l) (stems_push rings ring)
 
--- a name has one stem
+-- a name has only one stem
 pub one_stem : (name stem second : List ℕ) → IsRingName name stem → IsRingName name second → stem ≡ second
 one_stem name stem second is is_second = one_front stem second ending (sym is.spelled ∙ is_second.spelled)
 
--- a list of one
+-- what a list of one element contains is that element
 only : (x y : List ℕ) → Contains (y ∷ []) x → x ≡ y
 only x y has = ⊎_elim (λ same. same) (λ (later : Contains [] x). absurd (omega (arith, later.1))) (cons_cases y [] x has)
 
@@ -69,7 +69,7 @@ rings_step limits name image opening _ (listed s clear named reads fits) stem ha
     (Contains-append_cases (stems opening.rings) (s ∷ []) stem
     (subst (λ l. Contains l stem) (stems_push opening.rings (record { stem = s; clear = clear; image = image })) has))
 
--- a collection that is listed has its file among them
+-- the file of a listed collection is among the files
 ring_named : (limits : Limits) (files : List (List ℕ × List ℕ)) (opening : Opening) → Opens limits files opening
     → (stem : List ℕ) → Contains (stems opening.rings) stem → Contains (keys_of files) (stem ++ ending)
 ring_named limits _ _ none stem has = absurd (omega (arith, has.1))
@@ -79,7 +79,7 @@ ring_named limits _ _ (more files opening next last image opens takes) stem has 
     (λ (is : IsRingName last stem). subst (λ x. Contains (keys_of files ++ last ∷ []) x) is.spelled (Contains-push (keys_of files) last))
     (rings_step limits last image opening next takes stem has))
 
--- a text that isn't in the list is equal to none of it
+-- a text that isn't in the list equals none of its elements
 none_equal : (x : List ℕ) (xs : List (List ℕ)) → ¬ (Contains xs x) → list_any (is_name x) xs ≡ false
 none_equal x xs off = ⊎_elim
     (λ any. absurd (off (Contains-from_any by_name x xs any)))
@@ -105,14 +105,14 @@ unfolding IsStrictlySortedBy
 sorted_front [] y sorted = tt
 sorted_front (x ∷ xs) y (below, rest) = (front_all (λ z. slice_cmp nat_cmp x z ≡ Less) xs y below, sorted_front xs y rest)
 
--- the last key stands for the first time
+-- the last key doesn't occur before
 last_new : (xs : List (List ℕ)) (y : List ℕ) → IsStrictlySortedBy (slice_cmp nat_cmp) (xs ++ y ∷ []) → ¬ (Contains xs y)
 last_new xs y sorted (k, in_range, is) =
     let less : slice_cmp nat_cmp (get_or xs k y) y ≡ Less = All-before_last (slice_cmp nat_cmp) xs y sorted k y in_range in
     let same : slice_cmp nat_cmp (get_or xs k y) y ≡ Equal = ap (λ x. slice_cmp nat_cmp x y) is ∙ tied_itself nat_list_cmp_total y in
     let wrong : Less ≡ Equal = sym less ∙ same in cc
 
--- no two collections have one stem
+-- no two collections have the same stem
 stems_once : (limits : Limits) (files : List (List ℕ × List ℕ)) (opening : Opening) → Opens limits files opening
     → IsInOrder files → IsDistinct is_name (stems opening.rings)
 unfolding IsDistinct
@@ -133,7 +133,7 @@ eq_reverse Greater = refl
 is_name_flips : (x y : List ℕ) → is_name x y ≡ is_name y x
 is_name_flips x y = ap is_eq (nat_list_cmp_total.antisymm x y) ∙ eq_reverse (slice_cmp nat_cmp y x)
 
--- what is neither equal nor behind is before
+-- what is neither equal nor after is before
 before : (o back : Ordering) → o ≡ ordering_reverse back → is_eq o ≡ false → is_lt back ≡ false → o ≡ Less
 before Less back turned apart behind = refl
 before Equal back turned apart behind = absurd (let never : ⊥ = cc in never)
@@ -141,7 +141,7 @@ before Greater Less turned apart behind = absurd (let never : ⊥ = cc in never)
 before Greater Equal turned apart behind = absurd (let never : ⊥ = cc in never)
 before Greater Greater turned apart behind = absurd (let never : ⊥ = cc in never)
 
--- rows that don't fall and have no stem twice rise
+-- sorted rows with no stem twice are strictly sorted
 rising : {R : Type 0} (stem : R → List ℕ) (rows : List R) → IsDistinct is_name (map stem rows) → IsSortedByKey stem (slice_cmp nat_cmp) rows
     → IsStrictlySortedBy (slice_cmp nat_cmp) (map stem rows)
 unfolding IsStrictlySortedBy

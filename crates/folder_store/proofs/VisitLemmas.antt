@@ -1,4 +1,4 @@
--- What one file makes of what stands open, at each exit of the call that takes it.
+-- How one file changes what is open, at each exit of the call that takes it.
 use Rattle.std.proofs.Common.{◌≡◌, ◌⊎◌, ⊎_elim, inl, inr, ℕ, ◌+◌, ◌<◌, Option, List, [], ◌∷◌, ◌++◌, Bool, true, false, IsTrue, None, Some, IsSome, length, refl, sym, ◌∙◌, ap, subst, arith}
 use Rattle.std.specs.List.{Contains}
 use Rattle.std.proofs.lemmas.List.{length-append}
@@ -15,7 +15,7 @@ use Rattle.folder_store.specs.Opened.{Takes, other, left_alone, Fits, leaves_alo
 use Rattle.folder_store.specs.Ring.{rows_of, IsAsFound, HandsBack, with_ring, alone, IsLook, HasFailedSlot}
 use Rattle.folder_store.specs.Walk.{OpeningState, plain, MakesAtMost, none, one, Visits, Keeps, in_ring, by_itself}
 
--- an empty file is no keyring file
+-- an empty file isn't a keyring file
 no_keyring : (clear : ClearPart) → HasClear [] clear → ⊥
 no_keyring clear (area, is) =
     let whole : 0 ≡ length is.text.front + length is.text.back = ap length is.text.parts ∙ length-append is.text.front is.text.back in
@@ -35,7 +35,7 @@ module _ {S : Type 0} (limits : Limits) (name stem : List ℕ) (made_old made_ne
     made = made;
   }
 
-  -- the file wasn't read, or is no file that could be listed
+  -- the file wasn't read, or couldn't be listed
   pub Visits-left : (honest : Bool) (seen : Image) → MakesAtMost name new.used made_old made_new
       → (IsTrue honest → (bytes : List ℕ) → seen ≡ Some bytes → (clear : ClearPart) → ¬ (Fits limits (rows_of old.rings) clear bytes))
       → Visits limits honest seen name made_old made_new old new
@@ -43,7 +43,7 @@ module _ {S : Type 0} (limits : Limits) (name stem : List ℕ) (made_old made_ne
   Visits-left true None made off = with_image true None [] made (λ clear reads fits. no_keyring clear reads) (λ is some. absurd (let never : ⊥ = cc in never))
   Visits-left true (Some bytes) made off = with_image true (Some bytes) bytes made (λ clear reads fits. off refl bytes refl clear fits) (λ is some. refl)
 
--- what an image is, and no bytes where it is no file
+-- the bytes of an image, or none if there is no file
 bytes_in_image : (seen : Image) → (image : List ℕ) × (IsSome seen → seen ≡ Some image)
 bytes_in_image None = ([], λ some. let never : ⊥ = cc in absurd never)
 bytes_in_image (Some bytes) = (bytes, λ some. refl)
@@ -62,7 +62,7 @@ pub Visits-read : {S : Type 0} (limits : Limits) (honest : Bool) (seen : Image) 
     → (IsTrue honest → seen ≡ Some image) → MakesAtMost name new.used made_old made_new → Visits limits honest seen name made_old made_new old new
 Visits-read limits honest seen name image made_old made_new old new takes told made = record { image = image; takes = takes; told = λ is some. told is; made = made }
 
--- one slot was made, of a name whose stem is used
+-- one slot was made, for a name whose stem is used
 pub makes_one : (name stem : List ℕ) (used made made_new : List (List ℕ)) (before : List (List ℕ)) → made_new ≡ name ∷ made → IsRingName name stem → used ≡ before ++ stem ∷ [] → MakesAtMost name used made made_new
 makes_one name stem used made made_new before is named last =
     subst (MakesAtMost name used made) (sym is) (one stem named (subst (λ l. Contains l stem) (sym last) (Contains-push before stem)))
@@ -70,13 +70,13 @@ makes_one name stem used made made_new before is named last =
 differ : (image : Image) → image ≡ Some [] → image ≡ Some (0 ∷ []) → ⊥
 differ image first second = let never : ⊥ = cc in never
 
--- what is known of a slot that was made of a settled name, settled itself and read
+-- a crash leaves only what was read from a slot that was made for a settled name and then settled
 pub known_alone : (image got seen : Image) (folder before now : Image → Type 0) → Only image folder → LeavesNoMore folder before → (LeavesAnyBytes before ⊎ Only seen now) → got ≡ seen → Only got now
 known_alone image got seen folder before now only fewer (inr settled) same left may = settled left may ∙ sym same
 known_alone image got seen folder before now only fewer (inl any) same left may =
     absurd (differ image (sym (only (Some []) (fewer (Some []) (any [])))) (sym (only (Some (0 ∷ [])) (fewer (Some (0 ∷ [])) (any (0 ∷ []))))))
 
--- a slot that was made of a settled name and looked at is as it was found
+-- a slot that was made for a settled name and looked at is as it was found
 pub found_there : {S : Type 0} (seen : S → Image) (temporary : S → Temporary) (may_leave : S → Image → Type 0) (left_since : S → ℕ → Image → Type 0) (is_honest is_steady : S → Bool) (moment : S → ℕ)
     (honest steady : Bool) (image there : Image) (folder : Image → Type 0) (made now : S)
     → is_honest made ≡ honest → is_steady made ≡ steady → is_honest now ≡ is_honest made → is_steady now ≡ is_steady made
@@ -100,7 +100,7 @@ found_there seen temporary may_leave left_since is_honest is_steady moment hones
     was : IsTrue honest → IsTrue (is_honest made)
     was is = subst (λ b. IsTrue b) (sym made_honest) is
 
--- of another image that is the same where the folder is honest
+-- the same for another image, which is equal if the folder is honest
 pub found_same : {S : Type 0} (seen : S → Image) (temporary : S → Temporary) (may_leave : S → Image → Type 0) (left_since : S → ℕ → Image → Type 0) (is_honest is_steady : S → Bool)
     (honest steady : Bool) (image later : Image) (slot : S) → (IsTrue honest → image ≡ later)
     → IsAsFound seen temporary may_leave left_since is_honest is_steady honest steady image slot
@@ -114,7 +114,7 @@ found_same seen temporary may_leave left_since is_honest is_steady honest steady
   untouched = found.untouched;
 }
 
--- one slot more is handed back
+-- one more slot is returned
 pub keeps_handed : {S : Type 0} (found : Image → S → Type 0) (images : List ℕ → Image) (made made_new : List (List ℕ)) (name stem : List ℕ) (slot : S) (old new : OpeningState S)
     → made_new ≡ name ∷ made → IsRingName name stem → found (images name) slot → HandsBack found images made old.rings old.left
     → Keeps stem slot old new → HandsBack found images made_new new.rings new.left
@@ -129,7 +129,7 @@ keeps_handed found images made made_new name stem slot old new is named as_found
     (subst (λ l. HandsBack found images (name ∷ made) old.rings l) (sym left)
     (alone made old.rings old.left name file before (subst (λ s. IsRingName name s) (sym of_stem) named) (subst (λ s. found (images name) s) (sym of_slot) as_found))))
 
--- a slot that was made of this name, looked at, and failed in that
+-- a slot that was made for this name failed while its file was looked at
 pub failed_slot : {S : Type 0} (found : Image → S → Type 0) (images : List ℕ → Image) (made before : List (List ℕ)) (faults : S → ℕ) (failed : S → Option DeviceCall) (is_steady : S → Bool) (steady : Bool) (name : List ℕ) (start slot : S)
     → made ≡ name ∷ before → found (images name) slot → faults start ≡ 0 → Rose (faults start) (faults slot) → IsLook (failed slot)
     → is_steady start ≡ steady → KeepsSteady (is_steady start) (is_steady slot) (faults start) (faults slot)

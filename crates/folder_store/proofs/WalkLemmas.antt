@@ -1,4 +1,4 @@
--- One name more on the way over the names of a folder.
+-- One more name of a folder.
 use Rattle.std.proofs.Common.{◌≡◌, ⊎_elim, ◌↔◌, ℕ, ◌<◌, List, [], ◌∷◌, ◌++◌, Bool, IsTrue, IsSome, suc, length, take, get_or, refl, sym, ◌∙◌, ap, subst, arith}
 use Rattle.std.specs.List.{Contains}
 use Rattle.std.specs.List.Sorted.{IsStrictlySortedBy}
@@ -24,7 +24,7 @@ still_used limits name image opening _ (other off) stem used = used
 still_used limits name image opening _ (left_alone s is off) stem used = Contains-append_left opening.used (s ∷ []) stem used
 still_used limits name image opening _ (listed s clear is reads fits) stem used = Contains-append_left opening.used (s ∷ []) stem used
 
--- the names before a place don't have the one that stands there
+-- the names before a place don't include the one at that place
 pub not_before : (names : List (List ℕ)) (k : ℕ) (x : List ℕ) → IsStrictlySortedBy (slice_cmp nat_cmp) names → k < length names → get_or names k x ≡ x → ¬ (Contains (take k names) x)
 not_before names k x sorted in_range here (i, lt, is) =
     let short : i < k = omega (arith, length-take k names, lt) in
@@ -49,12 +49,12 @@ module _ {F : Type 0} (limits : Limits) (honest : Bool) (images : F → List ℕ
     settled = λ is name off. settled is name (λ has. absurd (omega (arith, has.1)));
   }
 
-  -- a name of which no slot was made in this turn had none before
+  -- a name without a slot after this step had none before it
   fewer : (name : List ℕ) (used before after : List (List ℕ)) → MakesAtMost name used before after → (n : List ℕ) → ¬ (Contains after n) → ¬ (Contains before n)
   fewer name used before _ made_none n off has = off has
   fewer name used before _ (one stem is used_stem) n off (k, in_range, is_n) = off (suc k, omega (arith, in_range), is_n)
 
-  -- one name more
+  -- one more name
   pub Walk-more : {S : Type 0} (old mid new : F) (names : List (List ℕ)) (name : List ℕ) (opening next : OpeningState S) → Walks old mid names (plain opening)
       → (IsTrue honest → IsSome (images old name)) → ¬ (Contains names name)
       → Visits limits honest (images mid name) name (made mid) (made new) opening next

@@ -1,4 +1,4 @@
--- The names of a folder (docs/KEYRING_FILES.md, "A folder").
+-- The names in a folder (docs/KEYRING_FILES.md, "A folder").
 use Rattle.std.specs.Prelude.{◌≡◌, ℕ, List, ◌++◌, codes}
 use Rattle.kr_base.specs.Stem.{IsStem}
 
@@ -10,8 +10,8 @@ ending = codes ".keyring"
 unfoldable pub aliases : List ℕ
 aliases = codes "aliases"
 
--- the name is that of the keyring file of this stem: a left-over temporary file, a name with no stem and
--- one with a stem that is too long are none
+-- the name is that of the keyring file with this stem; the name of a left-over temporary file, one
+-- without a stem, and one whose stem would be too long are not
 pub record IsRingName (name stem : List ℕ) : Type 0 where
   pub is_stem : IsStem stem
   pub spelled : name ≡ stem ++ ending

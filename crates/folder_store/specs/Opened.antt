@@ -1,4 +1,4 @@
--- What a start finds in a folder (docs/KEYRING_FILES.md, "A folder").
+-- What is found in a folder at startup (docs/KEYRING_FILES.md, "A folder").
 use Rattle.std.specs.Prelude.{◌≡◌, ℕ, ◌+◌, ◌<◌, ◌≤◌, List, [], ◌∷◌, ◌++◌, length, map}
 use Rattle.std.specs.Cmp.Lexicographic.{slice_cmp}
 use Rattle.std.specs.List.Sorted.{IsPermutation, IsStrictlySortedBy}
@@ -17,22 +17,22 @@ pub record RingRow : Type 0 where
   pub clear : ClearPart
   pub image : List ℕ
 
--- the items of so many collections together
+-- the number of items of these collections together
 abbrev pub items_in : List RingRow → ℕ
 items_in [] = 0
 items_in (ring ∷ rings) = length ring.clear.items + items_in rings
 
--- the bytes of their files together
+-- the number of bytes of their files together
 abbrev pub bytes_in : List RingRow → ℕ
 bytes_in [] = 0
 bytes_in (ring ∷ rings) = length ring.image + bytes_in rings
 
--- what stands open after some files: the collections that are listed, and the stems that are used
+-- what is open after some files: the collections that are listed, and the stems that are used
 pub record Opening : Type 0 where
   pub rings : List RingRow
   pub used : List (List ℕ)
 
--- the limits let this file be listed behind these
+-- the limits allow this file to be listed after these
 pub record Fits (limits : Limits) (rings : List RingRow) (clear : ClearPart) (image : List ℕ) : Type 0 where
   pub one_file : length image ≤ limits.one_file
   pub collections : length rings < limits.collections
@@ -50,8 +50,8 @@ lists stem clear image opening = record {
   used = opening.used ++ stem ∷ [];
 }
 
--- What one more file makes of what stands open: one of another name changes nothing; a keyring file is
--- listed where it is one and the limits let it be, and else left alone.
+-- How one more file changes what is open: a file with another name changes nothing; one with the name of a
+-- keyring file is listed if it is a keyring file and the limits allow it, and is otherwise left alone.
 pub data Takes (limits : Limits) (name image : List ℕ) (opening : Opening) : Opening → Type 0 where
   other : ((stem : List ℕ) → ¬ (IsRingName name stem)) → Takes limits name image opening opening
   left_alone : (stem : List ℕ) → IsRingName name stem
@@ -60,13 +60,13 @@ pub data Takes (limits : Limits) (name image : List ℕ) (opening : Opening) : O
   listed : (stem : List ℕ) (clear : ClearPart) → IsRingName name stem → HasClear image clear
       → Fits limits opening.rings clear image → Takes limits name image opening (lists stem clear image opening)
 
--- what stands open after these files, each a name and its bytes
+-- what is open after these files, each a name and its bytes
 pub data Opens (limits : Limits) : List (List ℕ × List ℕ) → Opening → Type 0 where
   none : Opens limits [] (record { rings = []; used = [] })
   more : (files : List (List ℕ × List ℕ)) (opening next : Opening) (name image : List ℕ) → Opens limits files opening
       → Takes limits name image opening next → Opens limits (files ++ (name, image) ∷ []) next
 
--- the same rows in byte order of their stems, of which no two are the same
+-- the same rows in byte order of their stems, no two of which are equal
 pub record IsByStem {R : Type 0} (stem : R → List ℕ) (rows ordered : List R) : Type 0 where
   pub same : IsPermutation rows ordered
   pub rising : IsStrictlySortedBy (slice_cmp nat_cmp) (map stem ordered)

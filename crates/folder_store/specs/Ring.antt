@@ -23,12 +23,12 @@ pub record AliasState (S : Type 0) : Type 0 where
   pub cell : CellState S
   pub pairs : List (List ℕ × List ℕ)
 
--- the image is a file of more bytes
+-- the image is a file of more bytes than this
 abbrev pub IsLonger : ℕ → Image → Type 0
 IsLonger most None = ⊥
 IsLonger most (Some bytes) = most < length bytes
 
--- the bytes of a file that is known to be there
+-- the bytes of a file that is known to exist
 abbrev pub bytes_of : File → List ℕ
 bytes_of (Known None) = []
 bytes_of (Known (Some bytes)) = bytes
@@ -42,14 +42,14 @@ row_of ring = record { stem = ring.stem; clear = ring.clear; image = bytes_of ri
 abbrev pub rows_of : {S : Type 0} → List (RingState S) → List RingRow
 rows_of rings = map row_of rings
 
--- the count never falls, and a fault of the folder is answered only where it rose
+-- the count doesn't fall, and `Folder` is returned only if it rose
 pub record HasLoadCause {T : Type 0} (old new : ℕ) (result : Result T LoadRefused) : Type 0 where
   pub later : old ≤ new
   pub failed : IsErrOf result Folder → Rose old new
 
--- A slot that a load made of a name and looked at: it is honest just where the folder is, and steady just
--- where the folder is. Of an honest folder the name stands for the image that it stood for, no crash might
--- have left another at any moment of the slot's clock, and its temporary file wasn't touched.
+-- A slot that a load made for a name and looked at. It is honest exactly if the folder is, and steady exactly
+-- if the folder is. In an honest folder the name still stands for the same image, no crash might have left
+-- another at any moment of the slot's clock, and its temporary file wasn't touched.
 pub record IsAsFound {S : Type 0} (seen : S → Image) (temporary : S → Temporary) (may_leave : S → Image → Type 0) (left_since : S → ℕ → Image → Type 0) (is_honest is_steady : S → Bool) (honest steady : Bool) (image : Image) (slot : S) : Type 0 where
   pub as_honest : is_honest slot ≡ honest
   pub as_steady : is_steady slot ≡ steady
@@ -58,8 +58,8 @@ pub record IsAsFound {S : Type 0} (seen : S → Image) (temporary : S → Tempor
   pub any_moment : IsTrue honest → Only image (left_since slot 0)
   pub untouched : IsTrue honest → temporary slot ≡ Unknown
 
--- each slot that was made of these names, the newest first, is handed back, with a listed collection or with
--- a file that was left alone, and is as it was found
+-- each slot that was made for these names, the newest first, is returned with a listed collection or with a
+-- file that was left alone, and is as it was found
 pub data HandsBack {S : Type 0} (found : Image → S → Type 0) (images : List ℕ → Image) : List (List ℕ) → List (RingState S) → List (LeftAlone S) → Type 0 where
   nothing : HandsBack found images [] [] []
   with_ring : (made : List (List ℕ)) (rings : List (RingState S)) (left : List (LeftAlone S)) (name : List ℕ) (ring : RingState S)
@@ -69,12 +69,12 @@ pub data HandsBack {S : Type 0} (found : Image → S → Type 0) (images : List 
       → HandsBack found images made rings left → IsRingName name file.stem → found (images name) file.slot
       → HandsBack found images (name ∷ made) rings (left ++ file ∷ [])
 
--- the call that failed is one of the three that a load makes of a slot
+-- the call that failed is one of the three that a load makes on a slot
 abbrev pub IsLook : Option DeviceCall → Type 0
 IsLook failed = (failed ≡ Some SyncFolder) ⊎ (failed ≡ Some Size) ⊎ (failed ≡ Some Read)
 
--- a slot that was made in this call, over a folder that isn't steady, failed in a look at its file: its count,
--- which was 0, rose, and it is as it was found
+-- the folder isn't steady, and a slot that was made in this call failed while its file was looked at: its
+-- count of faults rose from 0, and it is as it was found
 pub record HasFailedSlot {S : Type 0} (found : Image → S → Type 0) (images : List ℕ → Image) (made : List (List ℕ)) (faults : S → ℕ) (failed : S → Option DeviceCall) (steady : Bool) : Type 0 where
   pub name : List ℕ
   pub slot : S

@@ -11,9 +11,9 @@ use replace_slot::{FileCell, Image};
 use std::alloc::Global;
 use std::marker::Model;
 
-/// The file of the aliases: its cell, and the aliases, each with the stem that it stands for, in byte
-/// order of their names. The file is known, and the aliases are those that its image gives; no file
-/// gives none.
+/// The file of the aliases: its cell, and the aliases in byte order of their names, each with its
+/// stem. The file is known, and the aliases are those of its image; if there is no file, there are
+/// none.
 #[derive(Drop)]
 pub struct AliasFile<S: Slot> {
     cell: FileCell<S>,
@@ -33,7 +33,7 @@ impl<S: Slot> Model for AliasFile<S> {
 }
 
 impl<S: Slot> AliasFile<S> {
-    /// The aliases of a file that is known to have this image, or to be none.
+    /// The aliases of a file that is known to have this image, or not to exist.
     pub fn read(alloc: Global, slot: S, image: Option<Vec<u8>>) -> Result<AliasFile<S>, OutOfMemory>
         requires { IsTrue (S.is_honest slot) → Only (image_of image) (S.may_leave slot) }
         ensures { IfOk result (λ file.
@@ -47,7 +47,7 @@ impl<S: Slot> AliasFile<S> {
         })
     }
 
-    /// The aliases, lent in order.
+    /// The aliases, borrowed, in order.
     pub fn pairs(&self) -> &[(Text, Stem)]
         ensures value { result.now ≡ self.now.pairs }
         ensures shown { IsKnownImage (λ image. GivesAliases image self.now.pairs)
@@ -56,7 +56,7 @@ impl<S: Slot> AliasFile<S> {
         &self.pairs
     }
 
-    /// The two parts. It takes no memory.
+    /// The cell and the aliases. It takes no memory.
     pub fn into_parts(self) -> (FileCell<S>, Vec<(Text, Stem)>)
         ensures cell { result.0 ≡ self.cell }
         ensures pairs { result.1.items ≡ self.pairs }
@@ -66,7 +66,7 @@ impl<S: Slot> AliasFile<S> {
     }
 }
 
-// The aliases that an image gives.
+// The aliases of an image.
 fn pairs_of(alloc: Global, image: &Option<Vec<u8>>) -> Result<Vec<(Text, Stem)>, OutOfMemory>
     ensures { IfOk result (λ pairs. GivesAliases (image_of image.now) pairs.items) }
 {
@@ -76,7 +76,7 @@ fn pairs_of(alloc: Global, image: &Option<Vec<u8>>) -> Result<Vec<(Text, Stem)>,
     }
 }
 
-// The image of these bytes, and no file for none.
+// The image with these bytes, or no file if there are none.
 fn shared(alloc: Global, bytes: Option<Vec<u8>>) -> Result<Option<Image>, OutOfMemory>
     ensures { IfOk result (λ image. image ≡ image_of bytes) }
 {

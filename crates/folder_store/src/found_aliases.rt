@@ -10,17 +10,17 @@ use kr_base::{OutOfMemory, Stem, Text};
 use kr_outside::Slot;
 use std::alloc::Global;
 
-/// What a start finds of the aliases.
+/// What is found of the aliases at startup.
 #[derive(Drop)]
 pub enum FoundAliases<S: Slot> {
     /// There is no file, or one of at most 1,048,576 bytes, which was read.
     Read(AliasFile<S>),
-    /// There is a longer file, which gives no aliases. It was left alone, and its slot is here.
+    /// There is a longer file. It was left alone and counts as no aliases; its slot is kept here.
     LeftAlone(S),
 }
 
 impl<S: Slot> FoundAliases<S> {
-    /// The aliases, lent in byte order of their names.
+    /// The aliases, borrowed, in byte order of their names; none if the file was left alone.
     pub fn pairs(&self) -> &[(Text, Stem)]
         ensures { result.now ≡ pairs_in self.now }
     {
@@ -31,7 +31,7 @@ impl<S: Slot> FoundAliases<S> {
     }
 }
 
-/// The aliases of a file that was settled and looked at.
+/// The aliases as found in a file that was settled and looked at.
 pub fn found_by<S: Slot>(alloc: Global, slot: S, look: Look) -> Result<FoundAliases<S>, OutOfMemory>
     requires looked { IsTrue (S.is_honest slot) → Looks longest (S.seen slot) look }
     requires settled { IsTrue (S.is_honest slot) → Only (S.seen slot) (S.may_leave slot) }

@@ -1,8 +1,9 @@
-//! A folder of keyring files, as a start finds it (docs/KEYRING_FILES.md, "A folder"). `load` settles the
-//! folder, takes a slot of each keyring file and of `aliases`, and reads each file once that isn't too long.
-//! Callers may rely on these: what is listed is what the definition `Opened` makes of the images by name,
-//! each cell is known with the image that was read, no file is changed, made or removed, and the one
-//! refusal but want of memory has its cause in a count that rose.
+//! A folder of keyring files, as it is found at startup (docs/KEYRING_FILES.md, "A folder"). `load` settles
+//! the folder, takes a slot for `aliases` and, as long as more can be listed, for each keyring file, and
+//! reads each of these files once unless it is too long. Callers may rely on these: what is listed is what
+//! the definition `Opened` says of the images by name; each cell is known to have the image that was read;
+//! no file is changed, created or removed; and the only refusal other than lack of memory has its cause in a
+//! count of faults that rose.
 #![tactic(auto)]
 
 mod alias_file;

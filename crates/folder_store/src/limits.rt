@@ -1,18 +1,18 @@
 /// How much of a folder is listed.
 #[derive(Clone, Copy, PartialEq, Eq)]
 pub struct Limits {
-    /// The bytes of one keyring file.
+    /// The most bytes that one keyring file may have.
     pub one_file: usize,
-    /// How many collections.
+    /// The most collections.
     pub collections: usize,
-    /// How many items, in all collections together.
+    /// The most items, in all collections together.
     pub items: usize,
-    /// The bytes of all keyring files together.
+    /// The most bytes of all listed keyring files together.
     pub all_files: usize,
 }
 
-/// The limits of `load`: 67,108,864 bytes in one keyring file, 1,024 collections, 100,000 items in all and
-/// 268,435,456 bytes in all keyring files.
+/// The limits of `load`: 67,108,864 bytes in one keyring file, 1,024 collections, 100,000 items in all,
+/// and 268,435,456 bytes in all listed keyring files.
 pub const LIMITS: Limits = Limits {
     one_file: 67_108_864,
     collections: 1_024,

@@ -24,13 +24,13 @@ use kr_base::{Stem, Text};
 use kr_outside::{Folder, OutsideRefused, Slot};
 use std::alloc::Global;
 
-/// What a start finds in a folder.
+/// What is found in a folder at startup.
 #[derive(Drop)]
 pub struct Loaded<S: Slot> {
     /// The collections that are listed, in byte order of their stems.
     pub rings: Vec<Ring<S>>,
-    /// The stems of all keyring files' names, also of those that were left alone, in byte order of these
-    /// names. A name with any other stem stands for no file.
+    /// The stems of all keyring files, including those that were left alone, in byte order of the files' names.
+    /// An honest folder has no keyring file with any other stem.
     pub used: Vec<Stem>,
     /// The keyring files that were looked at and left alone, in byte order of their names.
     pub left_alone: Vec<LeftAlone<S>>,
@@ -38,11 +38,11 @@ pub struct Loaded<S: Slot> {
     pub aliases: FoundAliases<S>,
 }
 
-/// Loads a folder of which no slot was made yet: settles it, and then each keyring file and the file of
-/// the aliases, and reads each that isn't too long once. No file is changed, made or removed, at any moment, and each slot
-/// that was made is handed back.
+/// Loads a folder for which no slot has been made yet: settles it, then settles the file of the aliases and, as
+/// long as more can be listed, each keyring file, and reads each of these once unless it is too long. No file
+/// is changed, created or removed at any moment, and each slot that was made is returned.
 ///
-/// Refused with `Folder` only where a count of the folder or of a slot rose, and with `OutOfMemory`.
+/// Refused with `Folder` only if the folder's count of faults or that of a slot rose, and with `OutOfMemory`.
 pub fn load<F: Folder>(alloc: Global, folder: &mut F) -> Result<Loaded<F::Cell>, LoadRefused>
     requires fresh { F.made folder.old ≡ [] }
     ensures loaded { IfOk result (Loads the_limits (IsAsFound F.Cell.seen F.Cell.temporary
@@ -103,8 +103,8 @@ pub fn load_within<F: Folder>(
     })
 }
 
-// Settles the folder, and gives its names in byte order. The folder is settled first, so that a crash
-// leaves no file of a name that isn't among them.
+// Settles the folder, and returns its names in byte order. It is settled first, so that a crash leaves no file
+// under any other name.
 fn settled_names<F: Folder>(alloc: Global, folder: &mut F) -> Result<Vec<Text>, LoadRefused>
     requires fresh { F.made folder.old ≡ [] }
     ensures sorted { IfOk result (λ names. IsStrictlySortedBy (slice_cmp nat_cmp) names.items) }
@@ -131,7 +131,7 @@ fn settled_names<F: Folder>(alloc: Global, folder: &mut F) -> Result<Vec<Text>, 
     }
 }
 
-// Takes the keyring files among these names, one behind the other.
+// Takes the keyring files among these names, one after the other.
 fn walk<F: Folder>(
     alloc: Global,
     folder: &mut F,
@@ -171,7 +171,7 @@ fn walk<F: Folder>(
     Ok(opening)
 }
 
-// Takes the file of this name, if it is a keyring file's name.
+// Takes the file with this name, if it is the name of a keyring file.
 fn visit<F: Folder>(
     alloc: Global,
     folder: &mut F,
@@ -214,7 +214,7 @@ fn visit<F: Folder>(
     }
 }
 
-// Takes the keyring file of this name and stem. Where no further file can be listed it isn't read.
+// Takes the keyring file with this name and stem. It isn't read if no more files can be listed.
 fn take_file<F: Folder>(
     alloc: Global,
     folder: &mut F,
@@ -263,7 +263,7 @@ fn take_file<F: Folder>(
     }
 }
 
-// Reads the file of the aliases, and leaves one alone that is longer than it may be.
+// Reads the file of the aliases, or leaves it alone if it is too long.
 fn load_aliases<F: Folder>(
     alloc: Global,
     folder: &mut F,

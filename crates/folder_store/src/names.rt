@@ -1,4 +1,4 @@
-// The names of a folder.
+// The names in a folder.
 ghost use Rattle.std.specs.Prelude.{◌≡◌, ◌↔◌, ◌++◌, ℕ, List, Contains, IfOk, MatchOption};
 ghost use Rattle.std.specs.Cmp.Lexicographic.{slice_cmp};
 ghost use Rattle.std.specs.List.Sorted.{IsStrictlySortedBy};
@@ -13,14 +13,15 @@ use std::collections::BTreeSet;
 /// How the name of a keyring file ends.
 const ENDING: &str = ".keyring";
 
-/// The stem of the collection whose file has this name; None where it is no keyring file's name.
+/// The stem of the collection whose file has this name; None if it isn't the name of a keyring
+/// file.
 pub fn stem_of_name(alloc: Global, name: &str) -> Result<Option<Stem>, OutOfMemory>
     ensures { IfOk result (Reads (λ stem. IsRingName name.now stem)) }
 {
     match front_of(name, ENDING) {
         Some(front) => match Stem::new(alloc, front)? {
             Some(stem) => {
-                // Shows what the type keeps of a stem.
+                // Brings in what the type guarantees of a stem.
                 let _text = stem.as_str();
                 Ok(Some(stem))
             }
@@ -30,7 +31,7 @@ pub fn stem_of_name(alloc: Global, name: &str) -> Result<Option<Stem>, OutOfMemo
     }
 }
 
-// What stands before the ending; None where the name doesn't end so.
+// What comes before the ending; None if the name doesn't end with it.
 fn front_of<'a>(name: &'a str, end: &str) -> Option<&'a str>
     ensures { MatchOption result ((front : List ℕ) → ¬ (name.now ≡ front ++ end.now))
         (λ front. name.now ≡ front.now ++ end.now) }

@@ -1,4 +1,4 @@
-// What stands open on the way over the names of a folder.
+// What is open so far, while the names of a folder are gone through.
 ghost use Rattle.std.specs.Prelude.{◌≡◌, ◌<◌, ◌≤◌, ◌↔◌, ◌+◌, ◌^◌, ◌++◌, ◌∷◌, [], IsTrue, Some, IfOk, IfErr, IfSome, IsNone, OnOk, length, List, ℕ};
 ghost use Rattle.std.specs.Cmp.Lexicographic.{slice_cmp};
 ghost use Rattle.std.specs.List.Sorted.{IsPermutation, IsSortedByKey};
@@ -30,8 +30,8 @@ pub struct LeftAlone<S: Slot> {
     pub slot: S,
 }
 
-/// The collections that are listed so far, the stems that are used, and the files that were looked at and
-/// left alone, all in the order of the names.
+/// The collections listed so far, the stems that are used, and the files that were looked at and left
+/// alone, all in the order of the names.
 #[derive(Drop)]
 pub struct Opening<S: Slot> {
     rings: Vec<Ring<S>>,
@@ -60,7 +60,7 @@ impl<S: Slot> Model for Opening<S> {
 }
 
 impl<S: Slot> Opening<S> {
-    /// Nothing stands open.
+    /// Nothing is open.
     pub fn new(alloc: Global) -> Opening<S>
         ensures { result ≡ record { rings = []; used = []; left = [] } }
     {
@@ -85,7 +85,7 @@ impl<S: Slot> Opening<S> {
         (rings, self.used, self.left)
     }
 
-    /// The most bytes that a further file may have; None where no further file can be listed.
+    /// The most bytes that another file may have; None if no more files can be listed.
     pub fn room(&self, limits: &Limits) -> Option<usize>
         ensures some { IfSome result (λ room. (clear : ClearPart) (image : List ℕ)
             → Fits limits.now (rows_of self.now.rings) clear image → length image ≤ room) }
@@ -99,7 +99,7 @@ impl<S: Slot> Opening<S> {
         Some(left.min(limits.one_file))
     }
 
-    // Whether the limits let a file of this clear part and so many bytes be listed.
+    // Whether the limits allow a file with this clear part and these bytes to be listed.
     fn fits(&self, limits: &Limits, clear: &Clear, image: &[u8]) -> bool
         ensures fits { IsTrue result
             ↔ Fits limits.now (rows_of self.now.rings) clear.now image.now }
@@ -114,7 +114,7 @@ impl<S: Slot> Opening<S> {
             && has_room(self.bytes, image.len(), limits.all_files)
     }
 
-    /// Leaves a file alone of which no slot was made: its stem is used.
+    /// Leaves alone a file for which no slot was made; its stem counts as used.
     pub fn leave(&mut self, stem: Stem) -> Result<(), LoadRefused>
         ensures left { OnOk result (plain self.new ≡ leaves_alone stem (plain self.old)) }
         ensures rings { self.new.rings ≡ self.old.rings }
@@ -125,7 +125,7 @@ impl<S: Slot> Opening<S> {
         Ok(())
     }
 
-    /// Leaves a file alone that was looked at: its stem is used, and its slot is kept.
+    /// Leaves alone a file that was looked at; its stem counts as used, and its slot is kept.
     pub fn leave_slot(&mut self, stem: Stem, slot: S) -> Result<(), LoadRefused>
         ensures left { OnOk result (plain self.new ≡ leaves_alone stem (plain self.old)) }
         ensures used { OnOk result (self.new.used ≡ self.old.used ++ stem ∷ []) }
@@ -140,7 +140,7 @@ impl<S: Slot> Opening<S> {
         Ok(())
     }
 
-    // Lists a collection, whose stem is this one too.
+    // Lists a collection, and counts this stem as used.
     fn list(&mut self, stem: Stem, ring: Ring<S>) -> Result<(), LoadRefused>
         requires items { items_in (rows_of self.old.rings) + length ring.clear.items < 2 ^ 64 }
         requires bytes { bytes_in (rows_of self.old.rings) + length (bytes_of ring.cell.file)
@@ -159,8 +159,8 @@ impl<S: Slot> Opening<S> {
         Ok(())
     }
 
-    /// Takes one more keyring file: lists it where it is one and the limits let it be, and else leaves
-    /// it alone. Its slot is kept.
+    /// Takes one more file: lists it if it is a keyring file and the limits allow it, and otherwise
+    /// leaves it alone. Its slot is kept.
     pub fn take(
         &mut self,
         alloc: Global,
@@ -192,7 +192,7 @@ impl<S: Slot> Opening<S> {
     }
 }
 
-// Whether so many more are within the limit.
+// Whether this many more are within the limit.
 fn has_room(so_far: usize, more: usize, limit: usize) -> bool
     ensures { IsTrue result ↔ (so_far + more ≤ limit) }
 {

@@ -1,4 +1,4 @@
-// One file is settled, measured and read.
+// Settling, measuring and reading one file.
 ghost use Rattle.std.specs.Prelude.{◌≡◌, ◌⊎◌, IsTrue, Some, IfOk, OnOk, IsErr, IsErrOf};
 ghost use Rattle.kr_outside.specs.Faults.{HasCause, KeepsSteady};
 ghost use Rattle.kr_outside.specs.Moments.{LeavesOnly};
@@ -10,8 +10,8 @@ use crate::refused::LoadRefused;
 use kr_outside::{Failed, Seen, Slot};
 use std::alloc::Global;
 
-/// Puts on the disk what the name stands for, and says how many bytes the file has; None where there is
-/// no file.
+/// Puts on the disk what the name stands for, and returns the number of bytes of the file, or None if
+/// there is no file.
 pub fn settled_size<S: Slot>(slot: &mut S) -> Result<Option<u64>, Failed>
     ensures answer { IsTrue (S.is_honest slot.old)
         → IfOk result (λ size. size ≡ size_of (S.seen slot.new)) }
@@ -36,8 +36,8 @@ pub fn settled_size<S: Slot>(slot: &mut S) -> Result<Option<u64>, Failed>
     slot.size()
 }
 
-/// Reads a file of so many bytes, with one buffer of that size; None where the slot doesn't give so
-/// many, which an honest one never does.
+/// Reads a file of `size` bytes into one buffer of that size; None if the slot shows no file or a
+/// longer one, which an honest slot never does.
 pub fn read_sized<S: Slot>(
     alloc: Global,
     slot: &mut S,
@@ -75,13 +75,13 @@ pub fn read_sized<S: Slot>(
 /// What a look at a file showed.
 #[derive(Drop)]
 pub enum Look {
-    /// The file's bytes; None where there is no file.
+    /// The file's bytes; None if there is no file.
     Whole(Option<Vec<u8>>),
-    /// A file with more bytes, which weren't read.
+    /// A file with more bytes than allowed; it wasn't read.
     Longer,
 }
 
-/// Settles a file, and reads it where it has at most so many bytes.
+/// Settles a file, and reads it if it has at most `most` bytes.
 pub fn read_settled<S: Slot>(alloc: Global, slot: &mut S, most: usize) -> Result<Look, LoadRefused>
     ensures read { IsTrue (S.is_honest slot.old)
         → IfOk result (Looks most (S.seen slot.new)) }
@@ -115,7 +115,7 @@ pub fn read_settled<S: Slot>(alloc: Global, slot: &mut S, most: usize) -> Result
     }
 }
 
-/// Settles and reads a file of at most so many bytes; None where there is no such file.
+/// Settles a file, and reads it if it has at most `room` bytes; None if there is no such file.
 pub fn read_within<S: Slot>(
     alloc: Global,
     slot: &mut S,

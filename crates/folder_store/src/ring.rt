@@ -67,7 +67,7 @@ impl<S: Slot> Ring<S> {
         }
     }
 
-    /// The three parts. It takes no memory.
+    /// The stem, the cell and the clear part. It takes no memory.
     pub fn into_parts(self) -> (Stem, FileCell<S>, Clear)
         ensures stem { result.0 ≡ self.stem }
         ensures cell { result.1 ≡ self.cell }

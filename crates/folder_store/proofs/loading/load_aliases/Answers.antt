@@ -23,7 +23,7 @@ found_by-requires g c = record {
   is_folder : IsTrue (g.F.Cell.Slot.is_honest c.in_ok-slot.slot) → IsTrue (g.F.Folder.is_honest c.args.folder.now)
   is_folder honest = subst (λ b. IsTrue b) c.in_ok-slot.ensures.honest_slot honest
 
--- what was found of the slot's image is found of the folder's
+-- what was found of the slot's image was found of the folder's
 pub returns-clause-found : goal.returns-clause-found
 unfolding aliases
 returns-clause-found g c =
@@ -55,7 +55,7 @@ returns-clause-slot g c =
     (λ is. made.seen is (c.requires.settled is).0) (λ is. made.crash is (c.requires.settled is).0) (λ is. made.any_moment is (c.requires.settled is).0) made.temporary
     read.same read.crash read.any_moment read.same_temporary)
 
--- the slot that failed was looked at, and nothing else
+-- the slot that failed was only looked at
 pub returns-in_err-look-clause-cause : goal.returns-in_err-look-clause-cause
 unfolding aliases
 returns-in_err-look-clause-cause g c images same is =

@@ -60,7 +60,7 @@ returns-clause-loaded g c =
     c.in_ok-aliases.ensures.made
     (λ is. c.in_ok-aliases.ensures.stays (subst (λ b. IsTrue b) (sym honest_two) is))
 
--- a slot failed on the way over the names
+-- a slot failed while the names were gone through
 pub returns-in_err-opening-clause-cause : goal.returns-in_err-opening-clause-cause
 returns-in_err-opening-clause-cause g c is =
     let folder = g.F.Folder in
@@ -76,7 +76,7 @@ returns-in_err-opening-clause-cause g c is =
     (subst (λ b. HasFailedSlot (found b (folder.is_steady one)) (folder.images zero) (folder.made two) slot.faults slot.failed (folder.is_steady one)) honest_one
     (c.walk.ensures.cause (folder.images zero) (λ honest name. sym (c.in_ok-names.ensures.same (subst (λ b. IsTrue b) honest_one honest) name)) failed)))
 
--- or that of the aliases did
+-- or the slot for the aliases failed
 pub returns-in_err-aliases-clause-cause : goal.returns-in_err-aliases-clause-cause
 returns-in_err-aliases-clause-cause g c is =
     let folder = g.F.Folder in

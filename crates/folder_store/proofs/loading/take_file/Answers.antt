@@ -7,7 +7,7 @@ use Rattle.folder_store.specs.Ring.{IsAsFound}
 use Rattle.folder_store.proofs.VisitLemmas.{failed_slot, Visits-left, Visits-read, makes_one, known_alone, found_there, keeps_handed}
 use Rattle.folder_store.proofs.loading.take_file.Goals as goal
 
--- no further file can be listed
+-- no more files can be listed
 pub returns-in_default-clause-visited : goal.returns-in_default-clause-visited
 returns-in_default-clause-visited g c =
     on_ok_weaker c.leave.result
@@ -35,7 +35,7 @@ returns-in-Some-2-clause-visited g c =
     (makes_one c.args.name.now c.args.stem c.take.new.self.used _ _ c.args.opening.now.used c.in_ok-slot.ensures.made c.requires.named used))
     (c.take.ensures.taken c.args.name.now c.requires.named) c.take.ensures.used
 
--- there is no file of so few bytes
+-- there is no file that short
 pub returns-in-None-clause-visited : goal.returns-in-None-clause-visited
 returns-in-None-clause-visited g c =
     on_ok_weaker c.leave_slot.result
@@ -89,7 +89,7 @@ returns-in-None-clause-handed g c images same before =
     (by_itself (record { stem = c.args.stem; slot = c.read_within.new.slot }) refl refl c.leave_slot.ensures.rings left))
     c.leave_slot.ensures.slots
 
--- the slot that failed was looked at, and nothing else
+-- the slot that failed was only looked at
 pub returns-in_err-image-clause-cause : goal.returns-in_err-image-clause-cause
 returns-in_err-image-clause-cause g c images same is =
     let folder = g.F.Folder in

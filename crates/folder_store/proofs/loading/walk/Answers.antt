@@ -39,7 +39,7 @@ loop-name-init g c =
       refl,
     )
 
--- one name more
+-- one more name
 pub loop-name-preserved : goal.loop-name-preserved
 loop-name-preserved g c =
     let folder = g.F.Folder in
@@ -86,7 +86,7 @@ returns-clause-walked g c =
     subst (λ l. Walk c.args.limits.now (folder.is_honest c.args.folder.now) folder.images folder.may_leave folder.made c.args.folder.now c.loop-name.folder l (plain c.loop-name.opening))
     (take_all c.loop-name.name-index c.args.names.now c.loop-name-test.false) c.loop-name.invariant.0
 
--- a slot of this turn failed
+-- a slot failed in this step
 pub returns-in_err-visit-clause-cause : goal.returns-in_err-visit-clause-cause
 returns-in_err-visit-clause-cause g c images same is =
     let folder = g.F.Folder in

@@ -4,7 +4,7 @@ use Rattle.folder_store.specs.Ring.{IsAsFound, HandsBack}
 use Rattle.folder_store.specs.Walk.{Walk, plain}
 use Rattle.folder_store.proofs.loading.walk.Given as goal
 
--- the way over the names so far
+-- the names gone through so far
 abbrev pub invariant-loop-name : goal.invariant-loop-name
 invariant-loop-name g l =
     let folder = g.F.Folder in

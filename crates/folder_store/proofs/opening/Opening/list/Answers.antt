@@ -4,7 +4,7 @@ use Rattle.folder_store.specs.Ring.{rows_of, bytes_of}
 use Rattle.folder_store.proofs.OpeningLemmas.{items_rows, bytes_rows}
 use Rattle.folder_store.proofs.opening.Opening.list.Goals as goal
 
--- the sums over one collection more
+-- the sums over one more collection
 pub invariant_of-self-2 : goal.invariant_of-self-2
 invariant_of-self-2 g c =
     let pushed : c.push-2.new.self.items ≡ c.self.inside.rings.items ++ c.args.ring ∷ [] = c.in_ok-push-2.ensures.items in

@@ -8,7 +8,7 @@ use Rattle.folder_store.specs.Walk.{plain, in_ring, by_itself}
 use Rattle.folder_store.proofs.OpeningLemmas.{both, row_known, plain_lists, one_clear, no_both, left_out}
 use Rattle.folder_store.proofs.opening.Opening.take.Goals as goal
 
--- the limits don't let the file be listed, by whatever clear part it reads as
+-- the limits don't allow the file to be listed, whichever clear part it has
 pub returns-then-not-fits-clause-taken : goal.returns-then-not-fits-clause-taken
 returns-then-not-fits-clause-taken g c name named =
     let text : c.deref.result.now ≡ c.args.image.items = c.deref.ensures.value in
@@ -67,7 +67,7 @@ returns-in_ok-image-in-Ok-clause-kept g c =
     (λ rings. in_ring c.new-in-Ok.result (ap (λ r. r.stem) c.new-in-Ok.ensures) slot rings c.list.ensures.left)
     c.list.ensures.rings
 
--- a file that is left alone has its slot by itself
+-- the slot of a file that is left alone is kept by itself
 pub returns-then-not-fits-clause-kept : goal.returns-then-not-fits-clause-kept
 returns-then-not-fits-clause-kept g c = on_ok_weaker c.leave_slot.result
     (λ left. by_itself (record { stem = c.args.stem; slot = c.args.slot }) refl refl c.leave_slot.ensures.rings left) c.leave_slot.ensures.slots
