@@ -14,7 +14,7 @@ use Rattle.service_desk.specs.Views.{View, with_others, with_own}
 use Rattle.service_desk.specs.Records.{Seen, Others, Own, event_of, events_of, IsOwn, AreAnswered, with_seen, Records, of_others, of_own}
 use Rattle.service_desk.proofs.ViewLemmas.{with-no-others}
 
--- ---- events that were seen, one list behind the other
+-- ---- events that were seen, one list after the other
 
 pub answered-append : (state : Rows) (seen more : List Seen) → AreAnswered state seen → AreAnswered (replay state (events_of seen)) more → AreAnswered state (seen ++ more)
 answered-append state [] more is then = then

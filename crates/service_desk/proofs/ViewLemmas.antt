@@ -8,7 +8,7 @@ use Rattle.service_machine.specs.Replay.{replay, Legal, outputs}
 use Rattle.service_machine.proofs.ReplayLemmas.{replay-append, Legal-append, outputs-append}
 use Rattle.service_desk.specs.Views.{View, ArePlaces, IsView, with_others, with_own}
 
--- places stay such where there is room for more
+-- places stay such if the upper bound grows
 pub places-below : (from below more : ℕ) (places : List ℕ) → ArePlaces from below places → below ≤ more → ArePlaces from more places
 places-below from below more [] are less = omega (arith, are, less)
 places-below from below more (place ∷ places) are less = (are.0, places-below (place + 1) below more places are.1 less)

@@ -1,4 +1,4 @@
--- What each call of a desk answers, and what it records. Each answer has its cause in the state that the desk has seen.
+-- What each call of a desk returns, and what it records. Each result has its cause in the state that the desk has seen.
 use Rattle.std.specs.Prelude.{◌≡◌, ◌<◌, ◌≤◌, ◌⊎◌, Bool, false, true, Some}
 use Rattle.kr_base.specs.declared.ids.ConnId.{ConnId}
 use Rattle.secret_calls.specs.declared.taken.Refused.{Refused}
@@ -14,23 +14,24 @@ use Rattle.service_machine.specs.Limits.{most_events, IsSpent}
 use Rattle.service_machine.specs.Step.{IsMissing}
 use Rattle.service_desk.specs.Places.{Told, Place, Looks, Extends}
 
--- the connection is there, and this is told of it
+-- the connection is there, and this is whether outputs wait, whether one was lost, and whether it is leaving
 abbrev pub IsToldOf : ConnId → Rows → Bool → Bool → Bool → Type 0
 IsToldOf conn state waits overrun leaving =
     desk_of conn state.connections.rows ≡ Some (record { waits = waits; overrun = overrun; leaving = leaving })
 
--- the request was recorded; not all events that can be counted were
+-- the request was recorded, within the number of events that can be counted
 pub record Arrives (old new : Place) (event : Event) : Type 0 where
   pub recorded : Extends old new event (output.Arrived (record {}))
   pub counted : new.told.count ≤ most_events
 
--- why a request wasn't recorded: all events that can be counted are; else the connection isn't there; or for want of memory
+-- why a request wasn't recorded: all the events that can be counted have been; otherwise the connection isn't there; or
+-- memory ran out
 abbrev pub IsRefusal : Refused → Told → Type 0
 IsRefusal refused.EventsSpent told = IsSpent told.count
 IsRefusal refused.Gone told = (told.count < most_events) × IsMissing told.conn told.state
 IsRefusal refused.OutOfMemory told = Unit {0}
 
--- The connection leaves, where it is there and isn't leaving; else nothing is recorded.
+-- A Leave is recorded; or nothing is, and the connection isn't there or is leaving already.
 abbrev pub Leaves : Place → Place → Type 0
 Leaves old new =
     Extends old new (event.Leave old.told.conn) output.Left
@@ -38,14 +39,14 @@ Leaves old new =
     × (IsMissing new.told.conn new.told.state
     ⊎ ((waits : Bool) × (overrun : Bool) × IsToldOf new.told.conn new.told.state waits overrun true)))
 
--- The connection goes, where it is there; else nothing is recorded.
+-- A Gone is recorded; or nothing is, and the connection isn't there.
 abbrev pub Goes : Place → Place → Type 0
 Goes old new =
     Extends old new (event.Gone old.told.conn) output.Gone
     ⊎ (Looks old new × IsMissing new.told.conn new.told.state)
 
--- What is given of what waits. Where something waits, a Take is recorded. Else: Overrun where an output was lost; Closed
--- where the connection is leaving, and it goes; Empty, which a desk that waits never answers. Missing where the
+-- What is returned of what waits. If something waits, a Take is recorded. Otherwise: Overrun if an output was lost; Closed
+-- if the connection is leaving, and a Gone is recorded; Empty, which a desk that waits never returns. Missing if the
 -- connection isn't there.
 abbrev pub Takes : Place → Place → Taken → Type 0
 Takes old new (taken.Outs outs) = Extends old new (event.Take old.told.conn) (output.Taken outs)

@@ -1,4 +1,4 @@
--- Where a desk stands in the service's history, and how one call of it goes on from there.
+-- Where a desk is in the service's history, and how one of its calls goes on from there.
 use Rattle.std.specs.Prelude.{◌≡◌, ℕ, ◌+◌, Bool, IsTrue, List, [], length}
 use Rattle.kr_base.specs.declared.ids.ConnId.{ConnId}
 use Rattle.service_machine.specs.declared.rows.Rows.{Rows}
@@ -8,27 +8,27 @@ use Rattle.service_machine.specs.Step.{step, output_of, Fits}
 use Rattle.service_machine.specs.Replay.{replay, Legal}
 use Rattle.service_desk.specs.Views.{View, with_others, with_own}
 
--- what a desk tells of itself, and of the service as far as it has seen it
+-- what is known of a desk, and of the service as far as the desk has seen it
 pub record Told : Type 0 where
-  -- the connection whose desk it is
+  -- the connection that the desk belongs to
   pub conn : ConnId
   -- the service's state
   pub state : Rows
-  -- how many events the run has had up to that state
+  -- the number of events of the run up to that state
   pub count : ℕ
-  -- no event but those of its own calls comes into the history
+  -- no events enter the history except those of its own calls
   pub is_alone : Bool
-  -- an event that one of its calls records has no fault of a device
+  -- an event that one of its calls records contains no fault of a device
   pub is_steady : Bool
-  -- a call that takes waits until there is something to tell
+  -- a call of `take` waits until there is something to return
   pub is_waiting : Bool
 
--- where a desk stands: what it tells, and the views of the history that it may have
+-- where a desk is: what is known of it, and the views of the history that it may have
 pub record Place : Type 1 where
   pub told : Told
   pub has_seen : View → Type 0
 
--- the place of a desk, by the meanings of its type
+-- the place of a desk, given what its type says of it
 abbrev pub place : {D : Type 0} → (D → Told) → (D → View → Type 0) → D → Place
 place told has_seen desk = record { told = told desk; has_seen = has_seen desk }
 
@@ -49,8 +49,8 @@ pub record Looks (old new : Place) : Type 0 where
   pub same : IsSame old.told new.told
   pub views : (view : View) → old.has_seen view → new.has_seen (with_others between view)
 
--- The desk saw events of others, and behind them recorded this event of its own, which is answered as the step from the
--- state at its place answers it.
+-- The desk saw events of others, and after them recorded this event of its own, whose answer is that of the step from
+-- the state at that place.
 pub record Extends (old new : Place) (event : Event) (answer : Output) : Type 0 where
   pub between : List Event
   pub alone : IsTrue old.told.is_alone → between ≡ []

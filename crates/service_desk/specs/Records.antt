@@ -30,7 +30,7 @@ abbrev pub IsOwn : Seen → Type 0
 IsOwn (Others event) = ⊥
 IsOwn (Own event answer) = Unit {0}
 
--- Each event fits the state that those before it lead to, and each own one is answered as the step from there answers it.
+-- Each event fits the state that those before it lead to, and the answer to each own one is that of the step from there.
 abbrev pub AreAnswered : Rows → List Seen → Type 0
 AreAnswered state [] = Unit {0}
 AreAnswered state (Others event ∷ more) = Fits state event × AreAnswered (step state event) more
@@ -55,17 +55,17 @@ pub record Records (old new : Place) (seen : List Seen) : Type 0 where
 abbrev pub of_others : List Event → List Seen
 of_others events = map (λ event. Others event) events
 
--- events of the desk's own, each answered as the step from the state that those before it lead to
+-- events of the desk's own, each with the answer of the step from the state that those before it lead to
 abbrev pub of_own : Rows → List Event → List Seen
 of_own state [] = []
 of_own state (event ∷ events) = Own event (output_of state event) ∷ of_own (step state event) events
 
--- the outputs that an answer gives
+-- the outputs in an answer
 abbrev pub outs_in : Output → List Out
 outs_in (output.Taken outs) = outs
 outs_in _ = []
 
--- the outputs that the answers to the desk's own events gave, in order
+-- the outputs in the answers to the desk's own events, in order
 abbrev pub given : List Seen → List Out
 given [] = []
 given (Others event ∷ more) = given more

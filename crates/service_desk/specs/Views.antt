@@ -4,21 +4,22 @@ use Rattle.service_machine.specs.declared.rows.Rows.{Rows}
 use Rattle.service_machine.specs.declared.event.Event.{Event}
 use Rattle.service_machine.specs.Replay.{replay, Legal}
 
--- a start, how many events the run had before it, the events that were seen since then, and the places among them of
--- the desk's own
+-- a start, the number of events of the run before it, the events seen since then, and the places of the desk's own
+-- among them
 pub record View : Type 0 where
   pub start : Rows
   pub before : ℕ
   pub seen : List Event
   pub own : List ℕ
 
--- places that rise from this one on, each below that one
+-- places that rise, from the first bound on and below the second
 abbrev pub ArePlaces : ℕ → ℕ → List ℕ → Type 0
 ArePlaces from below [] = from ≤ below
 ArePlaces from below (place ∷ places) = (from ≤ place) × ArePlaces (place + 1) below places
 
--- The view may be one of a service in this state, after so many events of the run: its events are legal from the start,
--- lead to the state, and are the run's events since then.
+-- The view may be that of a desk on a service in this state, after this many events of the run: its events are legal
+-- from the start, lead to the state, and are as many as the run had since the start; and the desk's own places are
+-- among theirs.
 pub record IsView (state : Rows) (count : ℕ) (view : View) : Type 0 where
   pub legal : Legal view.start view.seen
   pub leads : state ≡ replay view.start view.seen

@@ -12,7 +12,7 @@ ghost use Rattle.service_desk.specs.Views.{View, IsView, with_others, with_own};
 
 use crate::Desk;
 
-/// A view stays one after events of others, and after one of its own.
+/// A view stays a view after events of others, and after an event of its own.
 pub fn views_go_on()
     ensures others { (state : Rows) (count : ℕ) (view : View) (events : List Event)
         → IsView state count view → Legal state events
@@ -22,8 +22,8 @@ pub fn views_go_on()
         → IsView (step state event) (count + 1) (with_own event view) }
 {}
 
-/// After an event of its own, the answers of the events that a desk has seen are those before it, and
-/// last, at the event's own place, that of the step from the state which those events lead to.
+/// After an event of a desk's own, the answers to the events that it has seen are those to the events
+/// before it, followed by the answer of the step from the state to which those lead.
 pub fn an_answer_stands_at_its_place()
     ensures { (state : Rows) (count : ℕ) (view : View) (between : List Event) (event : Event)
         → IsView state count view
@@ -32,9 +32,9 @@ pub fn an_answer_stands_at_its_place()
         ++ output_of (replay state between) event ∷ [] }
 {}
 
-/// Calls compose: what calls of a desk record one after another is what each of them records, one list
-/// after the other. No call records nothing, a call that only looks adds the events of others that it
-/// saw, and one that records an event adds these and its own event with its answer.
+/// Calls compose: what several calls of a desk record is what each of them records, one list after the
+/// other. No calls record nothing; a call that only looks adds the events of others that it saw; and
+/// one that records an event adds these and then its own event, with its answer.
 pub fn calls_compose<D: Desk>()
     ensures none { (desk : D) → Records (place D.told D.has_seen desk)
         (place D.told D.has_seen desk) [] }

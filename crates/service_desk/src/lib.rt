@@ -1,8 +1,8 @@
 //! The desks of a connection: what its reader and its writer ask of the service, as traits. A desk may
-//! stand over a service of one thread or over one that many share; its calls tell alike what they
-//! recorded. Callers may rely on these: a call that records an event records just its own, once, behind
-//! those of others that came before it; its answer is the step's at that place of the history; and each
-//! other answer has its cause in the state that the desk has seen.
+//! belong to a service of one thread or to one that many threads share; the contracts of its calls are
+//! the same. Callers may rely on these: a call that records an event appends exactly one of its own,
+//! after any events of other connections; its answer is that of the step at that place in the history;
+//! and every other answer has its cause in the state that the desk has seen.
 #![tactic(auto)]
 
 mod desk;

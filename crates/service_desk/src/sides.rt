@@ -8,11 +8,11 @@ use service_machine::Event;
 
 /// The desk of a connection's reader.
 pub trait ReadDesk: Desk {
-    /// The connection asks for something, at a moment in seconds since 1970, with random bytes should
-    /// a key be derived.
+    /// Records a request of the connection, at `now` in seconds since 1970, with random bytes in case a
+    /// key is derived.
     ///
-    /// Refused with `EventsSpent` where all events that can be counted are recorded,
-    /// then with `Gone` where the connection isn't there; `OutOfMemory` may come in place of any.
+    /// Refused with `EventsSpent` if all the events that can be counted have been recorded, then with
+    /// `Gone` if the connection isn't there; `OutOfMemory` may come in place of any result.
     fn arrive(&mut self, request: Request, now: u64, salt: [u8; 8]) -> Result<(), Refused>
         ensures recorded { OnOk result (Arrives
             (place Self.told Self.has_seen self.old) (place Self.told Self.has_seen self.new)
@@ -26,8 +26,8 @@ pub trait ReadDesk: Desk {
             (place Self.told Self.has_seen self.old) (place Self.told Self.has_seen self.new)) }
         ensures cause { IfErr result (λ refused. IsRefusal refused (Self.told self.new)) };
 
-    /// The connection asks no more: a Leave is recorded where it is there and isn't leaving already. It
-    /// takes no memory.
+    /// The connection sends no more requests: a Leave is recorded if the connection is there and isn't
+    /// leaving already. The call takes no memory.
     fn leave(&mut self)
         ensures { Leaves
             (place Self.told Self.has_seen self.old) (place Self.told Self.has_seen self.new) };
@@ -35,16 +35,16 @@ pub trait ReadDesk: Desk {
 
 /// The desk of a connection's writer.
 pub trait WriteDesk: Desk {
-    /// Gives what waits for the connection, and records that it took it. Where nothing waits: `Overrun`
-    /// where an output was lost; else `Closed` where the connection is leaving, and it is gone then;
-    /// else `Empty`, in whose place some desks wait. `Missing` where the connection isn't there. It
-    /// takes no memory.
+    /// Returns the outputs that wait for the connection, and records that they were taken. If none
+    /// wait: `Overrun` if an output was lost; otherwise `Closed` if the connection is leaving, and it
+    /// is gone then; otherwise `Empty`, instead of which some desks wait. `Missing` if the connection
+    /// isn't there. The call takes no memory.
     fn take(&mut self) -> Taken
         ensures { Takes
             (place Self.told Self.has_seen self.old) (place Self.told Self.has_seen self.new)
             result };
 
-    /// The connection is gone: a Gone is recorded where it is there. It takes no memory.
+    /// The connection is gone: a Gone is recorded if it is there. The call takes no memory.
     fn gone(&mut self)
         ensures { Goes
             (place Self.told Self.has_seen self.old) (place Self.told Self.has_seen self.new) };
