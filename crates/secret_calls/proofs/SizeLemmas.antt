@@ -42,7 +42,7 @@ out-short (out.Return to body.Empty) serial fits = omega arith
 out-short (out.Return to (body.Session session)) serial fits = omega (arith, length-append (decimal session.0 ++ 0 ∷ []) [], length-append (decimal session.0) (0 ∷ []), digits-few session.0 fits)
 out-short (out.Error to name) serial fits = error-short to serial name
 
--- a length that is short is the number that a counter has
+-- a short length is exactly what a counter counts
 pub counted : (size long : ℕ) → size ≡ min 18446744073709551615 long → long ≤ most_waiting → size ≡ long
 counted size long is short = is ∙ min-eq_right (omega (arith, short))
 

@@ -48,7 +48,7 @@ abbrev pub body_of : Out → Body
 body_of (out.Return to body) = body
 body_of (out.Error to name) = body.Empty
 
--- the message that an output is, with this serial
+-- the message of an output, with this serial
 abbrev pub sent : Out → ℕ → Sent
 sent out serial = record { header = header_of out serial; body = values_of (body_of out) }
 
@@ -61,11 +61,11 @@ abbrev pub FitsBody : Body → Type 0
 FitsBody body.Empty = Unit {0}
 FitsBody (body.Session session) = session.0 < 2 ^ 64
 
--- The output has a spelling, which is a message: its values are of their types. That the serial which it answers is one of a
--- message is in its type.
+-- The output has a spelling as a message: its values have their types. That the serial which it replies to is one of a
+-- message is guaranteed by its type.
 abbrev pub HasSpelling : Out → Type 0
 HasSpelling out = FitsBody (body_of out)
 
--- the most bytes that an output may have, which is the most that may wait for a connection
+-- the most bytes that an output may have, which is also the most that may wait for a connection
 abbrev pub most_waiting : ℕ
 most_waiting = 8912896

@@ -3,14 +3,15 @@ ghost use Rattle.std.specs.Prelude.{◌≡◌};
 use crate::{ErrorName, Serial};
 use kr_base::{SessionId, Text};
 
-/// A call of the service, with its arguments. An object that a call is made on is an argument too.
+/// A call of the service, with its arguments. The object that a call is made on counts as an
+/// argument.
 #[derive(Debug, Drop)]
 pub enum Call {
     /// `org.freedesktop.DBus.Peer.Ping`, on any object.
     Ping,
     /// `Service.OpenSession`. Its second argument isn't kept: `plain` has no use for it.
     OpenSession {
-        /// The algorithm by which secrets are to be passed.
+        /// The algorithm for the transfer of secrets.
         algorithm: Text,
     },
     /// `Session.Close`.
@@ -20,16 +21,16 @@ pub enum Call {
     },
 }
 
-/// What keeps a message from being a call of the service.
+/// Why a message isn't a call of the service.
 #[derive(Clone, Copy, Debug, PartialEq, Eq)]
 pub enum CallFault {
-    /// Its path is no object's.
+    /// There is no object with its path.
     UnknownObject,
     /// The object has no such interface.
     UnknownInterface,
     /// The object has no such method.
     UnknownMethod,
-    /// The arguments are of other types.
+    /// The arguments have the wrong types.
     InvalidArgs,
 }
 
@@ -49,15 +50,15 @@ impl CallFault {
     }
 }
 
-/// A method call that came in.
+/// A method call that was received.
 #[derive(Drop)]
 pub struct Request {
     /// The serial of its message.
     pub serial: Serial,
     /// Whether the caller wants a reply.
     pub wants_reply: bool,
-    /// How many bytes its message has.
+    /// The number of bytes of its message.
     pub length: u32,
-    /// The call, or what keeps the message from being one.
+    /// The call, or why the message isn't one.
     pub call: Result<Call, CallFault>,
 }

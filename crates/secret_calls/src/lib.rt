@@ -1,9 +1,9 @@
 //! The calls of the service as values, and what is sent for them, after the Secret Service API (draft
-//! 0.2) and the D-Bus Specification. A request is a call with what its message says beside it, or the
-//! fault that the message has; an output is a method return or an error, with its spelling as a message.
-//! Callers may rely on these: no request has the serial 0 and no output answers it, each fault has the
-//! error that answers it, and the size that is told of an output is the length of its spelling, whatever
-//! serial it is sent with.
+//! 0.2) and the D-Bus Specification. A request is a call, or the fault of its message, together with the
+//! serial and the length of the message and whether a reply is wanted; an output is a method return or
+//! an error, with its spelling as a message. Callers may rely on these: no request has the serial 0 and
+//! no output replies to it; each fault has the error that answers it; and the size of an output is the
+//! length of its spelling, whatever serial it is sent with.
 #![tactic(auto)]
 
 mod call;

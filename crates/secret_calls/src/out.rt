@@ -9,12 +9,12 @@ use dbus_marshal::{Put, PutValues};
 use dbus_sending::{Header, put_message};
 use kr_base::{OutOfMemory, SessionId};
 
-/// The name of an error, of the D-Bus Specification or of the Secret Service API.
+/// The name of an error, from the D-Bus Specification or the Secret Service API.
 #[derive(Clone, Copy, Debug, PartialEq, Eq)]
 pub enum ErrorName {
     /// The algorithm of a session isn't supported.
     NotSupported,
-    /// No object has the path.
+    /// There is no object with the path.
     UnknownObject,
     /// The object has no such interface.
     UnknownInterface,
@@ -50,14 +50,14 @@ impl ErrorName {
 /// The values of a method return.
 #[derive(PartialEq, Eq, Drop)]
 pub enum Body {
-    /// None.
+    /// No values.
     Empty,
-    /// Of OpenSession: what `plain` puts out, which is the empty text, and the session.
+    /// Those of OpenSession: the output of `plain`, which is the empty text, and the session.
     Session(SessionId),
 }
 
 impl Body {
-    /// A second value of the same body.
+    /// A copy of the body.
     pub fn copy(&self) -> Result<Body, OutOfMemory>
         ensures { IfOk result (λ copied. copied ≡ self.now) }
     {
@@ -96,14 +96,15 @@ impl PutValues for Body {
     }
 }
 
-/// A METHOD_RETURN and an ERROR, and the flag that each has (D-Bus Specification, "Message Format").
+/// The types METHOD_RETURN and ERROR, and the flag that messages of both types are sent with (D-Bus
+/// Specification, "Message Format").
 const METHOD_RETURN: u8 = 2;
 
 const ERROR: u8 = 3;
 
 const NO_REPLY_EXPECTED: u8 = 1;
 
-/// A message that the service sends, but for its serial.
+/// A message that the service sends, without its serial.
 #[derive(PartialEq, Eq, Drop)]
 pub enum Out {
     /// A method return.
@@ -123,7 +124,7 @@ pub enum Out {
 }
 
 impl Out {
-    /// A second value of the same output.
+    /// A copy of the output.
     pub fn copy(&self) -> Result<Out, OutOfMemory>
         ensures { IfOk result (λ copied. copied ≡ self.now) }
     {
@@ -139,7 +140,7 @@ impl Out {
         }
     }
 
-    /// The header of the message that it is with this serial.
+    /// The header of the output's message with this serial.
     fn header(&self, serial: u32) -> Header<'static>
         ensures { seen result ≡ header_of self.now serial }
     {
@@ -156,9 +157,9 @@ impl Out {
         }
     }
 
-    /// Puts the message that it is with this serial into a writer that was given nothing before: with
-    /// the flag NO_REPLY_EXPECTED, header fields in the order of their codes, and SIGNATURE only with
-    /// a body (D-Bus Specification, "Message Format").
+    /// Writes the output's message with this serial to a writer that is still empty: with the flag
+    /// NO_REPLY_EXPECTED, header fields in the order of their codes, and SIGNATURE only if there is a
+    /// body (D-Bus Specification, "Message Format").
     pub fn put<P: Put>(&self, serial: u32, out: &mut P) -> Result<(), P::Refused>
         ensures { P.stands out.old [] → OnOk result (P.stands out.new (spelled self.now serial)) }
     {

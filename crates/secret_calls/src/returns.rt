@@ -11,7 +11,7 @@ use kr_base::SessionId;
 /// What comes before a session's number in its path.
 const SESSIONS: &str = "/org/freedesktop/secrets/session/s";
 
-/// Puts the values that OpenSession returns.
+/// Writes the values that OpenSession returns.
 pub fn put_session<P: Put>(out: &mut P, session: SessionId) -> Result<(), P::Refused>
     ensures { (before : List ℕ) → P.stands out.old before
         → OnOk result (P.stands out.new (puts before (values_of (Body.Session session)))) }

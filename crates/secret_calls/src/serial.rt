@@ -1,6 +1,6 @@
 ghost use Rattle.std.specs.Prelude.{◌≢◌, ◌<◌, ◌^◌};
 
-/// The serial of a message, by which a reply names it (D-Bus Specification, "Message Format").
+/// The serial of a message, by which a reply refers to it (D-Bus Specification, "Message Format").
 #[derive(Clone, Copy, PartialEq, Eq)]
 pub struct Serial {
     /// The number.

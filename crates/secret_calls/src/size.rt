@@ -1,11 +1,11 @@
-// How many bytes an output has when it is sent. What waits for a connection is counted by it.
+// The number of bytes of an output when it is sent, by which what waits for a connection is counted.
 ghost use Rattle.std.specs.Prelude.{◌≡◌, ℕ, ◌+◌, ◌^◌, ◌<◌, length, min};
 ghost use Rattle.secret_calls.specs.Outs.{spelled, spelled_body, FitsBody, HasSpelling};
 
 use crate::{Body, Out};
 use dbus_marshal::{Counter, size_of_values};
 
-// A number of 64 bits.
+// The number has 64 bits.
 fn has_64_bits(number: u64)
     ensures { number < 2 ^ 64 }
 {

@@ -1,25 +1,25 @@
 use crate::Out;
 use kr_items::Items;
 
-/// Why a desk didn't take a call.
+/// Why a desk didn't accept a request.
 #[derive(Clone, Copy, PartialEq, Eq)]
 pub enum Refused {
     /// The service has recorded all the events that it can count.
     EventsSpent,
-    /// The connection isn't there any more.
+    /// The connection isn't there.
     Gone,
     /// No memory was left.
     OutOfMemory,
 }
 
-/// What waits for a connection.
+/// What waited for a connection when it was asked for.
 #[derive(Drop)]
 pub enum Taken {
-    /// Outputs, in order. They wait no longer.
+    /// Outputs, in order. They are no longer waiting.
     Outs(Items<Out>),
     /// Nothing yet.
     Empty,
-    /// Nothing, and an output was lost, since too much waited.
+    /// Nothing, and an output was lost because too much was waiting.
     Overrun,
     /// Nothing, and the connection was leaving. It is gone now.
     Closed,
