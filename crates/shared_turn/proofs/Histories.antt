@@ -100,7 +100,7 @@ in-bounds from below (first ∷ places) place are is =
     bound from below [] are = are
     bound from below (first ∷ places) are = let more = bound (first + 1) below places are.1 in omega (arith, more, are.0)
 
--- what is among the positions with one more is that one, or was among them
+-- a position in the list with one more at its end is that one, or was in the list before
 pub in-push : (places : List ℕ) (last place : ℕ) → IsIn place (places ++ last ∷ []) → IsIn place places ⊎ (place ≡ last)
 in-push [] last place is = ⊎_elim (λ (same : place ≡ last). inr same) (λ (none : ⊥). absurd none) is
 in-push (first ∷ places) last place is =

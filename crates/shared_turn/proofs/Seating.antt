@@ -11,13 +11,13 @@ use Rattle.shared_turn.specs.Seats.{HasTurn, IsReady}
 use Rattle.shared_turn.proofs.Histories.{in-bounds}
 use Rattle.shared_turn.specs.Rule.{one_if, tickets, spent, AreApart, IsTrue, Knows, IsHome, IsOut}
 
--- the index is there, whatever is put there
+-- what is put at an index that is there is found there
 pub set-at : {A : Type 0} (l : List A) (i : ℕ) (a b : A) → get_elem? l i ≡ some a → get_elem? (set l i b) i ≡ some b
 set-at [] i a b e = absurd (some-ne-none a (sym e))
 set-at (x ∷ xs) zero a b e = refl
 set-at (x ∷ xs) (suc i) a b e = set-at xs i a b e
 
--- one thing is at an index
+-- there is only one value at an index
 pub at-one : {A : Type 0} (l : List A) (i : ℕ) (a b : A) → get_elem? l i ≡ some a → get_elem? l i ≡ some b → a ≡ b
 at-one l i a b first second = some-injective a b (sym first ∙ second)
 

@@ -73,6 +73,7 @@ module _ {S B E : Type 0} (meaning : S → B → ℕ → List E → Type 0) (fro
     pub ticket : (ticket : ℕ) → known.ticket ≡ Some ticket → (served ≤ ticket) × (ticket < drawn)
     pub turn : known.has_turn ≡ true → (known.ticket ≡ Some served) × (known.seen ≡ log)
 
+  -- what any seat knows: nothing once it was joined to another one, otherwise what is true
   abbrev pub Knows : List E → ℕ → ℕ → Known B E → Type 0
   Knows log drawn served known = (known ≡ spent) ⊎ IsTrue log drawn served known
 

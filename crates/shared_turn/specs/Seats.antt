@@ -11,6 +11,8 @@ module _ {S B E : Type 0} where
   HasTurn false me = (me.0.ticket ≡ None) × (me.1 ≡ [])
   HasTurn true me = (ticket : ℕ) × (me.0.ticket ≡ Some ticket) × (me.1 ≡ (0, None) ∷ [])
 
+  -- A seat between two calls of its pass: it has seen a run begin, nothing is left to compare with what it has seen, its
+  -- own positions are among those of what it has seen, and it has a ticket and a slot exactly if it has the turn.
   pub record IsReady (me : Me (Option S) (Known B E)) : Type 0 where
     pub start : (start : B) × (me.0.start ≡ Some start)
     pub met : me.0.met ≡ []
@@ -24,9 +26,11 @@ pub record IsWithoutTicket {B E : Type 0} (known : Known B E) : Type 0 where
   pub turn : known.has_turn ≡ false
 
 module _ {S B E : Type 0} where
+  -- the seat with this ticket
   abbrev pub with_ticket : ℕ → Me (Option S) (Known B E) → Me (Option S) (Known B E)
   with_ticket ticket me = ((record me.0 { ticket = Some ticket }), me.1)
 
+  -- the seat without the turn, its ticket and its slot
   abbrev pub without_turn : Me (Option S) (Known B E) → Me (Option S) (Known B E)
   without_turn me = ((record me.0 { ticket = None; has_turn = false }), [])
 
