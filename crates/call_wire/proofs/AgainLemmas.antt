@@ -1,4 +1,4 @@
--- What is sent is read again, as the same output.
+-- What is sent is read again as the same output.
 use Rattle.std.proofs.Common.{◌≡◌, ℕ, ◌^◌, ◌<◌, ◌≤◌, true, IsTrue, List, [], Option, Some, None, IfSome, length, drop, codes, decimal, unwrap_or, refl, ap, ◌∙◌, sym, arith, length-append, if◌then◌else◌}
 use Rattle.std.specs.List.{All}
 use Rattle.std.specs.Str.{bytes_eq}
@@ -49,7 +49,7 @@ body_is (body.Session session) fits = record {
   arrays = refl;
 }
 
--- the body that values are
+-- the body with these values
 abbrev body_in : Vals → Body
 body_in (Vals.more value (Vals.more (Val.text basics.ObjectPath path) Vals.end)) = body.Session (record { 0 = digits_value 10 (drop 34 path) })
 body_in values = body.Empty
@@ -63,7 +63,7 @@ one_body one other fits fit same = sym (body_again one fits) ∙ ap body_in same
 
 -- ---- names of errors
 
--- the error of a name
+-- the error with a name
 abbrev which : List ℕ → ErrorName
 which text =
     if bytes_eq text (error_text name.NotSupported) then name.NotSupported else
@@ -151,7 +151,7 @@ can_be_sent most serial out is =
 pub sent_again : (most serial : ℕ) (out : Out) → IsSendable most out serial → IsMessage most (spelled out serial) (said out serial)
 sent_again most serial out is = sent_is_message most (sent out serial) (can_be_sent most serial out is) is.short
 
--- outputs that say the same are the same
+-- two outputs that say the same are the same, with the same serial
 pub one_output : (serial again : ℕ) (one other : Out) → HasSpelling one → HasSpelling other → said one serial ≡ said other again → (one ≡ other) × (serial ≡ again)
 one_output serial again (out.Return to body) (out.Return too other) fits fit same = (
   ap (λ n. out.Return n body) (one_serial to too (ap (λ (p : Parts). unwrap_or p.reply_serial 0) same)) ∙ ap (λ b. out.Return too b) (one_body body other fits fit (ap (λ (p : Parts). p.body) same)),

@@ -14,7 +14,7 @@ use Rattle.dbus_marshal.specs.Wire.{is_text}
 use Rattle.kr_names.proofs.TextLemmas.{IsPlain, IsText-plain}
 use Rattle.secret_calls.specs.Outs.{session_path}
 
--- bytes of ASCII but zero are a text
+-- bytes of ASCII other than zero are a text
 false_unless : (b : Bool) → (b ≡ true → ⊥) → b ≡ false
 false_unless true never = absurd (never refl)
 false_unless false never = refl
@@ -40,7 +40,7 @@ path_plain n fits =
     All-append IsPlain (codes "/org/freedesktop/secrets/session/s") (decimal n) (plain_literal (codes "/org/freedesktop/secrets/session/s") refl)
     (λ k d lt. (let digit = digits n fits k d lt in (omega (arith, digit.0), omega (arith, digit.1))))
 
--- digits go on in an element of a path
+-- after a digit, an element of a path goes on
 one_digit : (c : ℕ) (slash rest : Bool) → IsDigit c → rest ≡ true → (cond (c == 47) slash (is_element_code c && rest)) ≡ true
 one_digit c slash rest is so = rw so (grind (arith, nat_tests))
 

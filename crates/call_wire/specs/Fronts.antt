@@ -1,7 +1,7 @@
--- What stands behind a front of a text.
+-- What comes after a prefix of a text.
 use Rattle.std.specs.Prelude.{ℕ, ◌==◌, if◌then◌else◌, List, [], ◌∷◌, Option, Some, None}
 
--- what stands behind this front, where the text begins so
+-- what comes after this prefix, if the text begins with it
 abbrev pub behind : List ℕ → List ℕ → Option (List ℕ)
 behind [] text = Some text
 behind (code ∷ front) [] = None

@@ -1,4 +1,4 @@
--- The members that are built, which objects have them, and how their arguments are read: D-Bus Specification, "Standard
+-- The members that are implemented, which objects have them, and how their arguments are read: D-Bus Specification, "Standard
 -- Interfaces"; Secret Service API draft 0.2, the interfaces' methods.
 use Rattle.std.specs.Prelude.{ℕ, ◌&&◌, Bool, true, false, List, [], ◌∷◌, Option, Some, None, Result, map, codes}
 use Rattle.std.specs.List.{filter, find}
@@ -24,12 +24,12 @@ pub record Member : Type 0 where
   pub arguments : List ℕ
   pub method : Method
 
--- the member that a row of the program's table is
+-- the member in a row of the program's table
 abbrev pub seen : Row → Member
 seen row = record { interface = row.interface; name = row.name.now; arguments = row.arguments.now; method = row.method }
 
--- The members, in the order in which they are looked for: those of one interface stand together, and the interfaces that every
--- object has come last.
+-- The members, in the order in which they are looked up: those of one interface are next to each other, and the interfaces
+-- that every object has come last.
 unfoldable pub members : List Member
 members =
     record { interface = interface.Service; name = codes "OpenSession"; arguments = codes "sv"; method = method.OpenSession } ∷
@@ -42,14 +42,14 @@ interface_name interface.Service = service.interface
 interface_name interface.Session = session.interface
 interface_name interface.Peer = peer.interface
 
--- An object has the interface of its kind. Ping is answered on every path, so Peer is there also where no object is.
+-- An object has the interface of its kind. Ping is answered on every path, so Peer is there even if there is no object.
 abbrev pub is_on : Interface → Option ObjectName → Bool
 is_on interface.Service (Some name.Service) = true
 is_on interface.Session (Some (name.Session session)) = true
 is_on interface.Peer object = true
 is_on it object = false
 
--- the interfaces of an object, in order: an interface is there once for each member that it has
+-- the interfaces of an object, in order; an interface is listed once for each of its members
 abbrev pub interfaces_of : Option ObjectName → List Interface
 interfaces_of object = filter (λ it. is_on it object) (map (λ member. member.interface) members)
 
@@ -58,7 +58,7 @@ abbrev pub says : Option (List ℕ) → List ℕ → Bool
 says None text = false
 says (Some said) text = bytes_eq said text
 
--- a call that names no interface means any
+-- a call means the interface that it names, or any if it names none
 abbrev pub means : Option (List ℕ) → Interface → Bool
 means None it = true
 means (Some said) it = bytes_eq said (interface_name it)
@@ -71,7 +71,7 @@ is_called object interface name member = is_on member.interface object && (means
 abbrev pub member_in : Option ObjectName → Option (List ℕ) → Option (List ℕ) → Option Member
 member_in object interface name = find (is_called object interface name) members
 
--- the call that a method is on this object and with these values, or the fault that they have
+-- the call of a method on this object with these values, or the fault that they have
 abbrev pub call_with : Method → Option ObjectName → Vals → Result Call CallFault
 call_with method.OpenSession object values = service.open_session values
 call_with method.CloseSession object values = session.close object values

@@ -10,7 +10,8 @@ use Rattle.secret_calls.specs.Outs.{sent, HasSpelling, spelled}
 abbrev pub said : Out → ℕ → Parts
 said out serial = said_by (sent out serial)
 
--- the output can be sent with this serial to a reader of so many bytes: serials are numbers of 32 bits, and not 0
+-- the output can be sent with this serial to a reader of messages of at most `most` bytes: the serial is a number
+-- of 32 bits and not 0
 pub record IsSendable (most : ℕ) (out : Out) (serial : ℕ) : Type 0 where
   pub numbered : serial ≢ 0
   pub serial_fits : serial < 2 ^ 32

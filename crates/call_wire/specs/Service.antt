@@ -11,7 +11,7 @@ use Rattle.secret_calls.specs.declared.call.CallFault.TheVariants as fault
 abbrev pub interface : List ℕ
 interface = codes "org.freedesktop.Secret.Service"
 
--- the algorithm of OpenSession, whose second argument is a variant, which the algorithm puts in
+-- the algorithm of OpenSession, if the second argument, the input of the algorithm, is a variant
 abbrev pub algorithm_in : Val × Val → Option (List ℕ)
 algorithm_in arguments = option_and_then (λ input. string_in arguments.0) (held_in arguments.1)
 

@@ -13,7 +13,7 @@ use Rattle.call_wire.specs.Arguments.{without_arguments}
 abbrev pub interface : List ℕ
 interface = codes "org.freedesktop.Secret.Session"
 
--- Close, on a session
+-- the call of Close on an object, which must be a session
 abbrev pub closed : Option ObjectName → Result Call CallFault
 closed (Some (name.Session session)) = Ok (call.CloseSession session)
 closed object = Err fault.InvalidArgs

@@ -1,5 +1,5 @@
-// How the arguments of calls are read: whether the types of a body are those of a signature, and what its
-// values hold. Each reader returns None if a value isn't of its type.
+// Reading the arguments of calls: whether the types of a body are those of a signature, and what its
+// values contain. Each reader returns None if a value doesn't have its type.
 ghost use Rattle.std.specs.Prelude.{◌≡◌, [], ◌∷◌, option_copied, option_map};
 ghost use Rattle.std.specs.Str.{bytes_eq};
 ghost use Rattle.dbus_types.specs.Types.{text_of, texts_of};
@@ -13,7 +13,7 @@ use dbus_types::{BasicType, CompleteType, Value};
 use kr_base::Text;
 use secret_calls::{Call, CallFault};
 
-// What stands behind this code.
+// What comes after this code; None if the text doesn't begin with it.
 fn behind_code(text: &[u8], code: u8) -> Option<&[u8]>
     ensures { option_copied result ≡ behind (code ∷ []) text.now }
 {
@@ -23,7 +23,7 @@ fn behind_code(text: &[u8], code: u8) -> Option<&[u8]>
     }
 }
 
-// What stands behind the text of the type.
+// What comes after the text of the type; None if the text doesn't begin with it.
 #[cycle(texts)]
 fn behind_type<'a>(text: &'a [u8], complete_type: &CompleteType) -> Option<&'a [u8]>
     ensures { option_copied result ≡ behind (text_of (type_of complete_type.now)) text.now }
@@ -49,7 +49,7 @@ fn behind_type<'a>(text: &'a [u8], complete_type: &CompleteType) -> Option<&'a [
     }
 }
 
-// What stands behind the texts of the types.
+// What comes after the texts of the types; None if the text doesn't begin with them.
 #[cycle(texts)]
 fn behind_types<'a>(text: &'a [u8], types: &[CompleteType]) -> Option<&'a [u8]>
     ensures { option_copied result ≡ behind (texts_of (types_of types.now)) text.now }
@@ -71,7 +71,7 @@ pub fn are_listed(types: &[CompleteType], text: &str) -> bool
     }
 }
 
-/// The text that a value of type `s` is.
+/// The text of a value of type `s`.
 pub fn string_in(value: &Value) -> Option<&Text>
     ensures { option_copied result ≡ string_in (value_of value.now) }
 {
@@ -94,7 +94,7 @@ pub fn held_in(value: &Value) -> Option<&Value>
     }
 }
 
-/// The two values that there are.
+/// The two values, if there are exactly two.
 pub fn two_in(values: &[Value]) -> Option<(&Value, &Value)>
     ensures { option_map (λ two. (value_of two.0.now, value_of two.1.now)) result
         ≡ two_of (values_of values.now) }

@@ -7,8 +7,8 @@ ghost use Rattle.dbus_framing.specs.Messages.{Parts, IsMessage};
 ghost use Rattle.call_wire.specs.Said.{said, IsSendable};
 ghost use Rattle.call_wire.specs.CallOf.{CallOf};
 
-/// A message is one request: its call, or the fault that it has, is the only one, and so is what
-/// stands beside it.
+/// A message is only one request: its call, or the fault that it has, is determined by the message, and
+/// so are its serial, its length and whether a reply is wanted.
 pub fn a_message_is_one_request()
     ensures call { (parts : Parts) (one other : Request)
         → CallOf parts one → CallOf parts other → one.call ≡ other.call }
@@ -17,9 +17,9 @@ pub fn a_message_is_one_request()
         × (one.length ≡ other.length) }
 {}
 
-/// What is sent is read again as the same output: its spelling is a message that says it, and by
-/// `a_message_has_one_meaning` of `dbus_framing` nothing else; and what a message says is one output,
-/// with one serial.
+/// What is sent is read again as the same output: its spelling is a message that says this output, and
+/// by `a_message_has_one_meaning` of `dbus_framing` nothing else; and what a message says is that of
+/// only one output, with one serial.
 #[tactic(auto, using(crate::proofs::AgainLemmas::sent_again, crate::proofs::AgainLemmas::one_output))]
 pub fn what_is_sent_is_read_again()
     ensures message { (most serial : ℕ) (out : Out) → IsSendable most out serial

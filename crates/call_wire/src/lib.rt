@@ -1,7 +1,8 @@
-//! Messages to calls, and outputs to messages (D-Bus Specification, "Message Format"; Secret Service
-//! API draft 0.2). Which object has which interfaces, and which method takes what, is one table.
-//! Callers may rely on these: a method call is read as the one request that the table says, each
-//! fault the first in its order, and an output is written as its one spelling.
+//! From messages to calls, and from outputs to messages (D-Bus Specification, "Message Format";
+//! Secret Service API draft 0.2). Which objects have which interfaces, and which arguments a method
+//! takes, is in one table. Callers may rely on these: a method call is read as the one request that
+//! the table gives, or has the first of its faults, in their order; and an output is written as its
+//! one spelling.
 #![tactic(auto)]
 
 mod arguments;
@@ -18,5 +19,5 @@ pub use laws::{a_message_is_one_request, what_is_sent_is_read_again};
 pub use reading::call_of;
 pub use writing::message_of;
 
-/// No memory was left for a call. It is the one refusal that may come at any time.
+/// No memory was left for a call. It is the only refusal that may come at any time.
 pub type OutOfMemory = kr_base::OutOfMemory;

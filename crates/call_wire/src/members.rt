@@ -1,5 +1,5 @@
-// The members that are built, as one table (docs/SERVICE.md, "Interfaces"): a call is looked up here, and read by
-// the method of its row.
+// The members that are implemented, as one table (docs/SERVICE.md, "Interfaces"): a call is looked up here, and
+// its arguments are read by the method of its row.
 ghost use Rattle.std.specs.Prelude.{◌≡◌, IfOk, List, map, option_map};
 ghost use Rattle.std.specs.List.{filter, find, list_any};
 ghost use Rattle.dbus_types.specs.ValueViews.{values_of};
@@ -11,7 +11,7 @@ use kr_base::Text;
 use kr_names::ObjectName;
 use secret_calls::{Call, CallFault};
 
-/// An interface that a member is built of.
+/// An interface of which a member is implemented.
 #[derive(Clone, Copy, PartialEq, Eq)]
 pub enum Interface {
     /// `org.freedesktop.Secret.Service`.
@@ -46,7 +46,7 @@ pub struct Row {
     pub method: Method,
 }
 
-// The rows of one interface stand together, and the interfaces that every object has come last.
+// The rows of one interface are next to each other, and the interfaces that every object has come last.
 const MEMBERS: &[Row] = &[
     Row {
         interface: Interface::Service,
@@ -100,7 +100,7 @@ impl Interface {
     }
 }
 
-// Whether a call that names this interface, or none, means the interface.
+// Whether a call that names this interface, or no interface, means `interface`.
 fn is_meant(named: &Option<Text>, interface: Interface) -> bool
     ensures { result ≡ means named.now interface }
 {
@@ -147,7 +147,7 @@ fn first_called(
     None
 }
 
-/// The member that a call on the object means, which names this interface, or none, and this member.
+/// The member that a call on the object means if it names this interface, or none, and this member.
 pub fn member_called(
     object: &Option<ObjectName>,
     interface: &Option<Text>,
@@ -170,14 +170,14 @@ fn have_meant(rows: &[Row], object: &Option<ObjectName>, named: &Option<Text>) -
     false
 }
 
-/// Whether the object has an interface that the call means.
+/// Whether the object has an interface that a call means if it names this one, or none.
 pub fn has_meant(object: &Option<ObjectName>, named: &Option<Text>) -> bool
     ensures { result ≡ list_any (means named.now) (interfaces_of object.now) }
 {
     have_meant(members(), object, named)
 }
 
-/// The call that a method is on the object and with these values, or the fault that they have.
+/// The call of a method on the object with these values, or the fault that they have.
 pub fn call_with(
     method: Method,
     object: &Option<ObjectName>,

@@ -1,4 +1,4 @@
-// Messages to calls.
+// From messages to calls.
 ghost use Rattle.std.specs.Prelude.{◌≡◌, ◌≢◌, IfOk};
 ghost use Rattle.dbus_framing.specs.Messages.{parts_of};
 ghost use Rattle.call_wire.specs.Members.{seen};
@@ -13,7 +13,7 @@ use kr_names::{ObjectName, parse_path};
 use secret_calls::{Call, CallFault, Request, Serial};
 use std::alloc::Global;
 
-// The object that the path names.
+// The object that the path names; None if it isn't a path of the service.
 fn object_of(alloc: Global, path: &Option<Text>) -> Result<Option<ObjectName>, OutOfMemory>
     ensures { IfOk result (λ object. object ≡ object_of path.now) }
 {
@@ -23,7 +23,7 @@ fn object_of(alloc: Global, path: &Option<Text>) -> Result<Option<ObjectName>, O
     }
 }
 
-// The call of the member, whose arguments the body must have.
+// The call of the member, unless the body has other arguments.
 fn call_of_member(
     member: &Row,
     object: &Option<ObjectName>,
@@ -38,7 +38,7 @@ fn call_of_member(
     call_with(member.method, object, message.body.as_slice())
 }
 
-// What the call lacks, where it means no member.
+// What a call lacks that means no member.
 fn lack(object: &Option<ObjectName>, interface: &Option<Text>) -> CallFault
     ensures { result ≡ lack_of object.now interface.now }
 {
@@ -55,7 +55,7 @@ fn lack(object: &Option<ObjectName>, interface: &Option<Text>) -> CallFault
     }
 }
 
-// The call that the message is on the object.
+// The call of the message on the object.
 fn call_of_object(
     object: &Option<ObjectName>,
     message: &Message,
@@ -68,7 +68,7 @@ fn call_of_object(
     }
 }
 
-// The serial of a message, which is a number of 32 bits and not 0.
+// The serial of a message, which isn't 0.
 fn serial_of(message: &Message) -> u32
     ensures value { result ≡ message.now.serial }
     ensures some { result ≢ 0 }
@@ -76,13 +76,13 @@ fn serial_of(message: &Message) -> u32
     message.serial
 }
 
-/// The request that a method call is (D-Bus Specification, "Message Format"; docs/SERVICE.md,
+/// The request of a method call (D-Bus Specification, "Message Format"; docs/SERVICE.md,
 /// "Interfaces"). It keeps the message's serial and length, and whether a reply is wanted.
 ///
-/// The faults that the call may have, the first that holds: `UnknownObject` where the path is no
-/// object's or is `/`, and the call isn't Ping; `UnknownInterface` where the object hasn't the
-/// interface that the call names; `UnknownMethod` where it hasn't the method; `InvalidArgs` where the
-/// arguments are of other types.
+/// The call has the first of these faults that applies: `UnknownObject` if the path isn't one of the
+/// service or is `/`, and the call isn't Ping; `UnknownInterface` if the object doesn't have the
+/// interface that the call names; `UnknownMethod` if it doesn't have the method; `InvalidArgs` if the
+/// arguments have other types.
 pub fn call_of(alloc: Global, message: &Message) -> Result<Request, OutOfMemory>
     requires { message.now.kind ≡ 1 }
     ensures { IfOk result (CallOf (parts_of message.now)) }

@@ -21,7 +21,7 @@ fn algorithm_in(values: &[Value]) -> Option<&Text>
     string_in(algorithm)
 }
 
-/// OpenSession. Its second argument, which the algorithm puts in, isn't kept.
+/// OpenSession. Its second argument, the input of the algorithm, isn't kept.
 pub fn open_session(values: &[Value]) -> Result<Result<Call, CallFault>, OutOfMemory>
     ensures { IfOk result (λ call. call ≡ open_session (values_of values.now)) }
 {

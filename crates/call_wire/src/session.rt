@@ -20,7 +20,7 @@ fn closed(object: &Option<ObjectName>) -> Result<Call, CallFault>
     }
 }
 
-/// Close of the session that it is called on, which has no arguments.
+/// Close, on the session that it is called on. It has no arguments.
 pub fn close(object: &Option<ObjectName>, values: &[Value]) -> Result<Call, CallFault>
     ensures { result ≡ close object.now (values_of values.now) }
 {

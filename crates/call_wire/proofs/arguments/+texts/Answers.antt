@@ -1,4 +1,4 @@
--- The texts of the parts stand one behind the other.
+-- The texts of the parts come one after the other.
 use Rattle.std.proofs.Common.{◌+◌, [], ◌∷◌, ◌++◌, drop, ap, sym, ◌∙◌}
 use Rattle.std.specs.Option.{option_copied}
 use Rattle.dbus_types.specs.Types.{code_of, text_of, texts_of}

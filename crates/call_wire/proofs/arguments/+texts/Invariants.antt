@@ -1,4 +1,4 @@
--- What stands behind the texts of the types that are left stands behind those of all.
+-- What comes after the texts of the types that are left comes after those of all.
 use Rattle.std.proofs.Common.{◌≡◌, drop}
 use Rattle.dbus_types.specs.Types.{texts_of}
 use Rattle.dbus_types.specs.Views.{types_of}

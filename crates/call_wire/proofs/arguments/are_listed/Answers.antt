@@ -1,4 +1,4 @@
--- The text is the types' where nothing stands behind them.
+-- The text is that of the types if nothing comes after them.
 use Rattle.std.proofs.Common.{◌∙◌, ap}
 use Rattle.dbus_types.specs.Types.{texts_of}
 use Rattle.dbus_types.specs.Views.{types_of}
