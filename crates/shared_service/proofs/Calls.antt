@@ -1,4 +1,4 @@
--- What a call recorded behind the turn, as the view of its pass tells it.
+-- What a call recorded with the turn, as the view of its pass shows it.
 use Rattle.std.proofs.Common.{◌≡◌, ℕ, ◌<◌, Bool, true, false, List, [], ◌∷◌, ◌++◌, Option, Some, None, Result, Ok, Err, IfOk, IfErr, OnOk, OnErr, IsErrOf, ◌≢◌, refl, sym, ap, ◌∙◌, subst, arith, inl, inr, length-append, append-nil}
 use Rattle.std.proofs.lemmas.List.{length_push, append_assoc}
 use Rattle.kr_base.specs.declared.ids.ConnId.{ConnId}
@@ -83,7 +83,7 @@ module _ (conn : ConnId) (view : View) (between : List Event) (service : History
     views = λ other is. ap (λ (v : View). with_own event (with_others between v)) is;
   }
 
-  -- what the view tells of the state, where nothing was recorded
+  -- what the view shows of the state if nothing was recorded
   pub told-met : (P : Rows → Type 0) → P service.state → P (state_of met)
   told-met P is = subst P (state-stands view.start view.before (view.seen ++ between) service stands) is
 
@@ -100,7 +100,7 @@ module _ (conn : ConnId) (view : View) (between : List Event) (service : History
   takes-some false false true told given is some = rw is (extends (event.Gone conn) (has-told conn service.state.connections.rows _ told), sym told)
   takes-some false false false told given is some = absurd (some is)
 
-  -- something was told of what waits
+  -- the call returned something other than Empty
   pub takes : (desk : Option DeskRow) → desk ≡ desk_of conn service.state.connections.rows → (given : Taken) → given ≡ given_for conn service.state desk
       → (given ≡ Rattle.secret_calls.specs.declared.taken.Taken.TheVariants.Empty → ⊥) → Takes (spot conn view) (spot conn (after_take conn given met)) given
   takes None told given is some = rw is (looks, told-met (λ s. has conn s.connections.rows ≡ false) (has-none conn service.state.connections.rows told))
@@ -128,7 +128,7 @@ more-others view events more = λ i. record view { seen = append_assoc view.seen
 pub none-more : (view : View) → view ≡ with_others [] view
 none-more view = λ i. record view { seen = sym (append-nil view.seen) i }
 
--- something was told of what waits, after events of others
+-- the call returned something other than Empty, after events of others
 pub takes-after : (conn : ConnId) (view loop last : View) (before : List Event) (given : Taken) → loop ≡ with_others before view → Tries conn loop given last
     → (given ≡ Rattle.secret_calls.specs.declared.taken.Taken.TheVariants.Empty → ⊥) → Takes (spot conn view) (spot conn last) given
 takes-after conn view loop last before given is tried some =
@@ -166,7 +166,7 @@ module _ (conn : ConnId) (view last : View) (between : List Event) (service : Hi
   )
   refused-by refused.OutOfMemory spent left gone = tt
 
-  -- for a cause that the state has
+  -- for a cause in the state
   pub refused-if : (event : Unit {0} → Event) (result : Result (Unit {0}) Refused) → (IsErrOf result refused.EventsSpent → IsSpent (total service.window)) → (result ≢ Err refused.EventsSpent → IsSpent (total service.window) → ⊥)
       → (IsErrOf result refused.Gone → IsMissing conn service.state) → last ≡ viewed (event_if event result) (with_others between view) → IfErr result (λ fault. IsRefusal fault (told conn last))
   refused-if event (Ok done) spent left gone is = tt
@@ -184,7 +184,7 @@ module _ (view last : View) (between : List Event) (service : History) (stands :
   cause-of join.TooManyConnections spent crowded = told-met (record { 0 = 0 }) view between service stands IsCrowded (crowded refl)
   cause-of join.OutOfMemory spent crowded = tt
 
-  -- it couldn't join, for a cause that the state has
+  -- it couldn't join, for a cause in the state
   pub crowded-if : (result : Result ConnId JoinRefused) → (IsErrOf result join.EventsSpent → IsSpent (total service.window)) → (IsErrOf result join.TooManyConnections → IsCrowded service.state)
       → last ≡ viewed (event_if (λ conn. event.Connect conn) result) (with_others between view) → IfErr result (λ fault. IsRefused fault view last)
   crowded-if (Ok conn) spent crowded is = tt

@@ -33,7 +33,7 @@ abbrev pub FitsSome : History → Option Event → Type 0
 FitsSome service None = Unit {0}
 FitsSome service (Some event) = Fits service.state event
 
--- what becomes of the service: nothing, or one event more
+-- how the service changes: not at all, or by one more event
 abbrev pub Went : History → Option Event → History → Type 0
 Went service None new = new ≡ service
 Went service (Some event) new =
@@ -41,7 +41,7 @@ Went service (Some event) new =
     × (newest new.window.events ≡ event ∷ [])
     × ((start : Rows) (before : ℕ) (log : List Event) → Stands service start before log → Stands new start before (log ++ event ∷ []))
 
--- the pass that recorded it, and gave the turn on
+-- the pass after it recorded the event, if any, and passed the turn on
 abbrev pub ended : Option Event → turn.View Rows Event → turn.View Rows Event
 ended None pass = turn.outside pass
 ended (Some event) pass = turn.recorded event pass
@@ -50,7 +50,7 @@ abbrev pub viewed : Option Event → View → View
 viewed None view = view
 viewed (Some event) view = with_own event view
 
--- what the calls record, by what is told of the connection
+-- what the calls record, given what is known of the connection
 abbrev pub left_event : ConnId → Option DeskRow → Option Event
 left_event conn None = None
 left_event conn (Some desk) = Rattle.std.specs.Prelude.if◌then◌else◌ desk.leaving None (Some (event.Leave conn))
@@ -79,7 +79,7 @@ module _ (old pass : turn.View Rows Event) (between : List Event) (is : pass ≡
   start-is : start_or old.start ≡ begun
   start-is = ap start_or idle.start.1
 
-  -- the same by the view of the pass
+  -- the same in the view of the pass
   pub stands-view : Stands service (view_of old).start (view_of old).before ((view_of old).seen ++ between)
   stands-view = subst (λ (s : Rows). Stands service s old.before (old.seen ++ between)) (sym start-is) found-is
 
@@ -148,7 +148,7 @@ module _ (old pass : turn.View Rows Event) (between : List Event) (is : pass ≡
         ap view_of is-last ∙ view-some event,
       )
 
--- one event more without a cut, and behind a cut where one was due
+-- one more event, after a cut if one was due
 pub went-with : (service new : History) (event : Option Event) → FitsSome service event → new ≡ with_some event service → IsHistory new → Went service event new
 went-with service new None fits same kept = same
 went-with service new (Some event) fits same kept = (
@@ -170,7 +170,7 @@ went-due service new event stores kept = (
   (λ start before log stands. stands-due start before log service new event stands stores.fits stores.appends kept),
 )
 
--- the event that a call gives with Ok, and none with Err
+-- the event of a call that returned Ok; none if it returned Err
 abbrev pub event_if : {T F : Type 0} → (T → Event) → Result T F → Option Event
 event_if event (Ok value) = Some (event value)
 event_if event (Err fault) = None
@@ -244,12 +244,12 @@ after-bool conn state view false true false = refl
 after-bool conn state view false false true = refl
 after-bool conn state view false false false = refl
 
--- the view has what the call recorded by what it gave
+-- the view has what the call recorded, given what it returned
 pub after-taken : (conn : ConnId) (state : Rows) (view : View) (desk : Option DeskRow) → viewed (taken_event conn desk) view ≡ after_take conn (given_for conn state desk) view
 after-taken conn state view None = refl
 after-taken conn state view (Some desk) = after-bool conn state view desk.waits desk.overrun desk.leaving
 
--- what two passes know together is as idle as they are
+-- a pass that took over what another one knows is idle if both were
 pub met-idle : (old other met : turn.View Rows Event) → IsIdle old → IsIdle other → turn.IsMet old other met → IsIdle met
 met-idle old other met idle idle-other gathered =
     let same : start_or other.start ≡ start_or old.start = ap start_or (sym gathered.start) in
@@ -265,7 +265,7 @@ met-idle old other met idle idle-other gathered =
     same-places from below [] are = are
     same-places from below (place ∷ places) are = (are.0, same-places (place + 1) below places are.1)
 
--- two lists of one event are of one event
+-- equal lists of one event have the same event
 pub one-of : (one other : Event) → one ∷ [] ≡ other ∷ [] → one ≡ other
 one-of one other e = ap first e
   where

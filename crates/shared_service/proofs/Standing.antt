@@ -1,4 +1,4 @@
--- The service stands for the run's history, and goes on to with one event more.
+-- The service is what the run's history leads to, and still is after one more event.
 use Rattle.std.proofs.Common.{◌≡◌, ℕ, zero, suc, ◌+◌, ◌-◌, ◌≤◌, Bool, true, false, List, [], ◌∷◌, ◌++◌, length, take, drop, refl, sym, ap, ◌∙◌, subst, arith, length-drop, take-append-drop}
 use Rattle.std.proofs.lemmas.List.{length_push}
 use Rattle.service_machine.specs.declared.rows.Rows.{Rows}
@@ -11,7 +11,7 @@ use Rattle.service_history.specs.Windows.{total, is_due}
 use Rattle.service_machine.proofs.SoundLemmas.{sound_replay}
 use Rattle.shared_service.specs.Standing.{Stands, newest}
 
--- a cut keeps what every service keeps
+-- a cut keeps what is true of every service
 history-cut : (service : History) → IsHistory service → IsHistory (cut service)
 history-cut service kept = record {
   sound = sound_replay service.window.base service.window.events kept.sound kept.legal;
@@ -44,7 +44,7 @@ newest-push [] event = refl
 newest-push (first ∷ []) event = refl
 newest-push (first ∷ next ∷ events) event = newest-push (next ∷ events) event
 
--- what is legal goes on legally where some of it leads to
+-- the rest of a legal list is legal from the state that the beginning leads to
 pub Legal-behind : (state : Rows) (events more : List Event) → Legal state (events ++ more) → Legal (replay state events) more
 Legal-behind state [] more legal = legal
 Legal-behind state (event ∷ events) more legal = Legal-behind (step state event) events more legal.1
@@ -58,13 +58,13 @@ module _ (start : Rows) (before : ℕ) (log : List Event) where
       ∙ sym (replay-append start (take stands.cut log) (drop stands.cut log))
       ∙ ap (replay start) (take-append-drop stands.cut log)
 
-  -- and the run has had so many events
+  -- and the run has had this many events
   pub total-stands : (service : History) → Stands service start before log → total service.window ≡ before + length log
   total-stands service stands =
       let long : length service.window.events ≡ length log - stands.cut = ap length stands.events ∙ length-drop stands.cut log in
       omega (arith, long, stands.era, stands.few)
 
-  -- a cut changes nothing of it
+  -- a cut doesn't change that
   pub stands-cut : (service : History) → Stands service start before log → Stands (cut service) start before log
   stands-cut service stands = record {
     kept = history-cut service stands.kept;
@@ -76,7 +76,7 @@ module _ (start : Rows) (before : ℕ) (log : List Event) where
     events = sym (drop-all log);
   }
 
-  -- one event more
+  -- one more event
   pub stands-with : (service : History) (event : Event) → Stands service start before log → Fits service.state event → IsHistory (with_event event service) → Stands (with_event event service) start before (log ++ event ∷ [])
   stands-with service event stands fits kept = record {
     kept = kept;
@@ -88,7 +88,7 @@ module _ (start : Rows) (before : ℕ) (log : List Event) where
     events = ap (λ (l : List Event). l ++ event ∷ []) stands.events ∙ sym (drop-push stands.cut log event stands.few);
   }
 
-  -- one event more, behind a cut where one was due
+  -- one more event, after a cut if one was due
   pub stands-due : (service new : History) (event : Event) → Stands service start before log → Fits service.state event → new ≡ with_event event (cut_where_due service) → IsHistory new
       → Stands new start before (log ++ event ∷ [])
   stands-due service new event stands fits is kept =

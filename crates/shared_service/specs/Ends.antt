@@ -1,4 +1,4 @@
--- A call behind the turn that recorded one event or none.
+-- A call with the turn that recorded one event or none.
 use Rattle.std.specs.Prelude.{◌≡◌, ℕ, ◌+◌, ◌<◌, List, [], ◌∷◌, ◌++◌, length, Some}
 use Rattle.service_machine.specs.declared.rows.Rows.{Rows}
 use Rattle.service_machine.specs.declared.event.Event.{Event}
@@ -7,11 +7,11 @@ use Rattle.service_history.specs.Windows.{total}
 use Rattle.shared_turn.specs.Passes as turn
 use Rattle.shared_service.specs.Standing.{Stands, newest}
 
--- the service is what the history of a pass with the turn leads to, where it goes on with these events
+-- what a pass with the turn has seen, followed by these events, leads to this service
 abbrev pub StandsFor : History → turn.View Rows Event → List Event → Type 0
 StandsFor service pass more = (start : Rows) → pass.start ≡ Some start → Stands service start pass.before (pass.seen ++ more)
 
--- Where the run still has so many events, none was recorded; else the newest one was.
+-- If the run still has this many events, none was recorded; otherwise the newest one was.
 pub record IsEnd (service : History) (count : ℕ) (pass : turn.View Rows Event) : Type 0 where
   pub few : pass.before + length pass.seen < 18446744073709551615
   pub none : total service.window ≡ count → (start : Rows) → pass.start ≡ Some start → Stands service start pass.before pass.seen

@@ -1,4 +1,4 @@
--- What a desk keeps of its pass: each fact has one proof at most, and they make its view one of the service.
+-- What a desk keeps of its pass: each fact has at most one proof, and they make its view one of the service.
 use Rattle.std.specs.Prelude.{◌≡◌, ℕ, ◌+◌, List, [], ◌∷◌, length, refl}
 use mathlib.Core.Path.{sym, subst}
 use mathlib.Core.HLevel.{×_prop, Unit-prop}
@@ -30,15 +30,15 @@ rising-prop from below (place ∷ places) = ×_prop (Prim.hlevel props) (rising-
 abbrev pub IsLegal : View → Type 0
 IsLegal view = Legal view.start view.seen
 
--- that has one proof at most
+-- this has at most one proof
 pub legal-prop : (view : View) → IsProp (IsLegal view)
 legal-prop view = events-prop view.start view.seen
 
--- the own places rise, each below the number of events
+-- its own places rise, each below the number of events
 abbrev pub Rises : View → Type 0
 Rises view = ArePlaces 0 (length view.seen) view.own
 
--- so has that
+-- this has at most one proof, too
 pub rises-prop : (view : View) → IsProp (Rises view)
 rises-prop view = rising-prop 0 (length view.seen) view.own
 

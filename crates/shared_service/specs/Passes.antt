@@ -1,4 +1,4 @@
--- What a pass is: of which service, and its view of that service's history.
+-- What a pass is: the service that it belongs to, and its view of that service's history.
 use Rattle.std.specs.Prelude.{◌≡◌, ℕ, ◌+◌, true, false, [], length, Option, Some, None}
 use Rattle.atomic_table.specs.Seated.{TableId}
 use Rattle.kr_base.specs.declared.ids.ConnId.{ConnId}
@@ -20,20 +20,21 @@ pub record Seen : Type 0 where
   pub table : TableId
   pub view : View
 
--- a start, where there is one
+-- the start, if there is one
 abbrev pub start_or : Option Rows → Rows
 start_or None = opened_rows
 start_or (Some start) = start
 
--- the view of a pass through the turn
+-- the view of a turn's pass
 abbrev pub view_of : turn.View Rows Event → View
 view_of pass = record { start = start_or pass.start; before = pass.before; seen = pass.seen; own = pass.own }
 
--- the same, with the service that it is of
+-- the same, with the service that it belongs to
 abbrev pub seen_of : turn.View Rows Event → Seen
 seen_of pass = record { table = pass.table; view = view_of pass }
 
--- What a pass keeps between two calls: it doesn't have the turn, and what it has seen is legal from its start.
+-- What is true of a pass between two calls: it doesn't have the turn, what it has seen is legal from its start, and its own places are
+-- among that.
 pub record IsIdle (pass : turn.View Rows Event) : Type 0 where
   pub start : (start : Rows) × (pass.start ≡ Some start)
   pub outside : pass.has_turn ≡ false
@@ -52,15 +53,15 @@ noted pass = record pass { view = record pass.view { own = [] } }
 abbrev pub state_of : View → Rows
 state_of view = replay view.start view.seen
 
--- how many events the run has had up to there
+-- the number of events of the run up to there
 abbrev pub count_of : View → ℕ
 count_of view = view.before + length view.seen
 
--- What a desk over a shared service tells by its view: others record events too, and a call that takes waits.
+-- What is known of a desk on a shared service, given its view: others record events too, and a call of `take` waits.
 abbrev pub told : ConnId → View → Told
 told conn view = record { conn = conn; state = state_of view; count = count_of view; is_alone = false; is_steady = true; is_waiting = true }
 
--- where such a desk stands; it has seen just its view
+-- where such a desk is; what it has seen is exactly its view
 abbrev pub spot : ConnId → View → Place
 spot conn view = record { told = told conn view; has_seen = λ other. other ≡ view }
 
@@ -70,12 +71,12 @@ HasCause join.EventsSpent view = IsSpent (count_of view)
 HasCause join.TooManyConnections view = IsCrowded (state_of view)
 HasCause join.OutOfMemory view = Unit {0}
 
--- Why no connection could join, by the state that the pass has seen then; nothing was recorded.
+-- Why no connection could join, according to the state that the pass has seen by then; nothing was recorded.
 abbrev pub IsRefused : JoinRefused → View → View → Type 0
 IsRefused refused old new = ((conn : ConnId) → Looks (spot conn old) (spot conn new)) × HasCause refused new
 
--- Both are of one run. The pass knows also what the other did: it has seen the longer of both histories, of which each had seen a beginning,
--- and the places of both are its own, each once.
+-- Both belong to one run. The pass also knows what the other one did: it has seen the longer of the two histories, of which each had seen a
+-- beginning, and the places of both are its own, each once.
 pub record IsGathered (old other new : Seen) : Type 0 where
   pub start : old.view.start ≡ other.view.start
   pub before : old.view.before ≡ other.view.before

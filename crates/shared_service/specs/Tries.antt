@@ -1,4 +1,4 @@
--- What one call does behind the turn, by the service as it was found there.
+-- What one call does with the turn, given the service as it was found.
 use Rattle.std.specs.Prelude.{◌≡◌, List, ◌++◌}
 use Rattle.kr_base.specs.declared.ids.ConnId.{ConnId}
 use Rattle.secret_calls.specs.declared.taken.Taken.{Taken}
@@ -9,18 +9,19 @@ use Rattle.service_history.specs.History.{History, given_for, told}
 use Rattle.service_desk.specs.Views.{View, with_others, with_own}
 use Rattle.shared_service.specs.Standing.{Stands}
 
--- The service as the history left it that begins with all that the view has seen.
+-- The service is what a history leads to that begins with all that the view has seen.
 pub record IsClosed (view : View) (service : History) : Type 0 where
   pub between : List Event
   pub stands : Stands service view.start view.before (view.seen ++ between)
 
--- the view after a call that was given this: what it recorded is its own
+-- the view after a call that was given this result: what it recorded is its own
 abbrev pub after_take : ConnId → Taken → View → View
 after_take conn (taken.Outs outs) view = with_own (event.Take conn) view
 after_take conn taken.Closed view = with_own (event.Gone conn) view
 after_take conn _ view = view
 
--- The pass saw events of others, found the service as they left it, and was given what the service gives there.
+-- The pass saw events of others, found the service as they left it, and was given what the service returns in
+-- that state.
 pub record Tries (conn : ConnId) (old : View) (given : Taken) (new : View) : Type 0 where
   pub between : List Event
   pub service : History

@@ -10,8 +10,8 @@ use service_desk::{Desk, ReadDesk, WriteDesk};
 use std::alloc::Global;
 use std::sync::{Arc, Wait};
 
-/// The desk of a connection's reader, or of its writer, over a service that threads share. It waits
-/// where it takes and nothing is there.
+/// The desk of a connection's reader or of its writer, on a service that threads share. `take`
+/// waits until there is something to return.
 #[derive(Drop)]
 pub struct SharedDesk<R: Wait> {
     rt: R,
@@ -24,7 +24,7 @@ pub struct SharedDesk<R: Wait> {
 }
 
 impl<R: Wait> SharedDesk<R> {
-    /// The desk of this connection, for the service that the pass is of.
+    /// The desk of this connection, on the service that the pass belongs to.
     pub fn new(
         rt: R,
         service: Arc<SharedService, Global>,

@@ -2,7 +2,7 @@ use service_history::Service;
 use service_machine::{Event, Rows};
 use shared_turn::Chronicle;
 
-/// The service as it stands behind the turn.
+/// The service as it is kept with the turn.
 #[derive(Drop)]
 pub struct Kept {
     pub(crate) service: Service,

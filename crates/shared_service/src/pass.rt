@@ -4,8 +4,8 @@ ghost use Rattle.shared_service.specs.Passes.{state_of, count_of};
 use crate::kept::Kept;
 use std::marker::Model;
 
-/// What a thread has seen of the service's history, and which of its events are the thread's own. A
-/// contract sees which service it is of, and its view. It takes no memory.
+/// What a thread has seen of the service's history, and which of its events are the thread's own.
+/// Contracts see which service it belongs to, and its view. It takes no memory.
 #[derive(Drop)]
 pub struct Pass {
     pub(crate) inner: shared_turn::Pass<Kept>,
@@ -24,8 +24,8 @@ impl Model for Pass {
 }
 
 impl Pass {
-    /// What a pass has seen is legal from its start, and its own places are among it, each once. It does
-    /// nothing.
+    /// What a pass has seen is legal from its start, and its own places are among that, each once. The
+    /// call does nothing.
     pub fn has_seen_a_history(&self)
         ensures { IsView (state_of self.now.view) (count_of self.now.view) self.now.view }
     {

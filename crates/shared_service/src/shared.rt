@@ -36,7 +36,7 @@ impl Model for SharedService {
     ghost view = { λ shared. shared.turn };
 }
 
-// How many events the run has had.
+// The number of events of the run.
 fn total(service: &Service) -> u64
     ensures { result ≡ total service.now.window }
 {
@@ -44,9 +44,9 @@ fn total(service: &Service) -> u64
 }
 
 impl SharedService {
-    /// Shares a service among threads, and gives the first pass, which has seen the stored events.
+    /// Shares a service among threads, and returns the first pass, which has seen the stored events.
     ///
-    /// Refused with `OutOfMemory` where no memory is left; the service is dropped then.
+    /// Refused with `OutOfMemory` if no memory is left; the service is dropped then.
     pub fn open(alloc: Global, service: Service) -> Result<(SharedService, Pass), OutOfMemory>
         ensures { IfOk result (λ both. both.1 ≡ opened both.0 service.window) }
     {
@@ -55,7 +55,7 @@ impl SharedService {
         Ok((SharedService { turn }, Pass { inner }))
     }
 
-    // Gives the turn on after a call that recorded one event or none: the number of events tells which.
+    // Passes the turn on after a call that recorded one event or none: the number of events shows which.
     fn end(&self, inner: &mut shared_turn::Pass<Kept>, kept: Kept, count: u64)
         requires table { inner.old.table ≡ self.now }
         requires inside { inner.old.has_turn ≡ true }
@@ -72,8 +72,7 @@ impl SharedService {
         }
     }
 
-    /// Waits for the turn, and records that the connection asks no more, where it is there and isn't
-    /// leaving already.
+    /// Waits for the turn, and records a Leave if the connection is there and isn't leaving already.
     pub fn leave<R: Wait>(&self, rt: &R, pass: &mut Pass, conn: ConnId)
         requires table { pass.old.table ≡ self.now }
         ensures same { pass.new.table ≡ pass.old.table }
@@ -85,7 +84,7 @@ impl SharedService {
         self.end(&mut pass.inner, kept, count);
     }
 
-    /// Waits for the turn, and records that the connection is gone, where it is there.
+    /// Waits for the turn, and records a Gone if the connection is there.
     pub fn gone<R: Wait>(&self, rt: &R, pass: &mut Pass, conn: ConnId)
         requires table { pass.old.table ≡ self.now }
         ensures same { pass.new.table ≡ pass.old.table }
@@ -97,7 +96,7 @@ impl SharedService {
         self.end(&mut pass.inner, kept, count);
     }
 
-    // Takes once: also where nothing waits. Gives the number of the run's events besides.
+    // Takes once, even if nothing waits. Also returns the number of the run's events before the call.
     fn try_take<R: Wait>(&self, rt: &R, pass: &mut Pass, conn: ConnId) -> (Taken, u64)
         requires table { pass.old.table ≡ self.now }
         ensures same { pass.new.table ≡ pass.old.table }
@@ -110,9 +109,9 @@ impl SharedService {
         (taken, count)
     }
 
-    /// Gives what waits for the connection, and records that it took it; sleeps while there is nothing.
-    /// `Overrun` where nothing waits and an output was lost; `Closed` where nothing waits and the
-    /// connection is leaving, and it is gone then; `Missing` where it isn't there. Never `Empty`.
+    /// Returns the outputs that wait for the connection, and records that they were taken; sleeps while
+    /// there are none. `Overrun` if none wait and an output was lost; `Closed` if none wait and the
+    /// connection is leaving, and it is gone then; `Missing` if it isn't there. Never `Empty`.
     pub fn take<R: Wait>(&self, rt: &R, pass: &mut Pass, conn: ConnId) -> Taken
         requires table { pass.old.table ≡ self.now }
         ensures same { pass.new.table ≡ pass.old.table }
@@ -128,11 +127,11 @@ impl SharedService {
         unreachable!()
     }
 
-    /// Waits for the turn. The connection asks for something, at a moment in seconds since 1970, with
-    /// random bytes should a key be derived.
+    /// Waits for the turn, and records a request of the connection, at `now` in seconds since 1970, with
+    /// random bytes in case a key is derived.
     ///
-    /// Refused with `EventsSpent` where all events that can be counted are recorded, then with `Gone`
-    /// where the connection isn't there; `OutOfMemory` may come in place of any.
+    /// Refused with `EventsSpent` if all the events that can be counted have been recorded, then with
+    /// `Gone` if the connection isn't there; `OutOfMemory` may come in place of any result.
     pub fn arrive<R: Wait>(
         &self,
         rt: &R,
@@ -164,7 +163,7 @@ impl SharedService {
         arrived
     }
 
-    // Records a connection that joins, and gives its number.
+    // Records a connection that joins, and returns its number.
     fn connect<R: Wait>(&self, rt: &R, pass: &mut Pass) -> Result<ConnId, JoinRefused>
         requires table { pass.old.table ≡ self.now }
         ensures same { pass.new.table ≡ pass.old.table }
@@ -181,12 +180,13 @@ impl SharedService {
         joined
     }
 
-    /// Waits for the turn; a connection joins. Gives its number, a pass for its reader and one for its
-    /// writer: both have seen what this one has, the joining last, and have recorded nothing.
+    /// Waits for the turn, and lets a connection join. Returns its number, a pass for its reader and one
+    /// for its writer: both have seen what this pass has, with the joining last, and have recorded
+    /// nothing.
     ///
-    /// Refused with `EventsSpent` where all events that can be counted are recorded, then with
-    /// `TooManyConnections` where 256 connections are there or no number is left; `OutOfMemory` may come
-    /// in place of any.
+    /// Refused with `EventsSpent` if all the events that can be counted have been recorded, then with
+    /// `TooManyConnections` if there are 256 connections or no number is left; `OutOfMemory` may come in
+    /// place of any result.
     pub fn join<R: Wait>(
         &self,
         rt: &R,
@@ -229,8 +229,8 @@ impl SharedService {
         self.turn.gather(&mut pass.inner, inner);
     }
 
-    /// Takes the turn, and gives the service back as all that was recorded left it. The turn is never
-    /// given on, so a later call waits for ever.
+    /// Takes the turn, and returns the service as all that was recorded left it. The turn is never
+    /// passed on, so a later call waits forever.
     pub fn close<R: Wait>(&self, rt: &R, mut pass: Pass) -> Service
         requires table { pass.table ≡ self.now }
         ensures { IsClosed pass.view result }
