@@ -5,9 +5,9 @@ use prompt_state::{Ended, PromptRefused, PromptState};
 use std::alloc::Global;
 use std::test::Fail;
 
-// An owner 1, an agent 2 and a third connection 3. A row has who calls, the call, the prompt, the
-// round or what the prompt is for, the answer, and the prompt afterwards with its stage, round,
-// targets done and left, and wrong answers.
+// Connection 1 is an owner, 2 an agent, and 3 a third connection. A row has who calls, the call,
+// the prompt, the round or what the prompt is for, the answer, and the prompt afterwards with its
+// stage, round, targets done and left, and wrong answers.
 const HISTORY: &str = "\
 1|begin|1|a b c|1|made 0 /abc 0
 3|ask|1||no prompt|made 0 /abc 0

@@ -3,7 +3,7 @@ use session_table::{SessionRefused, SessionTable};
 use std::test::Fail;
 
 // Two connections, 3 and 8. A row has a connection, what it asks of the table, and the answer: the
-// number of a session, or 0 for a refusal; a connection that leaves gets its own number.
+// number of the session, or 0 for a refusal; for a connection that leaves, its own number.
 const CONVERSATION: &str = "\
 8 open 0: 1
 3 open 0: 2
@@ -19,7 +19,7 @@ const CONVERSATION: &str = "\
 8 open 0: 5
 ";
 
-// What the table answers to a row's connection.
+// The table's answer to a row.
 fn answer(table: &mut SessionTable, row: &str) -> Result<u64, Fail> {
     let (owner, row) = row.split_once(' ').ok_or("owner")?;
     let (ask, session) = row.split_once(' ').ok_or("ask")?;
