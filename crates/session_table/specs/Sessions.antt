@@ -6,7 +6,7 @@ use Rattle.kr_base.specs.declared.ids.SessionId.{SessionId}
 use Rattle.session_table.specs.declared.row.SessionRow.{SessionRow}
 use Rattle.session_table.specs.declared.row.Sessions.{Sessions}
 
--- no session is open, and none was
+-- no session is open, and none ever was
 abbrev pub no_sessions : Sessions
 no_sessions = record { rows = []; next = 1 }
 
