@@ -33,7 +33,7 @@ entries_changed number change entries = map (λ e. if nat_eq e.0 number then (e.
 abbrev pub entries_without : ℕ → Entries → Entries
 entries_without number entries = filter (λ e. not (nat_eq e.0 number)) entries
 
--- what a stage becomes once the agent is gone, even if no round is left, which is so for no prompt
+-- what a stage becomes once the agent is gone, defined even if no round is left, which never happens
 abbrev pub unanswered_within : Stage → Stage
 unanswered_within Made = Made
 unanswered_within (Asked round) = Asked round

@@ -163,7 +163,7 @@ pub struct Ask {
 /// owner. Only a call that ends a prompt makes one.
 #[derive(Drop)]
 pub struct Ended {
-    /// The prompt, which isn't there any more.
+    /// The prompt, which is no longer there.
     pub prompt: PromptId,
     /// The connection that owned it.
     pub owner: ConnId,

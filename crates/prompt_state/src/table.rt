@@ -379,7 +379,7 @@ impl PromptState {
         rows::drop_target(&mut self.rows, prompt.0);
     }
 
-    /// Counts one more wrong answer to the prompt, up to 4294967295, and returns how many there are.
+    /// Counts one more wrong answer to the prompt, up to 4,294,967,295, and returns how many there are.
     pub fn wrong(&mut self, prompt: PromptId) -> u32
         requires { is_some (row_at prompt self.old) ≡ true }
         ensures counted { self.new ≡ wronged prompt self.old }
@@ -479,7 +479,7 @@ impl PromptState {
         rows::set_stage(&mut self.rows, prompt.0, stage);
     }
 
-    // There is no agent any more.
+    // Removes the agent; each prompt whose key is being derived is asked in its next round.
     fn leave(&mut self)
         ensures { self.new ≡ unregistered self.old }
     {
@@ -487,7 +487,7 @@ impl PromptState {
         rows::wait_again(&mut self.rows);
     }
 
-    // The connection's prompts are gone.
+    // Removes the connection's prompts.
     fn end_all(&mut self, owner: ConnId)
         ensures { self.new ≡ without owner self.old }
     {
