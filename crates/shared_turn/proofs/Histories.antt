@@ -73,17 +73,17 @@ module _ {E : Type 0} where
   pub length-longer : (xs ys : List E) → (length xs ≤ length (longer xs ys)) × (length ys ≤ length (longer xs ys))
   length-longer xs ys = length-if xs ys (nat_le (length ys) (length xs)) refl
 
--- positions stay such if the upper bound grows
+-- positions below a bound are also below a greater one
 pub places-below : (from below more : ℕ) (places : List ℕ) → ArePlaces from below places → below ≤ more → ArePlaces from more places
 places-below from below more [] are less = omega (arith, are, less)
 places-below from below more (place ∷ places) are less = (are.0, places-below (place + 1) below more places are.1 less)
 
--- positions from one bound on are such from an earlier one on
+-- positions from one bound on are also positions from an earlier one on
 places-from : (from earlier below : ℕ) (places : List ℕ) → earlier ≤ from → ArePlaces from below places → ArePlaces earlier below places
 places-from from earlier below [] less are = omega (arith, are, less)
 places-from from earlier below (place ∷ places) less are = (omega (arith, are.0, less), are.1)
 
--- a position after all of them is one more
+-- a position after all the others can be added
 pub places-push : (from below : ℕ) (places : List ℕ) → ArePlaces from below places → ArePlaces from (below + 1) (places ++ below ∷ [])
 places-push from below [] are = (are, omega arith)
 places-push from below (place ∷ places) are = (are.0, places-push (place + 1) below places are.1)
