@@ -8,12 +8,12 @@ use Rattle.service_machine.specs.Replay.{replay, Legal, outputs}
 use Rattle.service_machine.proofs.ReplayLemmas.{replay-append, Legal-append, outputs-append}
 use Rattle.service_desk.specs.Views.{View, ArePlaces, IsView, with_others, with_own}
 
--- places stay such if the upper bound grows
+-- places below a bound are also below a greater one
 pub places-below : (from below more : ℕ) (places : List ℕ) → ArePlaces from below places → below ≤ more → ArePlaces from more places
 places-below from below more [] are less = omega (arith, are, less)
 places-below from below more (place ∷ places) are less = (are.0, places-below (place + 1) below more places are.1 less)
 
--- a place after all of them is one more
+-- a place after all the others can be added
 pub places-push : (from below : ℕ) (places : List ℕ) → ArePlaces from below places → ArePlaces from (below + 1) (places ++ below ∷ [])
 places-push from below [] are = (are, omega arith)
 places-push from below (place ∷ places) are = (are.0, places-push (place + 1) below places are.1)
