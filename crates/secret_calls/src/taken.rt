@@ -12,7 +12,7 @@ pub enum Refused {
     OutOfMemory,
 }
 
-/// What waited for a connection when it was asked for.
+/// The result of taking what waits for a connection.
 #[derive(Drop)]
 pub enum Taken {
     /// Outputs, in order. They are no longer waiting.
