@@ -303,8 +303,8 @@ pub fn read_area(
     area: &[u8],
     items: usize,
 ) -> Result<Vec<FullItem>, ReadRefused<AreaFault>>
-    // The area spells the items that are returned, and items that it spells are returned, unless
-    // memory runs out.
+    // The area spells the items that are returned, as many as asked for; if it spells this many
+    // items, these are returned, unless memory runs out.
     ensures found { IfOk result (λ v. AreaText area.now v.items) }
     ensures count { IfOk result (λ v. length v.items ≡ items) }
     ensures only { (these : List FullItem) → length these ≡ items → AreaText area.now these

@@ -494,7 +494,7 @@ pub fn read_clear(alloc: Global, file: &[u8]) -> Result<(Clear, usize), ReadRefu
     // Which fault is returned.
     ensures exact { Gives (part_and_area file.now) result (reading.clear_read file.now) }
 
-    // A proper prefix of a valid file is `Short`.
+    // A proper prefix of a file that can be read is `Short`.
     ensures cut { (whole area : List ℕ) (clear : ClearPart) (n : ℕ) → ClearText whole clear area
         → n < length whole → file.now ≡ take n whole
         → Gives (part_and_area file.now) result (Err clear_fault.Short) }
