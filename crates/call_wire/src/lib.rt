@@ -1,8 +1,8 @@
 //! From messages to calls, and from outputs to messages (D-Bus Specification, "Message Format";
 //! Secret Service API draft 0.2). Which objects have which interfaces, and which arguments a method
-//! takes, is in one table. Callers may rely on these: a method call is read as the one request that
-//! the table gives, or has the first of its faults, in their order; and an output is written as its
-//! one spelling.
+//! takes, is in one table. Callers may rely on these: a method call is read as exactly one request,
+//! with the call that the table gives or with the first of the message's faults, in order; and an
+//! output is written as its one spelling.
 #![tactic(auto)]
 
 mod arguments;
