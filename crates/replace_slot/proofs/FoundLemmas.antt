@@ -5,7 +5,7 @@ use Rattle.kr_outside.specs.declared.slot.Seen.{Seen}
 use Rattle.kr_outside.specs.declared.slot.Seen.TheVariants.{Missing, Whole, Longer}
 use Rattle.kr_outside.proofs.RenameDiskLemmas.{LeavesAnyBytes-pair}
 use Rattle.replace_slot.specs.Cell.{File, Known, Doubt, IsKnown, LeavesFile, length_of, longest_of}
-use Rattle.replace_slot.specs.Found.{Gave, IsFound, found_file}
+use Rattle.replace_slot.specs.Found.{Gave, IsFound, IsFoundOf, found_file}
 use Rattle.replace_slot.specs.declared.images.Found.{Found}
 use Rattle.replace_slot.specs.declared.images.Found.TheVariants.{Old, New, Other}
 
@@ -48,3 +48,13 @@ pub never_other_of : (file : File) (seen : Image) (answer : Seen) (buffer : List
     → ¬ (IsKnown file) → longest_of file < length buffer → LeavesFile file before → before seen → Reads seen buffer answer → IsFound answer buffer found file → found ≢ Other
 never_other_of (Known image) seen answer buffer found before doubt short leaves stands reads is = absurd (doubt tt)
 never_other_of (Doubt old new) seen answer buffer found before doubt short leaves stands reads is = never_other old new seen answer buffer found (leaves seen stands) reads short is
+
+-- what the read found is what the name stands for
+pub found_of : (file : File) (seen : Image) (answer : Seen) (buffer : List ℕ) (found : Found) (before : Image → Type 0)
+    → ¬ (IsKnown file) → longest_of file < length buffer → LeavesFile file before → before seen → Reads seen buffer answer → IsFound answer buffer found file → IsFoundOf seen found file
+found_of (Known image) seen answer buffer found before doubt short leaves stands reads is = tt
+found_of (Doubt old new) seen answer buffer Old before doubt short leaves stands reads is = gave_seen answer buffer seen old reads is
+found_of (Doubt old new) seen answer buffer New before doubt short leaves stands reads is =
+    (λ same. is.0 (seen_gave answer buffer seen old reads same (omega arith)), gave_seen answer buffer seen new reads is.1)
+found_of (Doubt old new) seen answer buffer Other before doubt short leaves stands reads is =
+    absurd (never_other old new seen answer buffer Other (leaves seen stands) reads short is refl)

@@ -1,5 +1,5 @@
 -- What a read says of a file that is in doubt.
-use Rattle.std.specs.Prelude.{◌≡◌, ℕ, List, take, length, Option, None, Some}
+use Rattle.std.specs.Prelude.{◌≡◌, ◌≢◌, ℕ, List, take, length, Option, None, Some}
 use Rattle.kr_outside.specs.RenameDisk.{Image, FitsIn}
 use Rattle.kr_outside.specs.declared.slot.Seen.{Seen}
 use Rattle.kr_outside.specs.declared.slot.Seen.TheVariants.{Missing, Whole, Longer}
@@ -39,6 +39,14 @@ IsFound seen buffer found (Known image) = Unit {0}
 IsFound seen buffer Old (Doubt old new) = Gave seen buffer old
 IsFound seen buffer New (Doubt old new) = ¬ (Gave seen buffer old) × Gave seen buffer new
 IsFound seen buffer Other (Doubt old new) = ¬ (Gave seen buffer old) × ¬ (Gave seen buffer new)
+
+-- what is found of a file in doubt if its name stands for this image: the older image if it is that one, otherwise the
+-- newer one if it is that one, and nothing else
+abbrev pub IsFoundOf : Image → Found → File → Type 0
+IsFoundOf seen found (Known image) = Unit {0}
+IsFoundOf seen Old (Doubt old new) = seen ≡ old
+IsFoundOf seen New (Doubt old new) = (seen ≢ old) × (seen ≡ new)
+IsFoundOf seen Other (Doubt old new) = ⊥
 
 -- this was found by the last read, from its result and this buffer
 pub record IsFoundBy (answered : Option Seen) (buffer : List ℕ) (found : Found) (file : File) : Type 0 where

@@ -1,10 +1,10 @@
-ghost use Rattle.std.specs.Prelude.{◌≡◌, ◌≢◌, ◌+◌, ◌≤◌, ◌<◌, ◌⊎◌, ◌↔◌, IsTrue, None, Some, length, IfOk, OnOk, OnErr, IsErrOf};
+ghost use Rattle.std.specs.Prelude.{◌≡◌, ◌≢◌, ◌+◌, ◌≤◌, ◌<◌, ◌⊎◌, ◌↔◌, IsTrue, None, Some, length, IfOk, OnOk, OnErr, IsErr, IsErrOf};
 ghost use Rattle.std.specs.Option.{option_map};
 ghost use Rattle.kr_outside.specs.Faults.{HasCause, KeepsSteady};
 ghost use Rattle.kr_outside.specs.Moments.{LeavesOnly};
 ghost use Rattle.kr_outside.specs.RenameDisk.{Only, FitsIn};
 ghost use Rattle.replace_slot.specs.Cell.{Known, Doubt, IsKnown, HasFile, old_image, new_image, IsOneOf, LeavesFile, length_of, longest_of, FailedBefore, FailedAfter, FailedRead};
-ghost use Rattle.replace_slot.specs.Found.{Gave, found_file, Shows, IsFoundBy};
+ghost use Rattle.replace_slot.specs.Found.{Gave, found_file, Shows, IsFoundBy, IsFoundOf};
 
 use crate::image::Image;
 use crate::images::{Found, Images};
@@ -191,7 +191,10 @@ impl<S: Slot> FileCell<S> {
             → LeavesOnly S.moment S.left_since self.old.slot self.new.slot
             (IsOneOf (Doubt (old_image self.old.file) None)) }
 
+        // A fault has its cause, which is one of the two calls.
         ensures cause { HasCause (S.faults self.old.slot) (S.faults self.new.slot) result }
+        ensures unsure_call { IsErr result → FailedAfter DeviceCall.Remove (IsTrue
+            (S.is_honest self.old.slot) → S.seen self.new.slot ≡ None) (S.failed self.new.slot) }
         ensures honest { S.is_honest self.new.slot ≡ S.is_honest self.old.slot }
         ensures steady { KeepsSteady (S.is_steady self.old.slot) (S.is_steady self.new.slot)
             (S.faults self.old.slot) (S.faults self.new.slot) }
@@ -218,12 +221,19 @@ impl<S: Slot> FileCell<S> {
         requires room { longest_of self.old.file < length buffer.old }
 
         ensures found { IfOk result (λ found. self.new.file ≡ found_file found self.old.file) }
+        ensures shown { IfOk result (λ found. Shows found self.old.file buffer.new) }
+        ensures unchanged { OnErr result (self.new.file ≡ self.old.file) }
+
+        // What is found is what the read returned. With an honest slot it is the image that the name
+        // stands for, before the call as well as after it, and so one of the two.
         ensures by_read { IfOk result (λ found.
             IsFoundBy (S.answered self.new.slot) buffer.new found self.old.file) }
-        ensures shown { IfOk result (λ found. Shows found self.old.file buffer.new) }
+        ensures by_name { IsTrue (S.is_honest self.old.slot)
+            → IfOk result (λ found. IsFoundOf (S.seen self.old.slot) found self.old.file) }
+        ensures same { IsTrue (S.is_honest self.old.slot)
+            → S.seen self.new.slot ≡ S.seen self.old.slot }
         ensures one { IsTrue (S.is_honest self.old.slot)
             → IfOk result (λ found. found ≢ Found.Other) }
-        ensures unchanged { OnErr result (self.new.file ≡ self.old.file) }
 
         // A crash afterwards leaves the image that was found, and a crash at any moment of the call
         // one of the two.
@@ -233,7 +243,9 @@ impl<S: Slot> FileCell<S> {
             → LeavesOnly S.moment S.left_since self.old.slot self.new.slot
             (IsOneOf self.old.file) }
 
+        // A fault has its cause, which is one of the two calls.
         ensures cause { HasCause (S.faults self.old.slot) (S.faults self.new.slot) result }
+        ensures read_call { IsErr result → FailedRead (S.failed self.new.slot) }
         ensures honest { S.is_honest self.new.slot ≡ S.is_honest self.old.slot }
         ensures steady { KeepsSteady (S.is_steady self.old.slot) (S.is_steady self.new.slot)
             (S.faults self.old.slot) (S.faults self.new.slot) }

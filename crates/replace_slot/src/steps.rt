@@ -90,6 +90,7 @@ pub fn settle<S: Slot>(slot: &mut S, buffer: &mut [u8]) -> Result<Seen, Failed>
     ensures answer { IsTrue (S.is_honest slot.old)
         → IfOk result (Reads (S.seen slot.new) buffer.new) }
     ensures told { IfOk result (λ seen. S.answered slot.new ≡ Some seen) }
+    ensures same { IsTrue (S.is_honest slot.old) → S.seen slot.new ≡ S.seen slot.old }
     ensures settled { IsTrue (S.is_honest slot.old)
         → OnOk result (LeavesAnyBytes (S.may_leave slot.old)
         ⊎ Only (S.seen slot.new) (S.may_leave slot.new)) }

@@ -1,6 +1,7 @@
 use Rattle.std.proofs.Common.{sym, ◌∙◌, ap, subst, ◌<◌, length, arith}
 use Rattle.replace_slot.specs.Cell.{IsKnown, longest_of}
-use Rattle.replace_slot.proofs.FoundLemmas.{found_alone}
+use Rattle.replace_slot.specs.Found.{IsFoundOf}
+use Rattle.replace_slot.proofs.FoundLemmas.{found_alone, found_of}
 use Rattle.replace_slot.proofs.cell.FileCell.resolve.Goals as goal
 
 -- the image that was read is the only one that a crash leaves
@@ -24,3 +25,14 @@ returns-in-Ok-clause-by_read g c = rw (← c.self.view_is) (record {
   fits = c.in-Ok.ensures.fits;
   decided = c.find.ensures.gave;
 })
+
+-- and so does what the name stands for
+pub returns-in-Ok-clause-by_name : goal.returns-in-Ok-clause-by_name
+returns-in-Ok-clause-by_name g c = rw (← c.self.view_is) (λ was.
+    let file_is = ap (λ s. s.file) c.self.view_is in
+    let honest = c.settle.ensures.honest ∙ was in
+    subst (λ i. IsFoundOf i c.find.result c.self.inside.file) (c.settle.ensures.same was)
+    (found_of c.self.inside.file (g.S.Slot.seen c.settle.new.slot) c.in-Ok.seen c.settle.new.buffer c.find.result _
+    (subst (λ f. ¬ (IsKnown f)) (sym file_is) c.requires.doubt) (subst (λ f. longest_of f < length c.settle.new.buffer) (sym file_is) (omega (arith, c.requires.room)))
+    (c.self.invariant was) (c.settle.ensures.crash was _ (g.met.S.Slot.may_leave_seen c.settle.new.slot honest))
+    (c.in-Ok.ensures.answer was) c.find.ensures.gave))
