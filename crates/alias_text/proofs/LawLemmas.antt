@@ -1,4 +1,4 @@
--- What is written of aliases is read as them, and what is read of bytes is one list.
+-- What is written of aliases is read as these aliases, and bytes give only one list.
 use Rattle.std.proofs.Common.{◌≡◌, ◌≢◌, ℕ, ◌≤◌, ◌*◌, ◌⊎◌, inl, inr, ⊎_elim, Bool, true, false, cond, List, [], ◌∷◌, ◌++◌, length, map, Option, None, Some, refl, sym, ◌∙◌, ap, subst, arith}
 use Rattle.std.specs.Char.{is_ascii_alphanumeric}
 use Rattle.std.specs.Cmp.Lexicographic.{slice_cmp, nat_list_cmp_total}
@@ -28,7 +28,7 @@ use Rattle.alias_text.proofs.LineLemmas.{one_cut, one_pair, line_is_pair, line_i
 abbrev Pairs : Type 0
 Pairs = List (List ℕ × List ℕ)
 
--- the name and the stem are those of an alias
+-- the name is a name of an alias, and the stem is a stem
 abbrev IsAlias : List ℕ × List ℕ → Type 0
 IsAlias alias = IsAliasName alias.0 × IsStem alias.1
 
@@ -66,7 +66,7 @@ written_is_read aliases are fits =
       gathered = Gathers-itself aliases are.ordered;
     })
 
--- ---- what is read is one list
+-- ---- bytes give one list
 
 -- the same as `Gives`, from the first line on
 abbrev From : List (List ℕ) → Pairs → Type 0
@@ -101,7 +101,7 @@ one_from (line ∷ lines) one other (inr (name, stem, more, is, same, p)) (inr (
     let rest : more ≡ also = one_from lines more also p q in
     same ∙ (λ i. (pair.0 i, pair.1 i) ∷ rest i) ∙ sym same_also
 
--- bytes are cut into lines in one way
+-- bytes are cut into lines in only one way
 ended_rest : (line : List ℕ) (lines : List (List ℕ)) (rest : List ℕ) → ended (line ∷ lines) ++ rest ≡ line ++ 10 ∷ (ended lines ++ rest)
 ended_rest line lines rest = append_assoc (line ++ 10 ∷ []) (ended lines) rest ∙ append_assoc line (10 ∷ []) (ended lines ++ rest)
 
@@ -162,7 +162,7 @@ is_same one other e = exact_bytes one other (is_equal (slice_cmp nat_cmp one oth
 is_itself : (name : List ℕ) → is_name name name ≡ true
 is_itself name = ap is_eq (tied_itself nat_list_cmp_total name)
 
--- a value is that of some pair
+-- each value is the value of some pair
 of_cases : (pair : List ℕ × List ℕ) (pairs : Pairs) (name stem : List ℕ) → IsAlias pair → (last_value name pairs ≡ Some stem → IsAlias (name, stem))
     → (last : Option (List ℕ)) (here : Bool) → last_value name pairs ≡ last → is_name pair.0 name ≡ here → option_or last (cond here (Some pair.1) None) ≡ Some stem → IsAlias (name, stem)
 of_cases pair pairs name stem is more (Some other) here one same found = more (one ∙ found)

@@ -1,4 +1,4 @@
--- What a line that gives an alias is, and where it is cut.
+-- Lines that give an alias, and where they are cut.
 use Rattle.std.proofs.Common.{◌≡◌, ◌≢◌, ℕ, ◌<◌, List, [], ◌∷◌, ◌++◌, length, get_or, Bor, Option, None, Some, MatchOption, IsTrue, IsUtf8, refl, sym, ◌∙◌, ap, subst, arith}
 use Rattle.std.specs.List.{All, AllByRecursion, Contains}
 use Rattle.std.proofs.lemmas.List.Elements.{All-from_get_or, All-append, All-contains, All-weaker, All-cons, recursion_from_All, Contains-append_right}
@@ -11,7 +11,7 @@ use Rattle.kr_names.proofs.EscapeLemmas.{escaped_spelled, path_bytes_plain, unes
 use Rattle.alias_text.specs.Line.{IsCut, IsPair}
 use Rattle.alias_text.specs.Writing.{line_of}
 
--- the bytes of an alias's name are plain ones
+-- the bytes of a name of an alias are ASCII
 alias_plain : (name : List ℕ) → IsAliasName name → All IsPlain name
 alias_plain name alias = path_bytes_plain name alias.bytes
 
@@ -28,18 +28,18 @@ pair_is_text line name stem pair =
 pub alias_no_zero : (name : List ℕ) → IsAliasName name → HasZero name → ⊥
 alias_no_zero name alias zero = (IsText-plain name (alias_plain name alias)).no_zero zero
 
--- it has a `=`
+-- it contains a `=`
 pub not_cut : (line name stem : List ℕ) → All (λ byte. byte ≢ 61) line → IsPair line name stem → ⊥
 not_cut line name stem lacks pair =
     All-contains (λ byte. byte ≢ 61) line 61 lacks
     (subst (λ l. Contains l 61) (sym pair.spelled) (Contains-append_right name (61 ∷ escaped stem) 61 (0, omega arith, refl))) refl
 
--- and none in the alias's name
+-- and the name of the alias contains none
 lacks_mark : (name : List ℕ) → IsAliasName name → All (λ byte. byte ≢ 61) name
 lacks_mark name alias = All-weaker (λ byte. IsTrue (is_path_byte byte)) (λ byte. byte ≢ 61)
     (λ byte is same. let wrong : IsTrue (is_path_byte 61) = subst (λ b. IsTrue (is_path_byte b)) same is in cc) name alias.bytes
 
--- a text is cut in one way
+-- a text is cut in only one way
 pub one_cut : (at : ℕ) (a b c d : List ℕ) → AllByRecursion (λ byte. byte ≢ at) a → AllByRecursion (λ byte. byte ≢ at) c → a ++ at ∷ b ≡ c ++ at ∷ d → (a ≡ c) × (b ≡ d)
 one_cut at [] b [] d lacks also same = (refl, cc)
 one_cut at [] b (x ∷ c) d lacks (first, rest) same = absurd (first cc)
@@ -80,7 +80,7 @@ cut_read line (Some x) (spelled, first) = record {
   first = All-from_get_or (λ byte. byte ≢ 61) x.0.now 0 first;
 }
 
--- a line gives one alias
+-- a line gives only one alias
 pub one_pair : (line name stem other also : List ℕ) → IsPair line name stem → IsPair line other also → (name ≡ other) × (stem ≡ also)
 one_pair line name stem other also one two =
     let cut : (name ≡ other) × (escaped stem ≡ escaped also) = one_cut 61 name (escaped stem) other (escaped also)
@@ -89,7 +89,7 @@ one_pair line name stem other also one two =
     (sym one.spelled ∙ two.spelled) in
     (cut.0, sym (unescaped_escaped stem (bytes_fit stem one.is_stem.text.utf8)) ∙ ap unescaped cut.1 ∙ unescaped_escaped also (bytes_fit also two.is_stem.text.utf8))
 
--- the line of an alias gives it, and has no line ending in it
+-- the line of an alias gives it, and contains no line ending
 pub line_is_pair : (alias : List ℕ × List ℕ) → IsAliasName alias.0 → IsStem alias.1 → IsPair (line_of alias) alias.0 alias.1
 line_is_pair alias named is = record { alias = named; is_stem = is; spelled = refl }
 

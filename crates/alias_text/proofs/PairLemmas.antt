@@ -7,7 +7,7 @@ use Rattle.kr_base.specs.Attributes.{Gathers}
 use Rattle.alias_text.specs.Line.{IsCut}
 use Rattle.alias_text.specs.Pairs.{ended, IsOneLine, Gives, LinesGive, nothing}
 
--- on the way through the text: the lines so far, and the pairs that they give
+-- a part of the text was read: its lines, and the pairs that they give
 pub record Reading (bytes rest : List ℕ) (pairs : List (List ℕ × List ℕ)) : Type 0 where
   pub lines : List (List ℕ)
   pub spelled : bytes ≡ ended lines ++ rest
@@ -33,7 +33,7 @@ ended_before lines line behind =
 pub Reading-none : (bytes : List ℕ) → Reading bytes bytes []
 Reading-none bytes = record { lines = []; spelled = refl; apart = All-nil IsOneLine; gives = nothing }
 
--- one line more
+-- one more line
 pub Reading-more : (bytes rest line behind : List ℕ) (pairs next : List (List ℕ × List ℕ)) → Reading bytes rest pairs → IsCut 10 rest line behind
     → ((lines : List (List ℕ)) → Gives lines pairs → Gives (lines ++ line ∷ []) next) → Reading bytes behind next
 Reading-more bytes rest line behind pairs next so_far cut adds = record {
@@ -43,7 +43,7 @@ Reading-more bytes rest line behind pairs next so_far cut adds = record {
   gives = adds so_far.lines so_far.gives;
 }
 
--- behind the last line
+-- after the last line
 pub LinesGive-done : (bytes rest : List ℕ) (pairs aliases : List (List ℕ × List ℕ)) → Reading bytes rest pairs → IsOneLine rest → Gathers pairs aliases → LinesGive bytes aliases
 LinesGive-done bytes rest pairs aliases so_far unended gathered = record {
   lines = so_far.lines;

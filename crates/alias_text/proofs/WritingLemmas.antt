@@ -1,4 +1,4 @@
--- How long the text of aliases is, and what each of its parts takes of it.
+-- The length of the text of aliases, and of its parts.
 use Rattle.std.proofs.Common.{◌≡◌, ℕ, ◌<◌, ◌≤◌, ◌+◌, ◌*◌, List, [], ◌∷◌, ◌++◌, take, get_or, length, zero, suc, refl, sym, ◌∙◌, ap, arith, filter, ⊎_elim}
 use Rattle.std.specs.Char.{is_ascii_alphanumeric}
 use Rattle.std.specs.List.{flat_map}
@@ -7,7 +7,7 @@ use Rattle.std.proofs.lemmas.List.{length-append}
 use Rattle.kr_names.specs.Escape.{escape, escaped}
 use Rattle.alias_text.specs.Writing.{is_odd, line_of, text_of}
 
--- the parts of a text up to one of them, and this one, are no longer than the text
+-- the parts of a text up to and including one of them are no longer than the text
 pub part_fits : {T : Type 0} (f : T → List ℕ) (xs : List T) (i : ℕ) (d : T) → i < length xs
     → length (flat_map f (take i xs)) + length (f (get_or xs i d)) ≤ length (flat_map f xs)
 part_fits f [] i d lt = absurd (omega arith)
@@ -15,7 +15,7 @@ part_fits f (x ∷ xs) zero d lt = omega (arith, length-append (f x) (flat_map f
 part_fits f (x ∷ xs) (suc i) d lt =
     omega (arith, length-append (f x) (flat_map f xs), length-append (f x) (flat_map f (take i xs)), part_fits f xs i d (omega arith))
 
--- a letter or a digit stands for itself, and every other byte is three
+-- a letter or a digit is itself, and every other byte becomes three
 length-escape : (byte : ℕ) (bytes : List ℕ) → length (escape byte) + 2 * length (filter is_odd bytes) ≡ 1 + 2 * length (filter is_odd (byte ∷ bytes))
 length-escape byte bytes = ⊎_elim (λ plain. rw plain (omega arith)) (λ odd. rw odd (omega arith)) (cases_Bool (is_ascii_alphanumeric byte))
 
@@ -24,7 +24,7 @@ length_escaped [] = refl
 length_escaped (byte ∷ stem) =
     omega (arith, length-append (escape byte) (escaped stem), length_escaped stem, length-escape byte stem)
 
--- a line with its ending, and the lines before it, are no longer than the text of all
+-- a line with its ending, and the lines before it, are no longer than the whole text
 pub line_fits : (aliases : List (List ℕ × List ℕ)) (i : ℕ) (alias : List ℕ × List ℕ) → i < length aliases → alias ≡ get_or aliases i alias
     → length (text_of (take i aliases)) + (length (line_of alias) + 1) ≤ length (text_of aliases)
 unfolding text_of

@@ -11,7 +11,7 @@ use Rattle.kr_names.specs.Path.{IsAliasName}
 abbrev pub is_odd : ℕ → Bool
 is_odd byte = not (is_ascii_alphanumeric byte)
 
--- the line of an alias, without its ending: `A=X`, with the stem as it stands in a path
+-- the line of an alias, without its ending: `A=X`, with the stem escaped as in a path
 abbrev pub line_of : List ℕ × List ℕ → List ℕ
 line_of alias = alias.0 ++ 61 ∷ escaped alias.1
 
@@ -19,8 +19,8 @@ line_of alias = alias.0 ++ 61 ∷ escaped alias.1
 unfoldable pub text_of : List (List ℕ × List ℕ) → List ℕ
 text_of aliases = flat_map (λ alias. line_of alias ++ 10 ∷ []) aliases
 
--- what a file of aliases can hold: they are in byte order of their names, each of which is the name of
--- an alias, and they stand for stems
+-- aliases that a file can contain: they are in byte order of their names, each of which is a name of an alias, and they
+-- stand for stems
 pub record AreAliases (aliases : List (List ℕ × List ℕ)) : Type 0 where
   pub ordered : IsInOrder aliases
   pub each : All (λ alias. IsAliasName alias.0 × IsStem alias.1) aliases

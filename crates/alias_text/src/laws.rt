@@ -1,5 +1,5 @@
-// What the definitions say together of what is written and what is read. Each law is the contract of a
-// function that does nothing.
+// Laws of the definitions: how a text that is written is read. Each law is the contract of a function
+// that does nothing.
 ghost use Rattle.std.specs.Prelude.{◌≡◌, ◌≤◌, ◌↔◌, ℕ, List, length};
 ghost use Rattle.alias_text.specs.Pairs.{longest, AliasesOf};
 ghost use Rattle.alias_text.specs.Writing.{AreAliases, text_of};
@@ -11,13 +11,13 @@ pub fn what_is_written_is_read()
         → AliasesOf (text_of aliases) read ↔ (read ≡ aliases) }
 {}
 
-/// What is read of bytes is one list.
+/// Bytes give only one list of aliases.
 pub fn bytes_give_one_list()
     ensures { (bytes : List ℕ) (one other : List (List ℕ × List ℕ))
         → AliasesOf bytes one → AliasesOf bytes other → one ≡ other }
 {}
 
-/// What is read of bytes can be written.
+/// The aliases that bytes give can be written.
 pub fn what_is_read_can_be_written()
     ensures { (bytes : List ℕ) (aliases : List (List ℕ × List ℕ))
         → AliasesOf bytes aliases → AreAliases aliases }

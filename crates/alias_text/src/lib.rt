@@ -1,7 +1,8 @@
 //! The text of the file `aliases` (docs/KEYRING_FILES.md, "The aliases"): one line `A=X` for each alias
-//! A, with the stem of its collection as it stands in a path. Callers may rely on these: a line that
-//! isn't of this form is skipped, of two lines with one name the later counts, and the pairs come in
-//! byte order of their names, each name once. What is written of aliases is read as just these.
+//! A, where X is the stem of its collection, escaped as in an object path. Callers may rely on these: a
+//! line of any other form is skipped; if a name occurs twice, the later line counts; and the aliases
+//! are returned in byte order of their names, each name once. The text that is written of aliases is
+//! read as exactly these aliases.
 #![tactic(auto)]
 
 mod laws;

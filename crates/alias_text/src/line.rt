@@ -8,7 +8,7 @@ use kr_names::{is_alias_name, stem_of_escaped};
 use std::alloc::Global;
 use std::str;
 
-/// The first line, without its ending, and what stands behind it. None where no line ends.
+/// The first line, without its ending, and the bytes after it. None if no line ends.
 pub fn cut_line(bytes: &[u8]) -> Option<(&[u8], &[u8])>
     ensures { MatchOption result (All (λ byte. byte ≢ 10) bytes.now)
         (λ parts. IsCut 10 bytes.now parts.0.now parts.1.now) }
@@ -17,7 +17,7 @@ pub fn cut_line(bytes: &[u8]) -> Option<(&[u8], &[u8])>
     Some((&bytes[..end], &bytes[end + 1..]))
 }
 
-/// The alias that the line gives, and the stem that it stands for; None where it gives none.
+/// The alias that the line gives, and the stem that it stands for; None if it gives none.
 pub fn pair_of(alloc: Global, line: &[u8]) -> Result<Option<(Text, Stem)>, OutOfMemory>
     ensures { IfOk result (Reads (λ pair. IsPair line.now pair.0 pair.1)) }
 {
@@ -27,7 +27,7 @@ pub fn pair_of(alloc: Global, line: &[u8]) -> Result<Option<(Text, Stem)>, OutOf
     }
 }
 
-// The same of a line that is a text.
+// The same for a line of UTF-8.
 fn pair_in(alloc: Global, line: &str) -> Result<Option<(Text, Stem)>, OutOfMemory>
     ensures { IfOk result (Reads (λ pair. IsPair line.now pair.0 pair.1)) }
 {
@@ -46,7 +46,7 @@ fn pair_in(alloc: Global, line: &str) -> Result<Option<(Text, Stem)>, OutOfMemor
     }
 }
 
-// The parts of the line before and behind its first `=`.
+// The parts of the line before and after its first `=`.
 fn cut_pair(line: &str) -> Option<(&str, &str)>
     ensures { MatchOption result (All (λ byte. byte ≢ 61) line.now)
         (λ parts. IsCut 61 line.now parts.0.now parts.1.now) }

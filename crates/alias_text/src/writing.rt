@@ -8,8 +8,8 @@ ghost use Rattle.alias_text.specs.Writing.{is_odd, line_of, text_of};
 use kr_base::{OutOfMemory, Stem, Text};
 use std::alloc::Global;
 
-/// The text of aliases, a line for each, in their order. It takes one piece of memory, whose size is
-/// known before.
+/// The text of the aliases, a line for each, in their order. It is written into one piece of memory,
+/// whose size is computed first.
 #[tactic(auto, unfolding(crate::specs::Writing::text_of))]
 pub fn write_aliases(alloc: Global, aliases: &[(Text, Stem)]) -> Result<Vec<u8>, OutOfMemory>
     requires { length (text_of aliases.now) ≤ longest }
@@ -22,7 +22,7 @@ pub fn write_aliases(alloc: Global, aliases: &[(Text, Stem)]) -> Result<Vec<u8>,
     Ok(text)
 }
 
-// How many bytes the text of aliases has.
+// The number of bytes of the text of the aliases.
 #[tactic(auto, unfolding(crate::specs::Writing::text_of))]
 fn size_of(aliases: &[(Text, Stem)]) -> usize
     requires { length (text_of aliases.now) ≤ longest }
@@ -35,7 +35,7 @@ fn size_of(aliases: &[(Text, Stem)]) -> usize
     size
 }
 
-// How many bytes the line of an alias has, with its ending.
+// The number of bytes of the line of an alias, with its ending.
 fn line_size(alias: &(Text, Stem)) -> usize
     requires { length (line_of alias.now) + 1 ≤ longest }
     ensures { result ≡ length (line_of alias.now) + 1 }
@@ -43,7 +43,7 @@ fn line_size(alias: &(Text, Stem)) -> usize
     alias.0.len() + escaped_size(&alias.1) + 2
 }
 
-// How many bytes a stem has in a path: each that is no letter or digit takes three.
+// The number of bytes of an escaped stem: each byte that isn't a letter or a digit takes three.
 #[tactic(auto, using(crate::proofs::WritingLemmas::length_escaped))]
 fn escaped_size(stem: &Stem) -> usize
     ensures { result ≡ length (escaped stem.now) }
@@ -52,7 +52,7 @@ fn escaped_size(stem: &Stem) -> usize
     bytes.len() + 2 * odd_bytes(bytes)
 }
 
-// How many of the bytes are no letters or digits.
+// How many of the bytes aren't letters or digits.
 fn odd_bytes(bytes: &[u8]) -> usize
     ensures count { result ≡ length (filter is_odd bytes.now) }
     ensures most { result ≤ length bytes.now }
@@ -63,7 +63,7 @@ fn odd_bytes(bytes: &[u8]) -> usize
         .count()
 }
 
-// Appends the line of an alias, and its ending, in the room that is there.
+// Appends the line of an alias, with its ending. There is room for it.
 fn put_line(text: &mut Vec<u8>, alias: &(Text, Stem))
     requires room { vec_len text.old + (length (line_of alias.now) + 1) ≤ vec_capacity text.old }
     ensures text { text.new.items ≡ text.old.items ++ (line_of alias.now ++ 10 ∷ []) }
@@ -75,7 +75,7 @@ fn put_line(text: &mut Vec<u8>, alias: &(Text, Stem))
     text.push(b'\n').unwrap();
 }
 
-// Appends a stem as it stands in a path, in the room that is there.
+// Appends a stem, escaped as in a path. There is room for it.
 fn put_escaped(text: &mut Vec<u8>, stem: &[u8])
     requires room { vec_len text.old + length (escaped stem.now) ≤ vec_capacity text.old }
     ensures text { text.new.items ≡ text.old.items ++ escaped stem.now }
@@ -86,7 +86,7 @@ fn put_escaped(text: &mut Vec<u8>, stem: &[u8])
     }
 }
 
-// Appends a byte of a stem as it stands in a path, in the room that is there.
+// Appends a byte of a stem, escaped as in a path. There is room for it.
 fn put_byte(text: &mut Vec<u8>, byte: u8)
     requires room { vec_len text.old + length (escape byte) ≤ vec_capacity text.old }
     ensures text { text.new.items ≡ text.old.items ++ escape byte }

@@ -4,7 +4,7 @@ use Rattle.kr_names.specs.Escape.{escape, escaped}
 use Rattle.alias_text.proofs.WritingLemmas.{part_fits}
 use Rattle.alias_text.proofs.writing.put_escaped.Goals as goal
 
--- a byte takes its part of the room
+-- there is room for the byte
 pub put_byte-requires : goal.put_byte-requires
 put_byte-requires c =
     let so_far : vec_len c.loop-byte.text ≡ length c.args.text.now.items + length (escaped (take c.loop-byte.byte-index c.args.stem.now)) =

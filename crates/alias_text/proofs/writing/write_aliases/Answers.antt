@@ -3,7 +3,7 @@ use Rattle.alias_text.specs.Writing.{text_of}
 use Rattle.alias_text.proofs.WritingLemmas.{line_fits}
 use Rattle.alias_text.proofs.writing.write_aliases.Goals as goal
 
--- a line takes its part of the room
+-- there is room for the line
 pub put_line-requires : goal.put_line-requires
 put_line-requires c =
     let so_far : vec_len c.loop-alias.text ≡ length (text_of (take c.loop-alias.alias-index c.args.aliases.now)) =
