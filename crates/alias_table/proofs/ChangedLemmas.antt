@@ -1,4 +1,4 @@
--- What a change makes of the aliases is in order, and can be stored where it isn't too many.
+-- The aliases after a change are in order, and a file can contain them.
 use Rattle.std.proofs.Common.{◌≡◌, ℕ, ⊎_elim, Bool, true, List, [], ◌∷◌, ◌++◌, filter, Option, None, Some, IfSome, refl}
 use Rattle.std.specs.declared.cmp.Ordering.{Ordering}
 use Rattle.std.specs.declared.cmp.Ordering.TheVariants.{Less, Equal, Greater}
@@ -31,7 +31,7 @@ is_less Less e = refl
 is_less Equal e = absurd cc
 is_less Greater e = absurd cc
 
--- a filter keeps what holds of all
+-- what is true of all is true of those that a filter keeps
 module _ (p : List ℕ × List ℕ → Bool) where
   all_kept : (P : List ℕ → Type 0) (aliases : Aliases) → AllByRecursion P (keys_of aliases) → AllByRecursion P (keys_of (filter p aliases))
   all_kept P [] all = tt
@@ -69,7 +69,7 @@ all_after name (alias ∷ aliases) = ⊎_elim
     (λ other. rw other (all_after name aliases))
     (cases_Bool (is_lt (by_bytes name alias.0)))
 
--- what comes after a name comes after what is before it
+-- what comes after a name comes after what comes before the name
 pub further : (first name : List ℕ) (aliases : Aliases) → by_bytes first name ≡ Less → AllAfter name aliases → AllAfter first aliases
 further first name [] less all = tt
 further first name (alias ∷ aliases) less (is, all) = (nat_list_cmp_total.trans first name alias.0 less is, further first name aliases less all)
@@ -82,7 +82,7 @@ each_joined : (P : List ℕ × List ℕ → Type 0) (aliases more : Aliases) →
 each_joined P [] more all also = also
 each_joined P (alias ∷ aliases) more (is, all) also = (is, each_joined P aliases more all also)
 
--- aliases before a name, and then aliases after it
+-- aliases before a name, followed by aliases after it
 in_order : (name : List ℕ) (aliases more : Aliases) → IsInOrder aliases → AllBefore name aliases → IsInOrder more → AllAfter name more → IsInOrder (aliases ++ more)
 unfolding IsStrictlySortedBy
 in_order name [] more ordered before ordered_more after = ordered_more
@@ -96,7 +96,7 @@ in_order_at name stem [] more ordered before ordered_more after = (after, ordere
 in_order_at name stem (alias ∷ aliases) more (is, ordered) (less, before) ordered_more after =
     (joined (λ other. by_bytes alias.0 other ≡ Less) aliases ((name, stem) ∷ more) is (less, further alias.0 name more less after), in_order_at name stem aliases more ordered before ordered_more after)
 
--- the name and the stem are those of an alias
+-- the name is a name of an alias, and the stem is a stem
 abbrev IsAlias : List ℕ × List ℕ → Type 0
 IsAlias alias = IsAliasName alias.0 × IsStem alias.1
 

@@ -1,4 +1,4 @@
--- What is read of the aliases after a change.
+-- What an alias stands for after a change.
 use Rattle.std.proofs.Common.{◌≡◌, ◌≢◌, ℕ, ⊎_elim, Bool, true, false, cond, List, [], ◌∷◌, ◌++◌, filter, Option, None, Some, refl, sym, ◌∙◌, ap, subst}
 use Rattle.std.specs.declared.cmp.Ordering.{Ordering}
 use Rattle.std.specs.declared.cmp.Ordering.TheVariants.{Less, Equal, Greater}
@@ -37,7 +37,7 @@ none_after : (name : List ℕ) (aliases : Aliases) → AllAfter name aliases →
 none_after name [] all = refl
 none_after name (alias ∷ aliases) (less, all) = lookup_tail (is_name name) alias aliases (ap is_eq less) ∙ none_after name aliases all
 
--- the alias that was set is read, and one that was taken out isn't
+-- an alias that was set is found, and one that was removed isn't
 pub set_is_read : (name : List ℕ) (stem : Option (List ℕ)) (aliases : Aliases) → value_at name (with_alias name stem aliases) ≡ stem
 set_is_read name None aliases = skipped name (before name aliases) (after name aliases) (all_before name aliases) ∙ none_after name (after name aliases) (all_after name aliases)
 set_is_read name (Some stem) aliases =
@@ -50,7 +50,7 @@ passed p alias aliases it = ap (λ b. cond b (alias ∷ filter p aliases) (filte
 dropped : (p : List ℕ × List ℕ → Bool) (alias : List ℕ × List ℕ) (aliases : Aliases) → p alias ≡ false → filter p (alias ∷ aliases) ≡ filter p aliases
 dropped p alias aliases it = ap (λ b. cond b (alias ∷ filter p aliases) (filter p aliases)) it
 
--- a filter that passes what has the name
+-- a filter that keeps the aliases of this name
 module _ (p : List ℕ × List ℕ → Bool) (other : List ℕ) (passes : (alias : List ℕ × List ℕ) → is_name other alias.0 ≡ true → p alias ≡ true) where
   filtered : (aliases rest : Aliases) → value_at other (filter p aliases ++ rest) ≡ option_or (value_at other aliases) (value_at other rest)
   filtered [] rest = refl
@@ -70,12 +70,12 @@ module _ (p : List ℕ × List ℕ → Bool) (other : List ℕ) (passes : (alias
       (cases_Bool (p alias)))
       (cases_Bool (is_name other alias.0))
 
--- what is before a name is before what comes after it
+-- what comes before a name comes before what comes after the name
 nearer : (last name : List ℕ) (aliases : Aliases) → by_bytes name last ≡ Less → AllBefore name aliases → AllBefore last aliases
 nearer last name [] less all = tt
 nearer last name (alias ∷ aliases) less (is, all) = (nat_list_cmp_total.trans alias.0 name last is less, nearer last name aliases less all)
 
--- another alias is as before: one whose name comes before, and one whose name comes after
+-- every other alias stays: one whose name comes before this one, and one whose name comes after it
 earlier_stays : (name other : List ℕ) (stem : Option (List ℕ)) (aliases : Aliases) → by_bytes other name ≡ Less → value_at other (with_alias name stem aliases) ≡ value_at other aliases
 earlier_stays name other None aliases less =
     filtered (λ alias. is_lt (by_bytes alias.0 name)) other (λ alias same. ap is_lt (subst (λ n. by_bytes n name ≡ Less) (is_same other alias.0 same) less)) aliases (after name aliases)
@@ -108,7 +108,7 @@ other_stays name other stem aliases apart = by_order (by_bytes other name) refl
     by_order Equal is = absurd (apart (exact_bytes other name is))
     by_order Greater is = later_stays name other stem aliases (nat_list_cmp_total.antisymm name other ∙ ap ordering_reverse is)
 
--- what isn't there is in no part
+-- a name that has no alias has none after a filter
 none_kept : (p : List ℕ × List ℕ → Bool) (name : List ℕ) (aliases : Aliases) → value_at name aliases ≡ None → value_at name (filter p aliases) ≡ None
 none_kept p name [] none = refl
 none_kept p name (alias ∷ aliases) none = ⊎_elim
@@ -121,7 +121,7 @@ none_kept p name (alias ∷ aliases) none = ⊎_elim
     (cases_Bool (p alias)))
     (cases_Bool (is_name name alias.0))
 
--- an alias is kept just where its collection is there
+-- an alias is kept exactly if its collection exists
 kept_live : (live : List (List ℕ)) (name : List ℕ) (aliases : Aliases) → IsInOrder aliases → value_at name (kept live aliases) ≡ live_only live (value_at name aliases)
 kept_live live name [] ordered = refl
 kept_live live name (alias ∷ aliases) ordered =

@@ -1,4 +1,4 @@
--- The rows of the table: what their type says of them, and what a crash leaves.
+-- The rows of the table: what their type says of them, and what a change does to them.
 use Rattle.std.proofs.Common.{◌≡◌, ℕ, List, Option, None, Some, Result, Ok, Err, refl, sym, ◌∙◌, ap, subst}
 use Rattle.kr_base.proofs.AttributeLemmas.{IsInOrder-nil}
 use Rattle.std.proofs.lemmas.List.Elements.{All-nil}
@@ -9,9 +9,7 @@ use Rattle.alias_text.specs.Pairs.{AliasesOf, GivesAliases}
 use Rattle.alias_text.specs.Writing.{AreAliases, text_of}
 use Rattle.alias_text.proofs.LawLemmas.{read_are, written_is_read}
 use Rattle.replace_slot.specs.Cell.{File, Known, Doubt, IsKnown, old_image}
-use Rattle.replace_slot.specs.Found.{found_file}
 use Rattle.replace_slot.specs.declared.images.Found.{Found}
-use Rattle.replace_slot.specs.declared.images.Found.TheVariants.{Old}
 use Rattle.alias_table.specs.Changed.{Aliases, IsStorable}
 use Rattle.alias_table.specs.Table.{AreGiven, AliasRows, Stores, done, failed, in_doubt, unsure, resolved, chosen, Change, Sets, settled}
 use Rattle.alias_table.specs.declared.refused.AliasRefused.{AliasRefused}
@@ -32,7 +30,7 @@ pub newer_are : (file : File) (aliases newer : Aliases) → AreGiven file aliase
 newer_are (Known image) aliases newer given = absurd given
 newer_are (Doubt old new) aliases newer given = image_are new newer given.1
 
--- nothing is kept of a newer image where there is none
+-- if the file is known, there are no aliases of a newer image
 pub known_none : (file : File) (aliases : Aliases) (newer : Option Aliases) → AreGiven file aliases newer → IsKnown file → newer ≡ None
 known_none (Known image) aliases None given known = refl
 known_none (Known image) aliases (Some newer) given known = absurd given
@@ -40,7 +38,7 @@ known_none (Doubt old new) aliases newer given known = absurd known
 
 -- ---- what a store does
 
--- what was stored is what the new image gives
+-- the new image gives what was stored
 stored_given : (next : Aliases) (text : List ℕ) → IsStorable next text → GivesAliases (Some text) next
 stored_given next text can = subst (λ t. AliasesOf t next) (sym can.is) (written_is_read next can.are can.fits)
 
@@ -72,14 +70,6 @@ stores_unsure wanted rows next newer aliases was file before is same view now =
 
 -- ---- what a change does
 
-known_found : (file : File) → IsKnown file → found_file Old file ≡ file
-known_found (Known image) known = refl
-known_found (Doubt old new) known = absurd known
-
--- where nothing is in doubt, there is nothing to be found
-pub resolved_known : (rows : AliasRows) → IsKnown rows.file → rows.newer ≡ None → resolved Old rows ≡ rows
-resolved_known rows known none = λ i. record { file = known_found rows.file known i; aliases = rows.aliases; newer = sym none i }
-
-pub sets_settled : (found : Found) (change : Change) (rows mid next : AliasRows) (wanted : Option Aliases) (result : Result (Unit {0}) AliasRefused) → mid ≡ resolved found rows → wanted ≡ chosen found change
-    → Stores wanted mid result next → Sets change rows result next
-sets_settled found change rows mid next wanted result is chosen_is stores = settled found result next (rw (← is, ← chosen_is) stores)
+pub sets_settled : (IsRead : Found → Type 0) (found : Found) (change : Change) (rows mid next : AliasRows) (wanted : Option Aliases) (result : Result (Unit {0}) AliasRefused) → ¬ (IsKnown rows.file) → IsRead found
+    → mid ≡ resolved found rows → wanted ≡ chosen found change → Stores wanted mid result next → Sets IsRead change rows result next
+sets_settled IsRead found change rows mid next wanted result doubt read is chosen_is stores = settled found result next doubt read (rw (← is, ← chosen_is) stores)

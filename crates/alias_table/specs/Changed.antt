@@ -11,16 +11,16 @@ use Rattle.alias_text.specs.Writing.{AreAliases, text_of}
 abbrev pub Aliases : Type 0
 Aliases = List (List ℕ × List ℕ)
 
--- the stem is that of a collection that is there
+-- the stem is that of a collection that exists
 abbrev pub is_live : List (List ℕ) → List ℕ → Bool
 is_live live stem = list_any (is_name stem) live
 
--- the stem, if its collection is there
+-- the stem, if its collection exists
 abbrev pub live_only : List (List ℕ) → Option (List ℕ) → Option (List ℕ)
 live_only live None = None
 live_only live (Some stem) = if is_live live stem then Some stem else None
 
--- the aliases whose collection is there
+-- the aliases whose collection exists
 abbrev pub kept : List (List ℕ) → Aliases → Aliases
 kept live aliases = filter (λ alias. is_live live alias.1) aliases
 
@@ -32,24 +32,24 @@ before name aliases = filter (λ alias. is_lt (slice_cmp nat_cmp alias.0 name)) 
 abbrev pub after : List ℕ → Aliases → Aliases
 after name aliases = filter (λ alias. is_lt (slice_cmp nat_cmp name alias.0)) aliases
 
--- the aliases with this one set to a stem in its place, or taken out
+-- the aliases with this one set to a stem, in its place, or removed
 abbrev pub with_alias : List ℕ → Option (List ℕ) → Aliases → Aliases
 with_alias name None aliases = before name aliases ++ after name aliases
 with_alias name (Some stem) aliases = before name aliases ++ (name, stem) ∷ after name aliases
 
--- the aliases after a change: those whose collection is gone are dropped, and the alias is set or taken out
+-- the aliases after a change: those whose collection is gone are dropped, and the alias is set or removed
 abbrev pub changed : List ℕ → Option (List ℕ) → List (List ℕ) → Aliases → Aliases
 changed name stem live aliases = with_alias name stem (kept live aliases)
 
--- how many aliases there may be
+-- the most aliases that there may be
 abbrev pub most : ℕ
 most = 1024
 
--- the aliases, unless they are too many
+-- the aliases, unless there are too many
 abbrev pub few : Aliases → Option Aliases
 few aliases = if nat_le (length aliases) most then Some aliases else None
 
--- the aliases can be stored: a file can hold them, and this is their text, which can be read again
+-- the aliases can be stored: a file can contain them, and this is their text, which isn't too long to be read again
 pub record IsStorable (aliases : Aliases) (text : List ℕ) : Type 0 where
   pub are : AreAliases aliases
   pub fits : length (text_of aliases) ≤ longest

@@ -31,7 +31,7 @@ impl Model for Next {
 }
 
 impl Next {
-    /// These aliases with their text; None where they are too many.
+    /// These aliases with their text; None if there are too many.
     pub fn of(alloc: Global, aliases: Vec<(Text, Stem)>) -> Result<Option<Next>, OutOfMemory>
         requires { AreAliases aliases.items }
         ensures { IfOk result (λ next. next ≡ few aliases.items) }
@@ -39,7 +39,7 @@ impl Next {
         if aliases.len() > MOST {
             return Ok(None);
         }
-        // So the text can be read again.
+        // So the text isn't too long, and can be read again.
         a_thousand_aliases_fit();
         let text = write_aliases(alloc, &aliases)?;
         let image = Image::new(alloc, text)?;
@@ -49,7 +49,7 @@ impl Next {
         }))
     }
 
-    /// The two parts.
+    /// The aliases and the image of their text.
     pub fn into_parts(self) -> (Items<(Text, Stem)>, Image)
         ensures aliases { result.0 ≡ self }
         ensures image { result.1 ≡ text_of self }
@@ -76,8 +76,8 @@ impl Model for AliasChange {
 }
 
 impl AliasChange {
-    /// The change with these parts: what it makes of the aliases that are read and, in doubt, of those of
-    /// the newer image, and the buffer of a resolve.
+    /// A change with these parts: what it makes of the aliases that are read and, in doubt, of those of
+    /// the newer image; and the buffer that a resolve reads the file into.
     pub(crate) fn new(
         next: Option<Next>,
         newer: Option<Option<Next>>,

@@ -4,13 +4,13 @@ ghost use Rattle.std.specs.Prelude.{◌≡◌, ◌≢◌, ℕ, List, Option};
 ghost use Rattle.kr_base.specs.Attributes.{IsInOrder, value_at};
 ghost use Rattle.alias_table.specs.Changed.{changed, live_only};
 
-/// After a change the alias stands for the stem that it was set to, and for none if it was taken out.
+/// After a change the alias stands for the stem that it was set to, or for none if it was removed.
 pub fn a_set_alias_is_read()
     ensures { (name : List ℕ) (stem : Option (List ℕ)) (live : List (List ℕ))
         (aliases : List (List ℕ × List ℕ)) → value_at name (changed name stem live aliases) ≡ stem }
 {}
 
-/// Each other alias stands for what it stood for, if that collection is there, and else for none.
+/// Every other alias still stands for its stem if that collection exists, and otherwise for none.
 pub fn other_aliases_stay()
     ensures { (name other : List ℕ) (stem : Option (List ℕ)) (live : List (List ℕ))
         (aliases : List (List ℕ × List ℕ)) → IsInOrder aliases → other ≢ name

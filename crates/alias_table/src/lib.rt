@@ -1,9 +1,9 @@
 //! The aliases and their file (Secret Service API draft 0.2, methods SetAlias and ReadAlias;
 //! docs/SERVICE.md, "Aliases"). A change is prepared first, which takes all its memory, and then stored:
-//! the file is replaced whole. Callers may rely on these: the aliases that are read are those that the
-//! file's known image gives or, in doubt, its older one; pairs whose collection is gone are dropped at
-//! each change; after `Ok` each crash leaves the new text, and within a call the old one or the new one;
-//! a doubt is resolved before anything is stored.
+//! the file is replaced whole. Callers may rely on these: the aliases that are read are those of the
+//! file's known image or, in doubt, of its older image; each change drops the aliases whose collection
+//! is gone; after `Ok` a crash leaves the new text, and a crash within a call leaves the old text or the
+//! new one; a doubt is resolved before anything is stored.
 #![tactic(auto)]
 
 mod change;

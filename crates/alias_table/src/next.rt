@@ -9,7 +9,7 @@ ghost use Rattle.alias_table.specs.Changed.{is_live, kept, before, after, change
 use kr_base::{OutOfMemory, Stem, Text};
 use std::alloc::Global;
 
-/// The stem that the alias of this name stands for.
+/// The stem that the alias of this name stands for; None if there is no such alias.
 pub fn stem_at<'a>(aliases: &'a [(Text, Stem)], name: &str) -> Option<&'a Stem>
     requires { IsInOrder aliases.now }
     ensures { option_copied result ≡ value_at name.now aliases.now }
@@ -21,7 +21,7 @@ pub fn stem_at<'a>(aliases: &'a [(Text, Stem)], name: &str) -> Option<&'a Stem>
 }
 
 /// The aliases after a change: those whose collection is gone are dropped, and the alias of this name is
-/// set to the stem, or taken out.
+/// set to the stem, or removed.
 pub fn changed_aliases(
     alloc: Global,
     aliases: &[(Text, Stem)],
@@ -42,7 +42,7 @@ pub fn changed_aliases(
     Ok(next)
 }
 
-// Appends the aliases whose names come before this one and whose collection is there.
+// Appends the aliases whose names come before this one and whose collection exists.
 fn copy_before(
     aliases: &[(Text, Stem)],
     name: &str,
@@ -60,7 +60,7 @@ fn copy_before(
     Ok(())
 }
 
-// Appends the aliases whose names come after this one and whose collection is there.
+// Appends the aliases whose names come after this one and whose collection exists.
 fn copy_after(
     aliases: &[(Text, Stem)],
     name: &str,
@@ -88,7 +88,7 @@ fn push_copy(alias: &(Text, Stem), next: &mut Vec<(Text, Stem)>) -> Result<(), O
     Ok(())
 }
 
-// Whether the stem is that of a collection that is there.
+// Whether the stem is that of a collection that exists.
 fn is_live(live: &[Stem], stem: &Stem) -> bool
     ensures { result ≡ is_live live.now stem.now }
 {

@@ -4,22 +4,24 @@ use thiserror::Error;
 /// Why an alias wasn't set.
 #[derive(Clone, Copy, Debug, PartialEq, Eq, Error)]
 pub enum AliasRefused {
-    /// The name isn't that of an alias.
-    #[error("no name of an alias")]
+    /// The name isn't a name of an alias.
+    #[error("not a name of an alias")]
     BadName,
     /// There would be more than 1,024 aliases.
     #[error("too many aliases")]
     TooMany,
-    /// The new file couldn't be written. The aliases and their file are as before.
+    /// The temporary file couldn't be written or synced. The aliases and their file are as before.
     #[error("the file of the aliases could not be written")]
     FaultBefore,
-    /// The new file was written, and it took the name or it didn't. The file is in doubt.
-    #[error("the file of the aliases was replaced or it was not")]
+    /// The temporary file couldn't take the name, or the folder couldn't be synced. The file is in
+    /// doubt.
+    #[error("the file of the aliases may have been replaced or not")]
     FaultUnsure,
-    /// The file is in doubt, and couldn't be read again. The doubt stays.
+    /// The file is in doubt, and the folder couldn't be synced or the file couldn't be read. The doubt
+    /// stays.
     #[error("the file of the aliases could not be read again")]
     FaultRead,
-    /// No memory was left.
+    /// There wasn't enough memory.
     #[error("out of memory")]
     OutOfMemory,
 }

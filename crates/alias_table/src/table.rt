@@ -1,4 +1,4 @@
-ghost use Rattle.std.specs.Prelude.{◌≡◌, ◌≢◌, ◌<◌, ◌⊎◌, ◌↔◌, IsTrue, None, Some, length, IfOk, OnErr, IfErr, IfSome, IsErrOf};
+ghost use Rattle.std.specs.Prelude.{◌≡◌, ◌≢◌, ◌<◌, ◌⊎◌, ◌↔◌, IsTrue, None, Some, length, IfOk, OnErr, IfErr, IfSome, IsErr, IsErrOf};
 ghost use Rattle.std.specs.Option.{option_copied};
 ghost use Rattle.kr_base.specs.Attributes.{value_at};
 ghost use Rattle.kr_base.specs.Stem.{IsStem};
@@ -7,10 +7,10 @@ ghost use Rattle.kr_outside.specs.Faults.{HasCause, KeepsSteady};
 ghost use Rattle.kr_outside.specs.Moments.{LeavesOnly};
 ghost use Rattle.alias_text.specs.Pairs.{GivesAliases};
 ghost use Rattle.alias_text.specs.Writing.{AreAliases};
-ghost use Rattle.replace_slot.specs.Cell.{IsKnown, IsKnownImage, IsOneOf, LeavesFile, FailedBefore, FailedAfter, longest_of, new_image};
-ghost use Rattle.replace_slot.specs.Found.{IsFoundBy};
+ghost use Rattle.replace_slot.specs.Cell.{IsKnown, IsKnownImage, IsOneOf, LeavesFile, FailedBefore, FailedAfter, FailedRead, longest_of, new_image};
+ghost use Rattle.replace_slot.specs.Found.{IsFoundBy, IsFoundOf};
 ghost use Rattle.alias_table.specs.Changed.{changed, few};
-ghost use Rattle.alias_table.specs.Table.{IsFor, IsPrepared, Stores, Sets, HasSetCause, chosen, resolved};
+ghost use Rattle.alias_table.specs.Table.{IsFor, IsPrepared, Stores, Sets, WasRead, HasSetCause, chosen, resolved};
 
 use crate::change::{AliasChange, Next};
 use crate::next::{changed_aliases, stem_at};
@@ -23,8 +23,8 @@ use replace_slot::{FaultRead, FileCell, Found, ReplaceFault};
 use std::alloc::{AllocError, Global};
 use std::marker::Model;
 
-/// The aliases and the cell of their file. The aliases that are read are those that the known image gives;
-/// in doubt, those of the older image, and those of the newer one are kept beside them.
+/// The aliases and the cell of their file. The aliases that are read are those of the known image; in
+/// doubt, those of the older image, and those of the newer one are kept beside them.
 #[derive(Drop)]
 pub struct AliasTable<S: Slot> {
     alloc: Global,
@@ -44,7 +44,7 @@ impl<S: Slot> Model for AliasTable<S> {
 }
 
 impl<S: Slot> AliasTable<S> {
-    /// The table of a known file and of the aliases that its image gives; no file gives none.
+    /// The table of a known file and of the aliases that its image gives: none if there is no file.
     pub fn new(alloc: Global, cell: FileCell<S>, aliases: Vec<(Text, Stem)>) -> AliasTable<S>
         requires { IsKnownImage (λ image. GivesAliases image aliases.items) cell.file }
         ensures { result ≡ record {
@@ -60,15 +60,15 @@ impl<S: Slot> AliasTable<S> {
         }
     }
 
-    /// The stem that the alias stands for (Secret Service API, Service.ReadAlias); in doubt, by the older
-    /// image. None if there is no such alias.
+    /// The stem that the alias stands for (Secret Service API, Service.ReadAlias), according to the older
+    /// image if the file is in doubt. None if there is no such alias.
     pub fn read(&self, name: &str) -> Option<&Stem>
         ensures { option_copied result ≡ value_at name.now self.now.rows.aliases }
     {
         stem_at(self.aliases.as_slice(), name)
     }
 
-    /// The aliases, lent in byte order of their names; in doubt, those of the older image.
+    /// The aliases in byte order of their names; in doubt, those of the older image.
     pub fn aliases(&self) -> &[(Text, Stem)]
         ensures value { result.now ≡ self.now.rows.aliases }
         ensures shown { AreAliases self.now.rows.aliases }
@@ -87,7 +87,7 @@ impl<S: Slot> AliasTable<S> {
     }
 
     /// A law: while nothing is done with the table, a crash leaves one of the file's images at each moment,
-    /// and of a known file just its image. It does nothing.
+    /// and if the file is known, exactly its image. The call does nothing.
     pub fn untouched(&self)
         ensures crash { IsTrue (S.is_honest self.now.slot)
             → LeavesFile self.now.rows.file (S.may_leave self.now.slot) }
@@ -95,16 +95,16 @@ impl<S: Slot> AliasTable<S> {
             → LeavesOnly S.moment S.left_since self.now.slot self.now.slot
             (IsOneOf self.now.rows.file) }
     {
-        // Both show what the type keeps of the cell.
+        // Both calls show what the type says of its cell.
         let _known = self.cell.is_known();
         self.cell.untouched();
     }
 
-    /// Prepares a change: the alias of this name is set to the stem, or taken out for None, and each alias
-    /// whose stem isn't among the live ones is dropped. The live ones are the stems of the collections
-    /// that are there when the change is stored. All memory that storing takes is taken here.
+    /// Prepares a change: the alias of this name is set to the stem, or removed if that is None, and each
+    /// alias whose stem isn't a live one is dropped. The live stems are those of the collections that
+    /// exist when the change is stored. All memory that storing needs is taken here.
     ///
-    /// Refused with `BadName` where the name isn't that of an alias.
+    /// Refused with `BadName` if the name isn't a name of an alias.
     pub fn prepare(
         &self,
         name: Text,
@@ -129,12 +129,12 @@ impl<S: Slot> AliasTable<S> {
         Ok(AliasChange::new(next, newer, buffer))
     }
 
-    /// Ends a doubt: the folder is synced and the file read again. The aliases are then those of the image
-    /// that was found, and of the older one where neither was; what was found comes back, with what is
-    /// left of the change. It takes no memory.
+    /// Ends a doubt: the folder is synced, and the file is read again. The aliases are then those of the
+    /// image that was found, or of the older one if neither was. Returns what was found, and the change
+    /// as it was prepared for that image. It takes no memory.
     ///
-    /// Refused with `FaultRead` where the folder couldn't be synced or the file couldn't be read; the
-    /// doubt stays.
+    /// Refused with `FaultRead` if the folder couldn't be synced or the file couldn't be read; the doubt
+    /// stays.
     pub fn resolve(&mut self, change: AliasChange) -> Result<(Found, AliasChange), FaultRead>
         requires doubt { ¬ (IsKnown self.old.rows.file) }
         requires prepared { IsFor change self.old.rows }
@@ -142,19 +142,29 @@ impl<S: Slot> AliasTable<S> {
         ensures resolved { IfOk result (λ it. self.new.rows ≡ resolved it.0 self.old.rows) }
         ensures chosen { IfOk result (λ it. it.1.next ≡ chosen it.0 change) }
         ensures left { IfOk result (λ it. IsFor it.1 self.new.rows) }
-        ensures by_read { IfOk result (λ it.
-            IsFoundBy (S.answered self.new.slot) it.1.buffer it.0 self.old.rows.file) }
-        ensures one { IsTrue (S.is_honest self.old.slot) → IfOk result (λ it. it.0 ≢ Found.Other) }
         ensures unchanged { OnErr result (self.new.rows ≡ self.old.rows) }
 
-        // A crash leaves the image that was found, and one of the two at each moment of the call.
+        // What is found is what the read returned. With an honest slot it is the image that the name
+        // stands for, before the call as well as after it, and so one of the two.
+        ensures by_read { IfOk result (λ it.
+            IsFoundBy (S.answered self.new.slot) it.1.buffer it.0 self.old.rows.file) }
+        ensures by_name { IsTrue (S.is_honest self.old.slot)
+            → IfOk result (λ it. IsFoundOf (S.seen self.old.slot) it.0 self.old.rows.file) }
+        ensures same { IsTrue (S.is_honest self.old.slot)
+            → S.seen self.new.slot ≡ S.seen self.old.slot }
+        ensures one { IsTrue (S.is_honest self.old.slot) → IfOk result (λ it. it.0 ≢ Found.Other) }
+
+        // A crash afterwards leaves the image that was found, and a crash at any moment of the call one
+        // of the two.
         ensures crash { IsTrue (S.is_honest self.new.slot)
             → LeavesFile self.new.rows.file (S.may_leave self.new.slot) }
         ensures any_moment { IsTrue (S.is_honest self.old.slot)
             → LeavesOnly S.moment S.left_since self.old.slot self.new.slot
             (IsOneOf self.old.rows.file) }
 
+        // A fault has its cause, which is one of the two calls.
         ensures cause { HasCause (S.faults self.old.slot) (S.faults self.new.slot) result }
+        ensures read_call { IsErr result → FailedRead (S.failed self.new.slot) }
         ensures honest { S.is_honest self.new.slot ≡ S.is_honest self.old.slot }
         ensures steady { KeepsSteady (S.is_steady self.old.slot) (S.is_steady self.new.slot)
             (S.faults self.old.slot) (S.faults self.new.slot) }
@@ -172,7 +182,7 @@ impl<S: Slot> AliasTable<S> {
         Ok((found, AliasChange::new(next, None, buffer)))
     }
 
-    // Stores what was prepared, where nothing is in doubt.
+    // Stores what was prepared. The file is known.
     fn store(&mut self, change: AliasChange) -> Result<(), AliasRefused>
         requires known { IsKnown self.old.rows.file }
 
@@ -215,21 +225,27 @@ impl<S: Slot> AliasTable<S> {
     }
 
     /// Stores a change that was prepared for the table as it is (Secret Service API, Service.SetAlias). A
-    /// doubt is resolved first. It takes no memory.
+    /// doubt is resolved first, and what was prepared for the image that was found is stored. It takes
+    /// no memory.
     ///
-    /// Refused, in this order, with `FaultRead` where a resolve failed, `TooMany` where there would be more
-    /// than 1,024 aliases, `FaultBefore` where the new file couldn't be written, and `FaultUnsure` where
-    /// it is unsure whether it took the name: the file is in doubt then. What a resolve found stays,
-    /// whatever is refused after it, and until a resolve the older aliases are read.
+    /// Refused, in this order, with `FaultRead` if the resolve failed, `TooMany` if there would be more
+    /// than 1,024 aliases, `FaultBefore` if the temporary file couldn't be written or synced, and
+    /// `FaultUnsure` if it couldn't take the name or the folder couldn't be synced. After `FaultUnsure`
+    /// the file is in doubt, and the older aliases are read until the doubt is resolved. A doubt that was
+    /// resolved stays so, whatever is refused afterwards.
     pub fn set(&mut self, change: AliasChange) -> Result<(), AliasRefused>
         requires prepared { IsFor change self.old.rows }
 
-        ensures sets { Sets change self.old.rows result self.new.rows }
+        ensures sets { Sets (λ found.
+            WasRead S.answered S.faults self.old.slot self.new.slot found self.old.rows.file
+            × (IsTrue (S.is_honest self.old.slot)
+            → IsFoundOf (S.seen self.old.slot) found self.old.rows.file))
+            change self.old.rows result self.new.rows }
         ensures idle { IsKnown self.old.rows.file → IsErrOf result AliasRefused.TooMany
             → self.new.slot ≡ self.old.slot }
 
-        // A crash leaves one of the file's images afterwards, and at each moment of the call one that the
-        // file had before it or has after it.
+        // A crash afterwards leaves one of the file's images, and a crash at any moment of the call an
+        // image that the file had before it or has after it.
         ensures crash { IsTrue (S.is_honest self.new.slot)
             → LeavesFile self.new.rows.file (S.may_leave self.new.slot) }
         ensures any_moment { IsTrue (S.is_honest self.old.slot)
@@ -238,6 +254,8 @@ impl<S: Slot> AliasTable<S> {
 
         // Each fault has its cause, which is a call of the device.
         ensures cause { HasSetCause (S.faults self.old.slot) (S.faults self.new.slot) result }
+        ensures read_call { IsErrOf result AliasRefused.FaultRead
+            → FailedRead (S.failed self.new.slot) }
         ensures before_call { IsErrOf result AliasRefused.FaultBefore
             → FailedBefore (S.failed self.new.slot) }
         ensures unsure_call { IsErrOf result AliasRefused.FaultUnsure
@@ -256,7 +274,7 @@ impl<S: Slot> AliasTable<S> {
         }
     }
 
-    /// The cell alone. The aliases are lost.
+    /// The cell of the file. The aliases are lost.
     pub fn into_cell(self) -> FileCell<S>
         ensures slot { result.slot ≡ self.slot }
         ensures file { result.file ≡ self.rows.file }
@@ -265,7 +283,7 @@ impl<S: Slot> AliasTable<S> {
     }
 }
 
-// What a change makes of these aliases; None where they would be too many.
+// What a change makes of these aliases; None if there would be too many.
 fn next_of(
     alloc: Global,
     aliases: &[(Text, Stem)],
@@ -282,7 +300,7 @@ fn next_of(
     Next::of(alloc, next)
 }
 
-// Shows what the type of a stem keeps.
+// Shows what the type of a stem says of it.
 fn known_stem(stem: &Option<Stem>)
     ensures { IfSome stem.now IsStem }
 {
@@ -291,7 +309,7 @@ fn known_stem(stem: &Option<Stem>)
     }
 }
 
-// What a resolve of the cell reads the file into, if one is needed.
+// The buffer that a resolve of the cell reads the file into; empty if the file is known.
 fn buffer_for<S: Slot>(alloc: Global, cell: &FileCell<S>) -> Result<Vec<u8>, OutOfMemory>
     ensures { ¬ (IsKnown cell.now.file)
         → IfOk result (λ buffer. longest_of cell.now.file < length buffer.items) }

@@ -5,7 +5,7 @@ use Rattle.std.proofs.lemmas.Fn.{always_returns_same}
 use Rattle.kr_base.proofs.AttributeLemmas.{found_at, found_none}
 use Rattle.alias_table.proofs.next.stem_at.Goals as goal
 
--- the closure compares an alias's name with the one that is looked for
+-- the closure compares the name of an alias with the name that is looked for
 pub returns-in-Ok : goal.returns-in-Ok
 returns-in-Ok c =
     let equal = c.in-Ok.ensures.position (λ p. slice_cmp nat_cmp p.0 c.args.name.now) (always_returns_same _ _ _ (λ a r g called. (search rules, search rules))) in

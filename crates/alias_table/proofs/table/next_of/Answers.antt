@@ -3,7 +3,7 @@ use Rattle.alias_text.specs.Writing.{AreAliases}
 use Rattle.alias_table.proofs.ChangedLemmas.{changed_are}
 use Rattle.alias_table.proofs.table.next_of.Goals as goal
 
--- a change leaves aliases in order
+-- the aliases are in order after the change
 pub of-requires : goal.of-requires
 of-requires c =
     subst AreAliases (sym c.in_ok-next.ensures)

@@ -3,7 +3,7 @@ use Rattle.replace_slot.specs.Cell.{IsKnown}
 use Rattle.alias_table.proofs.TableLemmas.{known_none}
 use Rattle.alias_table.proofs.table.AliasTable.is_known.Goals as goal
 
--- nothing is kept of a newer image
+-- there are no aliases of a newer image
 pub returns-clause-alone : goal.returns-clause-alone
 returns-clause-alone g c known =
     sym (ap (λ s. s.rows.newer) c.self.view_is)

@@ -5,7 +5,7 @@ use Rattle.alias_table.specs.Table.{too_many}
 use Rattle.alias_table.proofs.TableLemmas.{known_none, given_stored, given_unsure, stores_done, stores_failed, stores_unsure}
 use Rattle.alias_table.proofs.table.AliasTable.store.Goals as goal
 
--- too many are wanted
+-- there would be too many
 pub returns-in_default-clause-stores : goal.returns-in_default-clause-stores
 returns-in_default-clause-stores g c = too_many (sym c.into_parts-next.ensures.next ∙ c.in_default.is)
 
@@ -31,7 +31,7 @@ returns-in-Ok-clause-stores g c =
     (c.in-Ok.ensures.stored ∙ ap (λ t. Known (Some t)) c.into_parts-aliases.ensures.image)
     (known_none c.self.inside.cell.file c.self.inside.aliases c.self.inside.newer c.self.invariant known)
 
--- in doubt, those of both images are kept
+-- in doubt, the aliases of both images are kept
 pub invariant_of-self-in-Err-FaultUnsure : goal.invariant_of-self-in-Err-FaultUnsure
 invariant_of-self-in-Err-FaultUnsure g c =
     let known = subst IsKnown (sym (ap (λ s. s.rows.file) c.self.view_is)) c.requires.known in
