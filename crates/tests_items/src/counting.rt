@@ -1,28 +1,29 @@
-// How many steps a search takes. Only contracts see what `find` counts. So a contract evaluates its
-// bound for a thousand items, and a plain program, which searches lists as `find` does, counts its
-// steps as it runs.
+// How many steps a search takes. Only contracts see what `find` counts. So a contract evaluates its bound for
+// a thousand items, and a plain program, which searches lists as `find` does, counts its steps as it runs.
 ghost use Rattle.std.specs.Prelude.{◌≡◌, ◌+◌, ◌<◌, ◌≤◌, []};
 ghost use Rattle.attribute_match.specs.Match.{texts_of};
 ghost use Rattle.tests_items.specs.Thousand.{IsThousand, tenth_group, third_group, thirteenth};
 
-use crate::words::{attributes_of, item_of};
-use attribute_match::matches;
+use crate::checks::{cell, count, same_number};
+use crate::words::{add, attributes_of, having, rests};
 use item_store::ItemStore;
 use kr_base::{Attributes, ItemId, OutOfMemory, Steps};
 use std::alloc::Global;
 use std::marker::Brand;
+use std::process::Abort;
 use std::sync::ledger::{Blank, Ledger};
 use std::test::Fail;
 
-// What is wanted among the thousand items; then how many ids `find` returns, how many the plain program
-// finds, and in how many steps.
+// What is wanted among the thousand items; how many have it; how many steps the clause of `find` allows; and
+// how many the plain program takes.
 const ROWS: &str = "\
-group=3 number=13: 1 1 2
-group=3: 100 100 100
-: 1000 1000 1000
-group=10: 0 0 0
-group=4 number=13: 0 0 2
-group=3 number=1000: 0 0 0
+group=3 number=13 | 1 | 2 | 2
+group=3 | 100 | 100 | 100
+| 1000 | 1000 | 1000
+group=10 | 0 | 0 | 0
+number=999 | 1 | 1 | 1
+group=4 number=13 | 0 | 2 | 2
+group=3 number=1000 | 0 | 0 | 0
 ";
 
 // What is found among the thousand items; the contract bounds the steps.
@@ -57,7 +58,7 @@ fn found_by<L: Ledger>(
 }
 
 // How many ids are found, with a count of steps that nobody reads.
-fn found_by_nobody(items: &ItemStore, wanted: &Attributes) -> Result<usize, Fail> {
+fn count_found(items: &ItemStore, wanted: &Attributes) -> Result<usize, Fail> {
     Ok(found_by::<Brand>(items, wanted, Blank::new(1))?.len())
 }
 
@@ -65,41 +66,26 @@ fn found_by_nobody(items: &ItemStore, wanted: &Attributes) -> Result<usize, Fail
 fn thousand(alloc: Global) -> Result<ItemStore, Fail> {
     let mut items = ItemStore::new(alloc);
     for number in 0..1000u32 {
-        let words = format!(in alloc; "group={} number={}", number % 10, number)?;
-        items
-            .add(item_of(alloc, words.as_str())?, 0)
-            .ok()
-            .ok_or("added")?;
+        let words = rests(alloc, "group=10 number=1000", number)?;
+        let _ = add(alloc, &mut items, words.as_str())?;
     }
     Ok(items)
 }
 
-// The numbers of the items that have the attributes of these words, in rising order.
-fn numbers(alloc: Global, items: &ItemStore, words: &str) -> Result<Vec<u32>, Fail> {
-    let wanted = attributes_of(alloc, words)?;
-    let mut numbers = Vec::new(alloc);
-    for (number, row) in items.rows().iter() {
-        if matches(&wanted, &row.item.attributes) {
-            numbers.push(*number)?;
-        }
-    }
-    Ok(numbers)
-}
-
-// The list for each word; without a word, all numbers.
-fn lists(alloc: Global, items: &ItemStore, words: &str) -> Result<Vec<Vec<u32>>, Fail> {
+// The list for each word; without a word, all ids.
+fn lists(alloc: Global, items: &ItemStore, words: &str) -> Result<Vec<Vec<ItemId>>, Fail> {
     let mut lists = Vec::new(alloc);
     for word in words.split_whitespace() {
-        lists.push(numbers(alloc, items, word)?)?;
+        lists.push(having(alloc, items, word)?)?;
     }
     if lists.is_empty() {
-        lists.push(numbers(alloc, items, "")?)?;
+        lists.push(having(alloc, items, "")?)?;
     }
     Ok(lists)
 }
 
 // The index of the shortest list.
-fn shortest(lists: &[Vec<u32>]) -> usize {
+fn shortest(lists: &[Vec<ItemId>]) -> usize {
     let mut best = 0usize;
     let mut least = usize::MAX;
     for (place, list) in lists.iter().enumerate() {
@@ -111,28 +97,28 @@ fn shortest(lists: &[Vec<u32>]) -> usize {
     best
 }
 
-// Whether each list except one has a number. Each list that is looked at is one step.
-fn all_have(lists: &[Vec<u32>], but: usize, number: u32, steps: &mut usize) -> bool {
+// Whether each list except one has an id. Each list that is looked at is one step.
+fn all_have(lists: &[Vec<ItemId>], but: usize, id: ItemId, steps: &mut usize) -> bool {
     for (place, list) in lists.iter().enumerate() {
         if place == but {
             continue;
         }
         *steps = steps.saturating_add(1);
-        if !list.contains(&number) {
+        if !list.contains(&id) {
             return false;
         }
     }
     true
 }
 
-// How many numbers all lists have in common. Each number that is read is one more step.
-fn in_all(lists: &[Vec<u32>], steps: &mut usize) -> usize {
+// How many ids all lists have in common. Each id that is read is one more step.
+fn in_all(lists: &[Vec<ItemId>], steps: &mut usize) -> usize {
     let least = shortest(lists);
     let mut found = 0usize;
     if let Some(list) = lists.get(least) {
-        for number in list {
+        for id in list {
             *steps = steps.saturating_add(1);
-            if all_have(lists, least, *number, steps) {
+            if all_have(lists, least, *id, steps) {
                 found = found.saturating_add(1);
             }
         }
@@ -140,22 +126,38 @@ fn in_all(lists: &[Vec<u32>], steps: &mut usize) -> usize {
     found
 }
 
-// What `find` returns, what the plain program finds and its steps, as a text.
-fn counted(alloc: Global, items: &ItemStore, words: &str) -> Result<String, Fail> {
-    let found = found_by_nobody(items, &attributes_of(alloc, words)?)?;
-    let lists = lists(alloc, items, words)?;
+// How many steps the clause of `find` allows: as many as the rarest wanted pair has items, times the number
+// of pairs, and as many as there are items if none is wanted.
+fn most_steps(lists: &[Vec<ItemId>]) -> usize {
+    match lists.get(shortest(lists)) {
+        Some(list) => list.len().saturating_mul(lists.len()),
+        None => 0,
+    }
+}
+
+// Asserts what the plain program finds in the lists of a row, and in how many steps.
+fn same_steps(rt: &impl Abort, lists: &[Vec<ItemId>], row: &str) -> Result<(), Fail> {
     let mut steps = 0usize;
-    let numbers = in_all(lists.as_slice(), &mut steps);
-    Ok(format!(in alloc; "{} {} {}", found, numbers, steps)?)
+    let found = in_all(lists, &mut steps);
+    same_number(rt, found, count(cell(row, 1))?, row);
+    same_number(rt, most_steps(lists), count(cell(row, 2))?, row);
+    same_number(rt, steps, count(cell(row, 3))?, row);
+    Ok(())
 }
 
 #[test]
-fn a_search_takes_these_steps(rt: HostRuntime) -> Result<(), Fail> {
+fn a_thousand_items_are_found_in_few_steps(rt: HostRuntime) -> Result<(), Fail> {
     let items = thousand(rt.alloc())?;
     for row in ROWS.lines() {
-        let (words, want) = row.split_once(": ").ok_or("row")?;
-        let counted = counted(rt.alloc(), &items, words)?;
-        assert_eq!(rt; counted.as_str(), want, "of {row}");
+        let wanted = attributes_of(rt.alloc(), cell(row, 0))?;
+        same_number(
+            &rt,
+            count_found(&items, &wanted)?,
+            count(cell(row, 1))?,
+            row,
+        );
+        let lists = lists(rt.alloc(), &items, cell(row, 0))?;
+        same_steps(&rt, lists.as_slice(), row)?;
     }
     Ok(())
 }

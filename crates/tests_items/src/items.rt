@@ -1,7 +1,7 @@
 ghost use Rattle.std.specs.Prelude.{◌≡◌, ◌∷◌, [], IfOk, map};
 
 use crate::checks::{cell, number, same_text};
-use crate::words::{attributes_of, decimal, ids_told, item_of, joined, text_of};
+use crate::words::{attributes_of, decimal, item_of, joined, searched, text_of};
 use item_store::{ItemFault, ItemStore};
 use keyring_file::FullItem;
 use kr_base::{Bytes, ItemId};
@@ -13,7 +13,7 @@ use std::test::Fail;
 fn row_told(alloc: Global, number: u32, kind: u32) -> Result<String, Fail> {
     let number = decimal(alloc, number)?;
     let kind = decimal(alloc, kind)?;
-    joined(alloc, &[number.as_str(), ":", kind.as_str(), " "])
+    joined(alloc, &[number.as_str(), ":", kind.as_str()])
 }
 
 // The numbers and kinds of the rows, in their order.
@@ -21,6 +21,7 @@ fn rows_told(alloc: Global, items: &ItemStore) -> Result<String, Fail> {
     let mut told = String::new(alloc);
     for (number, row) in items.rows().iter() {
         told.push_str(row_told(alloc, *number, row.kind)?.as_str())?;
+        told.push_str(" ")?;
     }
     Ok(told)
 }
@@ -77,11 +78,6 @@ fn added_told(alloc: Global, added: Result<ItemId, ItemFault>) -> Result<String,
         Ok(id) => decimal(alloc, id.0),
         Err(fault) => Ok(String::from_str(alloc, done_told(Err(fault)))?),
     }
-}
-
-fn searched(alloc: Global, items: &ItemStore, words: &str) -> Result<String, Fail> {
-    let wanted = attributes_of(alloc, words)?;
-    ids_told(alloc, items.search(&wanted)?.as_slice())
 }
 
 fn equal_told(alloc: Global, items: &ItemStore, words: &str) -> Result<String, Fail> {

@@ -1,5 +1,5 @@
-use crate::checks::{cell, holds, number, same_text};
-use crate::words::text_of;
+use crate::checks::{cell, holds, same_text};
+use crate::words::{attributes_of, text_of};
 use attribute_hash::{number_hash, text_hash};
 use attribute_match::{hashed_matches, is_equal, matches};
 use kr_base::{AttrValue, Attributes, Bytes, HashedPair, HashedValue, Text};
@@ -29,30 +29,6 @@ a= | a= | yes
 =x | =x | yes
 =x | =y | no
 ";
-
-// The value of a word: a number after #, otherwise a text.
-fn value_of(alloc: Global, word: &str) -> Result<AttrValue, Fail> {
-    match word.strip_prefix('#') {
-        Some(digits) => Ok(AttrValue::Number(number(digits)?)),
-        None => Ok(AttrValue::Text(text_of(alloc, word)?)),
-    }
-}
-
-// The pair of a word.
-fn pair_of(alloc: Global, word: &str) -> Result<(Text, AttrValue), Fail> {
-    let (name, shown) = word.split_once('=').ok_or("pair")?;
-    let name = text_of(alloc, name)?;
-    Ok((name, value_of(alloc, shown)?))
-}
-
-// The attributes of the words.
-fn attributes_of(alloc: Global, words: &str) -> Result<Attributes, Fail> {
-    let mut pairs = Vec::new(alloc);
-    for word in words.split_whitespace() {
-        pairs.push(pair_of(alloc, word)?)?;
-    }
-    Ok(Attributes::from_values(alloc, pairs)?)
-}
 
 // The hash of a value.
 fn hash_of(alloc: Global, value: &AttrValue) -> Result<HashedValue, Fail> {

@@ -1,4 +1,4 @@
-use Rattle.tests_items.proofs.counting.found_by_nobody.Given as goal
+use Rattle.tests_items.proofs.counting.count_found.Given as goal
 
 abbrev pub ghosts-found_by : goal.ghosts-found_by
 ghosts-found_by a = record { name = a.blank.name; parts = a.blank.parts }
