@@ -14,4 +14,6 @@ mod items;
 #[cfg(test)]
 mod matching;
 #[cfg(test)]
+mod orders;
+#[cfg(test)]
 mod words;
