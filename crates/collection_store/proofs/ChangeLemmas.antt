@@ -1,4 +1,4 @@
--- What a change does to a collection's state, from how it is prepared and stored.
+-- A collection's state after a change, from what was prepared and stored.
 use Rattle.std.proofs.Common.{◌≡◌, ℕ, ◌+◌, ◌<◌, ◌≤◌, List, [], ◌∷◌, length, map, Option, Some, None, Result, Ok, Err, refl, sym, ap, subst, ◌∙◌, inl, inr, arith}
 use Rattle.std.specs.Prelude.{min, IfSome, IfOk, IfErr, IsErrOf, IsSome, OnErr, ◌⊎◌}
 use Rattle.std.specs.Option.{option_map}
@@ -35,21 +35,21 @@ use Rattle.collection_store.proofs.StateLemmas.{shown_by}
 abbrev pub state_of : {S : Type 0} → S → File → ClearPart → Option Open → CollectionState S
 state_of slot file told held = record { slot = slot; file = file; clear = shown_of told (option_map parts_of held); held = held_of told (option_map parts_of held) }
 
--- the front that a change makes
+-- the front after a change
 abbrev pub front_of : Change → ClearPart → ClearPart
 front_of change clear = record clear { name = name_made change clear.name }
 
--- the hashes in a clear part don't matter to what is stored
+-- what is stored doesn't depend on the hashes in the clear part
 same_content : (change : Change) (now : ℕ) (told shown : ClearPart) (these : List Row) → without_hashes told ≡ without_hashes shown → content_stored now (front_of change told) these ≡ content_stored now (front_of change shown) these
 same_content change now told shown these same = ap (λ (t : ClearPart). content_stored now (front_of change t) these) same
 
--- what is held is of a known file, and shown but for the hashes
+-- the file of an unlocked collection is known, and what is shown differs from the clear part in its hashes alone
 pub shown_same : (file : File) (told : ClearPart) (newer : Option ClearPart) (was : Open) → IsKept file told newer (Some (parts_of was)) → without_hashes told ≡ without_hashes (shown_of told (Some (parts_of was)))
 shown_same (Known None) told newer was kept = absurd kept.opens
 shown_same (Known (Some bytes)) told newer was kept = kept.opens.same
 shown_same (Doubt old new) told newer was kept = absurd kept.opens
 
--- the items that are held are in step with the clear part
+-- the items have the same ids as the clear part
 step_at : (file : File) (told : ClearPart) (newer : Option ClearPart) (was : Open) → IsKept file told newer (Some (parts_of was)) → IsInStep told was.items
 step_at (Known None) told newer was kept = absurd kept.opens
 step_at (Known (Some bytes)) told newer was kept =
@@ -76,9 +76,9 @@ pub known_one : (file : File) (told : ClearPart) (newer : Option ClearPart) (was
 known_one (Known known) told newer was kept image is = is
 known_one (Doubt old new) told newer was kept image is = absurd kept.opens
 
--- ---- how a call ends
+-- ---- the answers of a call
 
--- only a call of the device failed
+-- if a call of the device failed, there is no other refusal
 pub no_other : {A : Type 0} (result : Result A ChangeRefused) (r : ChangeRefused) → OnErr result (IsFault result) → IsErrOf result r → (r ≡ refused.FaultBefore → ⊥) → (r ≡ refused.FaultUnsure → ⊥) → ⊥
 no_other (Ok x) r faults is before unsure = absurd cc
 no_other (Err e) r (inl fault) is before unsure = before (sym (err_of e r is) ∙ err_of e refused.FaultBefore fault)
@@ -93,13 +93,13 @@ pub fault_or : {A : Type 0} (X : Type 0) (result : Result A ChangeRefused) → O
 fault_or X (Ok x) faults = tt
 fault_or X (Err e) faults = inl faults
 
--- what was read before the call that failed
+-- what the slot had before the call that failed
 pub call_so : (held : Option Held) (call : DeviceCall) (Honest Done : Type 0) (New : Held → Type 0) (failed : Option DeviceCall) → (Done → IfSome held New) → FailedAfter call (Honest → Done) failed → IfSome held (λ h. FailedAfter call (Honest → New h) failed)
 call_so None call Honest Done New failed so is = tt
 call_so (Some h) call Honest Done New failed so (inl is) = inl is
 call_so (Some h) call Honest Done New failed so (inr (is, done)) = inr (is, λ honest. so (done honest))
 
--- nothing is changed
+-- nothing has changed
 pub same_now : {S : Type 0} (slot : S) (file : File) (told : ClearPart) (was held : Option Open) → held ≡ was → IsSame (state_of slot file told was) (state_of slot file told held)
 same_now slot file told was held same = record {
   file = refl;
@@ -138,7 +138,7 @@ before_at slot slot_now file file_now told told_now newer newer_now was next hel
       held = λ i. held_of (b.told i) (option_map parts_of (held i));
     }
 
--- what is given up is as before
+-- what is given up is as it was before
 pub undone_same : {S : Type 0} (slot : S) (file : File) (told : ClearPart) (newer : Option ClearPart) (frame : Frame) (front : ClearPart) (made : List Row → Result (List Row × Changed) ItemFault) (was next : Option Open) (ready : Prepared) (slot_now : S) (file_now : File) (told_now : ClearPart) (newer_now : Option ClearPart) (held_now : Option Open)
     → IsPreparedIn frame front told made was next ready → AreBefore ready file told newer next file_now told_now newer_now held_now → IsSame (state_of slot file told was) (state_of slot_now file_now told_now held_now)
 undone_same slot file told newer frame front made was next ready slot_now file_now told_now newer_now held_now p b = before_at slot slot_now file file_now told told_now newer newer_now was next held_now ready (is_back frame front told made was next ready p) b
@@ -167,7 +167,7 @@ module _ {S : Type 0} (change : Change) (now longest room : ℕ) (slot : S) (fil
         clear = p.1.clear ∙ ap (λ (t : Content). t.clear) same;
       }
 
-  -- a change that is stored
+  -- a change that was stored
   changed_at : (w n : Open) (ready : Prepared) (slot_now : S) (file_now : File) (told_now : ClearPart) (newer_now : Option ClearPart) (held_now : Option Open) (answer : Changed) → longest ≡ longest_of file → IsKept file told newer (Some (parts_of w))
       → IsPreparedIn (frame_for now longest room w) (front_of change told) told (rows_made change now) (Some w) (Some n) ready → AreStored (frame_for now longest room w) ready newer (Some n) file_now told_now newer_now held_now answer
       → IsChanged change now (state_of slot file told (Some w)) (record { key = w.key; vector = w.vector; rows = rows_with told w.items }) (state_of slot_now file_now told_now held_now) answer
@@ -187,7 +187,7 @@ module _ {S : Type 0} (change : Change) (now longest room : ℕ) (slot : S) (fil
         };
       }
 
-  -- one that may be stored
+  -- a change that may have been stored or not
   unsure_at : (w n : Open) (ready : Prepared) (slot_now : S) (file_now : File) (told_now : ClearPart) (newer_now : Option ClearPart) (held_now : Option Open) → longest ≡ longest_of file → IsKept file told newer (Some (parts_of w))
       → IsPreparedIn (frame_for now longest room w) (front_of change told) told (rows_made change now) (Some w) (Some n) ready → AreUnsure ready file told (Some n) file_now told_now newer_now held_now
       → MayBeChanged change now (state_of slot file told (Some w)) (record { key = w.key; vector = w.vector; rows = rows_with told w.items }) (state_of slot_now file_now told_now held_now)
@@ -218,7 +218,7 @@ module _ {S : Type 0} (change : Change) (now longest room : ℕ) (slot : S) (fil
   one_at w n ready left long kept p (inl is) = inl is
   one_at w n ready left long kept p (inr is) = inr (image_at w n ready left long kept p is)
 
-  -- it can be made, and isn't too large
+  -- the change can be made, and isn't too large
   never_at : (w n : Open) (ready : Prepared) (fault : ItemFault) → longest ≡ longest_of file → IsKept file told newer (Some (parts_of w)) → IsPreparedIn (frame_for now longest room w) (front_of change told) told (rows_made change now) (Some w) (Some n) ready
       → made_of change now (state_of slot file told (Some w)) (record { key = w.key; vector = w.vector; rows = rows_with told w.items }) ≡ Err fault → ⊥
   never_at w n ready fault long kept p e =
@@ -253,7 +253,7 @@ module _ {S : Type 0} (change : Change) (now longest room : ℕ) (slot : S) (fil
         over = omega (arith, over.over, as_long, long);
       }
 
-  -- ---- the clauses, where it is prepared and stored
+  -- ---- the clauses, if the change is prepared and stored
 
   by_cases : (P : Option Open → Option Open → Type 0) (frame : Frame) (was next : Option Open) (ready : Prepared) → IsKept file told newer (option_map parts_of was) → option_map (frame_for now longest room) was ≡ Some frame
       → IsPreparedIn frame (front_of change told) told (rows_made change frame.time) was next ready
@@ -302,12 +302,12 @@ module _ {S : Type 0} (change : Change) (now longest room : ℕ) (slot : S) (fil
       by_cases (λ was next. IfSome (held_of told (option_map parts_of was)) (λ held. IsTooLarge change now (state_of slot file told was) held room → Q)) frame was next ready kept framed p
       (λ w n kept_w same pw large. absurd (fits_at w n ready long kept_w pw large))
 
-  -- after a fault before the rename all is as before
+  -- after a fault before the rename everything is as before
   pub before_ok : (frame : Frame) (was next : Option Open) (ready : Prepared) (slot_now : S) (file_now : File) (told_now : ClearPart) (newer_now : Option ClearPart) (held_now : Option Open)
       → IsPreparedIn frame (front_of change told) told (rows_made change frame.time) was next ready → AreBefore ready file told newer next file_now told_now newer_now held_now → IsSame (state_of slot file told was) (state_of slot_now file_now told_now held_now)
   before_ok frame was next ready slot_now file_now told_now newer_now held_now p b = undone_same slot file told newer frame (front_of change told) (rows_made change frame.time) was next ready slot_now file_now told_now newer_now held_now p b
 
-  -- ---- the clauses, where it isn't prepared
+  -- ---- the clauses, if the change isn't prepared
 
   refused_cases : (P : Option Open → Type 0) (frame : Frame) (was : Option Open) (r : ChangeRefused) → IsKept file told newer (option_map parts_of was) → option_map (frame_for now longest room) was ≡ Some frame
       → MayRefuseIn frame (front_of change told) told (rows_made change frame.time) was r
@@ -364,7 +364,7 @@ module _ {S : Type 0} (change : Change) (now longest room : ℕ) (slot : S) (fil
       refused_cases (λ was. IfSome (held_of told (option_map parts_of was)) (λ held. IsTooLarge change now (state_of slot file told was) held room → IsErrOf {T = A} (Err r) refused.TooLarge ⊎ IsErrOf {T = A} (Err r) refused.OutOfMemory)) frame was r kept framed m
       (λ w kept_w mw large. large_again w r mw large)
 
-  -- no call of the device was made
+  -- no call of the device failed
   fault_never : (frame : Frame) (front : ClearPart) (made : List Row → Result (List Row × Changed) ItemFault) (was : Option Open) (r : ChangeRefused) → MayRefuseIn frame front told made was r → (r ≡ refused.FaultBefore) ⊎ (r ≡ refused.FaultUnsure) → ⊥
   fault_never frame front made None r m is = absurd m
   fault_never frame front made (Some w) r m (inl is) = subst (λ x. MayRefuse frame front (made (rows_with told w.items)) x) is m
@@ -380,7 +380,7 @@ module _ {S : Type 0} (change : Change) (now longest room : ℕ) (slot : S) (fil
   moments_no moment left_since None kept only = tt
   moments_no moment left_since (Some w) kept only = LeavesOnly-weaker moment left_since slot slot (IsOneOf file) _ (λ image is. inl (known_one file told newer w kept image is)) only
 
-  -- and with them
+  -- what a crash leaves during its calls
   pub moments_ok : (moment : S → ℕ) (left_since : S → ℕ → Image → Type 0) (slot_now : S) (frame : Frame) (was next : Option Open) (ready : Prepared)
       → longest ≡ longest_of file → IsKept file told newer (option_map parts_of was) → option_map (frame_for now longest room) was ≡ Some frame → IsPreparedIn frame (front_of change told) told (rows_made change frame.time) was next ready
       → LeavesOnly moment left_since slot slot_now (IsOneOf (Doubt (old_image file) (Some ready.image))) → IfSome (held_of told (option_map parts_of was)) (λ held. LeavesOnly moment left_since slot slot_now (IsOldOrNew change now (state_of slot file told was) held))

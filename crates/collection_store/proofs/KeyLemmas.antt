@@ -1,4 +1,4 @@
--- What a change of the key does to a collection's state, from how it is prepared and stored.
+-- A collection's state after a change of the key, from what was prepared and stored.
 use Rattle.std.proofs.Common.{◌≡◌, ℕ, ◌+◌, ◌<◌, ◌≤◌, List, length, Option, Some, None, Result, Ok, Err, refl, sym, ap, subst, ◌∙◌, inl, inr, arith}
 use Rattle.std.specs.Prelude.{IfSome, IfOk, IsErrOf, OnErr, OnOk, ◌⊎◌}
 use Rattle.std.specs.Option.{option_map}
@@ -27,18 +27,18 @@ use Rattle.collection_store.specs.declared.refused.ChangeRefused.{ChangeRefused}
 use Rattle.collection_store.specs.declared.refused.ChangeRefused.TheVariants as refused
 use Rattle.collection_store.proofs.ChangeLemmas.{err_of, known_one, shown_same, state_of, undone_same}
 
--- what a change of the key makes of the rows
+-- the rows after a change of the key
 abbrev pub kept_rows : List Row → Result (List Row × Changed) ItemFault
 kept_rows these = Ok (these, changed.Named)
 
--- the front that it makes
+-- the front after it
 abbrev pub keyed : List ℕ → ℕ → ClearPart → ClearPart
 keyed salt iterations clear = record clear { salt = salt; iterations = iterations }
 
 rows_of_made : (one other : List Row × Changed) → ◌≡◌ {A = Result (List Row × Changed) ItemFault} (Ok one) (Ok other) → one ≡ other
 rows_of_made one other e = cc
 
--- ---- how a call ends
+-- ---- the answers of a call
 
 pub err_told : (result : Result Changed ChangeRefused) (r : ChangeRefused) → IsErrOf (without_answer result) r → IsErrOf result r
 err_told (Ok answer) r is = absurd cc
@@ -120,7 +120,7 @@ module _ {S : Type 0} (now longest room : ℕ) (key vector salt : List ℕ) (ite
   unsure_key None ready slot_now file_now told_now newer_now held_now long kept p u = tt
   unsure_key (Some w) ready slot_now file_now told_now newer_now held_now long kept p u = unsure_key_at w ready slot_now file_now told_now newer_now held_now long kept p u
 
-  -- what the slot has after an unsure end is the file under the new key
+  -- after FaultUnsure by the last call the slot has the file under the new key
   pub image_key : (was : Option Open) (ready : Prepared) (left : Image) → longest ≡ longest_of file → IsKept file told newer (option_map parts_of was) → IsPreparedIn frame (keyed salt iterations told) told kept_rows was was ready
       → left ≡ Some ready.image
       → IfSome (held_of told (option_map parts_of was)) (λ held. left ≡ Some (sealed (content_rekeyed now salt iterations (shown_of told (option_map parts_of was)) held.rows) key vector))
@@ -148,7 +148,7 @@ module _ {S : Type 0} (now longest room : ℕ) (key vector salt : List ℕ) (ite
       → IsPreparedIn frame (keyed salt iterations told) told kept_rows was was ready → AreBefore ready file told newer was file_now told_now newer_now held_now → IsSame (state_of slot file told was) (state_of slot_now file_now told_now held_now)
   before_key was ready slot_now file_now told_now newer_now held_now p b = undone_same slot file told newer frame (keyed salt iterations told) kept_rows was was ready slot_now file_now told_now newer_now held_now p b
 
-  -- ---- where it isn't prepared
+  -- ---- if the change isn't prepared
 
   pub none_key : (was : Option Open) (r : ChangeRefused) (fault : ItemFault) → MayRefuseIn frame (keyed salt iterations told) told kept_rows was r → r ≡ refused.Item fault → ⊥
   none_key None r fault m is = absurd m

@@ -1,4 +1,4 @@
--- What is put by rising numbers rises.
+-- Values sorted by their numbers have rising numbers.
 use Rattle.std.proofs.Common.{◌≡◌, ℕ, ◌<◌, List, [], ◌∷◌, ◌++◌, length, map, refl, sym, ap, subst, ◌∙◌, append_assoc, arith}
 use Rattle.std.specs.declared.cmp.Ordering.{Ordering}
 use Rattle.std.specs.declared.cmp.Ordering.TheVariants.{Less, Equal, Greater}
@@ -73,14 +73,14 @@ module _ {X : Type 0} (number : X → ℕ) where
   unfolding by_number
   by_number_rising these = entered_rising [] these tt tt
 
--- nothing is left
+-- a list without elements is empty
 pub none_left : {X : Type 0} (rest : List X) → length rest ≡ 0 → rest ≡ []
 none_left [] none = refl
 none_left (x ∷ more) none = absurd (omega (arith, none))
 
--- ---- the items of a clear part, put by rising ids
+-- ---- the items of a clear part, sorted by id
 
--- they are of the same version
+-- they have the same version
 pub version_by_id : (minor : ℕ) (items made : List ClearItem) → made ≡ by_number (λ (item : ClearItem). item.id.0) items → IsOfVersion minor items → IsOfVersion minor made
 version_by_id minor items made e old = record {
   known = old.known;
@@ -91,10 +91,10 @@ version_by_id minor items made e old = record {
 pub rising_by_id : (items made : List ClearItem) → made ≡ by_number (λ (item : ClearItem). item.id.0) items → IsStrictlyIncreasing (ids_of made)
 rising_by_id items made e = place_by_rising (λ (item : ClearItem). item.id.0) made (rw e (by_number_rising (λ (item : ClearItem). item.id.0) items))
 
--- one more is put after those that were made of what came before
+-- one more element is mapped
 pub made_more : {X Y : Type 0} (f : X → Y) (done : List Y) (x : X) (rest : List X) (all : List Y) → done ++ map f (x ∷ rest) ≡ all → (done ++ f x ∷ []) ++ map f rest ≡ all
 made_more f done x rest all e = append_assoc done (f x ∷ []) (map f rest) ∙ e
 
--- none is left
+-- all elements are mapped
 pub made_all : {X Y : Type 0} (f : X → Y) (done : List Y) (rest : List X) (all : List Y) → rest ≡ [] → done ++ map f rest ≡ all → done ≡ all
 made_all f done rest all none e = let whole : done ++ map f [] ≡ all = subst (λ r. done ++ map f r ≡ all) none e in sym (append-nil done) ∙ whole

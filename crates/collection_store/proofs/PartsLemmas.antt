@@ -1,4 +1,4 @@
--- A content that was opened, taken apart.
+-- The parts of a content that was opened.
 use Rattle.std.proofs.Common.{◌≡◌, ℕ, nat_eq, List, [], ◌∷◌, length, map, refl, ap, sym, ◌∙◌, arith}
 use Rattle.std.specs.BTreeMap.{insert_entry}
 use Rattle.std.specs.Cmp.{nat_eq_equiv}
@@ -25,7 +25,7 @@ use Rattle.keyring_seal.proofs.SealLemmas.{arranged-permutation, map_number-zip}
 use Rattle.collection_store.specs.State.{by_id, ids_of, rows_with, unhashed, without_hashes}
 use Rattle.collection_store.proofs.OrderLemmas.{by_number_rising}
 
--- what is changed and keeps its numbers is put in the same order
+-- values that are changed and keep their numbers are sorted in the same order
 module _ {X Y : Type 0} (g : X → Y) (number : Y → ℕ) where
   entered_changed : (es : List (ℕ × X)) (xs : List X) → changed g (entered (λ x. number (g x)) es xs) ≡ entered number (changed g es) (map g xs)
   entered_changed es [] = refl
@@ -40,11 +40,11 @@ zip_first [] items same = refl
 zip_first (x ∷ clear) [] same = absurd (omega (arith, same))
 zip_first (x ∷ clear) (y ∷ items) same = ap (λ (t : List ClearItem). x ∷ t) (zip_first clear items (omega (arith, same)))
 
--- a row as the items of a collection have it
+-- a row in the form of `item_store`
 abbrev as_row : Row → ℕ × StoreRow
 as_row row = (row.0.id.0, record { kind = row.0.kind; item = row.1 })
 
--- a row as it is given to them
+-- a row as `item_store` takes it
 abbrev pub as_given : Row → ItemId × ℕ × FullItem
 as_given row = (row.0.id, row.0.kind, row.1)
 
@@ -80,7 +80,7 @@ clear_unhashed : (ordered : List Row) → map unhashed (map as_clear ordered) �
 clear_unhashed [] = refl
 clear_unhashed (row ∷ more) = ap (λ (t : List ClearItem). unhashed row.0 ∷ t) (clear_unhashed more)
 
--- two lists of rows by rising ids are one where they have one row for each id
+-- two lists of rows in order of their ids are equal if they have the same row for each id
 abbrev pub OneList : Type 0
 OneList = (one other : Rows) → AreRising one → AreRising other → ((id : ℕ) → row_at id one ≡ row_at id other) → one ≡ other
 

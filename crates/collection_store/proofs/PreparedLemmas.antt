@@ -1,4 +1,4 @@
--- What is prepared, from what its parts are.
+-- What is prepared, from its parts.
 use Rattle.std.proofs.Common.{◌≡◌, ℕ, ◌+◌, ◌<◌, ◌≤◌, Bool, true, false, cond, List, [], ◌∷◌, length, map, Result, Ok, Err, refl, sym, ap, subst, ◌∙◌, arith}
 use denote.Ref.{Bor}
 use Rattle.std.specs.List.{AllByRecursion, list_all, zip}
@@ -43,7 +43,7 @@ hashed_same (row ∷ more) all =
     let rest = hashed_same more all.1 in
     λ i. one i ∷ rest i
 
--- rows by rising numbers, with the hashes of their own attributes, are arranged as they stand
+-- rows in order of their numbers, with the hashes of their own attributes, are arranged already
 pub arranged_as : (front : ClearPart) (these : List Row) → AreHashed these → IsStrictlyIncreasing (map (λ (row : Row). row.0.id.0) these) → these ≡ arranged_rows (of_rows front these)
 arranged_as front these hashed rising = sym (
     ap (λ t. map hashed_row (by_number row_number t)) (rows_again these)
@@ -92,7 +92,7 @@ module _ (frame : Frame) (front : ClearPart) (made : Result (List Row × Changed
         opened = subst (λ (t : ClearPart). IsOpened image t frame.key frame.vector (finished rest new) t) (sym is_named) opened_named;
       }
 
-  -- or why not
+  -- why it isn't prepared
   pub over : (these lent : List Row) (named : ClearPart) (answer : Changed) → made ≡ Ok (these, answer) → named ≡ (content_stored frame.time front these).clear → lent ≡ these
       → most_in frame < length (sealed (of_rows named lent) frame.key frame.vector) → IsOver frame front made
   over these lent named answer is_made is_next is_lent more =
@@ -104,9 +104,9 @@ module _ (frame : Frame) (front : ClearPart) (made : Result (List Row × Changed
         over = subst (λ t. most_in frame < length (sealed t frame.key frame.vector)) (ap (λ t. of_rows named t) is_lent ∙ content) more;
       }
 
--- ---- rows that are lent
+-- ---- borrowed rows
 
--- a row as it is lent
+-- a borrowed row
 abbrev pub see : Bor ClearItem × Bor FullItem → Row
 see row = (row.0.now, row.1.now)
 

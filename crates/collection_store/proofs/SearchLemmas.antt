@@ -1,4 +1,4 @@
--- A binary search by rising numbers finds the one that has the number.
+-- A binary search in a list of rising numbers finds the element with the number.
 use Rattle.std.proofs.Common.{◌≡◌, ℕ, zero, suc, ◌+◌, ◌≤◌, ◌<◌, Bool, true, false, cond, nat_eq, List, [], ◌∷◌, length, get_or, map, filter, Option, Some, None, refl, sym, ◌∙◌, ap, inl, inr, arith}
 use Rattle.std.specs.declared.cmp.Ordering.{Ordering}
 use Rattle.std.specs.declared.cmp.Ordering.TheVariants.{Less, Equal, Greater}
@@ -57,7 +57,7 @@ module _ {X : Type 0} (number : X → ℕ) (k : ℕ) where
   later x [] rising = tt
   later x (y ∷ ys) rising = rising.1
 
-  -- a search that hits finds the first, and only, one
+  -- a search that finds one finds the first and only one
   pub find_at : (xs : List X) (i : ℕ) (d : X) → IsRising number xs → i < length xs → number (get_or xs i d) ≡ k → find (λ x. nat_eq (number x) k) xs ≡ Some (get_or xs i d)
   find_at [] i d rising lt e = absurd (omega (arith, lt))
   find_at (x ∷ xs) zero d rising lt e = rw (together (number x) k e) refl
@@ -81,7 +81,7 @@ module _ {X : Type 0} (number : X → ℕ) (k : ℕ) where
       index_rises (number (get_or xs i d)) (number (get_or xs j d)) k (rises xs i j d rising le lt) (nat_cmp (number (get_or xs i d)) k) (nat_cmp (number (get_or xs j d)) k)
       (ranked (number (get_or xs i d)) k _ refl) (ranked (number (get_or xs j d)) k _ refl)
 
-  -- a search that misses shows that there is none
+  -- a search that finds none shows that there is none
   pub find_gap : (xs : List X) (i : ℕ) → IsRising number xs
       → (IsNonDecreasingBy (λ x. ordering_index (nat_cmp (number x) k)) xs → IsPartitionPoint (λ x. nat_cmp (number x) k ≡ Less) (λ x. nat_cmp (number x) k ≡ Greater) xs i)
       → find (λ x. nat_eq (number x) k) xs ≡ None
@@ -102,7 +102,7 @@ content_found lent items k place item same up within equal =
     let first : find (λ x. nat_eq (number x) k) lent ≡ Some (get_or lent place item) = find_at number k lent place item rising within (equal_at _ k equal) in
     rw (sym same, first) refl
 
--- there is none
+-- if there is none
 pub content_missing : (lent items : List ClearItem) (k place : ℕ) → lent ≡ items → IsStrictlyIncreasing (ids_of items)
     → (IsNonDecreasingBy (λ (x : ClearItem). ordering_index (nat_cmp x.id.0 k)) lent → IsPartitionPoint (λ (x : ClearItem). nat_cmp x.id.0 k ≡ Less) (λ (x : ClearItem). nat_cmp x.id.0 k ≡ Greater) lent place)
     → None ≡ content_at k items
@@ -112,7 +112,7 @@ content_missing lent items k place same up parted =
     let first : find (λ x. nat_eq (number x) k) lent ≡ None = find_gap number k lent place rising parted in
     rw (sym same, first) refl
 
--- ---- the item of an id
+-- ---- the item with an id
 
 same_test : (id a b : ℕ) → a ≡ b → nat_eq id b ≡ nat_eq a id
 same_test id a b e = nat_eq_equiv.symm id b ∙ ap (λ n. nat_eq n id) (sym e)
@@ -132,7 +132,7 @@ item_found id (c ∷ cs) (r ∷ rs) e =
     let tail : ids_of cs ≡ keys_of rs = cc in
     rw (same_test id c.id.0 r.0 head) (by_id_test (nat_eq c.id.0 id) c r.1 _ _ (item_found id cs rs tail))
 
--- what is held has the item that the items have
+-- both forms of rows have the same item
 pub item_held : (id : ℕ) (file : File) (told : ClearPart) (key vector : List ℕ) (items : Rows) (written : Option ClearPart) → IsOpenedFile file told (Some (key, vector, items, written))
     → option_map (λ (r : StoreRow). r.item) (lookup (nat_eq id) items) ≡ item_at id (held_of told (Some (key, vector, items, written)))
 item_held id (Known None) told key vector items written opens = absurd opens
@@ -156,7 +156,7 @@ matched wanted (c ∷ cs) (r ∷ rs) e =
     let tail : ids_of cs ≡ keys_of rs = cc in
     by_match (matches wanted r.1.item.attributes) c r _ _ head (matched wanted cs rs tail)
 
--- what is held is found as the items find it
+-- both forms of rows have the same matches
 pub found_held : (wanted : List (List ℕ × AttrValue)) (file : File) (told clear : ClearPart) (key vector : List ℕ) (items : Rows) (written : Option ClearPart) → IsOpenedFile file told (Some (key, vector, items, written))
     → map (λ (r : ℕ × StoreRow). r.0) (filter (λ (r : ℕ × StoreRow). matches wanted r.1.item.attributes) items) ≡ found wanted clear (held_of told (Some (key, vector, items, written)))
 found_held wanted (Known None) told clear key vector items written opens = absurd opens

@@ -1,4 +1,4 @@
--- What the type of a collection keeps, step by step.
+-- The invariant of a collection, for each call.
 use Rattle.std.proofs.Common.{◌≡◌, ℕ, Bool, true, false, cond, nat_eq, List, [], ◌∷◌, length, map, Option, Some, None, Result, Ok, Err, refl, sym, ap, subst, ◌∙◌, arith}
 use Rattle.std.specs.Prelude.{max, IfSome, IsSome, OnErr, OnOk}
 use Rattle.std.specs.List.{AllByRecursion}
@@ -30,13 +30,13 @@ use Rattle.collection_store.specs.declared.preparing.Prepared.{Prepared}
 use Rattle.collection_store.specs.State.{CollectionState, HasItems, HasMostItems, IsById, IsHeld, IsKept, IsNewer, IsOpened, IsOpenedFile, OpensTo, Parts, Shows, by_id, has_image, held_of, ids_of, rows_with, shown_image, shown_of, told_after, unhashed, without_hashes}
 use Rattle.keyring_file.specs.ClearText.{HasClear}
 
--- a file whose clear part was read
+-- a collection whose file was read
 pub kept_loaded : (file : File) (clear told : ClearPart) → IsKnownFile (λ bytes. HasClear bytes clear) file → told ≡ by_id clear → IsKept file told None None
 kept_loaded (Known None) clear told has e = absurd has
 kept_loaded (Known (Some bytes)) clear told has e = record { shows = (clear, has, e); shown_next = refl; opens = tt }
 kept_loaded (Doubt old new) clear told has e = absurd has
 
--- a collection that is locked shows what it has shown
+-- a collection that gets locked shows what it showed
 pub kept_locked : (file : File) (told : ClearPart) (newer : Option ClearPart) (parts : Option Parts) → IsKept file told newer parts → IsKept file (shown_of told parts) newer None
 kept_locked file told newer parts kept = record { shows = kept.shows; shown_next = kept.shown_next; opens = tt }
 
@@ -46,14 +46,14 @@ opened_there (Known None) told parts opened = absurd opened
 opened_there (Known (Some bytes)) told parts opened = tt
 opened_there (Doubt old new) told parts opened = absurd opened
 
--- what is held is what the file opens to
+-- the kept items are those that the file opens to
 pub held_opens : (file : File) (told : ClearPart) (parts : Option Parts) → IsOpenedFile file told parts → IsHeld file (held_of told parts)
 held_opens file told None opened = tt
 held_opens (Known None) told (Some parts) opened = absurd opened
 held_opens (Known (Some bytes)) told (Some parts) opened = opened.opens
 held_opens (Doubt old new) told (Some parts) opened = absurd opened
 
--- a doubt ended, and what was found is shown; a collection in doubt is locked
+-- after a doubt ended, what was found is shown
 pub kept_found : (found : Found) (file : File) (told : ClearPart) (newer : Option ClearPart) (parts : Option Parts) → (IsKnown file → ⊥) → IsKept file told newer parts → IsKept (found_file found file) (told_after found told newer) None parts
 kept_found found (Known image) told newer parts doubt kept = absurd (doubt tt)
 kept_found found (Doubt old new) told newer (Some parts) doubt kept = absurd kept.opens
@@ -70,18 +70,18 @@ kept_found New (Doubt (Some bytes) (Some image)) told (Some part) None doubt kep
     let same : kept.shown_next.0 ≡ part = cc in
     record { shows = subst (λ t. Shows (Some image) t) same kept.shown_next.1; shown_next = refl; opens = tt }
 
--- what is in doubt is locked
+-- a collection in doubt is locked
 pub doubt_locked : (file : File) (told : ClearPart) (parts : Option Parts) → (IsKnown file → ⊥) → IsOpenedFile file told parts → parts ≡ None
 doubt_locked (Known image) told parts doubt opened = absurd (doubt tt)
 doubt_locked (Doubt old new) told None doubt opened = refl
 doubt_locked (Doubt old new) told (Some parts) doubt opened = absurd opened
 
--- the file of what is held is there
+-- an unlocked collection has a file
 pub held_there : (file : File) (told : ClearPart) (parts : Option Parts) → IsOpenedFile file told parts → IsSome (held_of told parts) → HasFile file
 held_there file told None opens held = absurd cc
 held_there file told (Some parts) opens held = opened_there file told parts opens
 
--- the file of a collection that is locked was removed, or perhaps
+-- the file of a collection was removed, or may have been
 pub kept_removed : (result : Result (Unit {0}) RemoveFault) (file new : File) (told : ClearPart) (newer : Option ClearPart) (parts : Option Parts) → IsKept file told newer parts → HasFile file → OnOk result (new ≡ Known None) → OnErr result (new ≡ Doubt (old_image file) None)
     → IsKept new (shown_of told parts) newer None
 kept_removed (Ok x) (Known None) new told newer parts kept there removed unsure = absurd there
@@ -105,7 +105,7 @@ same_contents : (id : ℕ) (told shown : ClearPart) → without_hashes told ≡ 
 same_contents id told shown same =
     sym (content_unhashed id told.items) ∙ ap (λ (t : ClearPart). content_at id t.items) same ∙ content_unhashed id shown.items
 
--- the content types that are shown
+-- an unlocked collection shows the content types of its items
 pub contents_shown : (id : ℕ) (file : File) (told : ClearPart) (parts : Option Parts) → IsOpenedFile file told parts → content_at id told.items ≡ content_at id (shown_of told parts).items
 contents_shown id file told None opened = refl
 contents_shown id (Known None) told (Some parts) opened = absurd opened
@@ -114,19 +114,19 @@ contents_shown id (Doubt old new) told (Some parts) opened = absurd opened
 
 -- ---- unlocking
 
--- a known file has its bytes as its image
+-- the image of a known file
 pub there_image : (file : File) → HasFile file → None ≡ old_image file → ⊥
 there_image (Known None) there e = absurd there
 there_image (Known (Some bytes)) there e = absurd cc
 there_image (Doubt old new) there e = absurd there
 
--- what holds of the image's bytes holds of the known file
+-- a fact of the image's bytes is a fact of the known file
 pub known_so : (Holds : List ℕ → Type 0) (file : File) (bytes : List ℕ) → HasFile file → Some bytes ≡ old_image file → Holds bytes → IsKnownFile Holds file
 known_so Holds (Known None) bytes there e h = absurd there
 known_so Holds (Known (Some image)) bytes there e h = let same : bytes ≡ image = cc in subst Holds same h
 known_so Holds (Doubt old new) bytes there e h = absurd there
 
--- the image's bytes have a clear part, which is shown
+-- the image's bytes have a clear part
 pub shown_part : (file : File) (clear : ClearPart) (bytes : List ℕ) → HasFile file → Some bytes ≡ old_image file → Shows (shown_image file) clear → (part : ClearPart) × HasClear bytes part × (clear ≡ by_id part)
 shown_part (Known None) clear bytes there e shows = absurd there
 shown_part (Known (Some image)) clear bytes there e shows = let same : image ≡ bytes = cc in subst (λ b. (part : ClearPart) × HasClear b part × (clear ≡ by_id part)) same shows
@@ -136,12 +136,12 @@ shown_part (Doubt old new) clear bytes there e shows = absurd there
 pub has_part : (file : File) (clear : ClearPart) (bytes : List ℕ) → HasFile file → Some bytes ≡ old_image file → Shows (shown_image file) clear → (part : ClearPart) × HasClear bytes part
 has_part file clear bytes there e shows = let found = shown_part file clear bytes there e shows in (found.0, found.1)
 
--- what is not held is not there
+-- a locked collection keeps nothing
 none_held : (told : ClearPart) (parts : Option Parts) → held_of told parts ≡ None → shown_of told parts ≡ told
 none_held told None e = refl
 none_held told (Some parts) e = absurd cc
 
--- a collection that was locked is opened
+-- a locked collection is unlocked
 pub kept_unlocked : Spelled → (file : File) (told : ClearPart) (newer : Option ClearPart) (parts : Option Parts) (bytes key vector : List ℕ) (content : Content) (made : ClearPart) (items : Rows) (written : ClearPart)
     → IsKept file told newer parts → held_of told parts ≡ None → HasFile file → Some bytes ≡ old_image file → opened bytes key vector ≡ Ok content → rows_with made items ≡ arranged_rows content → ids_of made.items ≡ keys_of items
     → AllByRecursion (λ (row : Row). row.0.hashed ≡ hashes row.1.attributes) (rows_with made items) → without_hashes made ≡ without_hashes (by_id content.clear) → written ≡ told
@@ -162,7 +162,7 @@ kept_unlocked spelled file told newer parts bytes key vector content made items 
       });
     }
 
--- and its state is the old one with what is held
+-- its state is the old one with what is kept
 pub state_unlocked : {S : Type 0} (slot : S) (file : File) (told : ClearPart) (parts : Option Parts) (key vector : List ℕ) (content : Content) (made : ClearPart) (items : Rows) (written : ClearPart) → held_of told parts ≡ None → rows_with made items ≡ arranged_rows content → written ≡ told
     → ◌≡◌ {A = CollectionState S} (record { slot = slot; file = file; clear = written; held = Some (record { key = key; vector = vector; rows = rows_with made items }) }) (record { slot = slot; file = file; clear = shown_of told parts; held = Some (record { key = key; vector = vector; rows = arranged_rows content }) })
 state_unlocked slot file told parts key vector content made items written locked rows was =
@@ -173,9 +173,9 @@ state_unlocked slot file told parts key vector content made items written locked
 pub opens_so : (Holds : Content → Type 0) (bytes key vector : List ℕ) (content : Content) → opened bytes key vector ≡ Ok content → Holds content → Opens bytes key vector Holds
 opens_so Holds bytes key vector content e h = rw e (h, refl)
 
--- ---- making
+-- ---- creating
 
--- a collection without items that was stored
+-- a new collection that was stored
 pub kept_created : (image key vector : List ℕ) (told : ClearPart) → told.items ≡ [] → HasClear image (of_rows told []).clear → opened image key vector ≡ Ok (of_rows told []) → IsKept (Known (Some image)) told None (Some (key, vector, [], None))
 unfolding by_number
 kept_created image key vector told none has opens = record {
@@ -189,7 +189,7 @@ kept_created image key vector told none has opens = record {
   };
 }
 
--- one that was perhaps stored
+-- a new collection that may have been stored or not
 pub kept_perhaps : (image : List ℕ) (told : ClearPart) → told.items ≡ [] → HasClear image (of_rows told []).clear → IsKept (Doubt None (Some image)) told None None
 unfolding by_number
 kept_perhaps image told none has = record {
@@ -214,7 +214,7 @@ counted : (image : Image) (clear : ClearPart) → is_some image ≡ true → Sho
 counted None clear there shows = absurd cc
 counted (Some bytes) clear there (part, has, e) = (part, has, ap (λ (t : ClearPart). length t.items) e)
 
--- no image is a file
+-- if no image is a file
 pub no_items : (file : File) → has_image file ≡ false → HasMostItems file 0
 no_items (Known None) e = refl
 no_items (Known (Some bytes)) e = absurd cc
@@ -222,7 +222,7 @@ no_items (Doubt None None) e = (0, 0, refl, refl, refl)
 no_items (Doubt None (Some bytes)) e = absurd cc
 no_items (Doubt (Some bytes) new) e = absurd cc
 
--- only one image is a file, or only one is known
+-- if one image is a file, or the file is known
 pub items_of_one : (file : File) (told : ClearPart) (parts : Option Parts) → has_image file ≡ true → IsKept file told None parts → HasMostItems file (length told.items)
 items_of_one (Known None) told parts e kept = absurd cc
 items_of_one (Known (Some bytes)) told parts e kept = rw (count_shown (Known (Some bytes)) told parts kept.opens) (counted (Some bytes) (shown_of told parts) refl kept.shows)
@@ -232,7 +232,7 @@ items_of_one (Doubt None (Some bytes)) told None e kept = (0, length told.items,
 items_of_one (Doubt (Some bytes) None) told None e kept = (length told.items, 0, counted (Some bytes) told refl kept.shows, refl, omega arith)
 items_of_one (Doubt (Some bytes) (Some image)) told None e kept = let never = kept.shown_next.2 in absurd cc
 
--- both images are files
+-- if both images are files
 pub items_of_both : (file : File) (told part : ClearPart) (parts : Option Parts) → IsKept file told (Some part) parts → HasMostItems file (max (length told.items) (length part.items))
 items_of_both (Known image) told part parts kept = let never = kept.shown_next in absurd cc
 items_of_both (Doubt old new) told part (Some parts) kept = absurd kept.opens
@@ -270,7 +270,7 @@ kept_stored frame ready file new told newer (Some was) now kept some is rising s
     } in
     rw (stored, none, held) opened
 
--- it is given up
+-- a change is given up
 pub kept_undone : (ready : Prepared) (file new : File) (told : ClearPart) (newer : Option ClearPart) (was now : Option Open) → IsKept file told newer (option_map parts_of (option_map (undone_open ready.rest) was)) → new ≡ file → now ≡ option_map (undone_open ready.rest) was → IsKept new told newer (option_map parts_of now)
 kept_undone ready file new told newer was now kept same held = rw (same, held) kept
 
@@ -283,7 +283,7 @@ unsure_at ready (Known (Some bytes)) told shown newer parts kept has rising same
 }
 unsure_at ready (Doubt old new) told shown newer parts kept has rising same = absurd kept.opens
 
--- it may be stored
+-- a change may be stored or not
 pub kept_unsure : (frame : Frame) (ready : Prepared) (file new : File) (told shown : ClearPart) (newer : Option ClearPart) (was now : Option Open) → IsKept file told newer (option_map parts_of (option_map (undone_open ready.rest) was)) → IsSome was → IfSome was (IsReady frame ready) → IsById ready.next
     → new ≡ Doubt (old_image file) (Some ready.image) → shown ≡ shown_of told (option_map parts_of was) → now ≡ None → IsKept new shown (Some ready.next) (option_map parts_of now)
 kept_unsure frame ready file new told shown newer None now kept some is rising unsure same none = absurd cc
@@ -291,7 +291,7 @@ kept_unsure frame ready file new told shown newer (Some was) now kept some is ri
     let also = same ∙ shown_by told was.key was.vector was.items (undone ready.rest was.items) was.written in
     rw (unsure, none) (unsure_at ready file told shown newer (parts_of (undone_open ready.rest was)) kept is.has rising also)
 
--- what is held has a known file
+-- the file of an unlocked collection is known
 pub known_kept : (ready : Prepared) (file : File) (told : ClearPart) (newer : Option ClearPart) (was : Option Open) → IsKept file told newer (option_map parts_of (option_map (undone_open ready.rest) was)) → IsSome was → IsKnown file
 known_kept ready file told newer None kept some = absurd cc
 known_kept ready (Known image) told newer (Some was) kept some = tt

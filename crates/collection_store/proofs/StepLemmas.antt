@@ -1,4 +1,4 @@
--- The items of a clear part and the rows of the items beside them, in step.
+-- The items of a clear part and the rows of the full items, with the same ids in the same order.
 use Rattle.std.proofs.Common.{◌≡◌, ℕ, ◌+◌, ◌<◌, ◌≤◌, Bool, true, false, cond, nat_eq, nat_lt, not, List, [], ◌∷◌, ◌++◌, length, map, filter, Option, Some, None, Result, Ok, Err, refl, sym, ap, subst, ◌∙◌, arith}
 use Rattle.std.specs.List.{AllByRecursion, list_any, zip}
 use Rattle.std.specs.List.Sorted.{IsStrictlyIncreasing, IsStrictlySortedBy}
@@ -41,7 +41,7 @@ itself a = grind (arith, nat_tests)
 swapped : (a b : ℕ) → nat_eq a b ≡ nat_eq b a
 swapped a b = grind (arith, nat_tests)
 
--- ---- each item of the clear part finds its row
+-- ---- each item of the clear part has a row
 
 looked_more : (n : ℕ) (row : StoreRow) (cs : List ClearItem) (es : Rows) → AllAbove n (ids_of cs) → looked cs ((n, row) ∷ es) ≡ looked cs es
 looked_more n row [] es above = refl
@@ -49,7 +49,7 @@ looked_more n row (c ∷ cs) es above =
     let off : nat_eq c.id.0 n ≡ false = higher c.id.0 n above.0 in
     rw off (ap (λ t. with_item c (option_map (λ (row : StoreRow). row.item) (row_at c.id.0 es)) ++ t) (looked_more n row cs es above.1))
 
--- in step, what is looked up is what is joined
+-- looking up each id gives the same rows as joining the two lists
 pub looked_zip : (cs : List ClearItem) (es : Rows) → AreRising es → ids_of cs ≡ keys_of es → looked cs es ≡ zip cs (map (λ row. row.1.item) es)
 looked_zip [] es rising same = refl
 looked_zip (c ∷ cs) [] rising same = absurd cc
@@ -60,7 +60,7 @@ looked_zip (c ∷ cs) (e ∷ es) rising same =
     let here : nat_eq c.id.0 e.0 ≡ true = rw first (itself e.0) in
     rw here (ap (λ (t : List Row). (c, e.1.item) ∷ t) (looked_more e.0 e.1 cs es above ∙ looked_zip cs es (sorted_tail nat_cmp e.0 (keys_of es) rising) rest))
 
--- the items of the clear part are those of the joined rows
+-- the joined rows have the items of the clear part
 pub firsts_zip : (cs : List ClearItem) (es : Rows) → ids_of cs ≡ keys_of es → map (λ (row : Row). row.0) (zip cs (map (λ row. row.1.item) es)) ≡ cs
 firsts_zip [] es same = refl
 firsts_zip (c ∷ cs) [] same = absurd cc
@@ -104,7 +104,7 @@ edited_ids id f stays (c ∷ cs) =
     let tail = edited_ids id f stays cs in
     λ i. first i ∷ tail i
 
--- what isn't changed stays
+-- a list without the item isn't changed
 pub edited_none : (id : ℕ) (cs : List ClearItem) → map (λ (c : ClearItem). cond (nat_eq c.id.0 id) c c) cs ≡ cs
 edited_none id [] = refl
 edited_none id (c ∷ cs) =
@@ -133,7 +133,7 @@ has_row_at id (c ∷ cs) (e ∷ es) same =
     ] in
     step (nat_eq id e.0) refl
 
--- ---- in step
+-- ---- a clear part and items with the same ids
 
 rows_rise : (ids : List ℕ) (es : Rows) → IsStrictlyIncreasing ids → ids ≡ keys_of es → AreRising es
 rows_rise ids es rising same = subst (λ t. IsStrictlySortedBy nat_cmp t) same (sorted_from_strictly_increasing ids rising)
@@ -141,7 +141,7 @@ rows_rise ids es rising same = subst (λ t. IsStrictlySortedBy nat_cmp t) same (
 rows_increase : (es : Rows) → AreRising es → IsStrictlyIncreasing (keys_of es)
 rows_increase es rising = IsStrictlyIncreasing-from_sorted (keys_of es) rising
 
--- what is looked up is what is joined, and has each item of the clear part
+-- looking up each id gives the joined rows, which have each item of the clear part
 pub looked_in : (cs : List ClearItem) (es : Rows) → IsStrictlyIncreasing (ids_of cs) → ids_of cs ≡ keys_of es → looked cs es ≡ zip cs (map (λ row. row.1.item) es)
 looked_in cs es rising same = looked_zip cs es (rows_rise (ids_of cs) es rising same) same
 
@@ -151,7 +151,7 @@ there_in cs es rising same = ap (λ (t : List Row). map (λ (row : Row). row.0) 
 pub hashed_in : (cs : List ClearItem) (es : Rows) → IsStrictlyIncreasing (ids_of cs) → ids_of cs ≡ keys_of es → AreHashed (zip cs (map (λ row. row.1.item) es)) → AreHashed (looked cs es)
 hashed_in cs es rising same hashed = subst AreHashed (sym (looked_in cs es rising same)) hashed
 
--- what holds of each row holds after a change that keeps it
+-- if a change keeps a fact of a row, the fact holds of all rows after it if it did before
 changed_all : (P : Row → Type 0) (id : ℕ) (h : Row → Row) → ((row : Row) → P row → P (h row)) → (rows : List Row) → AllByRecursion P rows → AllByRecursion P (rows_changed id h rows)
 changed_all P id h keeps [] all = tt
 changed_all P id h keeps (row ∷ more) all =
@@ -177,16 +177,16 @@ module _ (id : ℕ) (f : ClearItem → ClearItem) (g : StoreRow → StoreRow) (h
   pub parts_hashed : ((row : Row) → row.0.hashed ≡ hashes row.1.attributes → (h row).0.hashed ≡ hashes (h row).1.attributes) → AreHashed (zip edited (map (λ row. row.1.item) (items_changed id g items)))
   parts_hashed keeps = subst AreHashed (sym parts_rows) (changed_all (λ (row : Row). row.0.hashed ≡ hashes row.1.attributes) id h keeps (rows_with told items) step.hashed)
 
-  -- and the item is there
+  -- if the item is there
   pub parts_made : (answer : Changed) → is_some (row_at id items) ≡ true → at_item {A = List Row × Changed} id (rows_with told items) (Ok (rows_changed id h (rows_with told items), answer)) ≡ Ok (zip edited (map (λ row. row.1.item) (items_changed id g items)), answer)
   parts_made answer there =
       ap (λ b. cond b (made_of (rows_changed id h (rows_with told items)) answer) (Err item_fault.NoItem)) (has_row_at id told.items items step.ids ∙ there) ∙ ap (λ (t : List Row). made_of t answer) (sym parts_rows)
 
--- there is no such item
+-- if there is no such item
 pub none_made : {A : Type 0} (id : ℕ) (told : ClearPart) (items : Rows) (made : Result A ItemFault) → IsInStep told items → is_some (row_at id items) ≡ false → at_item id (rows_with told items) made ≡ Err item_fault.NoItem
 none_made id told items made step none = ap (λ b. cond b made (Err item_fault.NoItem)) (has_row_at id told.items items step.ids ∙ none)
 
--- ---- one item goes
+-- ---- one item is removed
 
 other_ids : (id : ℕ) (cs : List ClearItem) (es : Rows) → ids_of cs ≡ keys_of es → ids_of (filter (is_other id) cs) ≡ keys_of (items_without id es)
 other_ids id [] [] same = refl
@@ -313,7 +313,7 @@ lt_of {a} {b} is = grind (arith, nat_tests, is)
 lt_is : {a b : ℕ} → a < b → nat_lt a b ≡ true
 lt_is {a} {b} lt = grind (arith, nat_tests, lt)
 
--- the attributes aren't too many
+-- if the attributes aren't too many
 pub within_made : {A : Type 0} (attributes : List (List ℕ × AttrValue)) (made : A) → (most_attributes < length attributes → ⊥) → within_most attributes made ≡ Ok made
 within_made attributes made never =
     let step : (b : Bool) → nat_lt most_attributes (length attributes) ≡ b → cond b (Err item_fault.TooManyAttributes) (Ok made) ≡ Ok made =
@@ -323,18 +323,18 @@ within_made attributes made never =
     ] in
     step (nat_lt most_attributes (length attributes)) refl
 
--- or they are
+-- if they are
 pub over_made : {A : Type 0} (attributes : List (List ℕ × AttrValue)) (made : A) → most_attributes < length attributes → within_most attributes made ≡ Err item_fault.TooManyAttributes
 over_made attributes made more = ap (λ b. cond b (Err item_fault.TooManyAttributes) (Ok made)) (lt_is more)
 
--- by the test
+-- which of the two, by the test
 pub within_off : {A : Type 0} (attributes : List (List ℕ × AttrValue)) (made : A) → nat_lt most_attributes (length attributes) ≡ false → within_most attributes made ≡ Ok made
 within_off attributes made off = ap (λ b. cond b (Err item_fault.TooManyAttributes) (Ok made)) off
 
 pub over_on : {A : Type 0} (attributes : List (List ℕ × AttrValue)) (made : A) → nat_lt most_attributes (length attributes) ≡ true → within_most attributes made ≡ Err item_fault.TooManyAttributes
 over_on attributes made is = ap (λ b. cond b (Err item_fault.TooManyAttributes) (Ok made)) is
 
--- ---- what the items say of ids
+-- ---- ids in the two forms of rows
 
 last_same : (cs : List ClearItem) (es : Rows) → ids_of cs ≡ keys_of es → last_id (store_rows (zip cs (map (λ row. row.1.item) es))) ≡ last_id es
 last_same [] [] same = refl
@@ -363,7 +363,7 @@ equal_same given (c ∷ cs) (e ∷ es) same =
     ] in
     step (has_just given e.1) refl
 
--- attributes of an item that is there
+-- other attributes for an item that is there
 pub within_at : {A : Type 0} (id : ℕ) (told : ClearPart) (items : Rows) (attributes : List (List ℕ × AttrValue)) (made : A) → IsInStep told items → is_some (row_at id items) ≡ true → nat_lt most_attributes (length attributes) ≡ false → at_item id (rows_with told items) (within_most attributes made) ≡ Ok made
 within_at id told items attributes made step there off =
     ap (λ b. cond b (within_most attributes made) (Err item_fault.NoItem)) (has_row_at id told.items items step.ids ∙ there) ∙ within_off attributes made off

@@ -1,4 +1,4 @@
--- What a store leaves of a collection (docs/DECISIONS.md, "What a crash claim rests on").
+-- What a call leaves of a collection and its file (docs/DECISIONS.md, "What a crash claim rests on").
 use Rattle.std.specs.Prelude.{◌≡◌, ℕ, ◌+◌, ◌<◌, ◌⊎◌, min, List, length, None, Some, Result, Ok, Err, IsErrOf}
 use Rattle.item_store.specs.declared.fault.ItemFault.{ItemFault}
 use Rattle.kr_outside.specs.RenameDisk.{Image}
@@ -15,34 +15,34 @@ use Rattle.collection_store.specs.declared.refused.ChangeRefused.TheVariants as 
 use Rattle.collection_store.specs.declared.refused.CreateRefused.{CreateRefused}
 use Rattle.collection_store.specs.declared.refused.CreateRefused.TheVariants as create
 
--- the content is stored: its file is known, is shown, and is held under the key and the vector
+-- the content is stored: its file is known, its clear part is shown, and the collection is unlocked with the key and the vector
 pub record IsStored {S : Type 0} (content : Content) (key vector : List ℕ) (new : CollectionState S) : Type 0 where
   pub file : new.file ≡ Known (Some (sealed content key vector))
   pub clear : new.clear ≡ content.clear
   pub held : new.held ≡ Some (record { key = key; vector = vector; rows = rows content })
 
--- it may be stored, or the file is as before: the collection is locked and in doubt
+-- the content may be stored or not: the collection is locked, and its file in doubt
 pub record IsUnsure {S : Type 0} (content : Content) (key vector : List ℕ) (old new : CollectionState S) : Type 0 where
   pub file : new.file ≡ Doubt (old_image old.file) (Some (sealed content key vector))
   pub clear : new.clear ≡ old.clear
   pub locked : new.held ≡ None
 
--- all is as before, but perhaps the slot
+-- everything is as before, except perhaps the slot
 pub record IsSame {S : Type 0} (old new : CollectionState S) : Type 0 where
   pub file : new.file ≡ old.file
   pub clear : new.clear ≡ old.clear
   pub held : new.held ≡ old.held
 
--- how many bytes the new file may have, where all files together may grow by `room`
+-- how long the new file may be, if all files together may grow by `room` bytes
 abbrev pub most_for : ℕ → File → ℕ
 most_for room file = min most_bytes (longest_of file + room)
 
--- a crash leaves the image that was known, or the file of the content
+-- the image is the one that was known, or the file of the content
 abbrev pub IsOldOrSealed : File → Content → List ℕ → List ℕ → Image → Type 0
 IsOldOrSealed file content key vector image = (image ≡ old_image file) ⊎ (image ≡ Some (sealed content key vector))
 
 module _ (change : Change) (now : ℕ) {S : Type 0} (old : CollectionState S) (held : Held) where
-  -- what the change makes
+  -- what the change comes to
   abbrev pub made_of : Result (Content × Changed) ItemFault
   made_of = content_changed change now old.clear held.rows
 
@@ -52,28 +52,28 @@ module _ (change : Change) (now : ℕ) {S : Type 0} (old : CollectionState S) (h
     pub made : made_of ≡ Ok (content, answer)
     pub stored : IsStored content held.key held.vector new
 
-  -- it was made, and may be stored
+  -- the change was made, and may be stored or not
   pub record MayBeChanged (new : CollectionState S) : Type 0 where
     pub content : Content
     pub answer : Changed
     pub made : made_of ≡ Ok (content, answer)
     pub unsure : IsUnsure content held.key held.vector old new
 
-  -- it can be made, but its file would be too large
+  -- the change can be made, but its file would be too large
   pub record IsTooLarge (room : ℕ) : Type 0 where
     pub content : Content
     pub answer : Changed
     pub made : made_of ≡ Ok (content, answer)
     pub over : most_for room old.file < length (sealed content held.key held.vector)
 
-  -- the image is the file of what the change makes
+  -- the image is the file of the changed content
   pub record IsNewImage (image : Image) : Type 0 where
     pub content : Content
     pub answer : Changed
     pub made : made_of ≡ Ok (content, answer)
     pub is : image ≡ Some (sealed content held.key held.vector)
 
-  -- a crash leaves the image that was known, or the file of what the change makes
+  -- the image is the one that was known, or the file of the changed content
   abbrev pub IsOldOrNew : Image → Type 0
   IsOldOrNew image = (image ≡ old_image old.file) ⊎ IsNewImage image
 
@@ -81,7 +81,7 @@ module _ (change : Change) (now : ℕ) {S : Type 0} (old : CollectionState S) (h
 abbrev pub IsFault : {A : Type 0} → Result A ChangeRefused → Type 0
 IsFault result = IsErrOf result refused.FaultBefore ⊎ IsErrOf result refused.FaultUnsure
 
--- ---- how making a collection ends: what is handed back in each case
+-- ---- what `create` returns: what is handed back in each case
 
 module _ {S : Type 0} where
   -- too large
@@ -108,7 +108,7 @@ module _ {S : Type 0} where
   IfFaultBefore (Err (create.FaultUnsure made)) Holds = Unit {0}
   IfFaultBefore (Err (create.OutOfMemory cell)) Holds = Unit {0}
 
-  -- the file is there or it isn't
+  -- the file may have been written or not
   abbrev pub IfFaultUnsure : Result (CollectionState S) (CreateRefused S) → (CollectionState S → Type 0) → Type 0
   IfFaultUnsure (Ok made) Holds = Unit {0}
   IfFaultUnsure (Err (create.TooLarge cell)) Holds = Unit {0}

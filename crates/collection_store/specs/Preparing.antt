@@ -1,4 +1,4 @@
--- A change that is prepared: all is made that takes memory, and no call of the device was made.
+-- A prepared change: everything that takes memory is made, and no call of the device has been made.
 use Rattle.std.specs.Prelude.{◌≡◌, ℕ, ◌+◌, ◌<◌, ◌≤◌, min, List, [], ◌∷◌, ◌++◌, length, map, Option, None, Some, Result, Ok, Err}
 use Rattle.std.specs.List.{AllByRecursion}
 use Rattle.std.specs.Map.{keys_of}
@@ -22,21 +22,21 @@ use Rattle.collection_store.specs.declared.preparing.Prepared.{Prepared}
 use Rattle.collection_store.specs.declared.refused.ChangeRefused.{ChangeRefused}
 use Rattle.collection_store.specs.declared.refused.ChangeRefused.TheVariants as refused
 
--- an item as the clear part has it, with the item as the area has it, where there is one
+-- an item of the clear part with the full item, if there is one
 abbrev pub with_item : ClearItem → Option FullItem → List Row
 with_item item None = []
 with_item item (Some full) = (item, full) ∷ []
 
--- the items of the clear part, each with the item of its id, where there is one
+-- the items of the clear part, each with the full item that has its id; one without such an item is left out
 abbrev pub looked : List ClearItem → Rows → List Row
 looked [] items = []
 looked (item ∷ more) items = with_item item (option_map (λ (row : StoreRow). row.item) (row_at item.id.0 items)) ++ looked more items
 
--- each item of the clear part has the hashes of its own attributes
+-- in each row the hashes are those of the item's attributes
 abbrev pub AreHashed : List Row → Type 0
 AreHashed rows = AllByRecursion (λ (row : Row). row.0.hashed ≡ hashes row.1.attributes) rows
 
--- the clear part and the items are those of one content that can be stored
+-- the clear part and the items belong to one content that can be stored
 pub record IsInStep (told : ClearPart) (items : Rows) : Type 0 where
   pub ids : ids_of told.items ≡ keys_of items
   pub hashed : AreHashed (rows_with told items)
@@ -46,13 +46,13 @@ pub record IsInStep (told : ClearPart) (items : Rows) : Type 0 where
 abbrev pub next_of : Frame → ClearPart → List ClearItem → ClearPart
 next_of frame told items = record told { modified = frame.time; items = items; minor = minor_made told.minor items }
 
--- how many bytes the file may have
+-- how long the file may be
 abbrev pub most_in : Frame → ℕ
 most_in frame = min most_bytes (frame.longest + frame.room)
 
--- what a change makes of the rows, with its answer, or why it can't be made; the front is the clear part but for its items
+-- `made` is the rows after a change, with its answer, or why it can't be made; `front` is the clear part without its items
 module _ (frame : Frame) (front : ClearPart) (made : Result (List Row × Changed) ItemFault) where
-  -- the change is made: its file is ready, and the items are those of it but for the rest
+  -- the change is made: its file is ready, and the items are those of the file once the rest is done
   pub record IsPrepared (old new : Rows) (ready : Prepared) : Type 0 where
     pub rows : List Row
     pub is_made : made ≡ Ok (rows, ready.answer)
@@ -64,7 +64,7 @@ module _ (frame : Frame) (front : ClearPart) (made : Result (List Row × Changed
     pub has : HasClear ready.image ready.next
     pub opened : IsOpened ready.image ready.next frame.key frame.vector (finished ready.rest new) ready.next
 
-  -- the file of what the change makes would have more bytes than it may
+  -- the file of the changed content would be longer than it may be
   pub record IsOver : Type 0 where
     pub rows : List Row
     pub answer : Changed

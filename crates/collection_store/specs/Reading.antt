@@ -20,11 +20,11 @@ use Rattle.collection_store.specs.State.{Held}
 use Rattle.collection_store.specs.declared.refused.UnlockRefused.{UnlockRefused}
 use Rattle.collection_store.specs.declared.refused.UnlockRefused.TheVariants as unlock_refused
 
--- the row of an id
+-- the row with an id
 abbrev pub row_at : ℕ → List Row → Option Row
 row_at id rows = find (λ row. nat_eq (row_number row) id) rows
 
--- the item of an id, which only an unlocked collection shows
+-- the item with an id, which only an unlocked collection shows
 abbrev pub item_at : ℕ → Option Held → Option FullItem
 item_at id None = None
 item_at id (Some held) = option_map (λ row. row.1) (row_at id held.rows)

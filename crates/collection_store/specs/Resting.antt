@@ -1,4 +1,4 @@
--- The items between the moment when a change is prepared and the moment when the file is replaced, or isn't.
+-- The items after a change has been prepared, until the file has been replaced or hasn't.
 use Rattle.std.specs.Prelude.{List}
 use Rattle.item_store.specs.Rows.{Rows, rows_changed, rows_without}
 use Rattle.item_store.specs.Swapping.{with_parts}

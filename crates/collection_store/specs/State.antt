@@ -19,15 +19,15 @@ use Rattle.keyring_seal.specs.Order.{by_number}
 use Rattle.keyring_seal.specs.Whole.{opened}
 use Rattle.keyring_seal.specs.declared.content.Content.{Content}
 
--- what an unlocked collection holds: the key and the vector of its file, and its items by rising id, each as both parts of the file
--- have it
+-- what an unlocked collection keeps: the key and the vector of its file, and its items in order of their ids, each as in both parts
+-- of the file
 pub record Held : Type 0 where
   pub key : List ℕ
   pub vector : List ℕ
   pub rows : List Row
 
--- a collection as contracts see it: its slot, what is known of its file, the clear part that is shown, with its items by rising id,
--- and what it holds while it is unlocked
+-- a collection as contracts see it: its slot, what is known of its file, the clear part that is shown, with its items in order of
+-- their ids, and what it keeps while it is unlocked
 pub record CollectionState (S : Type 0) : Type 0 where
   pub slot : S
   pub file : File
@@ -36,15 +36,15 @@ pub record CollectionState (S : Type 0) : Type 0 where
 
 -- ---- what is shown
 
--- the numbers of the items
+-- the ids of the items
 abbrev pub ids_of : List ClearItem → List ℕ
 ids_of items = map (λ item. item.id.0) items
 
--- the clear part with its items by rising id
+-- the clear part with its items in order of their ids
 abbrev pub by_id : ClearPart → ClearPart
 by_id clear = record clear { items = by_number (λ (item : ClearItem). item.id.0) clear.items }
 
--- the items of a clear part are by rising id
+-- the items of a clear part are in order of their ids
 abbrev pub IsById : ClearPart → Type 0
 IsById clear = IsStrictlyIncreasing (ids_of clear.items)
 
@@ -54,12 +54,12 @@ shown_image (Known image) = image
 shown_image (Doubt None new) = new
 shown_image (Doubt (Some bytes) new) = Some bytes
 
--- the image is a file with this clear part, but for the order of its items; of no file nothing is shown
+-- the image is a file with this clear part, except for the order of its items; if there is no file, anything may be shown
 abbrev pub Shows : Image → ClearPart → Type 0
 Shows None clear = Unit {0}
 Shows (Some bytes) clear = (part : ClearPart) × HasClear bytes part × (clear ≡ by_id part)
 
--- the image has so many items; no file has none
+-- the image has this number of items; no file has 0
 abbrev pub HasItems : Image → ℕ → Type 0
 HasItems None count = count ≡ 0
 HasItems (Some bytes) count = (part : ClearPart) × HasClear bytes part × (count ≡ length (by_id part).items)
@@ -68,29 +68,29 @@ HasItems (Some bytes) count = (part : ClearPart) × HasClear bytes part × (coun
 abbrev pub has_image : File → Bool
 has_image file = is_some (old_image file) || is_some (new_image file)
 
--- so many are the greatest number of items in one of the images
+-- the larger number of items in the two images
 abbrev pub HasMostItems : File → ℕ → Type 0
 HasMostItems (Known image) count = HasItems image count
 HasMostItems (Doubt old new) count = (one : ℕ) × (other : ℕ) × HasItems old one × HasItems new other × (count ≡ max one other)
 
--- ---- what is held
+-- ---- what an unlocked collection keeps
 
--- the bytes open under the key and the vector, to the items that are held
+-- the bytes decrypt under the key and the vector to the items that are kept
 pub record OpensTo (bytes : List ℕ) (held : Held) : Type 0 where
   pub content : Content
   pub opens : opened bytes held.key held.vector ≡ Ok content
   pub arranged : held.rows ≡ arranged_rows content
 
--- an unlocked collection's file is known, and opens to what is held
+-- an unlocked collection's file is known, and decrypts to the items that are kept
 abbrev pub IsHeld : File → Option Held → Type 0
 IsHeld file None = Unit {0}
 IsHeld file (Some held) = IsKnownFile (λ bytes. OpensTo bytes held) file
 
--- ---- what the type keeps: `told` is the clear part with the hashes of the items' own attributes while the collection is unlocked, and
--- `written` the file's own where its hashes differ
+-- ---- the invariant of the type: while the collection is unlocked, `told` is the clear part with the hashes of the items' own
+-- attributes, and `written` the one in the file, if its hashes differ
 
--- what an unlocked collection has beside its file and the clear part: the key, the vector, the items, and perhaps the clear part as the
--- file has it
+-- what an unlocked collection keeps in addition to its file and the clear part: the key, the vector, the items, and perhaps the clear
+-- part as it is in the file
 abbrev pub Parts : Type 0
 Parts = List ℕ × List ℕ × Rows × Option ClearPart
 
@@ -100,51 +100,51 @@ shown_of told None = told
 shown_of told (Some (key, vector, items, None)) = told
 shown_of told (Some (key, vector, items, Some written)) = written
 
--- the items as both parts of the file have them
+-- the items as in both parts of the file
 abbrev pub rows_with : ClearPart → Rows → List Row
 rows_with told items = zip told.items (map (λ row. row.1.item) items)
 
--- what is held
+-- what is kept
 abbrev pub held_of : ClearPart → Option Parts → Option Held
 held_of told None = None
 held_of told (Some (key, vector, items, written)) = Some (record { key = key; vector = vector; rows = rows_with told items })
 
--- an item of the clear part but for its hashes
+-- an item of the clear part without its hashes
 abbrev pub unhashed : ClearItem → ClearItem
 unhashed item = record item { hashed = [] }
 
--- the clear part but for its hashes
+-- the clear part without its hashes
 abbrev pub without_hashes : ClearPart → ClearPart
 without_hashes clear = record clear { items = map unhashed clear.items }
 
--- the file opens to the items; the clear part has the same ids, and the hashes of their own attributes, and is but for these the one that is
--- shown
+-- the file decrypts to the items; the clear part has the same ids and the hashes of their own attributes, and except for these is the
+-- one that is shown
 pub record IsOpened (bytes : List ℕ) (told : ClearPart) (key vector : List ℕ) (items : Rows) (shown : ClearPart) : Type 0 where
   pub opens : OpensTo bytes (record { key = key; vector = vector; rows = rows_with told items })
   pub ids : ids_of told.items ≡ keys_of items
   pub hashed : AllByRecursion (λ (row : Row). row.0.hashed ≡ hashes row.1.attributes) (rows_with told items)
   pub same : without_hashes told ≡ without_hashes shown
 
--- an unlocked collection's file is known, and is opened
+-- an unlocked collection's file is known, and decrypts to the items
 abbrev pub IsOpenedFile : File → ClearPart → Option Parts → Type 0
 IsOpenedFile file told None = Unit {0}
 IsOpenedFile file told (Some (key, vector, items, written)) =
     IsKnownFile (λ bytes. IsOpened bytes told key vector items (shown_of told (Some (key, vector, items, written)))) file
 
--- the clear part of the newer image, where the older one is shown and the newer one is a file
+-- the clear part of the newer image, if the older one is shown and the newer one is a file
 abbrev pub IsNewer : File → Option ClearPart → Type 0
 IsNewer (Known image) newer = newer ≡ None
 IsNewer (Doubt None new) newer = newer ≡ None
 IsNewer (Doubt (Some bytes) None) newer = newer ≡ None
 IsNewer (Doubt (Some bytes) (Some image)) newer = (part : ClearPart) × Shows (Some image) part × (newer ≡ Some part)
 
--- what the type of a collection keeps
+-- the invariant of a collection
 pub record IsKept (file : File) (told : ClearPart) (newer : Option ClearPart) (parts : Option Parts) : Type 0 where
   pub shows : Shows (shown_image file) (shown_of told parts)
   pub shown_next : IsNewer file newer
   pub opens : IsOpenedFile file told parts
 
--- the clear part once a doubt ended: that of the newer image where this was found and there is one
+-- the clear part after a doubt ended: that of the newer image, if that was found and is a file
 abbrev pub told_after : Found → ClearPart → Option ClearPart → ClearPart
 told_after Old told newer = told
 told_after New told None = told

@@ -1,4 +1,4 @@
-// The clear part that a change stores, beside the one that is shown until then.
+// The clear part that a change stores, built beside the one that is shown until then.
 
 ghost use Rattle.std.specs.Prelude.{◌≡◌, ◌++◌, ◌≤◌, ◌<◌, ◌+◌, IfOk, OnOk, IsErrOf, Ok, min, length, map};
 ghost use Rattle.std.specs.Option.{option_copied, option_map};
@@ -31,24 +31,24 @@ use std::collections::BTreeMap;
 pub struct Frame {
     /// When the change is made, in seconds since 1970.
     pub time: u64,
-    /// How many bytes the longest image has.
+    /// The length in bytes of the longest image.
     pub longest: usize,
-    /// How many bytes more the file may have.
+    /// How many bytes the file may grow by.
     pub room: u64,
-    /// The key under which it is stored.
+    /// The key that the file is encrypted with.
     pub key: [u8; 16],
-    /// The vector under which it is stored.
+    /// The vector that the file is encrypted with.
     pub vector: [u8; 16],
 }
 
-/// Whether a content type is the plain one.
+/// Whether this is the plain content type.
 fn is_plain(content: &Text) -> bool
     ensures { result ≡ is_name plain_content content.now }
 {
     content.as_bytes() == b"text/plain".as_slice()
 }
 
-/// Whether each content type is the plain one.
+/// Whether all items have the plain content type.
 fn all_plain(items: &[ClearItem]) -> bool
     ensures { result ≡ list_all (λ item. is_name plain_content item.content) items.now }
 {
@@ -60,15 +60,14 @@ fn all_plain(items: &[ClearItem]) -> bool
     true
 }
 
-/// The number of the version: once a content type wasn't the plain one it is 1.
+/// The minor version: the old one while all content types are plain, and 1 otherwise.
 fn minor_for(minor: u8, items: &[ClearItem]) -> u8
     ensures { result ≡ minor_made minor items.now }
 {
     if all_plain(items) { minor } else { 1 }
 }
 
-/// A clear part that is like another one, but for its label, its salt, its iterations, its items and when
-/// it was changed.
+/// A copy of a clear part with another label, salt, number of iterations, time of the change and items.
 pub fn next_told(
     clear: &Clear,
     name: Text,
@@ -101,7 +100,7 @@ pub fn next_told(
     })
 }
 
-/// The item of an id. None where there is no such item.
+/// The item with an id. None if there is no such item.
 fn item_of(rows: &BTreeMap<u32, Row>, id: ItemId) -> Option<&FullItem>
     ensures { option_copied result ≡ option_map (λ row. row.item) (row_at id.0 rows.now.entries) }
 {
@@ -111,7 +110,7 @@ fn item_of(rows: &BTreeMap<u32, Row>, id: ItemId) -> Option<&FullItem>
     }
 }
 
-/// Puts an item of the clear part with its item after the others, where there is one.
+/// Appends an item of the clear part together with the full item, if there is one.
 fn put_lent<'a>(
     lent: &mut Vec<(&'a ClearItem, &'a FullItem)>,
     clear_item: &'a ClearItem,
@@ -127,7 +126,8 @@ fn put_lent<'a>(
     Ok(())
 }
 
-/// The items of the clear part, each with the item of its id, where there is one.
+/// The items of the clear part, each with the full item that has its id. An item without one is left
+/// out.
 fn lent_rows<'a>(
     alloc: Global,
     items: &'a [ClearItem],
@@ -143,9 +143,9 @@ fn lent_rows<'a>(
     Ok(lent)
 }
 
-/// The file of a clear part and the items.
+/// Encrypts the file of a clear part and the items.
 ///
-/// Refused with `TooLarge` exactly where it would have more bytes than it may, or more than 67,108,864.
+/// Refused with `TooLarge` only if the file would be longer than allowed, or longer than 67,108,864 bytes.
 pub fn sealed_next(
     alloc: Global,
     frame: &Frame,

@@ -3,8 +3,8 @@ use kr_base::{Attributes, Bytes, ItemId, Text};
 /// A change of a collection or of one of its items.
 #[derive(Drop)]
 pub enum Change {
-    /// Makes an item. With `replace`, the item of the least id that has just these attributes is changed
-    /// instead, if there is one: its label, its secret and its content type.
+    /// Adds an item. With `replace`, if an item has exactly these attributes, the one with the least id is
+    /// changed instead: its label, its secret and its content type.
     Add {
         /// The item's label.
         label: Text,
@@ -14,7 +14,7 @@ pub enum Change {
         value: Bytes,
         /// The content type of the secret.
         content: Text,
-        /// Whether an equal item is replaced.
+        /// Whether to replace an item with equal attributes.
         replace: bool,
     },
     /// Sets the secret of an item.
@@ -40,7 +40,7 @@ pub enum Change {
         /// The attributes.
         attributes: Attributes,
     },
-    /// Takes an item out.
+    /// Removes an item.
     Remove {
         /// The item.
         id: ItemId,
@@ -55,12 +55,12 @@ pub enum Change {
 /// What a change did.
 #[derive(Clone, Copy, Debug, Drop, PartialEq, Eq)]
 pub enum Changed {
-    /// This item was made.
+    /// This item was added.
     Made(ItemId),
     /// This item was changed.
     Changed(ItemId),
-    /// This item was taken out.
+    /// This item was removed.
     Removed(ItemId),
-    /// The collection has another label.
+    /// The collection got another label.
     Named,
 }

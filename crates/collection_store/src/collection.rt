@@ -33,15 +33,15 @@ use std::marker::Model;
 use std::mem;
 
 /// A collection: its file, the clear part that is shown, and while it is unlocked its key and its items.
-/// The file of an unlocked one is known, and opens under the key to the items.
+/// The file of an unlocked collection is known, and decrypts under the key to the items.
 #[derive(Drop)]
 pub struct Collection<S: Slot> {
     alloc: Global,
     cell: FileCell<S>,
-    // The clear part that is shown; while the collection is unlocked, with the hashes of the items' own
+    // The clear part that is shown. While the collection is unlocked, its hashes are those of the items' own
     // attributes.
     told: Told,
-    // The clear part of the newer image of a doubt, which is shown once that image was found.
+    // In doubt, the clear part of the newer image, which is shown once that image is found.
     newer: Option<Told>,
     held: Option<Open>,
 }
@@ -67,7 +67,7 @@ impl<S: Slot> Model for Collection<S> {
 }
 
 impl<S: Slot> Collection<S> {
-    /// A collection whose file was read, locked.
+    /// A locked collection whose file has been read.
     pub fn loaded(
         alloc: Global,
         cell: FileCell<S>,
@@ -91,9 +91,9 @@ impl<S: Slot> Collection<S> {
 
     /// Makes a collection without items and stores it. It is unlocked.
     ///
-    /// Refused with `TooLarge` where its file would have more than 67,108,864 bytes or more than there is room,
-    /// before any call of the device; with `FaultBefore` where the file couldn't be written; and with
-    /// `FaultUnsure` where it is there or it isn't.
+    /// Refused with `TooLarge`, before any call of the device, if its file would be longer than 67,108,864
+    /// bytes or longer than `room`; with `FaultBefore` if the file couldn't be written; and with `FaultUnsure`
+    /// if it may have been written or not.
     pub fn create(
         alloc: Global,
         cell: FileCell<S>,
@@ -181,8 +181,8 @@ impl<S: Slot> Collection<S> {
         }
     }
 
-    /// Whether a key may open the file: the collection is locked, its file is known, and the salt and the
-    /// iterations are the file's.
+    /// Whether a key may open the file: the collection is locked, its file is known, and the key has the
+    /// salt and the iterations of the file.
     pub fn fits(&self, key: &Derived) -> bool
         ensures { IsTrue result ↔ Fits self.now.file self.now.clear self.now.held key.now }
     {
@@ -195,8 +195,8 @@ impl<S: Slot> Collection<S> {
 
     /// Unlocks the collection with a key that fits.
     ///
-    /// Refused with `WrongPassword` where the check of the area differs, and with `Damaged` where the area has
-    /// another fault. The collection stays locked then.
+    /// Refused with `WrongPassword` if the area doesn't match its MD5, and with `Damaged` if the area has
+    /// another fault. The collection then stays locked.
     pub fn unlock(&mut self, key: Derived) -> Result<(), UnlockRefused>
         requires { Fits self.old.file self.old.clear self.old.held key }
         ensures unlocked { OnOk result (IsKnownFile (λ bytes. Opens bytes (key_of key)
@@ -209,7 +209,7 @@ impl<S: Slot> Collection<S> {
             }))
             self.old.file) }
 
-        // Each refusal by what opening the file gives. After it all is as before.
+        // Which refusal it is depends on what opening the file returns. Everything is then as before.
         ensures refused { (refused : UnlockRefused) → IsErrOf result refused
             → (refused ≡ UnlockRefused.OutOfMemory) ⊎ IsKnownFile (λ bytes.
             Unlocks (opened bytes (key_of key) (vector_of key)) refused) self.old.file }
@@ -244,10 +244,10 @@ impl<S: Slot> Collection<S> {
 
     /// Changes the collection or one of its items, and stores it. The file may grow by `room` bytes.
     ///
-    /// Refused with `Item` where the items can't be changed so, with `TooLarge` where the file would have more
-    /// than 67,108,864 bytes or grow by more than there is room, with `FaultBefore` where the new file couldn't
-    /// be written, and with `FaultUnsure` where it is there or it isn't. All memory is taken before the first
-    /// call of the device.
+    /// Refused with `Item` if the items can't be changed this way, with `TooLarge` if the file would be longer
+    /// than 67,108,864 bytes or grow by more than `room`, with `FaultBefore` if the new file couldn't be
+    /// written, and with `FaultUnsure` if the file may have been replaced or not. All memory is taken before
+    /// the first call of the device.
     pub fn change(&mut self, change: Change, now: u64, room: u64) -> Result<Changed, ChangeRefused>
         requires { IsSome self.old.held }
         ensures changed { IfOk result (λ answer. IfSome self.old.held (λ held.
@@ -268,14 +268,14 @@ impl<S: Slot> Collection<S> {
         ensures unsure { IsErrOf result ChangeRefused.FaultUnsure → IfSome self.old.held (λ held.
             MayBeChanged change now self.old held self.new) }
 
-        // After any other refusal all is as before, and without a fault the slot is untouched.
+        // After any other refusal everything is as before, and without a fault the slot is untouched.
         ensures unchanged { OnErr result (IsErrOf result ChangeRefused.FaultUnsure
             ⊎ IsSame self.old self.new) }
         ensures untouched { OnErr result (IsFault result
             ⊎ (self.new.slot ≡ self.old.slot)) }
 
-        // A crash leaves the old file or the new one at each moment of the call, and none but the old one up
-        // to `FaultBefore`.
+        // A crash at any moment of the call leaves the old file or the new one, and only the old one if the
+        // call ends with `FaultBefore`.
         ensures crash { IsTrue (S.is_honest self.new.slot)
             → LeavesFile self.new.file (S.may_leave self.new.slot) }
         ensures any_moment { IsTrue (S.is_honest self.old.slot) → IfSome self.old.held (λ held.
@@ -315,9 +315,9 @@ impl<S: Slot> Collection<S> {
         }
     }
 
-    /// Stores the collection under another key, which is kept from then on.
+    /// Stores the collection under another key, and uses that key from then on.
     ///
-    /// Refused as `change` is, but for `Item`.
+    /// Refused as `change` is, but never with `Item`.
     pub fn rekey(&mut self, key: Derived, now: u64, room: u64) -> Result<(), ChangeRefused>
         requires unlocked { IsSome self.old.held }
         requires iterations { key.iterations ≤ most_iterations }
@@ -342,8 +342,7 @@ impl<S: Slot> Collection<S> {
         ensures untouched { OnErr result (IsFault result
             ⊎ (self.new.slot ≡ self.old.slot)) }
 
-        // At each moment of the call a crash leaves the file that opens under the old key, or the one that
-        // opens under the new key.
+        // A crash at any moment of the call leaves the file under the old key or the file under the new one.
         ensures crash { IsTrue (S.is_honest self.new.slot)
             → LeavesFile self.new.file (S.may_leave self.new.slot) }
         ensures any_moment { IsTrue (S.is_honest self.old.slot) → IfSome self.old.held (λ held.
@@ -400,10 +399,10 @@ impl<S: Slot> Collection<S> {
         }
     }
 
-    /// Removes the file. The collection is then locked and has no file.
+    /// Removes the file. The collection is then locked and has no file. It takes no memory.
     ///
-    /// Refused with `FaultUnsure` where the name couldn't be taken away or the folder couldn't be synced: the
-    /// collection is locked, and its file in doubt. It takes no memory.
+    /// Refused with `FaultUnsure` if the name couldn't be removed or the folder couldn't be synced: the
+    /// collection is locked, and its file in doubt.
     pub fn delete(&mut self) -> Result<(), RemoveFault>
         requires { IsSome self.old.held }
         ensures removed { OnOk result (self.new.file ≡ Known None) }
@@ -429,8 +428,7 @@ impl<S: Slot> Collection<S> {
     /// Ends a doubt as `FileCell::resolve` does: the file is read into the buffer, and is then known to have
     /// the image that was found. It takes no memory.
     ///
-    /// Refused with `FaultRead` where the folder couldn't be synced or the file couldn't be read; the doubt
-    /// stays.
+    /// Refused with `FaultRead` if the folder couldn't be synced or the file couldn't be read; the doubt stays.
     pub fn resolve(&mut self, buffer: &mut [u8]) -> Result<Found, FaultRead>
         requires doubt { ¬ (IsKnown self.old.file) }
         requires room { longest_of self.old.file < length buffer.old }
@@ -461,7 +459,7 @@ impl<S: Slot> Collection<S> {
         Ok(found)
     }
 
-    /// The cell of a collection that goes. It takes no memory.
+    /// Gives up the collection and returns its cell. It takes no memory.
     pub fn into_cell(self) -> FileCell<S>
         ensures slot { result.slot ≡ self.slot }
         ensures file { result.file ≡ self.file }
@@ -469,8 +467,8 @@ impl<S: Slot> Collection<S> {
         self.cell
     }
 
-    /// A law: while nothing is done with the collection, a crash leaves one of its file's images at each
-    /// moment. It does nothing.
+    /// A law: while nothing is done with the collection, a crash at any moment leaves one of its file's
+    /// images. The call does nothing.
     pub fn untouched(&self)
         ensures any_moment { IsTrue (S.is_honest self.now.slot)
             → LeavesOnly S.moment S.left_since self.now.slot self.now.slot
@@ -495,7 +493,7 @@ impl<S: Slot> Collection<S> {
         self.cell.is_known()
     }
 
-    /// How many bytes the longest image has; 0 for no file.
+    /// The length in bytes of the longest image; 0 for no file.
     pub fn longest(&self) -> usize
         ensures { result ≡ longest_of self.now.file }
     {
@@ -523,14 +521,14 @@ impl<S: Slot> Collection<S> {
         &self.told.clear().name
     }
 
-    /// When the collection was made, in seconds since 1970.
+    /// When the collection was created, in seconds since 1970.
     pub fn created(&self) -> u64
         ensures { result ≡ self.now.clear.created }
     {
         self.told.clear().created
     }
 
-    /// When the collection was changed last, in seconds since 1970.
+    /// When the collection was last changed, in seconds since 1970.
     pub fn modified(&self) -> u64
         ensures { result ≡ self.now.clear.modified }
     {
@@ -551,14 +549,14 @@ impl<S: Slot> Collection<S> {
         self.told.clear().iterations
     }
 
-    /// The content type of an item, also while the collection is locked. None where there is no such item.
+    /// The content type of an item, even while the collection is locked. None if there is no such item.
     pub fn content(&self, id: ItemId) -> Option<&Text>
         ensures { option_copied result ≡ content_at id.0 self.now.clear.items }
     {
         self.told.content(id)
     }
 
-    /// An item. None exactly where the collection is locked or has no such item.
+    /// An item. None exactly if the collection is locked or has no such item.
     pub fn item(&self, id: ItemId) -> Option<&FullItem>
         ensures { option_copied result ≡ item_at id.0 self.now.held }
     {
@@ -568,8 +566,8 @@ impl<S: Slot> Collection<S> {
         }
     }
 
-    /// The ids of the items that match the wanted attributes, in rising order: by the items, or while the
-    /// collection is locked by the hashes in the clear part (Secret Service API, "Lookup Attributes").
+    /// The ids of the items that match the wanted attributes, in rising order. While the collection is locked,
+    /// the hashes in the clear part are compared (Secret Service API, "Lookup Attributes").
     pub fn search(&self, wanted: &Attributes) -> Result<Vec<ItemId>, OutOfMemory>
         ensures { IfOk result (λ ids. map (λ id. id.0) ids.items
             ≡ found_in wanted.now self.now.clear self.now.held) }
@@ -592,7 +590,7 @@ fn show_found(found: Found, told: &mut Told, newer: &mut Option<Told>)
     }
 }
 
-/// Whether one of the images is a file.
+/// Whether either image is a file.
 fn has_image<S: Slot>(cell: &FileCell<S>) -> bool
     ensures { result ≡ has_image_of cell.now.file }
 {

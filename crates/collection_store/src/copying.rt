@@ -1,4 +1,4 @@
-// The clear part of a changed collection is made beside the old one, which stays as it is.
+// The clear part of a changed collection is a copy; the old one stays as it is.
 
 ghost use Rattle.std.specs.Prelude.{◌≡◌, ◌++◌, ◌∷◌, [], IfOk, OnOk, filter, if◌then◌else◌, map};
 ghost use Rattle.collection_store.specs.Copying.{content_set, hashes_set, is_other};
@@ -9,7 +9,7 @@ use kr_base::{Attributes, HashedPair, ItemId, OutOfMemory, Text};
 use kr_items::Items;
 use std::alloc::Global;
 
-/// Second values of the same hashes.
+/// Copies of the hashes.
 fn copied_hashes(alloc: Global, pairs: &[HashedPair]) -> Result<Vec<HashedPair>, OutOfMemory>
     ensures { IfOk result (λ copied. copied.items ≡ pairs.now) }
 {
@@ -20,14 +20,14 @@ fn copied_hashes(alloc: Global, pairs: &[HashedPair]) -> Result<Vec<HashedPair>,
     Ok(copied)
 }
 
-/// Puts a second value of an item after the others.
+/// Appends a copy of an item.
 fn put_copy(alloc: Global, items: &mut Vec<ClearItem>, item: &ClearItem) -> Result<(), OutOfMemory>
     ensures { OnOk result (items.new.items ≡ items.old.items ++ item.now ∷ []) }
 {
     put_copy_of(alloc, items, item, &item.content)
 }
 
-/// Puts a second value of an item, with this content type, after the others.
+/// Appends a copy of an item with another content type.
 fn put_copy_of(
     alloc: Global,
     items: &mut Vec<ClearItem>,
@@ -46,7 +46,7 @@ fn put_copy_of(
     Ok(())
 }
 
-/// Puts a second value of an item after the others, with this content type where it is the item of the id.
+/// Appends a copy of an item, with another content type if it has the given id.
 fn put_with_content(
     alloc: Global,
     items: &mut Vec<ClearItem>,
@@ -64,8 +64,7 @@ fn put_with_content(
     }
 }
 
-/// Puts a second value of an item after the others, with the hashes of these attributes where it is the
-/// item of the id.
+/// Appends a copy of an item, with the hashes of these attributes if it has the given id.
 fn put_with_hashes(
     alloc: Global,
     items: &mut Vec<ClearItem>,
@@ -89,7 +88,7 @@ fn put_with_hashes(
     }
 }
 
-/// Puts a second value of an item after the others, where it isn't the item of the id.
+/// Appends a copy of an item, unless it has the given id.
 fn put_other(
     alloc: Global,
     items: &mut Vec<ClearItem>,
@@ -106,7 +105,7 @@ fn put_other(
     }
 }
 
-/// Second values of the same items.
+/// Copies of the items.
 pub fn copies(alloc: Global, items: &[ClearItem]) -> Result<Vec<ClearItem>, OutOfMemory>
     ensures { IfOk result (λ copied. copied.items ≡ items.now) }
 {
@@ -117,7 +116,7 @@ pub fn copies(alloc: Global, items: &[ClearItem]) -> Result<Vec<ClearItem>, OutO
     Ok(copied)
 }
 
-/// Second values of the items, and a new one after them.
+/// Copies of the items, followed by a new one.
 pub fn copies_and(
     alloc: Global,
     items: &[ClearItem],
@@ -130,7 +129,7 @@ pub fn copies_and(
     Ok(copied)
 }
 
-/// Second values of the items, one of them with another content type.
+/// Copies of the items, with another content type for the one with the given id.
 pub fn copies_with_content(
     alloc: Global,
     items: &[ClearItem],
@@ -146,7 +145,7 @@ pub fn copies_with_content(
     Ok(copied)
 }
 
-/// Second values of the items, one of them with the hashes of other attributes.
+/// Copies of the items, with the hashes of these attributes for the one with the given id.
 pub fn copies_with_hashes(
     alloc: Global,
     items: &[ClearItem],
@@ -163,7 +162,7 @@ pub fn copies_with_hashes(
     Ok(copied)
 }
 
-/// Second values of all items but one.
+/// Copies of all items except the one with the given id.
 pub fn copies_without(
     alloc: Global,
     items: &[ClearItem],

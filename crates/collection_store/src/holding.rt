@@ -1,4 +1,4 @@
-// What an unlocked collection holds, and how a prepared change is stored.
+// What an unlocked collection keeps in memory, and how a prepared change is stored.
 
 ghost use Rattle.std.specs.Prelude.{◌≡◌, ◌≢◌, ◌+◌, ◌≤◌, ◌<◌, ◌⊎◌, IsTrue, IsSome, IfSome, IfOk, IfErr, OnOk, OnErr, IsErrOf, Ok, Some, None, length};
 ghost use Rattle.std.specs.Option.{option_map};
@@ -23,18 +23,18 @@ use kr_outside::{DeviceCall, Slot};
 use replace_slot::{FileCell, ReplaceFault};
 use std::alloc::Global;
 
-/// What an unlocked collection has beside its file and the clear part.
+/// What an unlocked collection keeps in addition to its file and the clear part.
 #[derive(Drop)]
 pub struct Open {
     pub key: [u8; 16],
     pub vector: [u8; 16],
     pub items: ItemStore,
-    // The clear part as the file has it, where hashes in it aren't those of the items' own attributes. It is
-    // shown, also once the collection is locked again, until the first change is stored.
+    // The clear part as it is in the file, whose hashes may not be those of the items' own attributes. It is
+    // shown until the first change is stored, even after the collection is locked again.
     pub written: Option<Told>,
 }
 
-/// Drops what is held. The clear part is again the one that the file has.
+/// Drops the key and the items. The clear part is then the one in the file again.
 pub fn show_again(told: &mut Told, held: &mut Option<Open>)
     ensures told { told.new ≡ shown_of told.old (option_map parts_of held.old) }
     ensures held { held.new ≡ None }
@@ -47,7 +47,7 @@ pub fn show_again(told: &mut Told, held: &mut Option<Open>)
     }
 }
 
-/// The items are brought to those of the new file, and the key is kept under which it is stored.
+/// Turns the items into those of the new file, and keeps the key that it was encrypted with.
 fn keep(held: &mut Option<Open>, frame: &Frame, rest: Rest)
     ensures { held.new ≡ option_map (finished_open frame.now rest) held.old }
 {
@@ -59,7 +59,7 @@ fn keep(held: &mut Option<Open>, frame: &Frame, rest: Rest)
     }
 }
 
-/// The items are brought back to those of the old file.
+/// Turns the items back into those of the old file.
 fn bring_back(held: &mut Option<Open>, rest: Rest)
     ensures { held.new ≡ option_map (undone_open rest) held.old }
 {
@@ -68,10 +68,10 @@ fn bring_back(held: &mut Option<Open>, rest: Rest)
     }
 }
 
-/// Replaces the file by one that is prepared, and shows and keeps what is stored. It takes no memory.
+/// Replaces the file with the prepared one, and then shows and keeps the new content. It takes no memory.
 ///
-/// Refused with `FaultBefore`, after which all is as it was before it was prepared, or with `FaultUnsure`,
-/// after which what was held is dropped.
+/// Refused with `FaultBefore`, after which everything is as it was before the change was prepared, or with
+/// `FaultUnsure`, after which the key and the items are dropped.
 pub fn store<S: Slot>(
     cell: &mut FileCell<S>,
     told: &mut Told,
@@ -139,7 +139,7 @@ pub fn store<S: Slot>(
     }
 }
 
-/// What a change is stored with, under the key that is held.
+/// What a change is stored with, under the current key.
 pub fn frame_of(held: &Option<Open>, longest: usize, now: u64, room: u64) -> Frame
     requires { IsSome held.now }
     ensures { option_map (frame_for now longest room) held.now ≡ Some result }
@@ -156,7 +156,7 @@ pub fn frame_of(held: &Option<Open>, longest: usize, now: u64, room: u64) -> Fra
     }
 }
 
-/// Prepares a change of what is held.
+/// Prepares a change of an unlocked collection.
 pub fn prepare_in(
     alloc: Global,
     frame: &Frame,
@@ -180,7 +180,7 @@ pub fn prepare_in(
     }
 }
 
-/// Prepares that what is held is stored under another key.
+/// Prepares storing an unlocked collection under another key.
 pub fn prepare_key(
     alloc: Global,
     frame: &Frame,
@@ -209,7 +209,7 @@ pub fn prepare_key(
     }
 }
 
-/// The same, but for what was changed.
+/// The same answer, without what was changed.
 pub fn answered(given: Result<Changed, ChangeRefused>) -> Result<(), ChangeRefused>
     ensures { result ≡ without_answer given }
 {

@@ -1,4 +1,4 @@
-// What an unlocked collection holds is made of the content that its file opens to.
+// The state of an unlocked collection, made of the content that its file decrypts to.
 
 ghost use Rattle.std.specs.Prelude.{◌≡◌, ◌⊎◌, IfOk, IsErrOf, Ok, length, map};
 ghost use Rattle.std.specs.List.{AllByRecursion, zip};
@@ -26,7 +26,7 @@ use kr_base::{ItemId, OutOfMemory};
 use kr_items::Items;
 use std::alloc::Global;
 
-/// The content of a file whose clear part was read.
+/// The content of a file whose clear part has been read.
 pub fn content_of(alloc: Global, file: &[u8], key: &Derived) -> Result<Content, UnlockRefused>
     requires { (clear : ClearPart) × HasClear file.now clear }
     ensures opened { IfOk result (λ content.
@@ -49,7 +49,7 @@ pub fn content_of(alloc: Global, file: &[u8], key: &Derived) -> Result<Content, 
     }
 }
 
-/// The items, each as both parts of the file have it.
+/// The items of the two parts of a file, joined in pairs.
 fn joined(
     alloc: Global,
     clear: Vec<ClearItem>,
@@ -68,7 +68,7 @@ fn joined(
     Ok(rows)
 }
 
-/// The clear part's items, with the hashes of the items' own attributes, and the items.
+/// The items of the clear part, with the hashes of the items' own attributes, and the rows of the items.
 fn parted(
     alloc: Global,
     rows: Vec<(ClearItem, FullItem)>,
@@ -98,7 +98,7 @@ fn parted(
     Ok((clear, items))
 }
 
-/// The clear part of a content by rising ids, with the hashes of the items' own attributes, and its items.
+/// A content's clear part in order of ids, with the hashes of the items' own attributes, and its items.
 pub fn arranged_parts(alloc: Global, content: Content) -> Result<(Told, ItemStore), OutOfMemory>
     requires { IsSealable content }
     ensures rows { IfOk result (λ made. rows_with made.0 made.1 ≡ arranged_rows content) }

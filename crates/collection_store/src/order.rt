@@ -7,7 +7,7 @@ use kr_base::OutOfMemory;
 use std::alloc::Global;
 use std::collections::BTreeMap;
 
-/// What has a number.
+/// A value with a number.
 pub trait Numbered: Drop {
     /// The number.
     ghost number_of: { Self → ℕ };
@@ -33,7 +33,7 @@ impl Numbered for (ClearItem, FullItem) {
     }
 }
 
-/// Whether each number is below the next one.
+/// Whether each number is less than the next one.
 fn is_rising<T: Numbered>(these: &[T]) -> bool
     ensures { IsTrue result ↔ IsStrictlyIncreasing (map T.number_of these.now) }
 {
@@ -45,7 +45,7 @@ fn is_rising<T: Numbered>(these: &[T]) -> bool
     true
 }
 
-/// The same by rising numbers. What is in order is taken as it is.
+/// Sorts the values by number. Values that are in order are returned as they are.
 pub fn in_order<T: Numbered>(alloc: Global, these: Vec<T>) -> Result<Vec<T>, OutOfMemory>
     ensures { IfOk result (λ made. made.items ≡ by_number T.number_of these.items) }
 {

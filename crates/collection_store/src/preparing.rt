@@ -1,4 +1,4 @@
-// A change is prepared before any call of the device: all is made that takes memory.
+// A change is prepared before any call of the device: everything that takes memory is made here.
 
 ghost use Rattle.std.specs.Prelude.{◌≡◌, true, IfOk, IfErr, IfSome, IsErrOf, OnErr, Ok, Err, Some, None, [], ◌∷◌, ◌++◌, ◌≤◌, ◌<◌, length, map, if◌then◌else◌, nat_lt};
 ghost use Rattle.std.specs.List.{zip};
@@ -31,20 +31,20 @@ use std::alloc::Global;
 use std::collections::BTreeMap;
 use std::mem;
 
-/// A change that is prepared.
+/// A prepared change.
 #[derive(Drop)]
 pub struct Prepared {
     /// The clear part of the new file.
     pub next: Told,
     /// The new file.
     pub image: Image,
-    /// What is still to do in the items.
+    /// What is left to do to the items.
     pub rest: Rest,
-    /// What the change did.
+    /// The answer to the change.
     pub answer: Changed,
 }
 
-/// Prepares what changes the front alone: the label, or the salt and the iterations of a new key.
+/// Prepares a change of the label, or of the salt and the iterations for a new key. No item changes.
 pub fn prepare_front(
     alloc: Global,
     frame: &Frame,
@@ -81,7 +81,7 @@ pub fn prepare_front(
     }
 }
 
-/// Prepares a new label of the collection.
+/// Prepares a new label for the collection.
 fn prepare_name(
     alloc: Global,
     frame: &Frame,
@@ -110,7 +110,7 @@ fn prepare_name(
     )
 }
 
-/// The next clear part with these items, and its file. The rows are those of the clear part.
+/// The next clear part with these items, and its file. The rows have the same ids.
 fn sealed_rows(
     alloc: Global,
     frame: &Frame,
@@ -156,7 +156,7 @@ fn sealed_rows(
     }
 }
 
-/// The next clear part with these items, and its file. The items are those of the clear part.
+/// The next clear part with these items, and its file. The full items have the same ids.
 fn sealed_with(
     alloc: Global,
     frame: &Frame,
@@ -186,14 +186,14 @@ fn sealed_with(
     sealed_rows(alloc, frame, told, edited, items.rows())
 }
 
-/// Whether there is an item of the id.
+/// Whether there is an item with the id.
 fn has_item(items: &ItemStore, id: ItemId) -> bool
     ensures { result ≡ is_some (row_at id.0 items.now) }
 {
     items.item(id).is_some()
 }
 
-/// Prepares other parts of an item, which is there. The clear part's items are then these.
+/// Prepares new parts for an item that is there. `edited` is what the clear part's items will be.
 fn prepare_parts(
     alloc: Global,
     frame: &Frame,
@@ -242,7 +242,7 @@ fn prepare_parts(
     }
 }
 
-/// Prepares another secret of an item.
+/// Prepares a new secret for an item.
 fn prepare_secret(
     alloc: Global,
     frame: &Frame,
@@ -277,7 +277,7 @@ fn prepare_secret(
     prepare_parts(alloc, frame, told, items, id, edited, parts)
 }
 
-/// Prepares another label of an item.
+/// Prepares a new label for an item.
 fn prepare_label(
     alloc: Global,
     frame: &Frame,
@@ -311,7 +311,7 @@ fn prepare_label(
     prepare_parts(alloc, frame, told, items, id, edited, parts)
 }
 
-/// Prepares an item, which is there, with another label, secret and content type.
+/// Prepares a new label, secret and content type for an item that is there.
 fn prepare_replaced(
     alloc: Global,
     frame: &Frame,
@@ -350,7 +350,7 @@ fn prepare_replaced(
     prepare_parts(alloc, frame, told, items, id, edited, parts)
 }
 
-/// Prepares that an item goes.
+/// Prepares the removal of an item.
 fn prepare_removed(
     alloc: Global,
     frame: &Frame,
@@ -459,7 +459,7 @@ fn prepare_added(
     }
 }
 
-/// The least id of an item that has just the given attributes, if an equal item is replaced.
+/// The least id of an item with exactly these attributes, if it is to be replaced.
 fn equal_item(items: &ItemStore, replace: bool, attributes: &Attributes) -> Option<ItemId>
     ensures { option_map (λ id. id.0) result ≡ (if replace
         then first_id (ids_where (has_just attributes.now) items.now) else None) }
@@ -471,7 +471,7 @@ fn equal_item(items: &ItemStore, replace: bool, attributes: &Attributes) -> Opti
     }
 }
 
-/// Whether attributes that a call gives are too many.
+/// Whether a call brings too many attributes.
 fn are_too_many(attributes: &Attributes) -> bool
     ensures { result ≡ nat_lt most_attributes (length attributes.now) }
 {
@@ -510,9 +510,9 @@ fn prepare_add(
     }
 }
 
-/// Prepares a change. All memory that it needs is taken here.
+/// Prepares a change, and takes all memory that it needs.
 ///
-/// Refused as the change is, but for the faults of the device. The items are then as before.
+/// Refused as the change is, except for faults of the device. The items are then as before.
 pub fn prepare(
     alloc: Global,
     frame: &Frame,
@@ -551,7 +551,7 @@ pub fn prepare(
     }
 }
 
-/// Prepares other attributes of an item.
+/// Prepares new attributes for an item.
 fn prepare_attributes(
     alloc: Global,
     frame: &Frame,

@@ -7,9 +7,9 @@ use replace_slot::FileCell;
 /// Why a collection wasn't unlocked.
 #[derive(Clone, Copy, Drop, PartialEq, Eq)]
 pub enum UnlockRefused {
-    /// The check of the decrypted area differs: the password is a wrong one.
+    /// The decrypted area doesn't match its MD5: the password is wrong.
     WrongPassword,
-    /// The check is right, but the area isn't as it should be.
+    /// The MD5 is right, but the area is malformed.
     Damaged(AreaFault),
     /// No memory was left.
     OutOfMemory,
@@ -18,13 +18,13 @@ pub enum UnlockRefused {
 /// Why a collection wasn't changed.
 #[derive(Drop, PartialEq, Eq)]
 pub enum ChangeRefused {
-    /// The items can't be changed so.
+    /// The items can't be changed this way.
     Item(ItemFault),
-    /// The file would have more than 67,108,864 bytes, or grow by more than there is room.
+    /// The file would be longer than 67,108,864 bytes, or grow by more than `room`.
     TooLarge,
-    /// The new file couldn't be written. All is as before.
+    /// The new file couldn't be written. Everything is as before.
     FaultBefore,
-    /// The new file is there or it isn't. The collection is locked, and its file in doubt.
+    /// The file may have been replaced or not. The collection is locked, and its file in doubt.
     FaultUnsure,
     /// No memory was left.
     OutOfMemory,
@@ -33,12 +33,12 @@ pub enum ChangeRefused {
 /// Why a collection wasn't made.
 #[derive(Drop)]
 pub enum CreateRefused<S: Slot> {
-    /// The file would have more bytes than there is room. The cell is as it was given.
+    /// The file would be longer than `room`, or longer than 67,108,864 bytes. The cell is as it was.
     TooLarge(FileCell<S>),
     /// The file couldn't be written. The cell has no file, as before.
     FaultBefore(FileCell<S>),
-    /// The file is there or it isn't. The collection is locked, and its file in doubt.
+    /// The file may have been written or not. The collection is locked, and its file in doubt.
     FaultUnsure(Collection<S>),
-    /// No memory was left. The cell is as it was given.
+    /// No memory was left. The cell is as it was.
     OutOfMemory(FileCell<S>),
 }

@@ -1,4 +1,4 @@
-// What is still to do in the items once the file is replaced, or isn't.
+// What is left to do to the items after the file has been replaced, or hasn't.
 
 ghost use Rattle.std.specs.Prelude.{◌≡◌, true, [], ◌∷◌, ◌++◌, ◌<◌};
 ghost use Rattle.std.specs.Option.{is_some};
@@ -9,23 +9,23 @@ ghost use Rattle.collection_store.specs.Resting.{finished, undone};
 use item_store::{ItemStore, Moving, Swap};
 use kr_base::ItemId;
 
-/// How the items differ from those that are stored next and from those that were stored before.
+/// How the items in memory differ from those of the new file and from those of the old one.
 #[derive(Drop)]
 pub enum Rest {
-    /// They are both.
+    /// They are the items of both.
     Same,
-    /// They are those of the new file; the parts were swapped with those of an item.
+    /// They are those of the new file; an item's old parts are kept here.
     Swapped(ItemId, Swap),
-    /// They are those of the new file; the item was added.
+    /// They are those of the new file, to which this item was added.
     Added(ItemId),
-    /// They are those of the old file; the item is still there.
+    /// They are those of the old file; this item is still to be removed.
     Leaving(ItemId),
-    /// There are none: they are here, while the attributes of one of them change.
+    /// They were moved here while the attributes of one of them change.
     Moved(Moving),
 }
 
 impl Rest {
-    /// Brings the items to those of the new file. It takes no memory.
+    /// Turns the items into those of the new file. It takes no memory.
     pub fn finish(self, items: &mut ItemStore)
         ensures { items.new ≡ finished self items.old }
     {
@@ -38,7 +38,7 @@ impl Rest {
         }
     }
 
-    /// Brings the items back to those of the old file. It takes no memory.
+    /// Turns the items back into those of the old file. It takes no memory.
     pub fn undo(self, items: &mut ItemStore)
         ensures { items.new ≡ undone self items.old }
     {
@@ -52,7 +52,7 @@ impl Rest {
     }
 }
 
-/// Takes an item out.
+/// Removes an item, if it is there.
 pub fn take_out(items: &mut ItemStore, id: ItemId)
     ensures { items.new ≡ rows_without id.0 items.old }
 {
@@ -65,7 +65,7 @@ pub fn take_out(items: &mut ItemStore, id: ItemId)
     }
 }
 
-/// Swaps parts of an item with others, which are dropped.
+/// Gives an item its old parts back, and drops the new ones.
 pub fn swap_back(items: &mut ItemStore, id: ItemId, parts: Swap)
     ensures { items.new ≡ rows_changed id.0
         (λ row. record row { item = with_parts parts row.item }) items.old }

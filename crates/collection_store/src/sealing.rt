@@ -1,4 +1,4 @@
-// The image that a change stores is sealed before the device is called.
+// The image that a change stores is encrypted before any call of the device.
 
 ghost use Rattle.std.specs.Prelude.{◌≡◌, ◌+◌, ◌≤◌, ◌<◌, IfOk, IsErrOf, Ok, length, map, min};
 ghost use Rattle.std.specs.List.{AllByRecursion};
@@ -15,17 +15,16 @@ use keyring_text::known_bytes;
 use replace_slot::Image;
 use std::alloc::Global;
 
-/// How many bytes a file may have that may grow by so many, from the length of its longest image.
+/// How long a file may become that may grow by `room` bytes beyond its longest image.
 fn room_for(longest: usize, room: u64) -> usize
     ensures { min result most_bytes ≡ min most_bytes (longest + room) }
 {
     longest.saturating_add(room.min(67_108_864) as usize)
 }
 
-/// The image of a front and rows that are lent. The file may grow by `room` bytes from its longest image.
+/// The image of a clear part and borrowed rows. The file may grow by `room` bytes beyond its longest image.
 ///
-/// Refused with `TooLarge` exactly where the file would have more bytes than it may grow to, or more than
-/// 67,108,864.
+/// Refused with `TooLarge` if the file would grow by more, or be longer than 67,108,864 bytes.
 pub fn image_of(
     alloc: Global,
     longest: usize,

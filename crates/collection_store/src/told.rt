@@ -12,7 +12,7 @@ use kr_items::Items;
 use std::alloc::Global;
 use std::marker::Model;
 
-/// The clear part of an image, its items by rising id. A contract sees the clear part.
+/// The clear part of an image, with its items in order of their ids. Contracts see the clear part.
 #[derive(Drop)]
 pub struct Told {
     clear: Clear,
@@ -30,7 +30,7 @@ impl Model for Told {
 }
 
 impl Told {
-    /// A clear part whose items are by rising id. It takes no memory.
+    /// Takes a clear part whose items are in order of their ids. It takes no memory.
     pub fn rising(clear: Clear) -> Told
         requires { IsById clear }
         ensures { result ≡ clear }
@@ -38,7 +38,7 @@ impl Told {
         Told { clear }
     }
 
-    /// The clear part of a file, its items put by rising id.
+    /// Takes the clear part of a file, and sorts its items by id.
     pub fn new(alloc: Global, clear: Clear) -> Result<Told, OutOfMemory>
         ensures { IfOk result (λ told. told ≡ by_id clear) }
     {
@@ -69,7 +69,7 @@ impl Told {
         })
     }
 
-    /// The clear part, lent.
+    /// Borrows the clear part.
     pub fn clear(&self) -> &Clear
         ensures value { result.now ≡ self.now }
         ensures by_id { IsById self.now }
@@ -77,7 +77,7 @@ impl Told {
         &self.clear
     }
 
-    /// The content type of an item. None where there is no such item.
+    /// The content type of an item. None if there is no such item.
     pub fn content(&self, id: ItemId) -> Option<&Text>
         ensures { option_copied result ≡ content_at id.0 self.now.items }
     {
@@ -88,7 +88,7 @@ impl Told {
         }
     }
 
-    /// The ids of the items that match by their hashes, in rising order.
+    /// The ids of the items whose hashes match, in rising order.
     pub fn search(&self, alloc: Global, wanted: &Attributes) -> Result<Vec<ItemId>, OutOfMemory>
         ensures { IfOk result (λ ids. map (λ id. id.0) ids.items ≡ map (λ item. item.id.0)
             (filter (λ item. matches_by_hashes wanted.now item.hashed) self.now.items)) }
@@ -102,7 +102,7 @@ impl Told {
     }
 }
 
-/// Puts the id of an item that matches by its hashes after those that were found.
+/// Appends the id of an item if its hashes match.
 fn put_match(
     ids: &mut Vec<ItemId>,
     wanted: &Attributes,

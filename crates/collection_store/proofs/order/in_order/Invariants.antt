@@ -2,7 +2,7 @@ use Rattle.std.proofs.Common.{◌≡◌, [], length}
 use Rattle.keyring_seal.specs.Order.{entered}
 use Rattle.collection_store.proofs.order.in_order.Given as goal
 
--- what is entered, and what is still to be entered
+-- what was entered, and what is left
 abbrev pub invariant-loop-one : goal.invariant-loop-one
 invariant-loop-one g l =
     (goal.iterator-loop-one g).can_next l.one-iterator ×

@@ -4,7 +4,7 @@ use Rattle.std.proofs.lemmas.Fn.{always_returns_same}
 use Rattle.collection_store.proofs.SearchLemmas.{content_found, content_missing}
 use Rattle.collection_store.proofs.told.Told.content.Goals as goal
 
--- the closure compares an item's id with the one that is looked for
+-- the closure compares an item's id with the wanted one
 pub returns-in-Ok : goal.returns-in-Ok
 returns-in-Ok c =
     let equal = c.in-Ok.ensures.position (λ item. nat_cmp item.id.0 c.args.id.0) (always_returns_same _ _ _ (λ a r g called. (search rules, search rules))) in
