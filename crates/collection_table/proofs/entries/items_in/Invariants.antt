@@ -1,0 +1,8 @@
+use Rattle.std.proofs.Common.{take}
+use Rattle.collection_table.specs.Entries.{rows_of}
+use Rattle.collection_table.specs.Rows.{HaveItems}
+use Rattle.collection_table.proofs.entries.items_in.Given as goal
+
+-- the items of the collections that were counted
+abbrev pub invariant-loop-place : goal.invariant-loop-place
+invariant-loop-place g l = HaveItems (rows_of (take l.place l.entries)) l.count
