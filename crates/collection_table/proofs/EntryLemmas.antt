@@ -17,7 +17,7 @@ use Rattle.std.proofs.lemmas.Map.Keys.{IsDistinct-from_sorted, Less-from_sorted}
 use Rattle.std.proofs.lemmas.Map.Lookups.{exact_bytes}
 use Rattle.std.proofs.lemmas.Option.{slice_get-get_or, slice_get-map, slice_get_within, get_or_from_slice_get}
 use Rattle.kr_base.specs.Attributes.{is_name, IsInOrder, value_at}
-use Rattle.kr_base.proofs.OrderedLemmas.{is_less, name-test}
+use Rattle.kr_base.proofs.OrderedLemmas.{is_equal, is_less, name-test}
 use Rattle.collection_table.specs.Entries.{IsPlaceOf, changed, inserted, set_place, without}
 
 -- the order of stems
@@ -107,6 +107,20 @@ module _ {V : Type 0} where
               rw off (ap (λ t. e ∷ t) (unchanged_none more later))
         ] in
         step (is_name stem e.0) refl
+
+  -- what is at another stem stays
+  pub others_stay : (stem other : List ℕ) (f : V → V) (entries : List (List ℕ × V)) → (other ≡ stem → ⊥) → value_at other (changed stem f entries) ≡ value_at other entries
+  others_stay stem other f [] apart = refl
+  others_stay stem other f (e ∷ more) apart =
+      let step : (b : Bool) → is_name stem e.0 ≡ b → value_at other (changed stem f (e ∷ more)) ≡ value_at other (e ∷ more) =
+      elim [
+        | true ↦ λ is.
+            let here : stem ≡ e.0 = exact_bytes stem e.0 (is_equal (by_bytes stem e.0) is) in
+            let off : is_name other e.0 ≡ false = ⊎_elim (λ at. absurd (apart (exact_bytes other e.0 (is_equal (by_bytes other e.0) at) ∙ sym here))) (λ no. no) (cases_Bool (is_name other e.0)) in
+            rw is (rw off (others_stay stem other f more apart))
+        | false ↦ λ off. rw off (ap (cond (is_name other e.0) (Some e.1)) (others_stay stem other f more apart))
+      ] in
+      step (is_name stem e.0) refl
 
   -- ---- keys and places
 

@@ -1,7 +1,9 @@
 -- The rows that the collections stand for: what is read of them, and how much there is.
-use Rattle.std.proofs.Common.{◌≡◌, ◌↔◌, ℕ, ◌+◌, ◌<◌, Bool, true, false, List, [], ◌∷◌, ◌++◌, find, get_or, length, map, min, nat_eq, take, IsSome, IsTrue, Option, None, Some, refl, sym, ◌∙◌, ap, arith, subst}
+use Rattle.std.proofs.Common.{◌≡◌, ◌↔◌, ℕ, ◌+◌, ◌<◌, Bool, true, false, List, [], ◌∷◌, ◌++◌, find, get_or, length, map, min, nat_eq, take, IsSome, IsTrue, Option, None, Some, refl, sym, ◌∙◌, ap, arith, subst, filter, not}
 use Rattle.std.specs.List.{list_any}
 use Rattle.std.specs.Map.{keys_of}
+use Rattle.std.specs.Cmp.Lexicographic.{slice_cmp}
+use Rattle.std.specs.Ordering.{is_lt, nat_cmp}
 use Rattle.std.specs.Option.{is_some, option_map, option_map_or}
 use Rattle.std.proofs.lemmas.List.{take_more}
 use Rattle.std.proofs.lemmas.List.Sums.{sum_by-append}
@@ -13,7 +15,7 @@ use Rattle.keyring_file.specs.declared.clear.ClearItem.{ClearItem}
 use Rattle.collection_store.specs.Reading.{content_at, item_at}
 use Rattle.collection_store.specs.State.{CollectionState, HasMostItems, by_id}
 use Rattle.folder_store.specs.Ring.{RingState}
-use Rattle.collection_table.specs.Entries.{Entries, changed, closed, loaded_from, row_of, rows_of}
+use Rattle.collection_table.specs.Entries.{Entries, changed, closed, inserted, loaded_from, row_of, rows_of, without}
 use Rattle.collection_table.specs.Rows.{AddUp, CollectionRow, HaveItems, Rows, bytes_in, content_of, has, has_item, is_open, is_unlocked, item_of, locked, most, shows_item}
 
 -- ---- single values
@@ -98,15 +100,45 @@ module _ {S : Type 0} where
 
   -- ---- a collection that is locked
 
-  pub rows-locked : (stem : List ℕ) (entries : Entries S) → rows_of (changed stem closed entries) ≡ changed stem locked (rows_of entries)
-  rows-locked stem [] = refl
-  rows-locked stem (e ∷ more) =
-      let step : (b : Bool) → is_name stem e.0 ≡ b → rows_of (changed stem closed (e ∷ more)) ≡ changed stem locked (rows_of (e ∷ more)) =
+  -- the row of what is at a stem changes with it, and no other
+  pub rows-changed : (stem : List ℕ) (f : CollectionState S → CollectionState S) (g : CollectionRow → CollectionRow) → ((c : CollectionState S) → row_of (f c) ≡ g (row_of c))
+      → (entries : Entries S) → rows_of (changed stem f entries) ≡ changed stem g (rows_of entries)
+  rows-changed stem f g each [] = refl
+  rows-changed stem f g each (e ∷ more) =
+      let step : (b : Bool) → is_name stem e.0 ≡ b → rows_of (changed stem f (e ∷ more)) ≡ changed stem g (rows_of (e ∷ more)) =
       elim [
-        | true ↦ λ is. rw is (ap (λ t. (e.0, locked (row_of e.1)) ∷ t) (rows-locked stem more))
-        | false ↦ λ off. rw off (ap (λ t. (e.0, row_of e.1) ∷ t) (rows-locked stem more))
+        | true ↦ λ is. rw is (λ i. (e.0, each e.1 i) ∷ rows-changed stem f g each more i)
+        | false ↦ λ off. rw off (ap (λ t. (e.0, row_of e.1) ∷ t) (rows-changed stem f g each more))
       ] in
       step (is_name stem e.0) refl
+
+  pub rows-locked : (stem : List ℕ) (entries : Entries S) → rows_of (changed stem closed entries) ≡ changed stem locked (rows_of entries)
+  rows-locked stem entries = rows-changed stem closed locked (λ c. refl) entries
+
+  -- a filter by stems passes the rows of what it passes
+  rows-filtered : (p : List ℕ → Bool) (entries : Entries S) → rows_of (filter (λ (e : List ℕ × CollectionState S). p e.0) entries) ≡ filter (λ (e : List ℕ × CollectionRow). p e.0) (rows_of entries)
+  rows-filtered p [] = refl
+  rows-filtered p (e ∷ more) =
+      let step : (b : Bool) → p e.0 ≡ b → rows_of (filter (λ (x : List ℕ × CollectionState S). p x.0) (e ∷ more)) ≡ filter (λ (x : List ℕ × CollectionRow). p x.0) (rows_of (e ∷ more)) =
+      elim [
+        | true ↦ λ is. rw is (ap (λ t. (e.0, row_of e.1) ∷ t) (rows-filtered p more))
+        | false ↦ λ off. rw off (rows-filtered p more)
+      ] in
+      step (p e.0) refl
+
+  pub rows-without : (stem : List ℕ) (entries : Entries S) → rows_of (without stem entries) ≡ without stem (rows_of entries)
+  rows-without stem entries = rows-filtered (λ other. not (is_name stem other)) entries
+
+  rows-joined : (entries more : Entries S) → rows_of (entries ++ more) ≡ rows_of entries ++ rows_of more
+  rows-joined [] more = refl
+  rows-joined (e ∷ entries) more = ap (λ l. (e.0, row_of e.1) ∷ l) (rows-joined entries more)
+
+  pub rows-inserted : (stem : List ℕ) (c : CollectionState S) (entries : Entries S) → rows_of (inserted stem c entries) ≡ inserted stem (row_of c) (rows_of entries)
+  rows-inserted stem c entries =
+      let front = rows-filtered (λ other. is_lt (slice_cmp nat_cmp other stem)) entries in
+      let back = rows-filtered (λ other. is_lt (slice_cmp nat_cmp stem other)) entries in
+      rows-joined (filter (λ (e : List ℕ × CollectionState S). is_lt (slice_cmp nat_cmp e.0 stem)) entries) ((stem, c) ∷ filter (λ (e : List ℕ × CollectionState S). is_lt (slice_cmp nat_cmp stem e.0)) entries)
+      ∙ (λ i. front i ++ (stem, row_of c) ∷ back i)
 
   -- ---- a start
 

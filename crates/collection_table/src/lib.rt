@@ -6,8 +6,10 @@
 #![tactic(auto)]
 
 mod entries;
+mod laws;
 mod matches;
 mod table;
 
+pub use laws::{a_changed_collection_changes_its_row, other_collections_stay};
 pub use matches::Matches;
 pub use table::CollectionTable;

@@ -7,7 +7,7 @@ ghost use Rattle.std.specs.Map.{values_of};
 ghost use Rattle.std.specs.Option.{option_copied, option_copied_mut};
 ghost use Rattle.std.specs.Ordering.{nat_cmp};
 ghost use Rattle.kr_base.specs.Attributes.{IsInOrder, value_at};
-ghost use Rattle.collection_table.specs.Entries.{changed, closed, inserted, loaded_from, rows_of, with_collection, with_place, without};
+ghost use Rattle.collection_table.specs.Entries.{changed, closed, inserted, loaded_from, row_of, rows_of, with_collection, with_place, without};
 ghost use Rattle.collection_table.specs.Rows.{HaveItems, bytes_in, content_of, found_in_all, has, has_item, is_open, item_of, locked, most};
 
 use crate::{Matches, entries};
@@ -197,6 +197,8 @@ impl<S: Slot> CollectionTable<S> {
         requires none { value_at stem self.old.entries ≡ None }
         requires room { 0 < self.old.room }
         ensures entries { self.new.entries ≡ inserted stem collection self.old.entries }
+        ensures rows { rows_of self.new.entries
+            ≡ inserted stem (row_of collection) (rows_of self.old.entries) }
         ensures room { self.old.room ≤ self.new.room + 1 }
     {
         entries::insert(&mut self.entries, stem, collection);
@@ -207,6 +209,7 @@ impl<S: Slot> CollectionTable<S> {
     pub fn remove(&mut self, stem: &Stem) -> Option<Collection<S>>
         ensures value { result ≡ value_at stem.now self.old.entries }
         ensures entries { self.new.entries ≡ without stem.now self.old.entries }
+        ensures rows { rows_of self.new.entries ≡ without stem.now (rows_of self.old.entries) }
         ensures room { self.old.room ≤ self.new.room }
     {
         entries::remove(&mut self.entries, stem)
