@@ -71,6 +71,10 @@ content-any stem id rows = by_row (value_at stem rows)
     by_row None = refl
     by_row (Some row) = found-any (λ (item : ClearItem). item.content) (λ (item : ClearItem). nat_eq item.id.0 id) row.clear.items
 
+none-there : {A : Type 0} (o : Option A) → is_some o ≡ false → o ≡ None
+none-there None off = refl
+none-there (Some a) off = absurd (let no : true ≡ false = off in cc)
+
 module _ {S : Type 0} where
   -- ---- what is read
 
@@ -79,6 +83,10 @@ module _ {S : Type 0} where
 
   pub has-rows : (stem : List ℕ) (entries : Entries S) → has stem (rows_of entries) ≡ is_some (value_at stem entries)
   has-rows stem entries = ap is_some (value-rows stem entries) ∙ some-mapped row_of (value_at stem entries)
+
+  -- there is no collection of a stem that isn't in the rows
+  pub not-there : (stem : List ℕ) (entries : Entries S) → has stem (rows_of entries) ≡ false → value_at stem entries ≡ None
+  not-there stem entries off = none-there (value_at stem entries) (sym (has-rows stem entries) ∙ off)
 
   pub content-there : (stem : List ℕ) (id : ℕ) (entries : Entries S) (c : CollectionState S) → Some c ≡ value_at stem entries → content_at id c.clear.items ≡ content_of stem id (rows_of entries)
   content-there stem id entries c there = sym (ap (λ o. option_map_or (λ (row : CollectionRow). content_at id row.clear.items) o None) (value-rows stem entries ∙ ap (option_map row_of) (sym there)))

@@ -15,6 +15,7 @@ pub fn a_changed_collection_changes_its_row<S: Slot>()
 
 /// A law: what is at another stem stays, whatever becomes of what is at a stem. It does nothing.
 pub fn other_collections_stay<S: Slot>()
-    ensures { (stem other : List ℕ) (change : CollectionState S → CollectionState S) (entries : Entries S)
-        → other ≢ stem → value_at other (changed stem change entries) ≡ value_at other entries }
+    ensures { (stem other : List ℕ) (change : CollectionState S → CollectionState S)
+        (entries : Entries S) → other ≢ stem
+        → value_at other (changed stem change entries) ≡ value_at other entries }
 {}

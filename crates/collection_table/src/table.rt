@@ -1,4 +1,4 @@
-ghost use Rattle.std.specs.Prelude.{◌≡◌, ◌+◌, ◌<◌, ◌≤◌, IfOk, None, OnOk, Some, length, map, min};
+ghost use Rattle.std.specs.Prelude.{◌≡◌, ◌+◌, ◌<◌, ◌≤◌, IfOk, OnOk, Some, false, length, map, min};
 ghost use Rattle.std.specs.Borrow.{Lends, LendsIf, sem};
 ghost use Rattle.std.specs.Cmp.Lexicographic.{slice_cmp};
 ghost use Rattle.std.specs.List.{slice_get};
@@ -187,6 +187,7 @@ impl<S: Slot> CollectionTable<S> {
     /// Makes room for one more collection, so that putting it in takes no memory.
     pub fn reserve(&mut self) -> Result<(), OutOfMemory>
         ensures room { OnOk result (0 < self.new.room) }
+        ensures kept { self.old.room ≤ self.new.room }
         ensures entries { self.new.entries ≡ self.old.entries }
     {
         self.entries.reserve(1)
@@ -194,7 +195,7 @@ impl<S: Slot> CollectionTable<S> {
 
     /// Puts a collection in its place by its stem. It takes no memory.
     pub fn insert(&mut self, stem: Stem, collection: Collection<S>)
-        requires none { value_at stem self.old.entries ≡ None }
+        requires none { has stem (rows_of self.old.entries) ≡ false }
         requires room { 0 < self.old.room }
         ensures entries { self.new.entries ≡ inserted stem collection self.old.entries }
         ensures rows { rows_of self.new.entries
