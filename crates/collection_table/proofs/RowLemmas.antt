@@ -78,6 +78,10 @@ none-there (Some a) off = absurd (let no : true ≡ false = off in cc)
 module _ {S : Type 0} where
   -- ---- what is read
 
+  pub keys-rows : (entries : Entries S) → keys_of entries ≡ keys_of (rows_of entries)
+  keys-rows [] = refl
+  keys-rows (e ∷ entries) = ap (λ l. e.0 ∷ l) (keys-rows entries)
+
   pub value-rows : (stem : List ℕ) (entries : Entries S) → value_at stem (rows_of entries) ≡ option_map row_of (value_at stem entries)
   value-rows stem entries = lookup-map_values row_of (is_name stem) entries
 

@@ -1,5 +1,6 @@
 // The collections in a list by rising stems.
 ghost use Rattle.std.specs.Prelude.{◌≡◌, ◌+◌, ◌-◌, ◌<◌, ◌≤◌, ◌++◌, ◌∷◌, [], vec_capacity, vec_len, IfSome, IfNone, IfOk, OnOk, None, Some, map, min};
+ghost use Rattle.std.specs.Map.{keys_of};
 ghost use Rattle.std.specs.Option.{option_copied};
 ghost use Rattle.kr_base.specs.Attributes.{IsInOrder, value_at};
 ghost use Rattle.collection_table.specs.Entries.{IsPlaceOf, changed, closed, inserted, loaded_from, row_of, rows_of, without};
@@ -148,6 +149,21 @@ pub fn search<S: Slot>(
         found.push(matches)?;
     }
     Ok(found)
+}
+
+/// Copies of the stems, in order.
+pub fn stems<S: Slot>(
+    alloc: Global,
+    entries: &[(Stem, Collection<S>)],
+) -> Result<Vec<Stem>, OutOfMemory>
+    ensures { IfOk result (λ stems. stems.items ≡ keys_of entries.now) }
+{
+    let mut stems = Vec::with_capacity(alloc, entries.len())?;
+    for place in 0..entries.len() {
+        let stem = entries[place].0.copy()?;
+        stems.push(stem)?;
+    }
+    Ok(stems)
 }
 
 /// The number of items in all collections together, at most the greatest number of its type.

@@ -3,7 +3,7 @@ ghost use Rattle.std.specs.Borrow.{Lends, LendsIf, sem};
 ghost use Rattle.std.specs.Cmp.Lexicographic.{slice_cmp};
 ghost use Rattle.std.specs.List.{slice_get};
 ghost use Rattle.std.specs.List.Sorted.{IsStrictlySortedBy};
-ghost use Rattle.std.specs.Map.{values_of};
+ghost use Rattle.std.specs.Map.{keys_of, values_of};
 ghost use Rattle.std.specs.Option.{option_copied, option_copied_mut};
 ghost use Rattle.std.specs.Ordering.{nat_cmp};
 ghost use Rattle.kr_base.specs.Attributes.{IsInOrder, value_at};
@@ -68,6 +68,13 @@ impl<S: Slot> CollectionTable<S> {
         ensures ordered { IsInOrder self.now.entries }
     {
         &self.entries
+    }
+
+    /// Copies of the stems, in order.
+    pub fn stems(&self) -> Result<Vec<Stem>, OutOfMemory>
+        ensures { IfOk result (λ stems. stems.items ≡ keys_of (rows_of self.now.entries)) }
+    {
+        entries::stems(self.alloc, &self.entries)
     }
 
     /// The collection of a stem. None where there is none.
