@@ -1,6 +1,6 @@
 //! Whether an item has the attributes that a search wants (Secret Service API, "Lookup
-//! Attributes"): by its attributes, or, while its collection is locked, by their hashes in a
-//! keyring file. Callers may rely on these: each result is that of the definition, and no
+//! Attributes"): by its attributes or, while its collection is locked, by their hashes in the
+//! keyring file. Callers may rely on these: each result is the one that its definition gives, and no
 //! call takes memory.
 #![tactic(auto)]
 

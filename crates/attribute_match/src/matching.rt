@@ -14,7 +14,7 @@ fn is_same(one: &[u8], other: &[u8]) -> bool
     one == other
 }
 
-/// Whether the two values are shown as the same text.
+/// Whether the API shows the two values as the same text.
 fn is_shown_alike(one: &AttrValue, other: &AttrValue) -> bool
     ensures { result ≡ is_name (text_of one.now) (text_of other.now) }
 {
@@ -25,12 +25,12 @@ fn is_shown_alike(one: &AttrValue, other: &AttrValue) -> bool
     is_same(one.as_bytes(), other.as_bytes())
 }
 
-/// Whether the item has the name with a value that is shown as the same text as this one. It
+/// Whether the item has an attribute of this name whose value is shown as the same text as this value. It
 /// takes no memory.
 pub fn has_pair(name: &Text, value: &AttrValue, item: &Attributes) -> bool
     ensures { result ≡ has_pair_of name.now (text_of value.now) item.now }
 {
-    // The search relies on the order of names, which reading the item shows.
+    // `get` relies on the order of the names, and `as_slice` is what says that they are in order.
     let _pairs = item.as_slice();
     match item.get(name.as_str()) {
         Some(found) => is_shown_alike(value, found),
@@ -39,7 +39,7 @@ pub fn has_pair(name: &Text, value: &AttrValue, item: &Attributes) -> bool
 }
 
 /// Whether the item has each wanted name with the wanted text (Secret Service API, "Lookup
-/// Attributes"). A number is shown as its decimal text. If none is wanted, each item matches.
+/// Attributes"). A number is shown in decimal. If nothing is wanted, every item matches.
 pub fn matches(wanted: &Attributes, item: &Attributes) -> bool
     ensures { result ≡ matches_by_texts wanted.now item.now }
 {
@@ -56,8 +56,8 @@ fn is_same_pair(one: &(Text, AttrValue), other: &(Text, AttrValue)) -> bool
     is_same(one.0.as_bytes(), other.0.as_bytes()) && is_shown_alike(&one.1, &other.1)
 }
 
-/// Whether the two have the same names with the same texts, a number shown as its decimal text. It takes
-/// no memory.
+/// Whether both have the same names with the same texts, where a number is shown in decimal. It takes no
+/// memory.
 pub fn is_equal(one: &Attributes, other: &Attributes) -> bool
     ensures value { result ≡ is_equal_to one.now other.now }
     ensures same { IsTrue result ↔ (texts_of one.now ≡ texts_of other.now) }
@@ -75,7 +75,7 @@ pub fn is_equal(one: &Attributes, other: &Attributes) -> bool
     true
 }
 
-/// Whether it is the hash of the text, or of the number whose decimal text this is.
+/// Whether this is the hash of the text, or of the number that the text is in decimal.
 fn is_hash_of(found: &HashedValue, text: &str) -> bool
     ensures { result ≡ is_hash text.now found.now }
 {
@@ -88,7 +88,7 @@ fn is_hash_of(found: &HashedValue, text: &str) -> bool
     }
 }
 
-/// Whether the hashed attributes have the name with a hash of the text.
+/// Whether one of the hashed attributes has the name and a hash of the text.
 fn has_hash(name: &Text, text: &str, hashed: &[HashedPair]) -> bool
     ensures { result ≡ has_hash_of name.now text.now hashed.now }
 {
@@ -96,7 +96,7 @@ fn has_hash(name: &Text, text: &str, hashed: &[HashedPair]) -> bool
         && is_hash_of(&pair.value, text))
 }
 
-/// Whether the hashed attributes have the name with a hash of the value's text.
+/// Whether one of the hashed attributes has the name and a hash of the value's text.
 fn has_value_hash(name: &Text, value: &AttrValue, hashed: &[HashedPair]) -> bool
     ensures { result ≡ has_hash_of name.now (text_of value.now) hashed.now }
 {
@@ -104,9 +104,9 @@ fn has_value_hash(name: &Text, value: &AttrValue, hashed: &[HashedPair]) -> bool
     has_hash(name, shown(value, &mut digits), hashed)
 }
 
-/// Whether a locked item has each wanted name with the wanted text, as far as its hashes show (GNOME
-/// keyring file format): the hash is that of the text, or that of the number whose decimal text
-/// without leading zeros it is. If none is wanted, each item matches.
+/// Whether a locked item has each wanted name with the wanted text, as far as its hashes can say (GNOME
+/// keyring file format): the hash is that of the text or, if the text is a number in decimal without
+/// leading zeros, that of the number. If nothing is wanted, every item matches.
 pub fn hashed_matches(wanted: &Attributes, hashed: &[HashedPair]) -> bool
     ensures { result ≡ matches_by_hashes wanted.now hashed.now }
 {

@@ -4,7 +4,7 @@ ghost use Rattle.attribute_match.specs.Match.{number_of as number_in, text_of};
 use itoa::Buffer;
 use kr_base::AttrValue;
 
-/// The text as which the API shows a value; the digits of a number are written into the buffer.
+/// The text that the API shows for a value. The digits of a number are written into the buffer.
 pub fn shown<'a>(value: &'a AttrValue, digits: &'a mut Buffer) -> &'a str
     ensures { result.now ≡ text_of value.now }
 {
@@ -14,7 +14,7 @@ pub fn shown<'a>(value: &'a AttrValue, digits: &'a mut Buffer) -> &'a str
     }
 }
 
-/// The number of 32 bits whose decimal text, without leading zeros, is the string.
+/// The 32-bit number that this text is in decimal, without leading zeros; None if it isn't one.
 pub fn number_of(text: &str) -> Option<u32>
     ensures { result ≡ number_in text.now }
 {
