@@ -2,8 +2,8 @@ use kr_base::{IdList, Text};
 use std::marker::Model;
 
 /// A pair of a name and a text with the ids of the items that have it, and the pairs before and after it.
-/// Each pair has a piece of memory of its own, without spare room: the nodes of a `BTreeMap`, which may be
-/// half empty, would take twice as much.
+/// Each pair is allocated on its own, without spare room: the nodes of a `BTreeMap` may be half empty, and
+/// would take twice as much memory.
 #[cycle(branches)]
 #[derive(Drop)]
 pub struct Branch {
@@ -13,9 +13,9 @@ pub struct Branch {
     pub sides: Sides,
 }
 
-/// The pairs before and after a pair. The heights of the two sides differ by one at most (an AVL tree), so a
-/// side alone has a height of 1, and only a pair with two sides keeps its height. No contract speaks of
-/// heights: a wrong one would cost time and change no answer.
+/// The pairs before and after a pair. The heights of the two sides differ by at most one (an AVL tree), so a
+/// side without another has height 1, and only a pair with two sides has to keep its height. No contract
+/// mentions heights: a wrong one would cost time, but change no result.
 #[cycle(branches)]
 #[derive(Drop)]
 pub enum Sides {

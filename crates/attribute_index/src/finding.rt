@@ -6,7 +6,7 @@ use kr_base::{IdList, ItemId, OutOfMemory, Steps};
 use std::alloc::Global;
 use std::sync::ledger::Ledger;
 
-/// The place of the list with fewer ids.
+/// The place of the list with fewer ids, of these two.
 fn shorter(lists: &[&IdList], one: usize, other: usize) -> usize
     requires one { one < length lists.now }
     requires other { other < length lists.now }
@@ -46,7 +46,8 @@ fn shortest(lists: &[&IdList]) -> usize
     best
 }
 
-/// Whether the list at a place has an id: one step, and none at the place of which that is known.
+/// Whether the list at a place has an id. This is one step, and none at the place whose list is known to have
+/// it.
 fn has_at<L: Ledger>(
     lists: &[&IdList],
     place: usize,
@@ -67,8 +68,8 @@ fn has_at<L: Ledger>(
     lists[place].has(id, steps)
 }
 
-/// Whether each list has an id, which the list at one place is known to have: a step for each other list
-/// at most.
+/// Whether each list has an id, which the list at one place is known to have. This is at most one step for
+/// each of the other lists.
 fn all_have<L: Ledger>(lists: &[&IdList], known: usize, id: ItemId, steps: &mut Steps<L>) -> bool
     requires within { known < length lists.now }
     requires known { has_id (slice_index_or (map (λ l. l.now) lists.now) known []) id.0 ≡ true }
@@ -84,8 +85,8 @@ fn all_have<L: Ledger>(lists: &[&IdList], known: usize, id: ItemId, steps: &mut 
     true
 }
 
-/// The ids that all lists have, in rising order: as many steps at most as the least list has ids, times the
-/// number of lists.
+/// The ids that all lists have, in rising order. This is at most as many steps as the shortest list has ids,
+/// times the number of lists.
 pub fn in_all<L: Ledger>(
     alloc: Global,
     lists: &[&IdList],
@@ -112,7 +113,7 @@ pub fn in_all<L: Ledger>(
     Ok(found)
 }
 
-/// All ids of a list: a step for each.
+/// All ids of a list. Each is one step.
 pub fn all_of<L: Ledger>(
     alloc: Global,
     ids: &IdList,

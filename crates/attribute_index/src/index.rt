@@ -11,8 +11,8 @@ use std::alloc::{AllocError, Global};
 use std::marker::Model;
 use std::sync::ledger::Ledger;
 
-/// From a pair of a name and a text to the rising ids of the items that have it, and all ids. A contract
-/// sees the ids at each name and text.
+/// For each pair of a name and a text the ids of the items that have it, in rising order, and a list of all
+/// ids. A contract sees the ids at each name and text.
 #[derive(Drop)]
 pub struct AttributeIndex {
     names: Pairs,
@@ -32,13 +32,13 @@ impl Model for AttributeIndex {
     ghost invariant = { λ i. AllRise i.names × IsLean i.names × (i.none ≡ []) };
 }
 
-/// A number of 32 bits is below their count.
+/// A 32-bit number is below 2 to the power of 32.
 fn fits(number: u32)
     ensures { number < 4294967296 }
 {}
 
 impl AttributeIndex {
-    /// No ids. It takes no memory.
+    /// An index without ids. It takes no memory.
     pub fn new(alloc: Global) -> AttributeIndex
         ensures names { result.names ≡ [] }
         ensures all { result.all ≡ [] }
@@ -51,7 +51,7 @@ impl AttributeIndex {
         }
     }
 
-    /// Puts an id, which is nowhere yet, at the pairs of the attributes and among all ids.
+    /// Puts an id, which isn't in the index yet, at the pairs of the attributes and into the list of all ids.
     pub fn add(&mut self, id: ItemId, attributes: &Attributes) -> Result<(), OutOfMemory>
         requires { IsAtJust [] id.0 self.old.names }
         ensures put { OnOk result (IsPut
@@ -86,7 +86,7 @@ impl AttributeIndex {
         Ok(())
     }
 
-    /// Takes an id out at the pairs of the attributes and among all ids. It takes no memory.
+    /// Takes an id out of the pairs of the attributes and of the list of all ids. It takes no memory.
     pub fn take_out(&mut self, id: ItemId, attributes: &Attributes)
         ensures taken { IsTaken
             (λ name text. has_pair name text attributes.now) id.0 self.old.names self.new.names }
@@ -103,7 +103,7 @@ impl AttributeIndex {
         self.all.remove(self.alloc, id);
     }
 
-    /// Moves an id from the pairs of the attributes before to those of the attributes after.
+    /// Moves an id from the pairs of the attributes `before` to those of the attributes `after`.
     pub fn change(
         &mut self,
         id: ItemId,
@@ -124,7 +124,7 @@ impl AttributeIndex {
         Ok(())
     }
 
-    /// Puts an id, which is at the pairs of the attributes before, at those of the attributes after too.
+    /// Puts an id, which is at the pairs of the attributes `before`, also at those of the attributes `after`.
     pub fn put_also(
         &mut self,
         id: ItemId,
@@ -144,7 +144,7 @@ impl AttributeIndex {
         Ok(())
     }
 
-    /// Takes an id out at the pairs of the attributes that aren't among the others. It takes no memory.
+    /// Takes an id out of the pairs of the attributes that the others don't have. It takes no memory.
     pub fn take_but(&mut self, id: ItemId, attributes: &Attributes, others: &Attributes)
         ensures taken { IsTaken (is_own attributes.now others.now) id.0
             self.old.names self.new.names }
@@ -159,14 +159,14 @@ impl AttributeIndex {
         );
     }
 
-    /// All ids, lent.
+    /// All ids.
     pub fn all(&self) -> &IdList
         ensures { result.now ≡ self.now.all }
     {
         &self.all
     }
 
-    /// The ids at a name with the text of a value, lent.
+    /// The ids at a name with the text of a value.
     pub fn ids(&self, name: &Text, value: &AttrValue) -> &IdList
         ensures { result.now ≡ ids_at self.now name.now (text_of value.now) }
     {
@@ -176,7 +176,7 @@ impl AttributeIndex {
         }
     }
 
-    /// The ids at a name and a text, lent.
+    /// The ids at a name and a text.
     fn at_text(&self, name: &Text, text: &Text) -> &IdList
         ensures { result.now ≡ ids_at self.now name.now text.now }
     {
@@ -186,7 +186,7 @@ impl AttributeIndex {
         }
     }
 
-    /// The ids at each wanted pair, lent.
+    /// The ids at each wanted pair.
     fn wanted_lists(&self, wanted: &[(Text, AttrValue)]) -> Result<Vec<&IdList>, OutOfMemory>
         ensures { IfOk result (λ lists. map (λ l. l.now) lists.items
             ≡ wanted_lists self.now wanted.now) }
@@ -198,12 +198,12 @@ impl AttributeIndex {
         Ok(lists)
     }
 
-    /// The ids that have each wanted pair, in rising order; all ids where none is wanted. A number is found
-    /// by its decimal text.
+    /// The ids of the items that have each wanted pair, in rising order, or all ids if none is wanted. A
+    /// number is found by its decimal text.
     ///
-    /// A step is one id read or looked up. There are as many steps at most as the rarest wanted pair has
-    /// ids, times the number of wanted pairs, and with none wanted as many as there are ids. Each id that is
-    /// found is a step at least, so they are counted here and nowhere else.
+    /// A step is one id read or looked up. A search takes at most as many steps as the rarest wanted pair has
+    /// ids, times the number of wanted pairs, or as many as there are ids if none is wanted. Each id that is
+    /// found is counted as at least one.
     pub fn find<L: Ledger>(
         &self,
         wanted: &Attributes,

@@ -1,8 +1,8 @@
-//! Which items of a collection have which attributes (Secret Service API, "Lookup Attributes"): from a
-//! pair of a name and a text to the rising ids of the items that have it. A number is found by its decimal
-//! text. Callers may rely on these: a search reads no more ids than the rarest wanted pair has, and looks
-//! each up in the lists of the other wanted pairs; taking an id out needs no memory; and a pair that no
-//! item has any more takes none.
+//! Which items of a collection have which attributes (Secret Service API, "Lookup Attributes"): for each
+//! pair of a name and a text the ids of the items that have it, in rising order. A number is found by its
+//! decimal text. Callers may rely on these: a search reads no more ids than the rarest wanted pair has, and
+//! looks each of them up in the lists of the other wanted pairs; taking an id out takes no memory; and a pair
+//! that no item has any more is dropped.
 #![tactic(auto)]
 
 mod branch;

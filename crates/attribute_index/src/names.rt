@@ -26,7 +26,7 @@ fn put_value(
     }
 }
 
-/// Takes an id out at a name with the text of a value.
+/// Takes an id out of a name with the text of a value.
 fn take_value(alloc: Global, names: &mut Pairs, name: &Text, value: &AttrValue, id: ItemId)
     ensures taken { IsTaken (is_this name.now (text_of value.now)) id.0 names.old
         names.new }
@@ -57,7 +57,7 @@ fn put_own(
     put_value(alloc, names, &pair.0, &pair.1, id)
 }
 
-/// Takes an id out at a name with the text of a value, unless these attributes have the pair.
+/// Takes an id out of a name with the text of a value, unless these attributes have the pair.
 fn take_own(
     alloc: Global,
     names: &mut Pairs,
@@ -75,7 +75,7 @@ fn take_own(
     take_value(alloc, names, &pair.0, &pair.1, id);
 }
 
-/// Puts an id at each of the pairs that these attributes don't have. After a refusal it is at the first ones.
+/// Puts an id at each of the pairs that these attributes don't have. A refusal leaves it at the first ones.
 fn put_first(
     alloc: Global,
     names: &mut Pairs,
@@ -97,7 +97,7 @@ fn put_first(
     Ok(())
 }
 
-/// Takes an id out at each of the pairs that these attributes don't have. It takes no memory.
+/// Takes an id out of each of the pairs that these attributes don't have. It takes no memory.
 pub fn take_all(
     alloc: Global,
     names: &mut Pairs,
@@ -113,8 +113,7 @@ pub fn take_all(
     }
 }
 
-/// Puts an id at each of the pairs that these attributes don't have, where it is at just those that these
-/// attributes have.
+/// Puts an id, which is at just the pairs that these attributes have, at each of the other pairs too.
 pub fn put_all(
     alloc: Global,
     names: &mut Pairs,

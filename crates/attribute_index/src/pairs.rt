@@ -13,8 +13,8 @@ use std::cmp::Ordering;
 use std::marker::Model;
 use std::mem;
 
-/// How a name and a text compare to those of a branch: by the name, and by the text where the names are
-/// the same.
+/// How a name and a text compare to those of a branch: by the name, and by the text if the names are the
+/// same.
 fn order(name: &Text, text: &Text, branch: &Branch) -> Ordering
     ensures { result ≡ pair_cmp (name.now, text.now) (branch.now.name, branch.now.text) }
 {
@@ -33,7 +33,7 @@ fn is_before(one: &Branch, other: &Branch) -> bool
     order(&one.name, &one.text, other).is_lt()
 }
 
-/// The height of a branch: how many pairs the longest way down from it has.
+/// The height of a branch: how many pairs there are on the longest way down, with its own.
 fn height(branch: &Branch) -> u8 {
     match &branch.sides {
         Sides::Neither => 1,
@@ -51,7 +51,7 @@ fn height_of(side: &Option<Box<Branch>>) -> u8 {
     }
 }
 
-/// The sides of a branch, in as little memory as they need.
+/// These two sides in as little memory as they need.
 fn joined_sides(before: Option<Box<Branch>>, after: Option<Box<Branch>>) -> Sides
     ensures before { pairs_before result ≡ pairs_of before }
     ensures after { pairs_after result ≡ pairs_of after }
@@ -71,7 +71,7 @@ fn joined_sides(before: Option<Box<Branch>>, after: Option<Box<Branch>>) -> Side
     }
 }
 
-/// Takes the sides of a branch away.
+/// Takes the sides out of a branch.
 fn take_sides(branch: &mut Branch) -> (Option<Box<Branch>>, Option<Box<Branch>>)
     ensures before { pairs_of result.0 ≡ branch.old.before }
     ensures after { pairs_of result.1 ≡ branch.old.after }
@@ -87,7 +87,7 @@ fn take_sides(branch: &mut Branch) -> (Option<Box<Branch>>, Option<Box<Branch>>)
     }
 }
 
-/// A branch without its sides, between them.
+/// A branch taken apart: the pairs before it, the branch without its sides, and the pairs after it.
 fn parted(branch: Box<Branch>) -> (Option<Box<Branch>>, Box<Branch>, Option<Box<Branch>>)
     ensures { all_of branch.value ≡ between (pairs_of result.0) result.1.value (pairs_of result.2) }
 {
@@ -96,7 +96,7 @@ fn parted(branch: Box<Branch>) -> (Option<Box<Branch>>, Box<Branch>, Option<Box<
     (before, branch, after)
 }
 
-/// A branch with other sides.
+/// A branch with these sides in place of its own.
 fn with_sides(
     branch: Box<Branch>,
     before: Option<Box<Branch>>,
@@ -109,7 +109,7 @@ fn with_sides(
     branch
 }
 
-/// A branch with these sides, of which the one before it is two higher.
+/// A branch with these sides, of which the one before it is higher by two, and is rotated.
 fn lean_before(branch: Box<Branch>, before: Box<Branch>, after: Option<Box<Branch>>) -> Box<Branch>
     ensures { all_of result.value ≡ between (all_of before.value) branch.value (pairs_of after) }
 {
@@ -130,7 +130,7 @@ fn lean_before(branch: Box<Branch>, before: Box<Branch>, after: Option<Box<Branc
     }
 }
 
-/// A branch with these sides, of which the one after it is two higher.
+/// A branch with these sides, of which the one after it is higher by two, and is rotated.
 fn lean_after(branch: Box<Branch>, before: Option<Box<Branch>>, after: Box<Branch>) -> Box<Branch>
     ensures { all_of result.value ≡ between (pairs_of before) branch.value (all_of after.value) }
 {
@@ -151,8 +151,8 @@ fn lean_after(branch: Box<Branch>, before: Option<Box<Branch>>, after: Box<Branc
     }
 }
 
-/// A branch with these sides, whose heights differ by two at most. It is turned so that those of the new
-/// sides differ by one at most.
+/// A branch with these sides, whose heights differ by at most two. It is rotated so that the heights of the
+/// new sides differ by at most one.
 fn balanced(
     branch: Box<Branch>,
     before: Option<Box<Branch>>,
@@ -177,7 +177,7 @@ fn balanced(
     with_sides(branch, before, after)
 }
 
-/// The pairs with one more, which isn't there yet.
+/// The pairs with one more, which isn't among them yet.
 fn with_branch(pairs: Option<Box<Branch>>, own: Box<Branch>) -> Box<Branch>
     requires { IsSorted (pairs_of pairs) }
     ensures { all_of result.value ≡ with_own own.value (pairs_of pairs) }
@@ -209,7 +209,7 @@ fn without_last(pairs: Box<Branch>) -> (Option<Box<Branch>>, Box<Branch>)
     }
 }
 
-/// The pairs before and after one that goes.
+/// The pairs before and after one that is removed.
 fn joined(before: Option<Box<Branch>>, after: Option<Box<Branch>>) -> Option<Box<Branch>>
     ensures { pairs_of result ≡ pairs_of before ++ pairs_of after }
 {
@@ -222,7 +222,7 @@ fn joined(before: Option<Box<Branch>>, after: Option<Box<Branch>>) -> Option<Box
     }
 }
 
-/// The pairs without one.
+/// The pairs without this one.
 fn without_pair(pairs: Option<Box<Branch>>, name: &Text, text: &Text) -> Option<Box<Branch>>
     requires { IsSorted (pairs_of pairs) }
     ensures { pairs_of result ≡ remove_entry (is_pair (name.now, text.now)) (pairs_of pairs) }
@@ -246,7 +246,7 @@ fn without_pair(pairs: Option<Box<Branch>>, name: &Text, text: &Text) -> Option<
 }
 
 impl Branch {
-    /// The ids at a pair.
+    /// The ids at a pair; None if the pair isn't there.
     fn get(&self, name: &Text, text: &Text) -> Option<&IdList>
         requires { IsSorted (all_of self.now) }
         ensures { option_copied result ≡ lookup (is_pair (name.now, text.now)) (all_of self.now) }
@@ -268,7 +268,7 @@ impl Branch {
         }
     }
 
-    /// Puts an id at a pair, if the pair is there. None where it isn't.
+    /// Puts an id at a pair; None if the pair isn't there.
     fn put(
         &mut self,
         alloc: Global,
@@ -297,7 +297,7 @@ impl Branch {
         }
     }
 
-    /// Takes an id out at a pair, and tells whether the pair is there and has none left.
+    /// Takes an id out of a pair, and returns whether the pair is there and has none left.
     fn take(&mut self, alloc: Global, name: &Text, text: &Text, id: ItemId) -> bool
         requires { IsSorted (all_of self.old) }
         ensures { IsTakenThere result (name.now, text.now) id.0
@@ -324,7 +324,7 @@ impl Branch {
     }
 }
 
-/// A branch of one pair, with one id.
+/// A branch of one pair with one id.
 fn branch_of_one(
     alloc: Global,
     name: &Text,
@@ -348,8 +348,8 @@ fn branch_of_one(
 }
 
 /// The pairs of a name and a text that items have, each with the ids of the items that have it. A contract
-/// sees their list in order. They lie in a tree whose two sides are about as high everywhere, so looking one
-/// up, putting one in or taking one out visits about as many pairs as the number of pairs has bits.
+/// sees them as a list in order. They are in a tree that is balanced everywhere, so looking one up, putting
+/// one in or taking one out visits about as many pairs as their number has bits.
 #[derive(Drop)]
 pub struct Pairs {
     root: Option<Box<Branch>>,
@@ -366,7 +366,7 @@ impl Model for Pairs {
     ghost invariant = { λ p. IsSorted (pairs_of p.root) };
 }
 
-/// Puts an id at a pair, if the pair is there. None where it isn't.
+/// Puts an id at a pair; None if the pair isn't there.
 fn put_there(
     alloc: Global,
     root: &mut Option<Box<Branch>>,
@@ -430,7 +430,7 @@ fn put(
     }
 }
 
-/// Takes an id out at a pair, and tells whether the pair is there and has none left.
+/// Takes an id out of a pair, and returns whether the pair is there and has none left.
 fn take_there(
     alloc: Global,
     root: &mut Option<Box<Branch>>,
@@ -448,7 +448,7 @@ fn take_there(
     }
 }
 
-/// Takes an id out at a pair. A pair that has none left goes.
+/// Takes an id out of a pair. A pair that has none left is removed.
 fn take(alloc: Global, root: &mut Option<Box<Branch>>, name: &Text, text: &Text, id: ItemId)
     requires { IsSorted (pairs_of root.old) }
     ensures sorted { IsSorted (pairs_of root.new) }
@@ -463,14 +463,14 @@ fn take(alloc: Global, root: &mut Option<Box<Branch>>, name: &Text, text: &Text,
 }
 
 impl Pairs {
-    /// No pairs. It takes no memory.
+    /// A tree without pairs. It takes no memory.
     pub fn new() -> Pairs
         ensures { result ≡ [] }
     {
         Pairs { root: None }
     }
 
-    /// The ids at a pair, lent.
+    /// The ids at a pair; None if the pair isn't there.
     pub fn get(&self, name: &Text, text: &Text) -> Option<&IdList>
         ensures { option_copied result ≡ lookup (is_pair (name.now, text.now)) self.now }
     {
@@ -495,7 +495,7 @@ impl Pairs {
         put(alloc, &mut self.root, name, text, id)
     }
 
-    /// Takes an id out at a pair. It takes no memory, and a pair that has no id left goes.
+    /// Takes an id out of a pair. A pair that has none left is removed. It takes no memory.
     pub fn take(&mut self, alloc: Global, name: &Text, text: &Text, id: ItemId)
         ensures taken { IsTaken (is_this name.now text.now) id.0 self.old self.new }
         ensures lean { IsLean self.old → IsLean self.new }
