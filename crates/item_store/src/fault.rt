@@ -1,12 +1,12 @@
 /// Why a call on the items of a collection was refused.
 #[derive(Debug, Drop, PartialEq, Eq)]
 pub enum ItemFault {
-    /// There is no item of that id.
+    /// There is no item with that id.
     NoItem,
-    /// The greatest id is 4294967295, so that a new item would have none.
+    /// The greatest id is 4294967295, so there is none left for a new item.
     IdsSpent,
-    /// An item that a call gives has over 256 attributes.
+    /// The call gives an item over 256 attributes.
     TooManyAttributes,
-    /// No memory was left.
+    /// There is not enough memory.
     OutOfMemory,
 }

@@ -1,8 +1,7 @@
-//! The items of one collection that is unlocked, by rising id, with an index from their attributes
-//! (Secret Service API, interfaces Collection and Item). Callers may rely on these: a contract sees the
-//! rows alone, and the type keeps the index equal to them; after a refusal the rows are as before; a new
-//! item has the greatest id plus 1; a change of one item touches that item alone; and removing one takes
-//! no memory.
+//! The items of one unlocked collection, by rising id, with an index of their attributes (Secret Service
+//! API, interfaces Collection and Item). Callers may rely on these: a contract sees the rows alone, and the
+//! index always agrees with them; after a refusal the rows are as before; a new item gets the greatest id
+//! plus 1; a change of one item leaves all others as they were; and removing one takes no memory.
 #![tactic(auto)]
 
 mod fault;

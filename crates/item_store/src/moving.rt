@@ -1,5 +1,5 @@
-// While the attributes of an item change, its id is at the pairs of both. So the change takes all of its memory
-// before it is certain that it is made, and takes none to be ended either way.
+// While the attributes of an item change, its id is at the pairs of the old and of the new ones. So the change
+// takes all of its memory when it begins, and none when it is finished or undone.
 ghost use Rattle.std.specs.Prelude.{◌≡◌, true, IfOk, IfErr, IfSome, OnOk, OnErr};
 ghost use Rattle.std.specs.Option.{is_some};
 ghost use Rattle.attribute_index.specs.Index.{IsPut, IsSame, IsTaken, is_own};
@@ -15,13 +15,13 @@ use std::collections::BTreeMap;
 use std::marker::Model;
 
 /// The items of one collection while the attributes of one of them change. A contract sees the rows before
-/// and after.
+/// the change and after it.
 #[derive(Drop)]
 pub struct Moving {
     rows: BTreeMap<u32, Row>,
     index: AttributeIndex,
     number: u32,
-    // The attributes before, and when the item was changed before.
+    // The attributes before the change, and when the item had been changed last.
     attributes: Attributes,
     modified: u64,
 }
@@ -41,14 +41,14 @@ impl Model for Moving {
 }
 
 impl Moving {
-    /// The rows after the change, lent.
+    /// The rows after the change.
     pub fn rows(&self) -> &BTreeMap<u32, Row>
         ensures { result.now.entries ≡ self.now.after }
     {
         &self.rows
     }
 
-    /// The items after the change. It takes no memory.
+    /// Finishes the change: the items as they are after it. It takes no memory.
     pub fn finish(self) -> ItemStore
         ensures { result ≡ self.after }
     {
@@ -64,7 +64,7 @@ impl Moving {
         store_of(rows, index)
     }
 
-    /// The items before the change, which isn't made. It takes no memory.
+    /// Undoes the change: the items as they were before. It takes no memory.
     pub fn undo(self) -> ItemStore
         ensures { result ≡ self.before }
     {
@@ -85,8 +85,8 @@ impl Moving {
     }
 }
 
-/// Begins a change of the attributes of a row's item. Where no memory is left, the rows and the index are
-/// given back.
+/// Begins a change of the attributes of a row's item. If no memory is left, the rows and the index are
+/// returned as they were.
 pub fn begin(
     rows: BTreeMap<u32, Row>,
     index: AttributeIndex,
@@ -119,7 +119,7 @@ pub fn begin(
     })
 }
 
-/// Puts the id of a row at the pairs of other attributes too.
+/// Puts the id of a row also at the pairs of these attributes.
 fn put_id(
     rows: &BTreeMap<u32, Row>,
     index: &mut AttributeIndex,
@@ -140,7 +140,7 @@ fn put_id(
     }
 }
 
-/// Takes the id of a row out at the pairs of other attributes that aren't the item's own.
+/// Takes the id of a row out of the pairs of these attributes that the item doesn't have.
 fn take_old(
     rows: &BTreeMap<u32, Row>,
     index: &mut AttributeIndex,
@@ -159,7 +159,7 @@ fn take_old(
     }
 }
 
-/// Takes the id of a row out at the pairs of the item's own attributes that aren't among the others.
+/// Takes the id of a row out of the pairs of the item that these attributes don't have.
 fn take_new(
     rows: &BTreeMap<u32, Row>,
     index: &mut AttributeIndex,

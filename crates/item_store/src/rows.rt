@@ -11,7 +11,7 @@ use kr_base::{Attributes, Bytes, ItemId, OutOfMemory, Text};
 use std::alloc::AllocError;
 use std::collections::BTreeMap;
 
-/// An item with its type, which is kept as a file had it.
+/// An item with its type, which is kept as it was in the file.
 #[derive(Drop)]
 pub struct Row {
     /// The item's type.
@@ -20,7 +20,7 @@ pub struct Row {
     pub item: FullItem,
 }
 
-/// The greatest number, or 0.
+/// The greatest number of a row, or 0 if there are no rows.
 fn last_number(rows: &BTreeMap<u32, Row>) -> u32
     ensures { result ≡ last_id rows.now.entries }
 {
@@ -37,7 +37,7 @@ fn greatest() -> u32
     u32::MAX
 }
 
-/// The number of a new row. None where the greatest one is taken.
+/// The number of a new row; None if the greatest one is taken.
 pub fn next_number(rows: &BTreeMap<u32, Row>) -> Option<u32>
     ensures value { result ≡ next_id rows.now.entries }
     ensures ordered { IsRising rows.now.entries }
@@ -74,14 +74,14 @@ pub fn put(rows: &mut BTreeMap<u32, Row>, number: u32, row: Row) -> Result<(), O
     }
 }
 
-/// Whether there is a row of the number.
+/// Whether there is a row with this number.
 pub fn has(rows: &BTreeMap<u32, Row>, number: u32) -> bool
     ensures { result ≡ is_some (row_at number rows.now.entries) }
 {
     rows.contains_key(&number)
 }
 
-/// Takes a row out. It takes no memory.
+/// Takes a row out; None if there is no such row. It takes no memory.
 pub fn take_out(rows: &mut BTreeMap<u32, Row>, number: u32) -> Option<Row>
     ensures value { result ≡ row_at number rows.old.entries }
     ensures taken { rows.new.entries ≡ rows_without number rows.old.entries }
@@ -90,7 +90,7 @@ pub fn take_out(rows: &mut BTreeMap<u32, Row>, number: u32) -> Option<Row>
     rows.remove(&number)
 }
 
-/// Sets the secret of a row's item, and when it was changed. False where there is no such row.
+/// Sets the secret of a row's item, and when it was changed. False if there is no such row.
 pub fn set_secret(rows: &mut BTreeMap<u32, Row>, number: u32, value: Bytes, now: u64) -> bool
     ensures set { rows.new.entries ≡ rows_changed number (λ row. record row {
       item = record row.item { value = value; modified = now };
@@ -108,7 +108,7 @@ pub fn set_secret(rows: &mut BTreeMap<u32, Row>, number: u32, value: Bytes, now:
     }
 }
 
-/// Sets the label of a row's item, and when it was changed. False where there is no such row.
+/// Sets the label of a row's item, and when it was changed. False if there is no such row.
 pub fn set_label(rows: &mut BTreeMap<u32, Row>, number: u32, label: Text, now: u64) -> bool
     ensures set { rows.new.entries ≡ rows_changed number (λ row. record row {
       item = record row.item { label = label; modified = now };
@@ -126,7 +126,7 @@ pub fn set_label(rows: &mut BTreeMap<u32, Row>, number: u32, label: Text, now: u
     }
 }
 
-/// Sets the attributes of a row's item, and when it was changed. False where there is no such row.
+/// Sets the attributes of a row's item, and when it was changed. False if there is no such row.
 pub fn set_attributes(
     rows: &mut BTreeMap<u32, Row>,
     number: u32,
@@ -149,7 +149,7 @@ pub fn set_attributes(
     }
 }
 
-/// Whether the item of an id has just the given attributes, as texts.
+/// Whether there is an item with this id, and it has exactly the given attributes, as texts.
 pub fn has_just_at(rows: &BTreeMap<u32, Row>, id: ItemId, attributes: &Attributes) -> bool
     ensures { result ≡ passes_at (has_just attributes.now) (row_at id.0 rows.now.entries) }
 {

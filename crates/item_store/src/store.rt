@@ -20,8 +20,7 @@ use std::collections::BTreeMap;
 use std::marker::Model;
 use std::sync::ledger::Ledger;
 
-/// The items of one collection, by rising id. A contract sees the rows; the index beside them is equal to
-/// them at each moment.
+/// The items of one collection, by rising id. A contract sees the rows; the index always agrees with them.
 #[derive(Drop)]
 pub struct ItemStore {
     rows: BTreeMap<u32, Row>,
@@ -38,7 +37,7 @@ impl Model for ItemStore {
     ghost invariant = { λ s. IsKept s.rows.entries s.index };
 }
 
-/// The items of these rows and this index.
+/// The items with these rows and this index.
 pub fn store_of(rows: BTreeMap<u32, Row>, index: AttributeIndex) -> ItemStore
     requires { IsKept rows.entries index }
     ensures { result ≡ rows.entries }
@@ -46,7 +45,7 @@ pub fn store_of(rows: BTreeMap<u32, Row>, index: AttributeIndex) -> ItemStore
     ItemStore { rows, index }
 }
 
-/// How many attributes an item may have that a call gives.
+/// How many attributes an item may be given.
 fn most() -> usize
     ensures { result ≡ most_attributes }
 {
@@ -54,7 +53,7 @@ fn most() -> usize
 }
 
 impl ItemStore {
-    /// No items. It takes no memory.
+    /// A collection without items. It takes no memory.
     pub fn new(alloc: Global) -> ItemStore
         ensures { result ≡ [] }
     {
@@ -64,7 +63,7 @@ impl ItemStore {
         }
     }
 
-    /// The items of a file that was opened, each with its id and its kind; their ids are distinct.
+    /// The items of a file, each with its id and its kind. Their ids are distinct.
     pub fn loaded(rows: Vec<(ItemId, u32, FullItem)>) -> Result<ItemStore, OutOfMemory>
         requires distinct { IsDistinct nat_eq (map (λ row. row.0.0) rows.items) }
         ensures { IfOk result (λ store. HasJustRows rows.items store) }
@@ -78,10 +77,10 @@ impl ItemStore {
         Ok(ItemStore { rows: kept, index })
     }
 
-    /// Adds an item, with the greatest id plus 1 as its own, or 1.
+    /// Adds an item. Its id is the greatest one plus 1, or 1 if there are no items.
     ///
-    /// Refused with `IdsSpent` where the greatest id is 4294967295, and after that with `TooManyAttributes`
-    /// where the item has over 256.
+    /// Refused with `IdsSpent` if the greatest id is 4294967295, and otherwise with `TooManyAttributes` if the
+    /// item has over 256.
     pub fn add(&mut self, item: FullItem, kind: u32) -> Result<ItemId, ItemFault>
         ensures id { IfOk result (λ id. Some id.0 ≡ next_id self.old) }
         ensures added { IfOk result (λ id. self.new
@@ -106,7 +105,7 @@ impl ItemStore {
         Ok(ItemId(number))
     }
 
-    /// Sets the secret of an item, and when it was changed. Refused with `NoItem` where there is none.
+    /// Sets the secret of an item, and when it was changed. Refused with `NoItem` if there is no such item.
     pub fn set_secret(&mut self, id: ItemId, value: Bytes, now: u64) -> Result<(), ItemFault>
         ensures set { OnOk result (self.new ≡ rows_changed id.0 (λ row. record row {
           item = record row.item { value = value; modified = now };
@@ -122,7 +121,7 @@ impl ItemStore {
         Ok(())
     }
 
-    /// Sets the label of an item, and when it was changed. Refused with `NoItem` where there is none.
+    /// Sets the label of an item, and when it was changed. Refused with `NoItem` if there is no such item.
     pub fn set_label(&mut self, id: ItemId, label: Text, now: u64) -> Result<(), ItemFault>
         ensures set { OnOk result (self.new ≡ rows_changed id.0 (λ row. record row {
           item = record row.item { label = label; modified = now };
@@ -138,8 +137,8 @@ impl ItemStore {
         Ok(())
     }
 
-    /// Swaps parts of an item with others, and tells whether the item is there. A second swap brings back
-    /// what was there before. It takes no memory.
+    /// Swaps parts of an item with others, and returns whether the item is there. A second swap undoes the
+    /// first. It takes no memory.
     pub fn swap(&mut self, id: ItemId, parts: &mut Swap) -> bool
         ensures there { result ≡ is_some (row_at id.0 self.old) }
         ensures set { self.new ≡ rows_changed id.0
@@ -152,8 +151,8 @@ impl ItemStore {
 
     /// Sets the attributes of an item, and when it was changed.
     ///
-    /// Refused with `NoItem` where there is no such item, and after that with `TooManyAttributes` where they
-    /// are over 256.
+    /// Refused with `NoItem` if there is no such item, and otherwise with `TooManyAttributes` if there are over
+    /// 256.
     pub fn set_attributes(
         &mut self,
         id: ItemId,
@@ -184,10 +183,10 @@ impl ItemStore {
         Ok(())
     }
 
-    /// Begins a change of an item's attributes, and of when it was changed; the item is there. The change takes
-    /// all of its memory here.
+    /// Begins a change of an item's attributes, and of when it was changed. The change takes all of its memory
+    /// here.
     ///
-    /// Where no memory is left, the items are given back as they were.
+    /// If no memory is left, the items are returned as they were.
     pub fn begin_attributes(
         self,
         id: ItemId,
@@ -207,7 +206,7 @@ impl ItemStore {
         }
     }
 
-    /// Takes an item out. Refused with `NoItem` where there is none. It takes no memory.
+    /// Takes an item out. Refused with `NoItem` if there is no such item. It takes no memory.
     pub fn remove(&mut self, id: ItemId) -> Result<FullItem, ItemFault>
         ensures item { IfOk result (λ item. option_map (λ row. row.item) (row_at id.0 self.old)
             ≡ Some item) }
@@ -222,7 +221,7 @@ impl ItemStore {
         }
     }
 
-    /// The item of an id. None where there is no such item.
+    /// The item with this id; None if there is no such item.
     pub fn item(&self, id: ItemId) -> Option<&FullItem>
         ensures { option_copied result ≡ option_map (λ row. row.item) (row_at id.0 self.now) }
     {
@@ -232,7 +231,7 @@ impl ItemStore {
         }
     }
 
-    /// The rows, lent, by rising id: a collection's file is written from them without copying an item.
+    /// The rows, by rising id. A collection's file is written from them without copying an item.
     pub fn rows(&self) -> &BTreeMap<u32, Row>
         ensures rows { result.now.entries ≡ self.now }
         ensures rising { IsRising self.now }
@@ -240,7 +239,7 @@ impl ItemStore {
         &self.rows
     }
 
-    /// The least id of an item that has just the given attributes, as texts. It takes no memory.
+    /// The least id of an item that has exactly the given attributes, as texts. It takes no memory.
     pub fn by_equal(&self, attributes: &Attributes) -> Option<ItemId>
         ensures { option_map (λ id. id.0) result
             ≡ first_id (ids_where (has_just attributes.now) self.now) }
@@ -253,8 +252,8 @@ impl ItemStore {
     }
 
     /// The ids of the items that have each wanted attribute, in rising order (Secret Service API, "Lookup
-    /// Attributes"), with the steps that it took: each id that is read out of the index or looked up in it
-    /// is one, so each id that is found is one at least.
+    /// Attributes"). It counts its steps: each id that is read from the index, or looked up in it, is one, so
+    /// each id that is found is at least one.
     pub fn find<L: Ledger>(
         &self,
         wanted: &Attributes,
@@ -280,7 +279,7 @@ impl ItemStore {
     }
 }
 
-/// The ids of the items that have the first of the attributes, or of all items where there is none.
+/// The ids of the items that have the first of the attributes, or of all items if there are no attributes.
 fn candidate_ids<'a>(index: &'a AttributeIndex, attributes: &Attributes) -> &'a IdList
     ensures { result.now ≡ candidates attributes.now index.now }
 {
@@ -311,7 +310,7 @@ fn add_id(
     }
 }
 
-/// Moves the id of a row in the index, from the attributes of its item to others.
+/// Moves the id of a row in the index from the attributes of its item to others.
 fn move_id(
     rows: &BTreeMap<u32, Row>,
     index: &mut AttributeIndex,
@@ -353,7 +352,7 @@ fn add_row(
     Ok(())
 }
 
-/// Puts a row at a number that has none, and its id into the index.
+/// Puts a row at a number that has no row yet, and its id into the index.
 fn put_row(
     rows: &mut BTreeMap<u32, Row>,
     index: &mut AttributeIndex,
@@ -390,8 +389,8 @@ fn remove_row(rows: &mut BTreeMap<u32, Row>, index: &mut AttributeIndex, number:
     }
 }
 
-/// Sets the attributes of a row's item, and moves its id in the index. The row must be there; only want of
-/// memory is refused.
+/// Sets the attributes of a row's item, and moves its id in the index. The row is there, so it is refused
+/// only if no memory is left.
 fn move_row(
     rows: &mut BTreeMap<u32, Row>,
     index: &mut AttributeIndex,

@@ -1,4 +1,4 @@
-// A swap changes parts of one item and takes no memory; a second swap brings back what was there.
+// A swap changes parts of one item and takes no memory; a second swap undoes it.
 ghost use Rattle.std.specs.Prelude.{◌≡◌, IfSome};
 ghost use Rattle.std.specs.Option.{is_some};
 ghost use Rattle.item_store.specs.Moves.{with_attributes};
@@ -11,7 +11,7 @@ use kr_base::{Attributes, Bytes, Text};
 use std::collections::BTreeMap;
 use std::mem;
 
-/// Parts that an item gives for those that it gets.
+/// Parts of an item, to be swapped with those that it has.
 #[derive(Drop)]
 pub struct Swap {
     /// The label, if it is swapped.
@@ -52,7 +52,7 @@ fn swap_item(item: &mut FullItem, parts: &mut Swap)
     mem::swap(&mut item.modified, &mut parts.modified);
 }
 
-/// Swaps parts of a row's item. False where there is no such row.
+/// Swaps parts of a row's item. False if there is no such row.
 pub fn swap_parts(rows: &mut BTreeMap<u32, Row>, number: u32, parts: &mut Swap) -> bool
     ensures set { rows.new.entries ≡ rows_changed number
         (λ row. record row { item = with_parts parts.old row.item }) rows.old.entries }
@@ -81,7 +81,7 @@ fn swap_own(item: &mut FullItem, attributes: &mut Attributes, modified: &mut u64
     mem::swap(&mut item.modified, modified);
 }
 
-/// Swaps the attributes of a row's item, and when it was changed. False where there is no such row.
+/// Swaps the attributes of a row's item, and when it was changed. False if there is no such row.
 pub fn swap_attributes(
     rows: &mut BTreeMap<u32, Row>,
     number: u32,

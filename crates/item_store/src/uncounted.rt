@@ -1,5 +1,5 @@
-// The calls whose steps nobody counts. No other file under the tests makes a `Steps` (scripts/layers), so
-// that no call with a bound on its steps takes some of them on a count of its own.
+// The calls whose steps aren't counted. No other file except tests makes a `Steps` (scripts/layers), so no
+// call with a bound on its steps can take some of them on another count.
 ghost use Rattle.std.specs.Prelude.{◌≡◌, ℕ, ◌<◌, IfOk, filter, map};
 ghost use Rattle.std.specs.Option.{option_map};
 ghost use Rattle.attribute_index.specs.Index.{IsFound};
@@ -13,7 +13,7 @@ use std::collections::BTreeMap;
 use std::marker::Brand;
 use std::sync::ledger::{Blank, Ledger};
 
-/// What an index finds, on a count of its own.
+/// What an index finds, with a count of its own.
 fn found_by<L: Ledger>(
     index: &AttributeIndex,
     wanted: &Attributes,
@@ -28,7 +28,7 @@ fn found_by<L: Ledger>(
     index.find(wanted, &mut steps)
 }
 
-/// The first of the ids whose item has just the given attributes, on a count of its own.
+/// The first of the ids whose item has exactly the given attributes, with a count of its own.
 fn first_by<L: Ledger>(
     rows: &BTreeMap<u32, Row>,
     ids: &IdList,
@@ -51,14 +51,14 @@ fn first_by<L: Ledger>(
     None
 }
 
-/// What an index finds, its steps counted by nobody.
+/// What an index finds, without a count of the steps.
 pub fn found(index: &AttributeIndex, wanted: &Attributes) -> Result<Vec<ItemId>, OutOfMemory>
     ensures { IfOk result (λ found. IsFound index.now wanted.now (map (λ id. id.0) found.items)) }
 {
     found_by::<Brand>(index, wanted, Blank::new(1))
 }
 
-/// The first of the ids whose item has just the given attributes, as texts, its steps counted by nobody.
+/// The first of the ids whose item has exactly the given attributes, as texts, without a count of the steps.
 pub fn first_equal(
     rows: &BTreeMap<u32, Row>,
     ids: &IdList,
