@@ -9,7 +9,8 @@ EVENTS_PROGRAM = """//! Connections that open sessions, then as many requests of
 ghost use Rattle.service_history.specs.History.{IsAsked};
 
 use kr_base::{ConnId, Text};
-use secret_calls::{Call, Request};
+use kr_memory_disk::MemoryFolder;
+use secret_calls::{Call, Request, Serial};
 use service_history::Service;
 use service_machine::{Arrival, Incoming};
 use std::env;
@@ -18,7 +19,7 @@ fn asks(conn: ConnId, call: Call) -> Incoming
     ensures { IsAsked result }
 {
     let request = Request {
-        serial: 1,
+        serial: Serial { number: 1 },
         wants_reply: true,
         length: 128,
         call: Ok(call),
@@ -32,7 +33,8 @@ fn asks(conn: ConnId, call: Call) -> Incoming
 }
 
 fn run(rt: &HostRuntime, connections: u64, sessions: u64, count: u64) -> Option<usize> {
-    let mut service = Service::open(rt.alloc());
+    let folder = MemoryFolder::new(rt.alloc(), Vec::new(rt.alloc()));
+    let mut service = Service::open(rt.alloc(), folder).ok()?;
     for number in 0..connections {
         service.event(Incoming::Connect).ok()?;
         let conn = ConnId(number.saturating_add(1));
@@ -71,14 +73,14 @@ fn main(rt: HostRuntime) {
 
 def measure(folder):
     ours = rattle_program(folder, "events_bench", EVENTS_PROGRAM, lines_of(
-        ["kr_base", "kr_items", "session_table", "secret_calls", "service_machine", "service_history"]))
+        ["kr_base", "kr_memory_disk", "secret_calls", "service_machine", "service_history"]))
 
     def cost(connections, sessions, count, services=1):
         """Seconds for a request and its taking, without what stands before them."""
         before = best([ours, connections, sessions, 0, services])[0]
         return (best([ours, connections, sessions, count, services])[0] - before) / (count * services)
 
-    # 4,000,000 requests are 8,000,000 events with their takings, so 122 cuts; each is a pass over the rows
+    # 4,000,000 requests are 8,000,000 events with their takings, so 122 cuts
     alone, among = cost(1, 0, 4000000), cost(256, 64, 4000000)
     early, late = cost(1, 0, 400, 8000), cost(1, 0, 32000, 100)
     print(f"service_history: an event among 256 connections with 16,384 sessions takes {among / alone:.2f} of one alone, cuts included,")

@@ -12,10 +12,11 @@ told-of : (told : Option (List ℕ → Image)) (images found : List ℕ → Imag
 told-of None images found e are = absurd (let f : None ≡ Some images = e in cc)
 told-of (Some other) images found e are = λ name. let same : other ≡ images = cc in are name ∙ ap (λ f. f name) same
 
-pub is-opened : (told : Option (List ℕ → Image)) (images found : List ℕ → Image) (opening : Opening) (pairs : List (List ℕ × List ℕ)) → told ≡ Some images → AreTold told found
-    → Opened the_limits found opening pairs → IsOpened images
-is-opened told images found opening pairs e are so = record {
-  opening = opening;
-  pairs = pairs;
-  opened = opened_same the_limits found images opening pairs (told-of told images found e are) so;
-}
+-- so what was loaded from the folder is what a start makes of them
+pub has-opened : (told : Option (List ℕ → Image)) (images found : List ℕ → Image) (opening : Opening) (pairs : List (List ℕ × List ℕ)) → told ≡ Some images → AreTold told found
+    → Opened the_limits found opening pairs → Opened the_limits images opening pairs
+has-opened told images found opening pairs e are so = opened_same the_limits found images opening pairs (told-of told images found e are) so
+
+-- and a start makes something of them
+pub is-opened : (images : List ℕ → Image) (opening : Opening) (pairs : List (List ℕ × List ℕ)) → Opened the_limits images opening pairs → IsOpened images
+is-opened images opening pairs so = record { opening = opening; pairs = pairs; opened = so }

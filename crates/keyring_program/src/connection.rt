@@ -1,12 +1,14 @@
 // The connection of the standard streams.
+ghost use Rattle.std.specs.Prelude.{◌≡◌};
 ghost use Rattle.connection_worker.specs.Streams.{input_of, output_of};
+ghost use Rattle.service_history.specs.History.{opened_history};
 ghost use Rattle.keyring_program.specs.Serves.{Serves};
 
 use crate::server_number::guid_of;
 use crate::status::Status;
 use connection_worker::{Salts, one_thread};
 use dbus_auth::Auth;
-use kr_outside::{Clock, Sink, Source};
+use kr_outside::{Clock, Folder, Sink, Source};
 use lone_desk::LoneDesk;
 use service_desk::{Desk, JoinRefused};
 use service_history::Service;
@@ -14,22 +16,25 @@ use std::alloc::AllocGlobal;
 use std::sync::Wait;
 
 /// Serves this user's client to its end, as the only connection of a new service, on one thread. The
-/// seed determines the server's number and the salts.
-pub fn serve_client<R: AllocGlobal + Wait, I: Source, O: Sink, C: Clock>(
+/// seed determines the server's number and the salts. The service is dropped at the end, and its folder
+/// with it.
+pub fn serve_client<R: AllocGlobal + Wait, I: Source, O: Sink, C: Clock, F: Folder>(
     rt: &R,
     uid: u32,
     seed: [u8; 32],
     input: &mut I,
     output: &mut O,
     clock: &mut C,
+    service: Service<F>,
 ) -> Status
+    requires { service.history ≡ opened_history }
     ensures { Serves uid seed (C.coming clock.old)
         (input_of I.left I.faults I.is_steady input.old)
         (input_of I.left I.faults I.is_steady input.new)
         (output_of O.written O.faults O.is_steady output.old)
         (output_of O.written O.faults O.is_steady output.new) result }
 {
-    let mut desk = match LoneDesk::join(Service::open(rt.alloc())) {
+    let mut desk = match LoneDesk::join(service) {
         Ok(desk) => desk,
         Err(JoinRefused::OutOfMemory) => return Status::Memory,
         Err(JoinRefused::EventsSpent | JoinRefused::TooManyConnections) => unreachable!(),

@@ -1,36 +1,31 @@
-// The folder of the program.
-ghost use Rattle.std.specs.Prelude.{◌≡◌, ◌≤◌, ◌⊎◌, IsTrue, IsErrOf, OnOk, ℕ, List};
+// The service of the program, over its folder.
+ghost use Rattle.std.specs.Prelude.{◌≡◌, ◌≤◌, ◌⊎◌, IsTrue, IsErrOf, IfOk, OnOk, ℕ, List};
 ghost use Rattle.kr_outside.specs.Faults.{KeepsSteady, Rose};
 ghost use Rattle.kr_outside.specs.Host.{GivesOne, GivesOneAtMost};
 ghost use Rattle.kr_outside.specs.RenameDisk.{Image};
-ghost use Rattle.keyring_program.specs.Folder.{IsOpened};
+ghost use Rattle.service_history.specs.History.{opened_history};
+ghost use Rattle.keyring_program.specs.Folder.{HasOpened};
 
-use folder_store::{LoadRefused, Loaded, load};
-use kr_outside::{Folder, Host, OutsideRefused};
+use kr_outside::{Host, OutsideRefused};
+use service_history::Service;
+use service_machine::OpenRefused;
 use std::alloc::Global;
 
-/// A folder, and what was loaded from it.
-#[derive(Drop)]
-pub struct Held<F: Folder> {
-    /// The folder.
-    pub folder: F,
-    /// What was loaded from it.
-    pub loaded: Loaded<F::Cell>,
-}
-
-/// Opens the folder at this path, and loads it. The host is asked for no other folder.
+/// Opens a service over the folder at this path. The host is asked for no other folder.
 ///
 /// Refused with `Folder` if the host's count of faults rose, or the folder or one of its slots
 /// failed, and with `OutOfMemory` if no memory was left.
-pub fn open_folder<H: Host>(
+pub fn open_service<H: Host>(
     alloc: Global,
     host: &mut H,
     path: &str,
-) -> Result<Held<H::Dir>, LoadRefused>
+) -> Result<Service<H::Dir>, OpenRefused>
+    ensures history { IfOk result (λ service. service.history ≡ opened_history) }
     ensures opened { (images : List ℕ → Image) → IsTrue (H.is_honest host.old)
-        → H.told host.old path.now ≡ Some images → OnOk result (IsOpened images) }
+        → H.told host.old path.now ≡ Some images
+        → IfOk result (λ service. HasOpened images service.disk) }
 
-    ensures cause { IsErrOf result LoadRefused.Folder
+    ensures cause { IsErrOf result OpenRefused.Folder
         → Rose (H.faults host.old) (H.faults host.new) ⊎ ¬ (IsTrue (H.is_steady host.old)) }
 
     // The host opened this folder and no other, and its clock is as it was.
@@ -43,11 +38,9 @@ pub fn open_folder<H: Host>(
     ensures steady { KeepsSteady (H.is_steady host.old) (H.is_steady host.new)
         (H.faults host.old) (H.faults host.new) }
 {
-    let mut folder = match host.folder(path) {
-        Ok(folder) => folder,
-        Err(OutsideRefused::Failed) => return Err(LoadRefused::Folder),
-        Err(OutsideRefused::OutOfMemory) => return Err(LoadRefused::OutOfMemory),
-    };
-    let loaded = load(alloc, &mut folder)?;
-    Ok(Held { folder, loaded })
+    match host.folder(path) {
+        Ok(folder) => Service::open(alloc, folder),
+        Err(OutsideRefused::Failed) => Err(OpenRefused::Folder),
+        Err(OutsideRefused::OutOfMemory) => Err(OpenRefused::OutOfMemory),
+    }
 }

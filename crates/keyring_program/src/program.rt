@@ -11,20 +11,20 @@ ghost use Rattle.keyring_program.specs.WholeInput.{IsWholeInput};
 
 use crate::command::stdio_words;
 use crate::connection::serve_client;
-use crate::folder::open_folder;
+use crate::folder::open_service;
 use crate::status::Status;
-use folder_store::LoadRefused;
 use kr_base::Text;
 use kr_outside::{Host, Sink, Source};
+use service_machine::OpenRefused;
 use std::alloc::AllocGlobal;
 use std::sync::Wait;
 
 /// Runs the command of these arguments, which follow the program's name, over the input and the
 /// output, on this host. The seed determines all that is random: the server's number and the salts.
 ///
-/// `stdio DIR UID` opens and loads the folder DIR, keeps it open to the end, and serves the
-/// client of the user UID: the handshake, and each call with its reply. The clock is asked once
-/// for each call.
+/// `stdio DIR UID` opens a service over the folder DIR, which the service loads and keeps to the
+/// end, and serves the client of the user UID: the handshake, and each call with its reply. The
+/// clock is asked once for each call.
 ///
 /// Ends with `Usage` exactly if the arguments are invalid; with `FolderFault` only if the host's
 /// count of faults rose, or the folder that it opened may fail; with `Memory` if none is left
@@ -84,14 +84,12 @@ pub fn run<R: AllocGlobal + Wait, I: Source, O: Sink, H: Host>(
     let Some((folder, uid)) = stdio_words(words) else {
         return Status::Usage;
     };
-    match open_folder(rt.alloc(), host, folder) {
-        Ok(held) => {
+    match open_service(rt.alloc(), host, folder) {
+        Ok(service) => {
             let mut clock = host.clock();
-            let status = serve_client(rt, uid, seed, input, output, &mut clock);
-            drop(held);
-            status
+            serve_client(rt, uid, seed, input, output, &mut clock, service)
         }
-        Err(LoadRefused::Folder) => Status::FolderFault,
-        Err(LoadRefused::OutOfMemory) => Status::Memory,
+        Err(OpenRefused::Folder) => Status::FolderFault,
+        Err(OpenRefused::OutOfMemory) => Status::Memory,
     }
 }

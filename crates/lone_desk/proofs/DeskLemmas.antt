@@ -86,11 +86,16 @@ total-cut old =
     elim [ true ↦ λ is. rw is (omega arith) | false ↦ λ is. rw is refl ] in
     pass (is_due old.window) refl
 
+-- an event that was stored is one more
+pub counts-stored : (old new : History) (event : Event) → Stores old event new → total new.window ≡ total old.window + 1
+counts-stored old new event stores =
+    ap (λ (h : History). total h.window) stores.appends ∙ total-with event (cut_where_due old) ∙ ap (λ n. n + 1) (total-cut old)
+
 pub arrives : (conn : ConnId) (old new : History) (arrival : Arrival) → Stores old (event.Arrive arrival) new → total old.window < most_events
     → Arrives (spot conn old) (spot conn new) (event.Arrive arrival)
 arrives conn old new arrival stores left =
     let came = event.Arrive arrival in
-    let counted : total new.window ≡ total old.window + 1 = ap (λ (h : History). total h.window) stores.appends ∙ total-with came (cut_where_due old) ∙ ap (λ n. n + 1) (total-cut old) in
+    let counted : total new.window ≡ total old.window + 1 = counts-stored old new came stores in
     record {
       recorded = extends conn old new came (output.Arrived (record {})) stores.fits refl
           (ap (λ (h : History). h.state) stores.appends ∙ ap (λ s. step s came) (state-cut old)) counted;

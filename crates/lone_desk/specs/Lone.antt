@@ -5,18 +5,18 @@ use Rattle.service_desk.specs.Places.{Told}
 use Rattle.service_desk.specs.Views.{View, IsView}
 use Rattle.lone_desk.specs.declared.lone.LoneDesk.{LoneDesk}
 
--- what it tells: the service's state, and how many events it has recorded; nobody else records any, no device is used, and
+-- what it reports: the service's state, and how many events it has recorded; nobody else records any, no device is used, and
 -- a call that takes doesn't wait
-abbrev pub told : LoneDesk → Told
+abbrev pub told : {F S : Type 0} → LoneDesk F S → Told
 told desk = record {
   conn = desk.conn;
-  state = desk.service.state;
-  count = total desk.service.window;
+  state = desk.service.history.state;
+  count = total desk.service.history.window;
   is_alone = true;
   is_steady = true;
   is_waiting = false;
 }
 
 -- it may have seen any events that lead to the service's state, and that are as many as the service has recorded since then
-abbrev pub has_seen : LoneDesk → View → Type 0
-has_seen desk view = IsView desk.service.state (total desk.service.window) view
+abbrev pub has_seen : {F S : Type 0} → LoneDesk F S → View → Type 0
+has_seen desk view = IsView desk.service.history.state (total desk.service.history.window) view

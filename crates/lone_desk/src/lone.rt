@@ -7,6 +7,7 @@ ghost use Rattle.service_desk.specs.Places.{place, Looks, Extends};
 ghost use Rattle.service_desk.specs.Calls.{Arrives, IsRefusal, Leaves, Takes, Goes};
 
 use kr_base::ConnId;
+use kr_outside::Folder;
 use secret_calls::{Refused, Request, Taken};
 use service_desk::{Desk, JoinRefused, ReadDesk, WriteDesk};
 use service_history::Service;
@@ -14,41 +15,45 @@ use service_machine::{Arrival, Event};
 
 /// A connection's desk over a service that is its own.
 #[derive(Drop)]
-pub struct LoneDesk {
-    service: Service,
+pub struct LoneDesk<F: Folder> {
+    service: Service<F>,
     conn: ConnId,
 }
 
-impl LoneDesk {
-    /// A connection joins the service, and gets its desk.
+impl<F: Folder> LoneDesk<F> {
+    /// Lets a connection join the service, and returns its desk.
     ///
-    /// Refused with `EventsSpent` where all events that can be counted are recorded,
-    /// then with `TooManyConnections` where 256 connections are there or no number is left;
-    /// `OutOfMemory` may come in place of any.
-    pub fn join(service: Service) -> Result<LoneDesk, JoinRefused>
+    /// Refused with `EventsSpent` if all events that can be counted are recorded, then with
+    /// `TooManyConnections` if 256 connections are there or no number is left; `OutOfMemory` may come
+    /// in place of any. The service is dropped then.
+    pub fn join(service: Service<F>) -> Result<LoneDesk<F>, JoinRefused>
         ensures joined { IfOk result (λ desk.
-            desk.service.state ≡ step service.state (Event.Connect desk.conn)) }
-        ensures fits { IfOk result (λ desk. Fits service.state (Event.Connect desk.conn)) }
-        ensures count { IfOk result (λ desk. total desk.service.window ≡ total service.window + 1) }
+            desk.service.history.state ≡ step service.history.state (Event.Connect desk.conn)) }
+        ensures fits { IfOk result (λ desk. Fits service.history.state (Event.Connect desk.conn)) }
+        ensures disk { IfOk result (λ desk. desk.service.disk ≡ service.disk) }
+        ensures count { IfOk result (λ desk.
+            total desk.service.history.window ≡ total service.history.window + 1) }
         ensures spent { IsErrOf result JoinRefused.EventsSpent
-            → IsSpent (total service.window) }
+            → IsSpent (total service.history.window) }
         ensures crowded { IsErrOf result JoinRefused.TooManyConnections
-            → IsCrowded service.state }
+            → IsCrowded service.history.state }
     {
         let mut service = service;
-        let conn = service.join()?;
-        Ok(LoneDesk { service, conn })
+        match service.join() {
+            Ok(conn) => Ok(LoneDesk { service, conn }),
+            Err(refused) => Err(refused),
+        }
     }
 
-    /// The service, as it stands. It takes no memory.
-    pub fn into_service(self) -> Service
+    /// The service as it is now. It takes no memory.
+    pub fn into_service(self) -> Service<F>
         ensures { result ≡ self.service }
     {
         self.service
     }
 }
 
-impl Desk for LoneDesk {
+impl<F: Folder> Desk for LoneDesk<F> {
     ghost use Rattle.service_desk.proofs.ViewLemmas.{view-now};
     ghost use Rattle.lone_desk.specs.Lone.{told, has_seen};
 
@@ -56,7 +61,8 @@ impl Desk for LoneDesk {
 
     ghost has_seen = { has_seen };
 
-    ghost has_view = { λ desk. view-now desk.service.state (total desk.service.window) };
+    ghost has_view = { λ desk.
+        view-now desk.service.history.state (total desk.service.history.window) };
 
     ghost views_lead = { λ desk view seen. seen };
 
@@ -65,7 +71,7 @@ impl Desk for LoneDesk {
     }
 }
 
-impl ReadDesk for LoneDesk {
+impl<F: Folder> ReadDesk for LoneDesk<F> {
     fn arrive(&mut self, request: Request, now: u64, salt: [u8; 8]) -> Result<(), Refused> {
         let arrival = Arrival {
             conn: self.conn,
@@ -81,7 +87,7 @@ impl ReadDesk for LoneDesk {
     }
 }
 
-impl WriteDesk for LoneDesk {
+impl<F: Folder> WriteDesk for LoneDesk<F> {
     fn take(&mut self) -> Taken {
         self.service.take(self.conn)
     }

@@ -1,5 +1,5 @@
--- What a service keeps, after one more event.
-use Rattle.std.proofs.Common.{◌≡◌, ◌+◌, ◌<◌, ◌≤◌, true, false, Option, Some, None, ap, ◌∙◌, sym, subst, arith}
+-- What a service keeps, at its start and after one more event.
+use Rattle.std.proofs.Common.{◌≡◌, ◌+◌, ◌<◌, ◌≤◌, true, false, Option, Some, None, refl, ap, ◌∙◌, sym, subst, arith}
 use Rattle.kr_base.specs.declared.ids.ConnId.{ConnId}
 use Rattle.service_machine.specs.declared.event.Event.{Event}
 use Rattle.service_machine.specs.declared.event.Event.TheVariants as event
@@ -7,8 +7,9 @@ use Rattle.service_machine.specs.declared.rows.DeskRow.{DeskRow}
 use Rattle.service_machine.specs.declared.rows.Rows.{Rows}
 use Rattle.service_machine.specs.Connections.{left, emptied, desk_of}
 use Rattle.service_machine.specs.Limits.{most_events}
-use Rattle.service_machine.specs.Step.{step, Fits}
+use Rattle.service_machine.specs.Step.{opened_rows, step, Fits}
 use Rattle.service_machine.proofs.FitLemmas.{has-told}
+use Rattle.service_machine.proofs.SoundLemmas.{sound_start}
 use Rattle.service_history.specs.Limits.{most_counted}
 use Rattle.service_history.specs.History.{IsHistory}
 use Rattle.service_history.specs.Inside.{Held, IsReady, chosen, in_window, IsKept}
@@ -16,6 +17,14 @@ use Rattle.service_history.specs.Room.{room}
 use Rattle.service_history.specs.Windows.{Window, total, stored, begun, next_window}
 use Rattle.service_history.proofs.RoomLemmas.{room-changed_one, room-left_one, room-emptied_one, room-without_one}
 use Rattle.service_history.proofs.HistoryLemmas.{history-sound, room-behind, history-push, history-cut}
+
+-- the service as it starts, in the window that begins there
+pub kept-first : (state : Rows) (held : Held) → state ≡ opened_rows → held.window ≡ begun 0 state → IsKept state held
+kept-first state held start begins = record {
+  history = subst (λ (w : Window). IsHistory (in_window state w)) (sym begins)
+      (subst (λ (s : Rows). IsHistory (in_window s (begun 0 s))) (sym start) record { sound = sound_start; legal = tt; replayed = refl; counted = omega arith });
+  fits = subst (λ (s : Rows). room s.connections.rows ≤ held.spare) (sym start) (omega arith);
+}
 
 -- an event that is stored
 kept-push : (state : Rows) (old new : Held) (event : Event) → IsHistory (in_window state old.window) → Fits state event

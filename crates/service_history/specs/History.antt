@@ -3,6 +3,7 @@ use Rattle.std.specs.Prelude.{◌≡◌, ◌+◌, ◌≤◌, ◌&&◌, not, if�
 use Rattle.kr_base.specs.declared.ids.ConnId.{ConnId}
 use Rattle.secret_calls.specs.declared.taken.Taken.{Taken}
 use Rattle.secret_calls.specs.declared.taken.Taken.TheVariants as taken
+use Rattle.service_machine.specs.declared.disk.Disk.{Disk}
 use Rattle.service_machine.specs.declared.rows.Rows.{Rows}
 use Rattle.service_machine.specs.declared.rows.DeskRow.{DeskRow}
 use Rattle.service_machine.specs.declared.event.Incoming.{Incoming}
@@ -19,12 +20,17 @@ use Rattle.service_history.specs.Limits.{most_counted}
 use Rattle.service_history.specs.Room.{room}
 use Rattle.service_history.specs.Windows.{Window, total, is_due, stored, first_window, next_window}
 
--- the state, and the window that it is in
+-- the state, and the window that led to it
 pub record History : Type 0 where
   pub state : Rows
   pub window : Window
 
--- the service as it starts
+-- the service as contracts see it: its history, and beside it its folder with what was loaded from it
+pub record ServiceState (F S : Type 0) : Type 0 where
+  pub history : History
+  pub disk : Disk F S
+
+-- the history of the service as it starts
 abbrev pub opened_history : History
 opened_history = record { state = opened_rows; window = first_window }
 
@@ -40,7 +46,7 @@ pub record IsHistory (history : History) : Type 0 where
 abbrev pub cut : History → History
 cut history = record history { window = next_window history.window }
 
--- a cut where one is due
+-- a cut, if one is due
 abbrev pub cut_where_due : History → History
 cut_where_due history = if is_due history.window then cut history else history
 
@@ -48,12 +54,12 @@ cut_where_due history = if is_due history.window then cut history else history
 abbrev pub with_event : Event → History → History
 with_event event history = record { state = step history.state event; window = stored event history.window }
 
--- This event is recorded, behind a cut where one is due.
+-- This event is recorded, after a cut if one is due.
 pub record Stores (old : History) (event : Event) (new : History) : Type 0 where
   pub fits : Fits old.state event
   pub appends : new ≡ with_event event (cut_where_due old)
 
--- The event that came is recorded, behind a cut where one is due, and answered as the step answers it.
+-- The event that came is recorded, after a cut if one is due, and answered as the step answers it.
 pub record IsRecorded (old : History) (came : Incoming) (answer : Output) (new : History) : Type 0 where
   pub event : Event
   pub records : Records came event
@@ -61,7 +67,7 @@ pub record IsRecorded (old : History) (came : Incoming) (answer : Output) (new :
   pub answers : answer ≡ output_of old.state event
   pub appends : new ≡ with_event event (cut_where_due old)
 
--- the same with no cut
+-- the same without a cut
 pub record IsAppended (old : History) (came : Incoming) (answer : Output) (new : History) : Type 0 where
   pub event : Event
   pub records : Records came event
@@ -75,7 +81,7 @@ IsAsked incoming.Connect = Unit {0}
 IsAsked (incoming.Arrive arrival) = Unit {0}
 IsAsked _ = ⊥
 
--- what a connection is given that takes: by what is told of it
+-- what a connection that takes is given, by its status
 abbrev pub given_for : ConnId → Rows → Option DeskRow → Taken
 given_for conn state None = taken.Missing
 given_for conn state (Some desk) =
@@ -83,23 +89,23 @@ given_for conn state (Some desk) =
     else (if desk.overrun then taken.Overrun
     else (if desk.leaving then taken.Closed else taken.Empty))
 
--- what is recorded of it: that it takes, or, where it is closed, that it is gone
+-- what is recorded of it: that it takes, or, if it is closed, that it is gone
 abbrev pub taken_by : ConnId → Option DeskRow → History → History
 taken_by conn None history = history
 taken_by conn (Some desk) history =
     if desk.waits then with_event (event.Take conn) history
     else (if desk.leaving && not desk.overrun then with_event (event.Gone conn) history else history)
 
--- what is recorded of a connection that leaves: nothing where it isn't there or is leaving
+-- what is recorded of a connection that leaves: nothing if it isn't there or is leaving
 abbrev pub left_by : ConnId → Option DeskRow → History → History
 left_by conn None history = history
 left_by conn (Some desk) history = if desk.leaving then history else with_event (event.Leave conn) history
 
--- what is recorded of a connection that is gone: nothing where it isn't there
+-- what is recorded of a connection that is gone: nothing if it isn't there
 abbrev pub gone_by : ConnId → Option DeskRow → History → History
 gone_by conn None history = history
 gone_by conn (Some desk) history = with_event (event.Gone conn) history
 
--- what is told of a connection of the history's state
+-- the status of a connection in the history's state
 abbrev pub told : ConnId → History → Option DeskRow
 told conn history = desk_of conn history.state.connections.rows

@@ -1,13 +1,13 @@
--- What is kept of a window and of a service beside what contracts see: the cost of the stored events, and the room for
--- those that are sure to come.
+-- What a window and a service keep besides what contracts see: the cost of the stored events, and the room for those that
+-- are sure to come.
 use Rattle.std.specs.Prelude.{◌≡◌, ◌+◌, ◌-◌, ◌≤◌, ℕ, true, false, min, List, length, Vec, vec_len, vec_capacity, Option, Some, None}
 use Rattle.std.specs.declared.alloc.Global.{Global}
 use Rattle.service_machine.specs.declared.event.Event.{Event}
 use Rattle.service_machine.specs.declared.rows.Rows.{Rows}
 use Rattle.service_machine.specs.declared.machine.Machine.{Machine}
-use Rattle.service_machine.specs.Rows.{rows_of}
+use Rattle.service_machine.specs.Rows.{rows_of, disk_of}
 use Rattle.service_machine.specs.Replay.{cost}
-use Rattle.service_history.specs.History.{History, IsHistory}
+use Rattle.service_history.specs.History.{History, ServiceState, IsHistory}
 use Rattle.service_history.specs.Limits.{most_counted}
 use Rattle.service_history.specs.Room.{room, enough}
 use Rattle.service_history.specs.Windows.{Window, total, is_due, begun}
@@ -17,7 +17,7 @@ pub record Held : Type 0 where
   pub window : Window
   pub spare : ℕ
 
--- what an era, a base and stored events are
+-- the window of an era, a base and stored events
 abbrev pub held_of : ℕ → Rows → Vec Event Global → Held
 held_of era base events = record {
   window = record { era = era; base = base; events = events.items };
@@ -34,7 +34,7 @@ pub record IsNext (window : Window) (state : Rows) (next : Held) : Type 0 where
   pub begins : next.window ≡ begun (total window) state
   pub room : enough ≤ next.spare
 
--- What was prepared for an event: the next window where a cut is due, and else room in this one.
+-- What was prepared for an event: the next window if a cut is due, and otherwise room in this one.
 abbrev pub IsReady : Window → Rows → ℕ → Option Held → Type 0
 IsReady window state spare None = (is_due window ≡ false) × (enough ≤ spare)
 IsReady window state spare (Some next) = (is_due window ≡ true) × IsNext window state next
@@ -48,9 +48,9 @@ chosen held (Some next) = next
 abbrev pub in_window : Rows → Window → History
 in_window state window = record { state = state; window = window }
 
--- the history that a machine and what is held of a window are
-abbrev pub service_of : Machine → Held → History
-service_of machine held = in_window (rows_of machine) held.window
+-- the service of a machine and a window
+abbrev pub service_of : {F S : Type 0} → Machine F S → Held → ServiceState F S
+service_of machine held = record { history = in_window (rows_of machine) held.window; disk = disk_of machine }
 
 -- a service in this state and this window keeps a history, and room for the events that are sure to come
 pub record IsKept (state : Rows) (held : Held) : Type 0 where

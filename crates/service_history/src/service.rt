@@ -1,4 +1,6 @@
-ghost use Rattle.std.specs.Prelude.{◌≡◌, ◌≢◌, IfOk, OnOk, OnErr, IsErrOf, Err};
+ghost use Rattle.std.specs.Prelude.{◌≡◌, ◌≢◌, [], IsTrue, IfOk, OnOk, OnErr, IsErrOf, Err};
+ghost use Rattle.folder_store.specs.Ring.{IsAsFound};
+ghost use Rattle.service_machine.specs.Disk.{IsLoaded, FailedToLoad};
 ghost use Rattle.service_machine.specs.Limits.{IsSpent};
 ghost use Rattle.service_machine.specs.Machine.{IsOfNone, IsConnect};
 ghost use Rattle.service_machine.specs.Step.{IsMissing, IsCrowded};
@@ -8,26 +10,30 @@ ghost use Rattle.service_history.specs.History.{opened_history, IsHistory, Store
 use crate::EventRefused;
 use crate::window::Window;
 use kr_base::ConnId;
+use kr_outside::Folder;
 use secret_calls::{Refused, Taken};
-use service_machine::{Arrival, Arrived, Event, Incoming, JoinRefused, Machine, Output, Rows};
+use service_machine::{
+    Arrival, Arrived, Disk, Event, Incoming, JoinRefused, Machine, OpenRefused, Output,
+};
 use std::alloc::Global;
 use std::marker::Model;
 
 /// Once so many events of a run are recorded, no more is.
 const LIMIT: u64 = 18_446_744_073_709_000_000;
 
-/// The service and the window that it is in. A contract sees the state, and of the window its era, its
-/// base and the stored events, which led from the base to the state.
+/// The service and the window that it is in. A contract sees its history: the state, and of the window
+/// its era, its base and the stored events, which led from the base to the state; and beside it the
+/// disk: the folder, and what was loaded from it.
 #[derive(Drop)]
-pub struct Service {
-    machine: Machine,
-    window: Window,
+pub struct Service<F: Folder> {
+    machine: Machine<F>,
+    window: Window<F>,
 }
 
-impl Model for Service {
-    ghost use Rattle.service_history.specs.History.{History};
+impl<F: Folder> Model for Service<F> {
+    ghost use Rattle.service_history.specs.History.{ServiceState};
 
-    ghost Value = { History };
+    ghost Value = { ServiceState F F.Cell };
 
     ghost use Rattle.service_machine.specs.Rows.{rows_of};
     ghost use Rattle.service_history.specs.Inside.{service_of, IsKept};
@@ -37,33 +43,58 @@ impl Model for Service {
     ghost invariant = { λ s. IsKept (rows_of s.machine) s.window };
 }
 
-impl Service {
-    /// The service as it starts: nothing is there, and nothing has happened. It takes no memory.
-    pub fn open(alloc: Global) -> Service
-        ensures { result ≡ opened_history }
+impl<F: Folder> Service<F> {
+    /// The service as it starts, over a folder of which no slot was made yet: the folder is loaded,
+    /// nothing else is there, and nothing has happened.
+    ///
+    /// Refused with `Folder` if the folder or one of its slots failed, and with `OutOfMemory`; the
+    /// folder is dropped then.
+    pub fn open(alloc: Global, folder: F) -> Result<Service<F>, OpenRefused>
+        requires fresh { F.made folder ≡ [] }
+        ensures opened { IfOk result (λ service. service.history ≡ opened_history) }
+        ensures loaded { IfOk result (λ service. IsLoaded (IsAsFound F.Cell.seen F.Cell.temporary
+            F.Cell.may_leave F.Cell.left_since F.Cell.is_honest F.Cell.is_steady
+            (F.is_honest folder) (F.is_steady folder))
+            F.is_honest F.is_steady F.faults F.images F.may_leave F.made folder service.disk) }
+
+        // The folder is at fault only if it failed, and never if it is steady.
+        ensures cause { IsErrOf result OpenRefused.Folder → FailedToLoad (IsAsFound F.Cell.seen
+            F.Cell.temporary F.Cell.may_leave F.Cell.left_since F.Cell.is_honest F.Cell.is_steady
+            (F.is_honest folder) (F.is_steady folder))
+            F.is_honest F.is_steady F.faults F.images F.made F.Cell.faults F.Cell.failed folder }
+        ensures never { IsTrue (F.is_steady folder) → ¬ (IsErrOf result OpenRefused.Folder) }
     {
-        Service {
-            machine: Machine::open(alloc),
-            window: Window::first(alloc),
-        }
+        let machine = Machine::open(alloc, folder)?;
+        let window = Window::first(alloc, &machine);
+        Ok(Service { machine, window })
     }
 
-    /// Records that a connection joins, and gives it the next number. Where a cut is due it is made
-    /// first: the state becomes the base, and the stored events are let go.
-    ///
-    /// Refused with `EventsSpent` where all events that can be counted are recorded, then with
-    /// `TooManyConnections` where 256 connections are there or no number is left.
-    pub fn join(&mut self) -> Result<ConnId, JoinRefused>
-        ensures stores { IfOk result (λ conn. Stores self.old (Event.Connect conn) self.new) }
-        ensures history { IsHistory self.new }
+    /// The folder, and what was loaded from it. It takes no memory.
+    pub fn into_disk(self) -> Disk<F>
+        ensures { result ≡ self.disk }
+    {
+        self.machine.into_disk()
+    }
 
-        // Each refusal has its cause, and the first in order is answered; nothing has changed then.
-        ensures spent { IsErrOf result JoinRefused.EventsSpent → IsSpent (total self.old.window) }
+    /// Records that a connection joins, and gives it the next number. If a cut is due, it is made
+    /// first: the state becomes the base, and the stored events are dropped.
+    ///
+    /// Refused with `EventsSpent` if all events that can be counted are recorded, then with
+    /// `TooManyConnections` if 256 connections are there or no number is left.
+    pub fn join(&mut self) -> Result<ConnId, JoinRefused>
+        ensures stores { IfOk result (λ conn.
+            Stores self.old.history (Event.Connect conn) self.new.history) }
+        ensures history { IsHistory self.new.history }
+        ensures disk { self.new.disk ≡ self.old.disk }
+
+        // Each refusal has its cause, and the first in order is returned; nothing has changed then.
+        ensures spent { IsErrOf result JoinRefused.EventsSpent
+            → IsSpent (total self.old.history.window) }
         ensures not_spent { result ≢ Err JoinRefused.EventsSpent
-            → ¬ IsSpent (total self.old.window) }
+            → ¬ IsSpent (total self.old.history.window) }
         ensures crowded { IsErrOf result JoinRefused.TooManyConnections
-            → IsCrowded self.old.state }
-        ensures unchanged { OnErr result (self.new ≡ self.old) }
+            → IsCrowded self.old.history.state }
+        ensures unchanged { OnErr result (self.new.history ≡ self.old.history) }
     {
         if self.window.total() >= LIMIT {
             return Err(JoinRefused::EventsSpent);
@@ -79,17 +110,21 @@ impl Service {
 
     /// Records that a connection asks for something. A cut that is due is made first, as in `join`.
     ///
-    /// Refused with `EventsSpent` where all events that can be counted are recorded, then with `Gone`
-    /// where the connection isn't there.
+    /// Refused with `EventsSpent` if all events that can be counted are recorded, then with `Gone` if
+    /// the connection isn't there.
     pub fn arrive(&mut self, arrival: Arrival) -> Result<(), Refused>
-        ensures stores { OnOk result (Stores self.old (Event.Arrive arrival) self.new) }
-        ensures history { IsHistory self.new }
+        ensures stores { OnOk result
+            (Stores self.old.history (Event.Arrive arrival) self.new.history) }
+        ensures history { IsHistory self.new.history }
+        ensures disk { self.new.disk ≡ self.old.disk }
 
-        // Each refusal has its cause, and the first in order is answered; nothing has changed then.
-        ensures spent { IsErrOf result Refused.EventsSpent → IsSpent (total self.old.window) }
-        ensures not_spent { result ≢ Err Refused.EventsSpent → ¬ IsSpent (total self.old.window) }
-        ensures gone { IsErrOf result Refused.Gone → IsMissing arrival.conn self.old.state }
-        ensures unchanged { OnErr result (self.new ≡ self.old) }
+        // Each refusal has its cause, and the first in order is returned; nothing has changed then.
+        ensures spent { IsErrOf result Refused.EventsSpent
+            → IsSpent (total self.old.history.window) }
+        ensures not_spent { result ≢ Err Refused.EventsSpent
+            → ¬ IsSpent (total self.old.history.window) }
+        ensures gone { IsErrOf result Refused.Gone → IsMissing arrival.conn self.old.history.state }
+        ensures unchanged { OnErr result (self.new.history ≡ self.old.history) }
     {
         if self.window.total() >= LIMIT {
             return Err(Refused::EventsSpent);
@@ -107,29 +142,31 @@ impl Service {
         Ok(())
     }
 
-    /// Records an event, a connection that joins or asks, and gives its answer: `join` and `arrive` for
-    /// one who has the event as a value.
+    /// Records an event, a connection that joins or asks, and returns its answer: `join` and `arrive`
+    /// for a caller that has the event as a value.
     ///
-    /// Refused with `EventsSpent` where all events that can be counted are recorded,
-    /// then with `NoConnection` where the connection isn't there, and `TooManyConnections` where 256
-    /// are there or no number is left.
+    /// Refused with `EventsSpent` if all events that can be counted are recorded, then with
+    /// `NoConnection` if the connection isn't there, and `TooManyConnections` if 256 are there or no
+    /// number is left.
     pub fn event(&mut self, event: Incoming) -> Result<Output, EventRefused>
         requires { IsAsked event }
 
-        ensures recorded { IfOk result (λ answer. IsRecorded self.old event answer self.new) }
-        ensures history { IsHistory self.new }
+        ensures recorded { IfOk result (λ answer.
+            IsRecorded self.old.history event answer self.new.history) }
+        ensures history { IsHistory self.new.history }
+        ensures disk { self.new.disk ≡ self.old.disk }
 
-        // Each refusal has its cause, and the first in order is answered; nothing has changed then.
+        // Each refusal has its cause, and the first in order is returned; nothing has changed then.
         ensures spent { IsErrOf result EventRefused.EventsSpent
-            → IsSpent (total self.old.window) }
+            → IsSpent (total self.old.history.window) }
         ensures not_spent { result ≢ Err EventRefused.EventsSpent
-            → ¬ IsSpent (total self.old.window) }
+            → ¬ IsSpent (total self.old.history.window) }
         ensures no_connection { IsErrOf result EventRefused.NoConnection
-            → IsOfNone self.old.state event }
+            → IsOfNone self.old.history.state event }
         ensures connects { IsErrOf result EventRefused.TooManyConnections → IsConnect event }
         ensures crowded { IsErrOf result EventRefused.TooManyConnections
-            → IsCrowded self.old.state }
-        ensures unchanged { OnErr result (self.new ≡ self.old) }
+            → IsCrowded self.old.history.state }
+        ensures unchanged { OnErr result (self.new.history ≡ self.old.history) }
     {
         match event {
             Incoming::Connect => Ok(Output::Joined(self.join()?)),
@@ -141,13 +178,16 @@ impl Service {
         }
     }
 
-    /// Gives what waits for the connection, and records that it took it. Where nothing waits: `Overrun`
-    /// where an output was lost; else `Closed` where the connection is leaving, and it is gone then;
-    /// else `Empty`. `Missing` where the connection isn't there. It takes no memory.
+    /// Returns what waits for the connection, and records that it took it. If nothing waits: `Overrun`
+    /// if an output was lost; otherwise `Closed` if the connection is leaving, which is gone then;
+    /// otherwise `Empty`. `Missing` if the connection isn't there. It takes no memory.
     pub fn take(&mut self, conn: ConnId) -> Taken
-        ensures given { result ≡ given_for conn self.old.state (told conn self.old) }
-        ensures recorded { self.new ≡ taken_by conn (told conn self.old) self.old }
-        ensures history { IsHistory self.new }
+        ensures given { result
+            ≡ given_for conn self.old.history.state (told conn self.old.history) }
+        ensures recorded { self.new.history
+            ≡ taken_by conn (told conn self.old.history) self.old.history }
+        ensures history { IsHistory self.new.history }
+        ensures disk { self.new.disk ≡ self.old.disk }
     {
         let Some(desk) = self.machine.desk(conn) else {
             return Taken::Missing;
@@ -168,11 +208,13 @@ impl Service {
         Taken::Closed
     }
 
-    /// Records that the connection asks no more, where it is there and isn't leaving already. It takes
-    /// no memory.
+    /// Records that the connection asks no more, if it is there and isn't leaving already. It takes no
+    /// memory.
     pub fn leave(&mut self, conn: ConnId)
-        ensures recorded { self.new ≡ left_by conn (told conn self.old) self.old }
-        ensures history { IsHistory self.new }
+        ensures recorded { self.new.history
+            ≡ left_by conn (told conn self.old.history) self.old.history }
+        ensures history { IsHistory self.new.history }
+        ensures disk { self.new.disk ≡ self.old.disk }
     {
         let Some(desk) = self.machine.desk(conn) else {
             return;
@@ -184,10 +226,12 @@ impl Service {
         self.window.push(Event::Leave(conn));
     }
 
-    /// Records that the connection is gone, where it is there. It takes no memory.
+    /// Records that the connection is gone, if it is there. It takes no memory.
     pub fn gone(&mut self, conn: ConnId)
-        ensures recorded { self.new ≡ gone_by conn (told conn self.old) self.old }
-        ensures history { IsHistory self.new }
+        ensures recorded { self.new.history
+            ≡ gone_by conn (told conn self.old.history) self.old.history }
+        ensures history { IsHistory self.new.history }
+        ensures disk { self.new.disk ≡ self.old.disk }
     {
         let Some(_) = self.machine.desk(conn) else {
             return;
@@ -198,24 +242,16 @@ impl Service {
 
     /// The events since the last cut, in order.
     pub fn events(&self) -> &[Event]
-        ensures value { result.now ≡ self.now.window.events }
-        ensures history { IsHistory self.now }
+        ensures value { result.now ≡ self.now.history.window.events }
+        ensures history { IsHistory self.now.history }
     {
         self.window.events()
     }
 
-    /// The state that the stored events lead on from.
-    pub fn base(&self) -> &Rows
-        ensures value { result.now ≡ self.now.window.base }
-        ensures history { IsHistory self.now }
-    {
-        self.window.base()
-    }
-
     /// How many events the run had before the stored ones.
     pub fn era(&self) -> u64
-        ensures value { result ≡ self.now.window.era }
-        ensures history { IsHistory self.now }
+        ensures value { result ≡ self.now.history.window.era }
+        ensures history { IsHistory self.now.history }
     {
         self.window.era()
     }

@@ -1,18 +1,17 @@
 ghost use Rattle.std.specs.Prelude.{◌≡◌, ◌+◌, ◌<◌, ◌≤◌, IfOk, OnOk};
 ghost use Rattle.service_machine.specs.Rows.{rows_of};
-ghost use Rattle.service_machine.specs.Step.{opened_rows};
 ghost use Rattle.service_machine.specs.Replay.{cost_of};
 ghost use Rattle.service_history.specs.Limits.{most_counted};
 ghost use Rattle.service_history.specs.Room.{enough};
-ghost use Rattle.service_history.specs.Windows.{first_window, total, is_due, stored};
+ghost use Rattle.service_history.specs.Windows.{begun, total, is_due, stored};
 ghost use Rattle.service_history.specs.Inside.{IsNext, IsReady, chosen};
 
 use kr_base::OutOfMemory;
-use kr_items::Items;
-use service_machine::{ConnRows, Event, Machine, Rows};
-use session_table::Sessions;
+use kr_outside::Folder;
+use service_machine::{Event, Machine};
 use std::alloc::Global;
 use std::marker::Model;
+use std::snapshot::Snapshot;
 
 /// With so many stored events a cut is due.
 const MOST_EVENTS: usize = 65_536;
@@ -25,41 +24,27 @@ const ROOM: usize = 769;
 
 /// A window of a run. A contract sees its era, which is the number of all events before it, its base,
 /// which is the state that these led to, the events since then, and for how many more there is room.
+/// The base exists for contracts alone: it takes no memory.
 #[derive(Drop)]
-pub struct Window {
+pub struct Window<F: Folder> {
     alloc: Global,
     era: u64,
-    base: Rows,
+    base: Snapshot<Machine<F>>,
     events: Vec<Event>,
     cost: u64,
 }
 
-impl Model for Window {
+impl<F: Folder> Model for Window<F> {
     ghost use Rattle.service_history.specs.Inside.{Held};
 
     ghost Value = { Held };
 
+    ghost use Rattle.service_machine.specs.Rows.{rows_of};
     ghost use Rattle.service_history.specs.Inside.{held_of, AreStored};
 
-    ghost view = { λ w. held_of w.era w.base w.events };
+    ghost view = { λ w. held_of w.era (rows_of w.base.value) w.events };
 
     ghost invariant = { λ w. AreStored w.era w.events.items w.cost };
-}
-
-// The rows as the service starts.
-fn opened(alloc: Global) -> Rows
-    ensures { result ≡ opened_rows }
-{
-    Rows {
-        connections: ConnRows {
-            rows: Items::empty(alloc),
-            next: 1,
-        },
-        sessions: Sessions {
-            rows: Items::empty(alloc),
-            next: 1,
-        },
-    }
 }
 
 // What a stored event costs.
@@ -72,15 +57,15 @@ fn cost_of(event: &Event) -> u64
     }
 }
 
-impl Window {
-    /// The first window, as it begins. It takes no memory.
-    pub fn first(alloc: Global) -> Window
-        ensures { result.window ≡ first_window }
+impl<F: Folder> Window<F> {
+    /// The first window, as it begins from this machine. It takes no memory.
+    pub fn first(alloc: Global, machine: &Machine<F>) -> Window<F>
+        ensures { result.window ≡ begun 0 (rows_of machine.now) }
     {
         Window {
             alloc,
             era: 0,
-            base: opened(alloc),
+            base: Snapshot::of(machine),
             events: Vec::new(alloc),
             cost: 0,
         }
@@ -91,13 +76,6 @@ impl Window {
         ensures { result.now ≡ self.now.window.events }
     {
         self.events.as_slice()
-    }
-
-    /// The state that the events lead on from.
-    pub fn base(&self) -> &Rows
-        ensures { result.now ≡ self.now.window.base }
-    {
-        &self.base
     }
 
     /// How many events the run had before the window.
@@ -130,29 +108,29 @@ impl Window {
         self.events.reserve(ROOM)
     }
 
-    // The window after this one, as it begins from this state.
-    fn next(&self, base: Rows) -> Result<Window, OutOfMemory>
-        ensures { IfOk result (λ next. IsNext self.now.window base next) }
+    // The window after this one, as it begins from this machine.
+    fn next(&self, machine: &Machine<F>) -> Result<Window<F>, OutOfMemory>
+        ensures { IfOk result (λ next. IsNext self.now.window (rows_of machine.now) next) }
     {
         Ok(Window {
             alloc: self.alloc,
             era: self.total(),
-            base,
+            base: Snapshot::of(machine),
             events: Vec::with_capacity(self.alloc, ROOM)?,
             cost: 0,
         })
     }
 
-    /// Prepares for one more event: takes all the memory that it will need, and changes nothing. Where a
-    /// cut is due this is the next window, which begins from the machine's rows; else None.
-    pub fn prepare(&mut self, machine: &Machine) -> Result<Option<Window>, OutOfMemory>
+    /// Prepares for one more event: takes all the memory that it will need, and changes nothing. If a
+    /// cut is due, this is the next window, which begins from the machine's rows; otherwise None.
+    pub fn prepare(&mut self, machine: &Machine<F>) -> Result<Option<Window<F>>, OutOfMemory>
         ensures ready { IfOk result (λ next.
             IsReady self.old.window (rows_of machine.now) self.new.spare next) }
         ensures same { self.new.window ≡ self.old.window }
         ensures spare { self.old.spare ≤ self.new.spare }
     {
         if self.is_due() {
-            let next = self.next(machine.rows()?)?;
+            let next = self.next(machine)?;
             return Ok(Some(next));
         }
         self.reserve()?;
@@ -171,7 +149,7 @@ impl Window {
     }
 
     /// Stores an event in the window that was prepared for it. It takes no memory.
-    pub fn commit(&mut self, next: Option<Window>, event: Event)
+    pub fn commit(&mut self, next: Option<Window<F>>, event: Event)
         requires room { 0 < (chosen self.old next).spare }
         requires counted { total (chosen self.old next).window < most_counted }
         ensures stored { self.new.window ≡ stored event (chosen self.old next).window }

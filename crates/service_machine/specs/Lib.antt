@@ -1,5 +1,6 @@
 pub mod Connections
 pub mod Desks
+pub mod Disk
 pub mod Limits
 pub mod Machine
 pub mod Plan

@@ -51,11 +51,11 @@ pub enum Event {
     Gone(ConnId),
 }
 
-/// What is answered at once to a connection that asked: nothing yet, since its reply waits for it.
+/// What a connection that asked is answered at once: nothing yet, since its reply waits for it.
 #[derive(Drop)]
 pub struct Arrived {}
 
-/// What an event answers to the one who brought it. Replies to calls wait for their connection.
+/// The answer to the caller that brought an event. Replies to calls wait for their connection.
 #[derive(Drop)]
 pub enum Output {
     /// The number of the connection that joined.
@@ -68,6 +68,17 @@ pub enum Output {
     Taken(Items<Out>),
     /// The connection is gone.
     Gone,
+}
+
+/// Why the service didn't open.
+#[derive(Clone, Copy, Debug, PartialEq, Eq, Error)]
+pub enum OpenRefused {
+    /// The folder, or one of its slots, failed while it was loaded.
+    #[error("the folder could not be loaded")]
+    Folder,
+    /// No memory was left.
+    #[error("no memory was left")]
+    OutOfMemory,
 }
 
 /// Why an event didn't happen.

@@ -1,20 +1,26 @@
-//! The service as a machine: one event whole, as the step of a definition over plain rows. An event is
-//! that a connection joins, asks, leaves, takes what waits for it, or is gone. Callers may rely on
-//! these: an event that is answered is the incoming one, fits the rows before it, and gives the step's
-//! rows and output; an event that is refused changes nothing, and each refusal has its cause; leaving,
-//! taking and going take no memory. An event takes time by what it changes and puts out, and by the
-//! logarithm of how many connections and sessions there are.
+//! The service as a machine, which performs one event at a time: the step of a definition over plain
+//! rows. An event is that a connection joins, asks, leaves, takes what waits for it, or is gone. The
+//! machine owns the folder of the service and what was loaded from it when it opened. Callers may rely
+//! on these: an event that is answered is the incoming one, fits the rows before it, and gives the
+//! step's rows and output; an event that is refused changes nothing, and each refusal has its cause;
+//! leaving, taking and going take no memory; no event changes the folder or anything loaded from it.
+//! The time of an event grows with what it changes and puts out, and with the logarithm of the number
+//! of connections and sessions.
 #![tactic(auto)]
 
 mod connections;
 mod desk;
 mod desks;
+mod disk;
 mod event;
 mod laws;
 mod machine;
 mod rows;
 
-pub use event::{ApplyRefused, Arrival, Arrived, Event, Incoming, JoinRefused, Output};
+pub use disk::Disk;
+pub use event::{
+    ApplyRefused, Arrival, Arrived, Event, Incoming, JoinRefused, OpenRefused, Output,
+};
 pub use laws::{lists_of_events_go_on, outputs_can_wait, steps_keep_the_rows_sound};
 pub use machine::Machine;
 pub use rows::{ConnRow, ConnRows, DeskRow, Rows};

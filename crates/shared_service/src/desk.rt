@@ -5,32 +5,33 @@ ghost use Rattle.shared_service.specs.Kept.{IsLegal, legal-prop, Rises, rises-pr
 use crate::pass::Pass;
 use crate::shared::SharedService;
 use kr_base::ConnId;
+use kr_outside::Folder;
 use secret_calls::{Refused, Request, Taken};
 use service_desk::{Desk, ReadDesk, WriteDesk};
 use std::alloc::Global;
 use std::sync::{Arc, Wait};
 
-/// The desk of a connection's reader or of its writer, on a service that threads share. `take`
-/// waits until there is something to return.
+/// The desk of a connection's reader, or of its writer, over a service that threads share. A call of
+/// `take` waits while there is nothing to take.
 #[derive(Drop)]
-pub struct SharedDesk<R: Wait> {
+pub struct SharedDesk<R: Wait, F: Folder> {
     rt: R,
-    service: Arc<SharedService, Global>,
-    pass: Pass,
+    service: Arc<SharedService<F>, Global>,
+    pass: Pass<F>,
     conn: ConnId,
     ghost fits: { pass.table ≡ arc_value service },
     ghost legal: { IsLegal pass.view } by { legal-prop pass.view },
     ghost places: { Rises pass.view } by { rises-prop pass.view },
 }
 
-impl<R: Wait> SharedDesk<R> {
-    /// The desk of this connection, on the service that the pass belongs to.
+impl<R: Wait, F: Folder> SharedDesk<R, F> {
+    /// The desk of this connection, over the service of the pass.
     pub fn new(
         rt: R,
-        service: Arc<SharedService, Global>,
-        pass: Pass,
+        service: Arc<SharedService<F>, Global>,
+        pass: Pass<F>,
         conn: ConnId,
-    ) -> SharedDesk<R>
+    ) -> SharedDesk<R, F>
         requires { pass.table ≡ arc_value service }
         ensures { (result.pass ≡ pass) × (result.conn ≡ conn) × (result.service ≡ service) }
     {
@@ -44,7 +45,7 @@ impl<R: Wait> SharedDesk<R> {
     }
 
     /// The pass, with all that the desk has seen and recorded.
-    pub fn into_pass(self) -> Pass
+    pub fn into_pass(self) -> Pass<F>
     where
         R: Drop,
         ensures { result ≡ self.pass }
@@ -53,7 +54,7 @@ impl<R: Wait> SharedDesk<R> {
     }
 }
 
-impl<R: Wait> Desk for SharedDesk<R> {
+impl<R: Wait, F: Folder> Desk for SharedDesk<R, F> {
     ghost use Rattle.std.specs.Prelude.{refl, ◌≡◌};
     ghost use Rattle.shared_service.specs.Passes.{told};
     ghost use Rattle.shared_service.specs.Kept.{leads};
@@ -71,7 +72,7 @@ impl<R: Wait> Desk for SharedDesk<R> {
     }
 }
 
-impl<R: Wait> ReadDesk for SharedDesk<R> {
+impl<R: Wait, F: Folder> ReadDesk for SharedDesk<R, F> {
     fn arrive(&mut self, request: Request, now: u64, salt: [u8; 8]) -> Result<(), Refused> {
         let pass = &mut self.pass;
         let answer = self
@@ -88,7 +89,7 @@ impl<R: Wait> ReadDesk for SharedDesk<R> {
     }
 }
 
-impl<R: Wait> WriteDesk for SharedDesk<R> {
+impl<R: Wait, F: Folder> WriteDesk for SharedDesk<R, F> {
     fn take(&mut self) -> Taken {
         let pass = &mut self.pass;
         let taken = self.service.take(&self.rt, pass, self.conn);

@@ -1,6 +1,7 @@
 ghost use Rattle.std.specs.Prelude.{◌≡◌, ◌+◌, ◌∷◌, [], true, IfOk, OnOk, OnErr, IfErr};
 ghost use Rattle.service_machine.specs.declared.event.Event.{Event};
 ghost use Rattle.service_machine.specs.declared.event.Event.TheVariants as event;
+ghost use Rattle.service_history.specs.History.{IsHistory};
 ghost use Rattle.service_history.specs.Windows.{total};
 ghost use Rattle.service_machine.specs.declared.event.Output.TheVariants as output;
 ghost use Rattle.service_desk.specs.Places.{Looks, Extends};
@@ -14,6 +15,7 @@ ghost use Rattle.shared_service.specs.Tries.{Tries, IsClosed};
 use crate::kept::Kept;
 use crate::pass::Pass;
 use kr_base::{ConnId, OutOfMemory};
+use kr_outside::Folder;
 use secret_calls::{Refused, Request, Taken};
 use service_history::Service;
 use service_machine::{Arrival, JoinRefused};
@@ -24,11 +26,11 @@ use std::sync::Wait;
 
 /// A service that threads share. A contract sees which one it is.
 #[derive(Drop)]
-pub struct SharedService {
-    turn: Turn<Kept>,
+pub struct SharedService<F: Folder> {
+    turn: Turn<Kept<F>>,
 }
 
-impl Model for SharedService {
+impl<F: Folder> Model for SharedService<F> {
     ghost use Rattle.atomic_table.specs.Seated.{TableId};
 
     ghost Value = { TableId };
@@ -36,33 +38,37 @@ impl Model for SharedService {
     ghost view = { λ shared. shared.turn };
 }
 
-// The number of events of the run.
-fn total(service: &Service) -> u64
-    ensures { result ≡ total service.now.window }
+// How many events the run has had.
+fn total<F: Folder>(service: &Service<F>) -> u64
+    ensures count { result ≡ total service.now.history.window }
+    ensures history { IsHistory service.now.history }
 {
     service.era() + service.events().len() as u64
 }
 
-impl SharedService {
+impl<F: Folder> SharedService<F> {
     /// Shares a service among threads, and returns the first pass, which has seen the stored events.
     ///
-    /// Refused with `OutOfMemory` if no memory is left; the service is dropped then.
-    pub fn open(alloc: Global, service: Service) -> Result<(SharedService, Pass), OutOfMemory>
-        ensures { IfOk result (λ both. both.1 ≡ opened both.0 service.window) }
+    /// Refused with `OutOfMemory` if no memory was left; the service is dropped then.
+    pub fn open(
+        alloc: Global,
+        service: Service<F>,
+    ) -> Result<(SharedService<F>, Pass<F>), OutOfMemory>
+        ensures { IfOk result (λ both. both.1 ≡ opened both.0 service.history.window) }
     {
         let count = total(&service);
         let (turn, inner) = Turn::open(alloc, Kept { service }, count)?;
         Ok((SharedService { turn }, Pass { inner }))
     }
 
-    // Passes the turn on after a call that recorded one event or none: the number of events shows which.
-    fn end(&self, inner: &mut shared_turn::Pass<Kept>, kept: Kept, count: u64)
+    // Passes the turn on after a call that recorded one event or none; the number of events says which.
+    fn end(&self, inner: &mut shared_turn::Pass<Kept<F>>, kept: Kept<F>, count: u64)
         requires table { inner.old.table ≡ self.now }
         requires inside { inner.old.has_turn ≡ true }
-        requires ended { IsEnd kept.service count inner.old }
-        ensures same { total kept.service.window ≡ count → inner.new ≡ outside inner.old }
-        ensures recorded { (event : Event) → (total kept.service.window ≡ count → ⊥)
-            → newest kept.service.window.events ≡ event ∷ []
+        requires ended { IsEnd kept.service.history count inner.old }
+        ensures same { total kept.service.history.window ≡ count → inner.new ≡ outside inner.old }
+        ensures recorded { (event : Event) → (total kept.service.history.window ≡ count → ⊥)
+            → newest kept.service.history.window.events ≡ event ∷ []
             → inner.new ≡ recorded event inner.old }
     {
         if total(&kept.service) == count {
@@ -72,8 +78,9 @@ impl SharedService {
         }
     }
 
-    /// Waits for the turn, and records a Leave if the connection is there and isn't leaving already.
-    pub fn leave<R: Wait>(&self, rt: &R, pass: &mut Pass, conn: ConnId)
+    /// Waits for the turn, and records that the connection asks no more, if it is there and isn't leaving
+    /// already.
+    pub fn leave<R: Wait>(&self, rt: &R, pass: &mut Pass<F>, conn: ConnId)
         requires table { pass.old.table ≡ self.now }
         ensures same { pass.new.table ≡ pass.old.table }
         ensures left { Leaves (spot conn pass.old.view) (spot conn pass.new.view) }
@@ -84,8 +91,8 @@ impl SharedService {
         self.end(&mut pass.inner, kept, count);
     }
 
-    /// Waits for the turn, and records a Gone if the connection is there.
-    pub fn gone<R: Wait>(&self, rt: &R, pass: &mut Pass, conn: ConnId)
+    /// Waits for the turn, and records that the connection is gone, if it is there.
+    pub fn gone<R: Wait>(&self, rt: &R, pass: &mut Pass<F>, conn: ConnId)
         requires table { pass.old.table ≡ self.now }
         ensures same { pass.new.table ≡ pass.old.table }
         ensures gone { Goes (spot conn pass.old.view) (spot conn pass.new.view) }
@@ -96,8 +103,8 @@ impl SharedService {
         self.end(&mut pass.inner, kept, count);
     }
 
-    // Takes once, even if nothing waits. Also returns the number of the run's events before the call.
-    fn try_take<R: Wait>(&self, rt: &R, pass: &mut Pass, conn: ConnId) -> (Taken, u64)
+    // Takes once, even if nothing waits, and returns the number of the run's events besides.
+    fn try_take<R: Wait>(&self, rt: &R, pass: &mut Pass<F>, conn: ConnId) -> (Taken, u64)
         requires table { pass.old.table ≡ self.now }
         ensures same { pass.new.table ≡ pass.old.table }
         ensures tried { Tries conn pass.old.view result.0 pass.new.view }
@@ -109,10 +116,10 @@ impl SharedService {
         (taken, count)
     }
 
-    /// Returns the outputs that wait for the connection, and records that they were taken; sleeps while
-    /// there are none. `Overrun` if none wait and an output was lost; `Closed` if none wait and the
-    /// connection is leaving, and it is gone then; `Missing` if it isn't there. Never `Empty`.
-    pub fn take<R: Wait>(&self, rt: &R, pass: &mut Pass, conn: ConnId) -> Taken
+    /// Returns what waits for the connection, and records that it took it; sleeps while there is nothing.
+    /// `Overrun` if nothing waits and an output was lost; `Closed` if nothing waits and the connection is
+    /// leaving, which is gone then; `Missing` if it isn't there. Never `Empty`.
+    pub fn take<R: Wait>(&self, rt: &R, pass: &mut Pass<F>, conn: ConnId) -> Taken
         requires table { pass.old.table ≡ self.now }
         ensures same { pass.new.table ≡ pass.old.table }
         ensures taken { Takes (spot conn pass.old.view) (spot conn pass.new.view) result }
@@ -127,15 +134,15 @@ impl SharedService {
         unreachable!()
     }
 
-    /// Waits for the turn, and records a request of the connection, at `now` in seconds since 1970, with
-    /// random bytes in case a key is derived.
+    /// Waits for the turn, and records a request of the connection, at a moment in seconds since 1970 and
+    /// with random bytes in case a key is derived.
     ///
-    /// Refused with `EventsSpent` if all the events that can be counted have been recorded, then with
-    /// `Gone` if the connection isn't there; `OutOfMemory` may come in place of any result.
+    /// Refused with `EventsSpent` if all events that can be counted are recorded, then with `Gone` if the
+    /// connection isn't there; `OutOfMemory` may come in place of any.
     pub fn arrive<R: Wait>(
         &self,
         rt: &R,
-        pass: &mut Pass,
+        pass: &mut Pass<F>,
         conn: ConnId,
         request: Request,
         now: u64,
@@ -163,8 +170,8 @@ impl SharedService {
         arrived
     }
 
-    // Records a connection that joins, and returns its number.
-    fn connect<R: Wait>(&self, rt: &R, pass: &mut Pass) -> Result<ConnId, JoinRefused>
+    // Records that a connection joins, and returns its number.
+    fn connect<R: Wait>(&self, rt: &R, pass: &mut Pass<F>) -> Result<ConnId, JoinRefused>
         requires table { pass.old.table ≡ self.now }
         ensures same { pass.new.table ≡ pass.old.table }
         ensures joined { IfOk result (λ conn. Extends
@@ -181,17 +188,16 @@ impl SharedService {
     }
 
     /// Waits for the turn, and lets a connection join. Returns its number, a pass for its reader and one
-    /// for its writer: both have seen what this pass has, with the joining last, and have recorded
-    /// nothing.
+    /// for its writer: both have seen what this one has, the joining last, and have recorded nothing.
     ///
-    /// Refused with `EventsSpent` if all the events that can be counted have been recorded, then with
-    /// `TooManyConnections` if there are 256 connections or no number is left; `OutOfMemory` may come in
-    /// place of any result.
+    /// Refused with `EventsSpent` if all events that can be counted are recorded, then with
+    /// `TooManyConnections` if 256 connections are there or no number is left; `OutOfMemory` may come in
+    /// place of any.
     pub fn join<R: Wait>(
         &self,
         rt: &R,
-        pass: &mut Pass,
-    ) -> Result<(ConnId, Pass, Pass), JoinRefused>
+        pass: &mut Pass<F>,
+    ) -> Result<(ConnId, Pass<F>, Pass<F>), JoinRefused>
         requires table { pass.old.table ≡ self.now }
         ensures same { pass.new.table ≡ pass.old.table }
         ensures joined { IfOk result (λ joined. Extends
@@ -209,7 +215,7 @@ impl SharedService {
     }
 
     /// A new pass, which has seen the same and recorded nothing. It takes no memory and doesn't wait.
-    pub fn note(&self, pass: &mut Pass) -> Pass
+    pub fn note(&self, pass: &mut Pass<F>) -> Pass<F>
         requires table { pass.old.table ≡ self.now }
         ensures same { pass.new ≡ pass.old }
         ensures noted { result ≡ noted pass.old }
@@ -218,9 +224,9 @@ impl SharedService {
         Pass { inner }
     }
 
-    /// The pass learns what another pass of the same service has seen, and takes over what it recorded.
+    /// Adds to the pass what another pass of the same service has seen and recorded.
     /// It takes no memory and doesn't wait.
-    pub fn gather(&self, pass: &mut Pass, other: Pass)
+    pub fn gather(&self, pass: &mut Pass<F>, other: Pass<F>)
         requires table { pass.old.table ≡ self.now }
         requires other_table { other.table ≡ self.now }
         ensures { IsGathered pass.old other pass.new }
@@ -229,11 +235,11 @@ impl SharedService {
         self.turn.gather(&mut pass.inner, inner);
     }
 
-    /// Takes the turn, and returns the service as all that was recorded left it. The turn is never
+    /// Takes the turn, and returns the service as everything that was recorded left it. The turn is never
     /// passed on, so a later call waits forever.
-    pub fn close<R: Wait>(&self, rt: &R, mut pass: Pass) -> Service
+    pub fn close<R: Wait>(&self, rt: &R, mut pass: Pass<F>) -> Service<F>
         requires table { pass.table ≡ self.now }
-        ensures { IsClosed pass.view result }
+        ensures { IsClosed pass.view result.history }
     {
         let kept = self.turn.enter(rt, &mut pass.inner);
         let Kept { service } = kept;

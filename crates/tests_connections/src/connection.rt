@@ -6,6 +6,7 @@ use connection_worker::{End, Salts, handshake, one_thread};
 use dbus_auth::{Auth, AuthFault};
 use kr_base::ConnId;
 use kr_memory::{ListedClock, MemorySink, MemorySource};
+use kr_memory_disk::MemoryFolder;
 use kr_outside::{Sink, Source};
 use lone_desk::LoneDesk;
 use service_desk::{ReadDesk, WriteDesk};
@@ -319,7 +320,7 @@ fn served<R: AllocGlobal + Wait, I: Source, O: Sink, D: ReadDesk + WriteDesk>(
     end_told(one_thread(rt, auth, input, output, desk, &mut clock, &mut salts))
 }
 
-fn stored(desk: LoneDesk) -> u64 {
+fn stored(desk: LoneDesk<MemoryFolder>) -> u64 {
     desk.into_service().events().len() as u64
 }
 
@@ -329,7 +330,8 @@ fn events_of<R: AllocGlobal + Wait + Abort, I: Source, O: Sink>(
     input: &mut I,
     output: &mut O,
 ) -> Result<u64, Fail> {
-    let mut desk = LoneDesk::join(Service::open(rt.alloc()))?;
+    let folder = MemoryFolder::new(rt.alloc(), Vec::new(rt.alloc()));
+    let mut desk = LoneDesk::join(Service::open(rt.alloc(), folder)?)?;
     let end = served(rt, input, output, &mut desk);
     same_text(rt, end, "Done", "the end");
     Ok(stored(desk))

@@ -1,9 +1,9 @@
 use crate::checks::{cell, holds, number, same_number, same_text};
+use crate::folders::{Service, service_over_nothing};
 use crate::words::call_of;
 use lone_desk::LoneDesk;
 use secret_calls::{Body, Call, CallFault, Out, Refused, Request, Serial, Taken};
 use service_desk::{Desk, JoinRefused, ReadDesk, WriteDesk};
-use service_history::Service;
 use std::alloc::Global;
 use std::process::Abort;
 use std::test::Fail;
@@ -124,7 +124,7 @@ fn stored(service: &Service) -> u64 {
 
 #[test]
 fn a_desk_is_asked_and_takes_until_it_is_closed(rt: HostRuntime) -> Result<(), Fail> {
-    let mut desk = LoneDesk::join(Service::open(rt.alloc()))?;
+    let mut desk = LoneDesk::join(service_over_nothing(rt.alloc())?)?;
     same_number(&rt, desk.conn().0, 1, "its number");
     for row in CONVERSATION.lines() {
         let told = does(rt.alloc(), &mut desk, row)?;
@@ -149,7 +149,7 @@ fn is_crowded(service: Service) -> bool {
 
 #[test]
 fn a_257th_connection_is_refused(rt: HostRuntime) -> Result<(), Fail> {
-    let mut service = Service::open(rt.alloc());
+    let mut service = service_over_nothing(rt.alloc())?;
     for number in 1..257u64 {
         service = joined(&rt, service, number)?;
     }

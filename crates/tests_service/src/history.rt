@@ -1,8 +1,8 @@
 use crate::checks::{cell, same_number, same_text};
+use crate::folders::{Service, service_over_nothing};
 use crate::words::{call_of, decimal, last_told, session_told};
 use kr_base::ConnId;
 use secret_calls::{Call, CallFault, Request, Serial, Taken};
-use service_history::Service;
 use service_machine::{Arrival, Incoming, Output};
 use std::alloc::Global;
 use std::process::Abort;
@@ -73,12 +73,12 @@ fn asks_much(
 
 #[test]
 fn a_cut_is_made_once_the_events_cost_much(rt: HostRuntime) -> Result<(), Fail> {
-    let mut service = Service::open(rt.alloc());
+    let mut service = service_over_nothing(rt.alloc())?;
     join(&mut service)?;
     for number in 1..514u64 {
         asks_much(&rt, rt.alloc(), &mut service, number)?;
     }
-    same_number(&rt, stored(&service), 1, "the events behind the cut");
+    same_number(&rt, stored(&service), 1, "the events after the cut");
     gone(&mut service);
     same_number(&rt, service.era(), 513, "the era");
     same_number(&rt, stored(&service), 2, "the events with the last");
@@ -110,7 +110,7 @@ const FULL: &str = "\
 
 #[test]
 fn a_65th_session_is_refused(rt: HostRuntime) -> Result<(), Fail> {
-    let mut service = Service::open(rt.alloc());
+    let mut service = service_over_nothing(rt.alloc())?;
     join(&mut service)?;
     for number in 1..65u64 {
         opens(&rt, rt.alloc(), &mut service, number)?;
@@ -163,7 +163,7 @@ fn does(service: &mut Service, what: &str) -> Result<&'static str, Fail> {
 
 #[test]
 fn a_connection_that_left_is_closed_once_nothing_waits(rt: HostRuntime) -> Result<(), Fail> {
-    let mut service = Service::open(rt.alloc());
+    let mut service = service_over_nothing(rt.alloc())?;
     for row in LIFE.lines() {
         let found = does(&mut service, cell(row, 0))?;
         same_text(&rt, found, cell(row, 1), row);

@@ -8,6 +8,10 @@ mod checks;
 #[cfg(test)]
 mod desk;
 #[cfg(test)]
+mod disk;
+#[cfg(test)]
+mod folders;
+#[cfg(test)]
 mod history;
 #[cfg(test)]
 mod machine;

@@ -1,9 +1,10 @@
 use crate::checks::{cell, holds, number, same_number, same_text};
+use crate::folders::{Machine, machine_over_nothing};
 use crate::words::{call_of, last_told};
 use kr_base::ConnId;
 use kr_items::Items;
 use secret_calls::{Call, CallFault, Out, Request, Serial};
-use service_machine::{ApplyRefused, Arrival, Incoming, Machine, Output, Rows};
+use service_machine::{ApplyRefused, Arrival, Incoming, Output, Rows};
 use std::alloc::Global;
 use std::process::Abort;
 use std::test::Fail;
@@ -126,7 +127,7 @@ fn are_left(rt: &impl Abort, rows: &Rows) {
 
 #[test]
 fn two_connections_talk(rt: HostRuntime) -> Result<(), Fail> {
-    let mut machine = Machine::open(rt.alloc());
+    let mut machine = machine_over_nothing(rt.alloc())?;
     join(&mut machine)?;
     join(&mut machine)?;
     for row in CONVERSATION.lines() {
@@ -158,7 +159,7 @@ fn count_taken(machine: &mut Machine, conn: ConnId) -> Result<u64, Fail> {
 
 #[test]
 fn a_connection_that_takes_nothing_is_overrun(rt: HostRuntime) -> Result<(), Fail> {
-    let mut machine = Machine::open(rt.alloc());
+    let mut machine = machine_over_nothing(rt.alloc())?;
     let conn = ConnId(join(&mut machine)?);
     // 371,370 returns of 24 bytes are 8,912,880 bytes, and the next one would exceed 8,912,896.
     for _ in 0..371_371u32 {
@@ -181,7 +182,7 @@ fn is_crowded(machine: &mut Machine) -> bool {
 
 #[test]
 fn a_257th_connection_is_refused(rt: HostRuntime) -> Result<(), Fail> {
-    let mut machine = Machine::open(rt.alloc());
+    let mut machine = machine_over_nothing(rt.alloc())?;
     for _ in 0..256u32 {
         join(&mut machine)?;
     }

@@ -5,10 +5,11 @@ ghost use Rattle.std.specs.Prelude.{◌≡◌, IfOk};
 ghost use Rattle.std.specs.Arc.{arc_value};
 
 use crate::checks::{holds, same_number};
+use crate::folders::{Service, service_over_nothing};
 use kr_base::ConnId;
+use kr_memory_disk::MemoryFolder;
 use secret_calls::{Call, Request, Serial, Taken};
 use service_desk::{ReadDesk, WriteDesk};
-use service_history::Service;
 use service_machine::Event;
 use shared_service::{Pass, SharedDesk, SharedService};
 use std::alloc::Global;
@@ -25,10 +26,12 @@ const THREADS: usize = 8;
 const REQUESTS: u32 = 500;
 
 // A service that threads share, and its first pass.
-fn shared(alloc: Global) -> Result<(Arc<SharedService, Global>, Pass), Fail>
+fn shared(
+    alloc: Global,
+) -> Result<(Arc<SharedService<MemoryFolder>, Global>, Pass<MemoryFolder>), Fail>
     ensures { IfOk result (λ both. both.1.table ≡ arc_value both.0) }
 {
-    let (service, pass) = SharedService::open(alloc, Service::open(alloc))?;
+    let (service, pass) = SharedService::open(alloc, service_over_nothing(alloc)?)?;
     let service = Arc::new(alloc, service)?;
     Ok((service, pass))
 }
@@ -87,9 +90,9 @@ fn requests_of(events: &[Event], conn: ConnId) -> u32 {
 // The desk of the reader of one more connection.
 fn reader<R: Wait + Copy>(
     rt: R,
-    service: &Arc<SharedService, Global>,
-    pass: &mut Pass,
-) -> Result<SharedDesk<R>, Fail>
+    service: &Arc<SharedService<MemoryFolder>, Global>,
+    pass: &mut Pass<MemoryFolder>,
+) -> Result<SharedDesk<R, MemoryFolder>, Fail>
     requires { pass.old.table ≡ arc_value service.now }
     ensures { pass.new.table ≡ pass.old.table }
 {
@@ -101,9 +104,9 @@ fn reader<R: Wait + Copy>(
 fn readers<R: Wait + Copy + Drop>(
     rt: R,
     alloc: Global,
-    service: &Arc<SharedService, Global>,
-    pass: &mut Pass,
-) -> Result<Vec<SharedDesk<R>>, Fail>
+    service: &Arc<SharedService<MemoryFolder>, Global>,
+    pass: &mut Pass<MemoryFolder>,
+) -> Result<Vec<SharedDesk<R, MemoryFolder>>, Fail>
     requires { pass.old.table ≡ arc_value service.now }
     ensures { pass.new.table ≡ pass.old.table }
 {

@@ -27,11 +27,11 @@ returns g c =
     let behind = output_of g.O.Sink.written g.O.Sink.faults g.O.Sink.is_steady c.one_thread-end.new.output in
     let old = world told has_seen g.C.Clock.coming desk c.args.clock.now c.new-salts.result in
     let new = world told has_seen g.C.Clock.coming c.one_thread-end.new.desk c.one_thread-end.new.clock c.one_thread-end.new.salts in
-    let fits : Fits opened_rows (event.Connect desk.conn) = subst (λ (s : Rows). Fits s (event.Connect desk.conn)) (ap (λ (h : History). h.state) c.open.ensures) c.in-Ok.ensures.fits in
+    let fits : Fits opened_rows (event.Connect desk.conn) = subst (λ (s : Rows). Fits s (event.Connect desk.conn)) (ap (λ (h : History). h.state) c.requires) c.in-Ok.ensures.fits in
     let conn = first-connection desk.conn fits in
-    let state : desk.service.state ≡ joined =
-    c.in-Ok.ensures.joined ∙ ap (λ (h : History). step h.state (event.Connect desk.conn)) c.open.ensures ∙ ap (λ d. step opened_rows (event.Connect d)) conn in
-    let count : total desk.service.window ≡ 1 = c.in-Ok.ensures.count ∙ ap (λ (h : History). total h.window + 1) c.open.ensures in
+    let state : desk.service.history.state ≡ joined =
+    c.in-Ok.ensures.joined ∙ ap (λ (h : History). step h.state (event.Connect desk.conn)) c.requires ∙ ap (λ d. step opened_rows (event.Connect d)) conn in
+    let count : total desk.service.history.window ≡ 1 = c.in-Ok.ensures.count ∙ ap (λ (h : History). total h.window + 1) c.requires in
     let number : c.conn.result.0 ≡ the_connection.0 = ap (λ (d : ConnId). d.0) (c.conn.ensures ∙ conn) in
     let start : ℕ → Salting = λ stream. record { key = key_of c.args.seed; stream = stream; place = 0 } in
     let salting = c.new-salts.ensures ∙ ap start number in

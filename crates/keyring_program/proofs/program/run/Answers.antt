@@ -2,6 +2,7 @@ use Rattle.std.proofs.Common.{inr, sym, ◌∙◌}
 use Rattle.connection_worker.specs.Streams.{input_of, output_of}
 use Rattle.keyring_program.proofs.CommandLemmas.{one_user, one_folder}
 use Rattle.keyring_program.proofs.CompleteLemmas.{complete, never-usage}
+use Rattle.keyring_program.proofs.FolderLemmas.{is-opened}
 use Rattle.keyring_program.proofs.ServeLemmas.{serves-none}
 use Rattle.keyring_program.proofs.program.run.Goals as goal
 
@@ -18,22 +19,22 @@ returns-in_default-clause-complete g c uid bytes words whole told steady input o
 -- the folder is open
 pub returns-in-Ok-clause-usage : goal.returns-in-Ok-clause-usage
 returns-in-Ok-clause-usage g c = (
-  λ usage. absurd (never-usage c.in-Some.uid c.args.seed _ _ _ _ _ c.serve_client-status.result c.serve_client-status.ensures usage),
+  λ usage. absurd (never-usage c.in-Some.uid c.args.seed _ _ _ _ _ c.serve_client.result c.serve_client.ensures usage),
   λ off. absurd (off c.in-Some.uid c.in-Some.ensures.is),
 )
 
 pub returns-in-Ok-clause-opened : goal.returns-in-Ok-clause-opened
 returns-in-Ok-clause-opened g c folder uid images words honest told had =
-    c.in-Ok.ensures.opened images honest (rw (one_folder c.args.words.now c.in-Some.folder.now folder c.in-Some.uid uid c.in-Some.ensures words) told)
+    is-opened images _ _ (c.in-Ok.ensures.opened images honest (rw (one_folder c.args.words.now c.in-Some.folder.now folder c.in-Some.uid uid c.in-Some.ensures words) told))
 
 pub returns-in-Ok-clause-served : goal.returns-in-Ok-clause-served
 returns-in-Ok-clause-served g c uid words =
-    inr (rw (one_user c.args.words.now uid c.in-Some.uid words c.in-Some.ensures.is, sym (c.clock-clock.ensures.told ∙ c.open_folder.ensures.coming)) c.serve_client-status.ensures)
+    inr (rw (one_user c.args.words.now uid c.in-Some.uid words c.in-Some.ensures.is, sym (c.clock-clock.ensures.told ∙ c.open_service.ensures.coming)) c.serve_client.ensures)
 
 pub returns-in-Ok-clause-complete : goal.returns-in-Ok-clause-complete
 returns-in-Ok-clause-complete g c uid bytes words whole told steady input output =
-    let serves = rw (one_user c.args.words.now c.in-Some.uid uid c.in-Some.ensures.is words) at c.serve_client-status.ensures in
-    complete uid c.args.seed bytes _ _ _ _ _ c.serve_client-status.result serves whole told input output
+    let serves = rw (one_user c.args.words.now c.in-Some.uid uid c.in-Some.ensures.is words) at c.serve_client.ensures in
+    complete uid c.args.seed bytes _ _ _ _ _ c.serve_client.result serves whole told input output
 
 -- it isn't
 pub returns-in-Err-Folder-clause-usage : goal.returns-in-Err-Folder-clause-usage

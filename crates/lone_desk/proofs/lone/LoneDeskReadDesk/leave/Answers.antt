@@ -3,4 +3,4 @@ use Rattle.lone_desk.proofs.DeskLemmas.{leaves}
 use Rattle.lone_desk.proofs.lone.LoneDeskReadDesk.leave.Goals as goal
 
 pub returns : goal.returns
-returns c = rw c.leave.ensures.recorded (leaves c.args.self.now.conn c.args.self.now.service _ refl)
+returns g c = rw c.leave.ensures.recorded (leaves c.args.self.now.conn c.args.self.now.service.history _ refl)

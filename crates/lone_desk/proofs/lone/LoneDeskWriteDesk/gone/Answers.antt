@@ -3,4 +3,4 @@ use Rattle.lone_desk.proofs.DeskLemmas.{goes}
 use Rattle.lone_desk.proofs.lone.LoneDeskWriteDesk.gone.Goals as goal
 
 pub returns : goal.returns
-returns c = rw c.gone.ensures.recorded (goes c.args.self.now.conn c.args.self.now.service _ refl)
+returns g c = rw c.gone.ensures.recorded (goes c.args.self.now.conn c.args.self.now.service.history _ refl)

@@ -8,10 +8,10 @@ use Rattle.service_history.proofs.service.Service.arrive.Goals as goal
 
 -- there is room for the event, and for those that are sure to come after it
 pub invariant_of-self-2 : goal.invariant_of-self-2
-invariant_of-self-2 c =
+invariant_of-self-2 g c =
     let left : total c.self.inside.window.window < most_events = omega (arith, c.if-total-ge-LIMIT.false, c.total.ensures) in
     rw c.in-Ok-arrive.ensures.arrived (kept-event (rows_of c.self.inside.machine) c.self.inside.window.window c.prepare.new.self c.in-Ok.next (event.Arrive c.args.arrival) c.commit.new.self
     c.self.invariant.history c.in-Ok.ensures.same c.in-Ok.ensures.ready left (sym c.has.ensures ∙ c.if-not-has.false) c.commit.ensures.stored c.commit.ensures.spare)
 
 pub returns-clause-history : goal.returns-clause-history
-returns-clause-history c = (invariant_of-self-2 c).history
+returns-clause-history g c = (invariant_of-self-2 g c).history

@@ -4,17 +4,17 @@ use Rattle.service_history.proofs.service.Service.gone.Goals as goal
 
 -- a connection that is there is sure to go
 pub gone-requires : goal.gone-requires
-gone-requires c = (sure-gone c.args.conn _ (rows_of c.self.inside.machine) c.self.inside.window c.self.invariant c.in-Some.ensures).fits
+gone-requires g c = (sure-gone c.args.conn _ (rows_of c.self.inside.machine) c.self.inside.window c.self.invariant c.in-Some.ensures).fits
 
 pub push-requires-clause-room : goal.push-requires-clause-room
-push-requires-clause-room c = (sure-gone c.args.conn _ (rows_of c.self.inside.machine) c.self.inside.window c.self.invariant c.in-Some.ensures).room
+push-requires-clause-room g c = (sure-gone c.args.conn _ (rows_of c.self.inside.machine) c.self.inside.window c.self.invariant c.in-Some.ensures).room
 
 pub push-requires-clause-counted : goal.push-requires-clause-counted
-push-requires-clause-counted c = (sure-gone c.args.conn _ (rows_of c.self.inside.machine) c.self.inside.window c.self.invariant c.in-Some.ensures).counted
+push-requires-clause-counted g c = (sure-gone c.args.conn _ (rows_of c.self.inside.machine) c.self.inside.window c.self.invariant c.in-Some.ensures).counted
 
 pub invariant_of-self : goal.invariant_of-self
-invariant_of-self c = rw c.gone.ensures
+invariant_of-self g c = rw c.gone.ensures.stepped
     ((sure-gone c.args.conn _ (rows_of c.self.inside.machine) c.self.inside.window c.self.invariant c.in-Some.ensures).kept c.push.new.self c.push.ensures.stored c.push.ensures.spare)
 
 pub returns-clause-history : goal.returns-clause-history
-returns-clause-history c = (invariant_of-self c).history
+returns-clause-history g c = (invariant_of-self g c).history

@@ -8,10 +8,10 @@ use Rattle.service_history.proofs.service.Service.join.Goals as goal
 
 -- there is room for the event, and for those that are sure to come after it
 pub invariant_of-self-2 : goal.invariant_of-self-2
-invariant_of-self-2 c =
+invariant_of-self-2 g c =
     let left : total c.self.inside.window.window < most_events = omega (arith, c.if-total-ge-LIMIT.false, c.total.ensures) in
     rw c.in_ok-conn.ensures.stepped (kept-event (rows_of c.self.inside.machine) c.self.inside.window.window c.prepare.new.self c.in_ok-next.next (event.Connect c.in_ok-conn.conn) c.commit.new.self
     c.self.invariant.history c.in_ok-next.ensures.same c.in_ok-next.ensures.ready left c.in_ok-conn.ensures.fits c.commit.ensures.stored c.commit.ensures.spare)
 
 pub returns-clause-history : goal.returns-clause-history
-returns-clause-history c = (invariant_of-self-2 c).history
+returns-clause-history g c = (invariant_of-self-2 g c).history

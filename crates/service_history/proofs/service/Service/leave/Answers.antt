@@ -4,17 +4,17 @@ use Rattle.service_history.proofs.service.Service.leave.Goals as goal
 
 -- a connection that is there and isn't leaving is sure to leave
 pub leave-requires : goal.leave-requires
-leave-requires c = (sure-leave c.args.conn _ (rows_of c.self.inside.machine) c.self.inside.window c.self.invariant c.in-Some.ensures c.if-desk.false).fits
+leave-requires g c = (sure-leave c.args.conn _ (rows_of c.self.inside.machine) c.self.inside.window c.self.invariant c.in-Some.ensures c.if-desk.false).fits
 
 pub push-requires-clause-room : goal.push-requires-clause-room
-push-requires-clause-room c = (sure-leave c.args.conn _ (rows_of c.self.inside.machine) c.self.inside.window c.self.invariant c.in-Some.ensures c.if-desk.false).room
+push-requires-clause-room g c = (sure-leave c.args.conn _ (rows_of c.self.inside.machine) c.self.inside.window c.self.invariant c.in-Some.ensures c.if-desk.false).room
 
 pub push-requires-clause-counted : goal.push-requires-clause-counted
-push-requires-clause-counted c = (sure-leave c.args.conn _ (rows_of c.self.inside.machine) c.self.inside.window c.self.invariant c.in-Some.ensures c.if-desk.false).counted
+push-requires-clause-counted g c = (sure-leave c.args.conn _ (rows_of c.self.inside.machine) c.self.inside.window c.self.invariant c.in-Some.ensures c.if-desk.false).counted
 
 pub invariant_of-self : goal.invariant_of-self
-invariant_of-self c = rw c.leave.ensures
+invariant_of-self g c = rw c.leave.ensures.stepped
     ((sure-leave c.args.conn _ (rows_of c.self.inside.machine) c.self.inside.window c.self.invariant c.in-Some.ensures c.if-desk.false).kept c.push.new.self c.push.ensures.stored c.push.ensures.spare)
 
 pub returns-clause-history : goal.returns-clause-history
-returns-clause-history c = (invariant_of-self c).history
+returns-clause-history g c = (invariant_of-self g c).history

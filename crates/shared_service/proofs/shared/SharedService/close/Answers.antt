@@ -6,5 +6,5 @@ use Rattle.shared_service.proofs.shared.SharedService.close.Goals as goal
 
 pub returns : goal.returns
 returns g c =
-    let e = c.enter-kept.ensures in let service = c.enter-kept.result.service in
+    let e = c.enter-kept.ensures in let service = c.enter-kept.result.service.history in
     subst (λ (s : Seen). IsClosed s.view service) c.pass.view_is record { between = e.between; stands = stands-view c.pass.inside.inner c.enter-kept.new.pass e.between e.is c.pass.invariant service e.stands }

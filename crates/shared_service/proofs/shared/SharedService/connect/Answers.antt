@@ -10,32 +10,32 @@ use Rattle.shared_service.proofs.shared.SharedService.connect.Goals as goal
 
 pub end-requires-clause-ended : goal.end-requires-clause-ended
 end-requires-clause-ended g c =
-    let e = c.enter-kept.ensures in let service = c.enter-kept.result.service in
-    end-some c.pass.inside.inner c.enter-kept.new.pass e.between e.is c.pass.invariant service e.stands (event_if (λ conn. event.Connect conn) c.join-joined.result) c.join-joined.new.self c.total-count.result (went-if (λ conn. event.Connect conn) service c.join-joined.new.self c.join-joined.result c.join-joined.ensures.stores c.join-joined.ensures.unchanged c.join-joined.ensures.history) c.total-count.ensures
+    let e = c.enter-kept.ensures in let service = c.enter-kept.result.service.history in
+    end-some c.pass.inside.inner c.enter-kept.new.pass e.between e.is c.pass.invariant service e.stands (event_if (λ conn. event.Connect conn) c.join-joined.result) c.join-joined.new.self.history c.total-count.result (went-if (λ conn. event.Connect conn) service c.join-joined.new.self.history c.join-joined.result c.join-joined.ensures.stores c.join-joined.ensures.unchanged c.join-joined.ensures.history) c.total-count.ensures.count
 
 pub invariant_of-pass : goal.invariant_of-pass
 invariant_of-pass g c =
-    let e = c.enter-kept.ensures in let service = c.enter-kept.result.service in
-    (done c.pass.inside.inner c.enter-kept.new.pass e.between e.is c.pass.invariant service e.stands (event_if (λ conn. event.Connect conn) c.join-joined.result) c.join-joined.new.self c.total-count.result c.end.new.inner (fits-if (λ conn. event.Connect conn) service c.join-joined.new.self c.join-joined.result c.join-joined.ensures.stores) (went-if (λ conn. event.Connect conn) service c.join-joined.new.self c.join-joined.result c.join-joined.ensures.stores c.join-joined.ensures.unchanged c.join-joined.ensures.history) c.total-count.ensures c.end.ensures.same c.end.ensures.recorded).0
+    let e = c.enter-kept.ensures in let service = c.enter-kept.result.service.history in
+    (done c.pass.inside.inner c.enter-kept.new.pass e.between e.is c.pass.invariant service e.stands (event_if (λ conn. event.Connect conn) c.join-joined.result) c.join-joined.new.self.history c.total-count.result c.end.new.inner (fits-if (λ conn. event.Connect conn) service c.join-joined.new.self.history c.join-joined.result c.join-joined.ensures.stores) (went-if (λ conn. event.Connect conn) service c.join-joined.new.self.history c.join-joined.result c.join-joined.ensures.stores c.join-joined.ensures.unchanged c.join-joined.ensures.history) c.total-count.ensures.count c.end.ensures.same c.end.ensures.recorded).0
 
 pub returns-clause-same : goal.returns-clause-same
 returns-clause-same g c =
-    let e = c.enter-kept.ensures in let service = c.enter-kept.result.service in
-    (done c.pass.inside.inner c.enter-kept.new.pass e.between e.is c.pass.invariant service e.stands (event_if (λ conn. event.Connect conn) c.join-joined.result) c.join-joined.new.self c.total-count.result c.end.new.inner (fits-if (λ conn. event.Connect conn) service c.join-joined.new.self c.join-joined.result c.join-joined.ensures.stores) (went-if (λ conn. event.Connect conn) service c.join-joined.new.self c.join-joined.result c.join-joined.ensures.stores c.join-joined.ensures.unchanged c.join-joined.ensures.history) c.total-count.ensures c.end.ensures.same c.end.ensures.recorded).1 ∙ ap (λ (s : Seen). s.table) c.pass.view_is
+    let e = c.enter-kept.ensures in let service = c.enter-kept.result.service.history in
+    (done c.pass.inside.inner c.enter-kept.new.pass e.between e.is c.pass.invariant service e.stands (event_if (λ conn. event.Connect conn) c.join-joined.result) c.join-joined.new.self.history c.total-count.result c.end.new.inner (fits-if (λ conn. event.Connect conn) service c.join-joined.new.self.history c.join-joined.result c.join-joined.ensures.stores) (went-if (λ conn. event.Connect conn) service c.join-joined.new.self.history c.join-joined.result c.join-joined.ensures.stores c.join-joined.ensures.unchanged c.join-joined.ensures.history) c.total-count.ensures.count c.end.ensures.same c.end.ensures.recorded).1 ∙ ap (λ (s : Seen). s.table) c.pass.view_is
 
 pub returns-clause-joined : goal.returns-clause-joined
 returns-clause-joined g c =
-    let e = c.enter-kept.ensures in let service = c.enter-kept.result.service in
-    let last = (done c.pass.inside.inner c.enter-kept.new.pass e.between e.is c.pass.invariant service e.stands (event_if (λ conn. event.Connect conn) c.join-joined.result) c.join-joined.new.self c.total-count.result c.end.new.inner (fits-if (λ conn. event.Connect conn) service c.join-joined.new.self c.join-joined.result c.join-joined.ensures.stores) (went-if (λ conn. event.Connect conn) service c.join-joined.new.self c.join-joined.result c.join-joined.ensures.stores c.join-joined.ensures.unchanged c.join-joined.ensures.history) c.total-count.ensures c.end.ensures.same c.end.ensures.recorded).2 in
+    let e = c.enter-kept.ensures in let service = c.enter-kept.result.service.history in
+    let last = (done c.pass.inside.inner c.enter-kept.new.pass e.between e.is c.pass.invariant service e.stands (event_if (λ conn. event.Connect conn) c.join-joined.result) c.join-joined.new.self.history c.total-count.result c.end.new.inner (fits-if (λ conn. event.Connect conn) service c.join-joined.new.self.history c.join-joined.result c.join-joined.ensures.stores) (went-if (λ conn. event.Connect conn) service c.join-joined.new.self.history c.join-joined.result c.join-joined.ensures.stores c.join-joined.ensures.unchanged c.join-joined.ensures.history) c.total-count.ensures.count c.end.ensures.same c.end.ensures.recorded).2 in
     let view : View = view_of c.pass.inside.inner in
     let stands = stands-view c.pass.inside.inner c.enter-kept.new.pass e.between e.is c.pass.invariant service e.stands in
     subst (λ (s : Seen). IfOk c.join-joined.result (λ conn. Extends (spot conn s.view) (spot conn (view_of c.end.new.inner)) (event.Connect conn) (output.Joined conn))) c.pass.view_is
-    (joins-if view (view_of c.end.new.inner) e.between service stands c.join-joined.new.self c.join-joined.result c.join-joined.ensures.stores last)
+    (joins-if view (view_of c.end.new.inner) e.between service stands c.join-joined.new.self.history c.join-joined.result c.join-joined.ensures.stores last)
 
 pub returns-clause-refused : goal.returns-clause-refused
 returns-clause-refused g c =
-    let e = c.enter-kept.ensures in let service = c.enter-kept.result.service in
-    let last = (done c.pass.inside.inner c.enter-kept.new.pass e.between e.is c.pass.invariant service e.stands (event_if (λ conn. event.Connect conn) c.join-joined.result) c.join-joined.new.self c.total-count.result c.end.new.inner (fits-if (λ conn. event.Connect conn) service c.join-joined.new.self c.join-joined.result c.join-joined.ensures.stores) (went-if (λ conn. event.Connect conn) service c.join-joined.new.self c.join-joined.result c.join-joined.ensures.stores c.join-joined.ensures.unchanged c.join-joined.ensures.history) c.total-count.ensures c.end.ensures.same c.end.ensures.recorded).2 in
+    let e = c.enter-kept.ensures in let service = c.enter-kept.result.service.history in
+    let last = (done c.pass.inside.inner c.enter-kept.new.pass e.between e.is c.pass.invariant service e.stands (event_if (λ conn. event.Connect conn) c.join-joined.result) c.join-joined.new.self.history c.total-count.result c.end.new.inner (fits-if (λ conn. event.Connect conn) service c.join-joined.new.self.history c.join-joined.result c.join-joined.ensures.stores) (went-if (λ conn. event.Connect conn) service c.join-joined.new.self.history c.join-joined.result c.join-joined.ensures.stores c.join-joined.ensures.unchanged c.join-joined.ensures.history) c.total-count.ensures.count c.end.ensures.same c.end.ensures.recorded).2 in
     let view : View = view_of c.pass.inside.inner in
     let stands = stands-view c.pass.inside.inner c.enter-kept.new.pass e.between e.is c.pass.invariant service e.stands in
     subst (λ (s : Seen). IfErr c.join-joined.result (λ refused. IsRefused refused s.view (view_of c.end.new.inner))) c.pass.view_is

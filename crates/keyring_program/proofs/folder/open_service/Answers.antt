@@ -1,0 +1,14 @@
+use Rattle.std.proofs.Common.{◌∙◌, inr}
+use Rattle.std.proofs.lemmas.Result.{IfOk-weaker}
+use Rattle.keyring_program.proofs.FolderLemmas.{has-opened}
+use Rattle.keyring_program.proofs.folder.open_service.Goals as goal
+
+-- what was loaded is what a start makes of the images
+pub returns-in-Ok-clause-opened : goal.returns-in-Ok-clause-opened
+returns-in-Ok-clause-opened g c images honest told =
+    IfOk-weaker c.open.result _ _ (λ service loaded. has-opened (g.H.Host.told c.args.host.now c.args.path.now) images _ _ _ told c.in-Ok.ensures.told
+    (loaded.loads.opened (c.in-Ok.ensures.honest_folder ∙ honest))) c.open.ensures.loaded
+
+-- a steady host's folder is steady, and never at fault
+pub returns-in-Ok-clause-cause : goal.returns-in-Ok-clause-cause
+returns-in-Ok-clause-cause g c is = inr (λ steady. c.open.ensures.never (c.in-Ok.ensures.steady_folder ∙ steady) is)

@@ -1,0 +1,71 @@
+// The folder of a service: it is loaded when the service opens, and returned with what was loaded.
+ghost use Rattle.std.specs.Prelude.{◌≡◌, [], IfOk};
+
+use crate::checks::{cell, number, same_number, same_text};
+use crate::folders::Service;
+use kr_base::{Bytes, ConnId, Text};
+use kr_memory_disk::MemoryFolder;
+use service_machine::{Disk, OpenRefused};
+use std::alloc::Global;
+use std::process::Abort;
+use std::test::Fail;
+
+// A folder whose call with this number fails. Its one file has the name of a keyring file, and isn't
+// one.
+fn folder(alloc: Global, failing: u64) -> Result<MemoryFolder, Fail>
+    ensures { IfOk result (λ folder. folder.made ≡ []) }
+{
+    let mut calls = Vec::new(alloc);
+    calls.push(failing)?;
+    let mut folder = MemoryFolder::new(alloc, calls);
+    let name = Text::from_str(alloc, "login.keyring")?.ok_or("a zero byte")?;
+    folder.set(name, Some(Bytes::from_slice(alloc, b"no keyring")?))?;
+    Ok(folder)
+}
+
+fn opened_told(opened: &Result<Service, OpenRefused>) -> &'static str {
+    match opened {
+        Ok(_) => "open",
+        Err(OpenRefused::Folder) => "the folder failed",
+        Err(OpenRefused::OutOfMemory) => "out of memory",
+    }
+}
+
+// Which call of the folder fails, and how the service opens: it makes two.
+const OPENINGS: &str = "\
+0|the folder failed
+1|the folder failed
+2|open
+";
+
+#[test]
+fn a_service_opens_unless_its_folder_fails(rt: HostRuntime) -> Result<(), Fail> {
+    for row in OPENINGS.lines() {
+        let folder = folder(rt.alloc(), number(cell(row, 0))?)?;
+        let opened = Service::open(rt.alloc(), folder);
+        same_text(&rt, opened_told(&opened), cell(row, 1), row);
+    }
+    Ok(())
+}
+
+// Lets a connection join and go.
+fn is_used(service: &mut Service) -> Result<(), Fail> {
+    service.join()?;
+    service.gone(ConnId(1));
+    Ok(())
+}
+
+fn has_loaded(rt: &impl Abort, disk: &Disk<MemoryFolder>) {
+    same_number(rt, disk.loaded.rings.len() as u64, 0, "the collections");
+    same_number(rt, disk.loaded.used.len() as u64, 1, "the stems in use");
+    let left_alone = disk.loaded.left_alone.len() as u64;
+    same_number(rt, left_alone, 1, "the files that were left alone");
+}
+
+#[test]
+fn a_service_returns_its_folder_and_what_it_loaded(rt: HostRuntime) -> Result<(), Fail> {
+    let mut service = Service::open(rt.alloc(), folder(rt.alloc(), 9)?)?;
+    is_used(&mut service)?;
+    has_loaded(&rt, &service.into_disk());
+    Ok(())
+}
