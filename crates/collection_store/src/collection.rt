@@ -1,4 +1,4 @@
-ghost use Rattle.std.specs.Prelude.{◌≡◌, ◌≢◌, ℕ, ◌+◌, ◌≤◌, ◌<◌, ◌⊎◌, ◌↔◌, IsTrue, IsSome, IfSome, IfOk, OnOk, OnErr, IsErrOf, Some, None, Ok, Err, map, length};
+ghost use Rattle.std.specs.Prelude.{◌≡◌, ◌≢◌, ℕ, ◌+◌, ◌≤◌, ◌<◌, ◌⊎◌, ◌↔◌, IsTrue, IsSome, IfSome, IfOk, OnOk, OnErr, IsErr, IsErrOf, Some, None, Ok, Err, map, length};
 ghost use Rattle.std.specs.Option.{option_copied, option_map};
 ghost use Rattle.item_store.specs.declared.fault.ItemFault.{ItemFault as Fault};
 ghost use Rattle.key_derivation.specs.Kdf.{key_of, vector_of};
@@ -7,8 +7,8 @@ ghost use Rattle.kr_outside.specs.Moments.{LeavesOnly};
 ghost use Rattle.keyring_file.specs.ClearText.{HasClear, most_iterations};
 ghost use Rattle.keyring_seal.specs.Arranged.{arranged_rows};
 ghost use Rattle.keyring_seal.specs.Whole.{opened, sealed};
-ghost use Rattle.replace_slot.specs.Cell.{Known, Doubt, FailedAfter, FailedBefore, IsKnown, IsKnownFile, IsOneOf, LeavesFile, longest_of, old_image};
-ghost use Rattle.replace_slot.specs.Found.{IsFoundBy, Shows as ShowsBytes, found_file};
+ghost use Rattle.replace_slot.specs.Cell.{Known, Doubt, FailedAfter, FailedBefore, FailedRead, IsKnown, IsKnownFile, IsOneOf, LeavesFile, longest_of, old_image};
+ghost use Rattle.replace_slot.specs.Found.{IsFoundBy, IsFoundOf, Shows as ShowsBytes, found_file};
 ghost use Rattle.collection_store.specs.Changes.{content_created, content_rekeyed};
 ghost use Rattle.collection_store.specs.Outcomes.{IfFaultBefore, IfFaultUnsure, IfNoMemory, IfTooLarge, IsChanged, IsCreateFault, IsFault, IsNewImage, IsOldOrNew, IsOldOrSealed, IsSame, IsStored, IsTooLarge, IsTooLargeOrNoMemory, IsUnsure, MayBeChanged, made_of, most_for, slot_of};
 ghost use Rattle.collection_store.specs.Reading.{Fits, Opens, Unlocks, content_at, found as found_in, item_at};
@@ -416,7 +416,10 @@ impl<S: Slot> Collection<S> {
             → LeavesOnly S.moment S.left_since self.old.slot self.new.slot
             (IsOneOf (Doubt (old_image self.old.file) None)) }
 
+        // A fault has its cause, which is one of the two calls.
         ensures cause { HasCause (S.faults self.old.slot) (S.faults self.new.slot) result }
+        ensures unsure_call { IsErr result → FailedAfter DeviceCall.Remove (IsTrue
+            (S.is_honest self.old.slot) → S.seen self.new.slot ≡ None) (S.failed self.new.slot) }
         ensures honest { S.is_honest self.new.slot ≡ S.is_honest self.old.slot }
         ensures steady { KeepsSteady (S.is_steady self.old.slot) (S.is_steady self.new.slot)
             (S.faults self.old.slot) (S.faults self.new.slot) }
@@ -434,14 +437,21 @@ impl<S: Slot> Collection<S> {
         requires room { longest_of self.old.file < length buffer.old }
 
         ensures found { IfOk result (λ found. self.new.file ≡ found_file found self.old.file) }
-        ensures by_read { IfOk result (λ found.
-            IsFoundBy (S.answered self.new.slot) buffer.new found self.old.file) }
         ensures shown { IfOk result (λ found. ShowsBytes found self.old.file buffer.new) }
-        ensures one { IsTrue (S.is_honest self.old.slot)
-            → IfOk result (λ found. found ≢ Found.Other) }
         ensures shows { OnOk result (Shows (shown_image self.new.file) self.new.clear) }
         ensures locked { self.new.held ≡ None }
         ensures unchanged { OnErr result (IsSame self.old self.new) }
+
+        // What is found is what the read returned. With an honest slot it is the image that the name stands
+        // for, before the call as well as after it, and so one of the two.
+        ensures by_read { IfOk result (λ found.
+            IsFoundBy (S.answered self.new.slot) buffer.new found self.old.file) }
+        ensures by_name { IsTrue (S.is_honest self.old.slot)
+            → IfOk result (λ found. IsFoundOf (S.seen self.old.slot) found self.old.file) }
+        ensures same { IsTrue (S.is_honest self.old.slot)
+            → S.seen self.new.slot ≡ S.seen self.old.slot }
+        ensures one { IsTrue (S.is_honest self.old.slot)
+            → IfOk result (λ found. found ≢ Found.Other) }
 
         ensures crash { IsTrue (S.is_honest self.new.slot)
             → LeavesFile self.new.file (S.may_leave self.new.slot) }
@@ -449,7 +459,9 @@ impl<S: Slot> Collection<S> {
             → LeavesOnly S.moment S.left_since self.old.slot self.new.slot
             (IsOneOf self.old.file) }
 
+        // A fault has its cause, which is one of the two calls.
         ensures cause { HasCause (S.faults self.old.slot) (S.faults self.new.slot) result }
+        ensures read_call { IsErr result → FailedRead (S.failed self.new.slot) }
         ensures honest { S.is_honest self.new.slot ≡ S.is_honest self.old.slot }
         ensures steady { KeepsSteady (S.is_steady self.old.slot) (S.is_steady self.new.slot)
             (S.faults self.old.slot) (S.faults self.new.slot) }
