@@ -1,4 +1,4 @@
--- Entries before and after one of them: what a look-up and a change find there, where the keys are in order.
+-- Entries before and after one of them: what a look-up and a change find there if the keys are in order.
 use Rattle.std.proofs.Common.{◌≡◌, ℕ, ◌<◌, Bool, true, false, cond, List, [], ◌∷◌, ◌++◌, Some, length, length-append, arith, refl, sym, ap, subst, ◌∙◌, ⊎_elim}
 use Rattle.std.specs.Cmp.{IsTotalOrder}
 use Rattle.std.specs.Cmp.Lexicographic.{nat_list_cmp_total}
@@ -222,7 +222,7 @@ own-after own (x ∷ es) fs e s off =
     (λ apart. rw apart (ap (λ l. x ∷ l) more))
     (cases_Bool (is_lt (pair_cmp (own.name, own.text) x.0)))
 
--- ---- the same of a branch, whose pairs are told as those before its own one, and those after it
+-- ---- the same for a branch, whose pairs are those before its own, its own, and those after
 
 module _ (own : Around) (all es fs : Names) (are : all ≡ between es own fs) where
   pub fewer-before : length es < length all

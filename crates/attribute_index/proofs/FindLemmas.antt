@@ -76,7 +76,7 @@ is-found index rising (pair ∷ more) lists found are h =
       λ id. ap (λ l. has_id l id) ids ∙ has-filter (in_every (wanted_lists index wanted)) (get_or (wanted_lists index wanted) h.0 []) id ∙ one-of-all (wanted_lists index wanted) h.0 id inside,
     )
 
--- the same of lists that are lent
+-- the same for lists that are borrowed
 pub is-found-lent : {X : Type 0} (view : X → List ℕ) (lent : List X) (index : Index) → AllRise index.names → (wanted : List (List ℕ × AttrValue)) (found : List ℕ) → map view lent ≡ wanted_lists index wanted
     → (place : ℕ) × (place < length lent) × (found ≡ filter (in_every (map view lent)) (get_or (map view lent) place [])) → IsFound index wanted found
 is-found-lent view lent index rising wanted found are h = is-found index rising wanted (map view lent) found are (h.0, omega (arith, h.1, length-map lent view), h.2)

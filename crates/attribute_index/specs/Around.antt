@@ -1,4 +1,4 @@
--- What a branch of the tree of pairs is seen as.
+-- How contracts see a branch of the tree of pairs.
 use Rattle.std.specs.Prelude.{ℕ, List, ◌∷◌, ◌++◌}
 use Rattle.std.specs.Ordering.{is_lt}
 use Rattle.std.specs.Prelude.{[], if◌then◌else◌}

@@ -1,4 +1,4 @@
--- Where the pairs before and after a branch's own one lie.
+-- The pairs before and after a branch's own.
 use Rattle.std.specs.Prelude.{[], Option, Some, None}
 use Rattle.std.specs.declared.alloc.Global.{Global}
 use Rattle.std.proofs.Common.{Box}

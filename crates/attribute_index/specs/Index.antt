@@ -1,5 +1,5 @@
--- Which items have which attributes (Secret Service API, "Lookup Attributes"): for each pair of a name and a text the rising ids of
--- the items that have it.
+-- Which items have which attributes (Secret Service API, "Lookup Attributes"): for each pair of a name and a text the ids of the items
+-- that have it, in rising order.
 use Rattle.std.specs.Prelude.{◌≡◌, ℕ, ◌&&◌, Bool, if◌then◌else◌, List, [], ◌∷◌, Option, Some, None, Result, OnOk, OnErr, true, false, map, not}
 use Rattle.std.specs.List.{list_all}
 use Rattle.std.specs.List.Sorted.{IsStrictlySortedBy}
@@ -17,7 +17,7 @@ abbrev pub or_none : {X : Type 0} → Option (List X) → List X
 or_none None = []
 or_none (Some xs) = xs
 
--- Which pair of a name and a text comes first: by the name, and by the text where the names are the same.
+-- which pair of a name and a text comes first: by the name, and by the text if the names are the same
 abbrev pub pair_cmp : List ℕ × List ℕ → List ℕ × List ℕ → Ordering
 pair_cmp one other = ordering_then (slice_cmp nat_cmp one.0 other.0) (slice_cmp nat_cmp one.1 other.1)
 
@@ -39,7 +39,7 @@ Names = List ((List ℕ × List ℕ) × List ℕ)
 abbrev pub ids_in_names : Names → List ℕ → List ℕ → List ℕ
 ids_in_names names name text = or_none (lookup (is_pair (name, text)) names)
 
--- the pairs are in order, and none stands twice
+-- the pairs are in order, and none is there twice
 abbrev pub IsSorted : Names → Type 0
 IsSorted names = IsStrictlySortedBy pair_cmp (keys_of names)
 
@@ -51,11 +51,11 @@ is_own pairs but name text = has_pair name text pairs && not (has_pair name text
 abbrev pub IsPut : (List ℕ → List ℕ → Bool) → ℕ → Names → Names → Type 0
 IsPut at id old new = (name text : List ℕ) → ids_in_names new name text ≡ (if at name text then with_id id (ids_in_names old name text) else ids_in_names old name text)
 
--- the id was taken out at each of these names and texts
+-- the id was taken out of each of these names and texts
 abbrev pub IsTaken : (List ℕ → List ℕ → Bool) → ℕ → Names → Names → Type 0
 IsTaken at id old new = (name text : List ℕ) → ids_in_names new name text ≡ (if at name text then without_id id (ids_in_names old name text) else ids_in_names old name text)
 
--- the id was put at the pairs of the attributes after, and taken out at those of the attributes before
+-- the id was put at the pairs of the attributes after, and taken out of those of the attributes before
 abbrev pub IsMoved : List (List ℕ × AttrValue) → List (List ℕ × AttrValue) → ℕ → Names → Names → Type 0
 IsMoved before after id old new = (name text : List ℕ) → ids_in_names new name text
     ≡ (if is_own after before name text then with_id id (ids_in_names old name text)
@@ -81,12 +81,12 @@ AllRise names = (name text : List ℕ) → IsIdList (ids_in_names names name tex
 abbrev pub IsLean : Names → Type 0
 IsLean names = (name text : List ℕ) → ¬ (lookup (is_pair (name, text)) names ≡ Some [])
 
--- the id was put at the pair, if it is there; after a refusal, and where it isn't there, all is as before
+-- the id was put at the pair, if the pair is there; after a refusal, and if it isn't there, everything is as before
 abbrev pub IsPutThere : {E : Type 0} → Option (Result Unit E) → List ℕ × List ℕ → ℕ → Names → Names → Type 0
 IsPutThere None pair id old new = (new ≡ old) × (lookup (is_pair pair) old ≡ None)
 IsPutThere (Some result) pair id old new = (ids : List ℕ) × (lookup (is_pair pair) old ≡ Some ids) × OnOk result (new ≡ set_value (is_pair pair) old (with_id id ids)) × OnErr result (new ≡ old)
 
--- the id was taken out at the pair, if it is there, and the answer is whether the pair has none left
+-- the id was taken out of the pair, if the pair is there, and the result is whether the pair has none left
 abbrev pub IsTakenThere : Bool → List ℕ × List ℕ → ℕ → Names → Names → Type 0
 IsTakenThere left pair id old new = (new ≡ set_value (is_pair pair) old (without_id id (or_none (lookup (is_pair pair) old)))) × (left ≡ is_none_left (lookup (is_pair pair) new))
 
@@ -94,7 +94,7 @@ IsTakenThere left pair id old new = (new ≡ set_value (is_pair pair) old (witho
 abbrev pub IsAtJust : List (List ℕ × AttrValue) → ℕ → Names → Type 0
 IsAtJust pairs id names = (name text : List ℕ) → has_id (ids_in_names names name text) id ≡ has_pair name text pairs
 
--- what an index is seen as: the ids at each name and text, and all ids
+-- how contracts see an index: the ids at each name and text, and all ids
 pub record Index : Type 0 where
   pub names : Names
   pub all : List ℕ
@@ -115,7 +115,7 @@ in_every lists id = list_all (λ ids. has_id ids id) lists
 abbrev pub in_each : Index → List (List ℕ × AttrValue) → ℕ → Bool
 in_each index wanted id = in_every (wanted_lists index wanted) id
 
--- the rising ids that all wanted pairs have; with none wanted, all ids
+-- the ids that all wanted pairs have, in rising order; if none is wanted, all ids
 abbrev pub IsFound : Index → List (List ℕ × AttrValue) → List ℕ → Type 0
 IsFound index [] found = found ≡ index.all
 IsFound index (pair ∷ more) found = IsStrictlySortedBy nat_cmp found × ((id : ℕ) → has_id found id ≡ in_each index (pair ∷ more) id)

@@ -12,7 +12,7 @@ use Rattle.kr_base.specs.declared.hashed.HashedValue.{HashedValue}
 use Rattle.kr_base.specs.declared.hashed.HashedValue.TheVariants as hash
 use Rattle.attribute_hash.specs.Hash.{number_hash, text_hash}
 
--- the text as which the API shows a value: a number is shown as its decimal text
+-- the text that the API shows for a value: a number is shown in decimal
 abbrev pub text_of : AttrValue → List ℕ
 text_of (value.Text text) = text
 text_of (value.Number number) = decimal number
@@ -37,19 +37,19 @@ is_same_pair one other = is_name one.0 other.0 && is_name one.1 other.1
 abbrev pub is_equal : List (List ℕ × AttrValue) → List (List ℕ × AttrValue) → Bool
 is_equal one other = pointwise is_same_pair (texts_of one) (texts_of other)
 
--- the number of 32 bits whose decimal text, without leading zeros, is this
+-- the 32-bit number that this text is in decimal, without leading zeros
 abbrev pub number_of : List ℕ → Option ℕ
 number_of text =
     cond (nat_lt (digits_value 10 text) 4294967296 && is_name (decimal (digits_value 10 text)) text)
     (Some (digits_value 10 text))
     None
 
--- the hash could be that of a number
+-- there is a number, and its hash is this
 abbrev pub is_number_hash : Option ℕ → ℕ → Bool
 is_number_hash None found = false
 is_number_hash (Some number) found = nat_eq (number_hash number) found
 
--- whether it is the hash of the text, or of the number whose decimal text this is
+-- whether it is the hash of the text, or of the number that the text is in decimal
 abbrev pub is_hash_of : List ℕ → HashedValue → Bool
 is_hash_of text (hash.Text found) = is_name (text_hash text) found
 is_hash_of text (hash.Number found) = is_number_hash (number_of text) found

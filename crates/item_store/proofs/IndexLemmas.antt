@@ -148,7 +148,7 @@ where-touched p f same id (row ∷ more) =
     ] in
     step (row.0 == id) (p row.1) refl refl
 
--- what doesn't touch the attributes leaves the index right
+-- a change that doesn't touch the attributes keeps the index right
 pub indexed-touched : (rows : Rows) (index : Index) (id : ℕ) (f : Row → Row) → ((row : Row) → attributes_of (f row) ≡ attributes_of row) → IsIndexed rows index → IsIndexed (rows_changed id f rows) index
 indexed-touched rows index id f same is = record {
   pairs = λ name text. is.pairs name text ∙ sym (where-touched (has name text) f (λ row. ap (has_pair name text) (same row)) id rows);

@@ -21,7 +21,7 @@ use Rattle.attribute_index.proofs.FindLemmas.{has-filter}
 use Rattle.item_store.specs.declared.rows.Row.{Row}
 use Rattle.item_store.specs.Rows.{HasJustRows, Rows, IsRising, ids_where, last_id, next_id, passes_at, row_at, row_of, rows_changed, rows_without}
 
--- ---- rising lists are told by their ids
+-- ---- a rising list is determined by its ids
 
 itself : (x : ℕ) → (x == x) ≡ true
 itself x = grind (arith, nat_tests)
@@ -409,7 +409,7 @@ partly-all given rest rows none had rising = record {
   each = λ id. sym (or-none (row_at id rows)) ∙ ap (λ r. option_or (row_at id rows) (row_at id (map row_of r))) (sym none) ∙ had.each id;
 }
 
--- ---- rising rows are told by the row of each id
+-- ---- rising rows are determined by the row of each id
 
 at-below : (rows : Rows) (n : ℕ) → AllAbove n (keys_of rows) → row_at n rows ≡ None
 at-below [] n above = refl

@@ -11,12 +11,12 @@ pub record Moves : Type 0 where
   pub before : Rows
   pub after : Rows
 
--- the row with these attributes, and with the time when it was changed
+-- the row with these attributes, and with this as the time of its last change
 abbrev pub with_attributes : List (List ℕ × AttrValue) → ℕ → Row → Row
 with_attributes attributes modified row = record row { item = record row.item { attributes = attributes; modified = modified } }
 
--- The id is at the pairs of both attributes: once it is taken out at those before, the index is equal to the rows, and once it is taken
--- out at those after, to the rows with the attributes before.
+-- the id is at the pairs of the old and of the new attributes: once it is taken out of those of the old ones alone, the index agrees with
+-- the rows, and once it is taken out of those of the new ones alone, with the rows as they were before
 pub record IsMoving (rows : Rows) (index : Index) (number : ℕ) (other : List (List ℕ × AttrValue)) (modified : ℕ) : Type 0 where
   pub there : is_some (row_at number rows) ≡ true
   pub forward : (names : Names) → IfSome (row_at number rows) (λ row. IsTaken (is_own other (attributes_of row)) number index.names names) → IsKept rows (record { names = names; all = index.all })

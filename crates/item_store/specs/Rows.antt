@@ -14,7 +14,7 @@ use Rattle.attribute_index.specs.Index.{Index, ids_at}
 abbrev pub greatest_id : ℕ
 greatest_id = 4294967295
 
--- how many attributes an item may have that a call gives
+-- how many attributes a call may give an item
 abbrev pub most_attributes : ℕ
 most_attributes = 256
 
@@ -48,7 +48,7 @@ last_id [] = 0
 last_id (row ∷ []) = row.0
 last_id (row ∷ next ∷ more) = last_id (next ∷ more)
 
--- the id of a new item, where there is one
+-- the id of a new item, if there is one left
 abbrev pub next_id : Rows → Option ℕ
 next_id rows = if nat_eq (last_id rows) greatest_id then None else Some (last_id rows + 1)
 
@@ -61,12 +61,12 @@ pub record IsIndexed (rows : Rows) (index : Index) : Type 0 where
 abbrev pub IsRising : Rows → Type 0
 IsRising rows = IsStrictlySortedBy nat_cmp (keys_of rows)
 
--- what the type of the items keeps
+-- the invariant of the type of the items
 pub record IsKept (rows : Rows) (index : Index) : Type 0 where
   pub rising : IsRising rows
   pub indexed : IsIndexed rows index
 
--- the item has just the given attributes, as texts
+-- the item has exactly the given attributes, as texts
 abbrev pub has_just : List (List ℕ × AttrValue) → Row → Bool
 has_just given row = is_equal given (attributes_of row)
 
@@ -75,12 +75,12 @@ abbrev pub passes_at : (Row → Bool) → Option Row → Bool
 passes_at passes None = false
 passes_at passes (Some row) = passes row
 
--- the ids of the items that have the first of the attributes, or of all items where there is none
+-- the ids of the items that have the first of the attributes, or of all items if there are no attributes
 abbrev pub candidates : List (List ℕ × AttrValue) → Index → List ℕ
 candidates [] index = index.all
 candidates (pair ∷ more) index = ids_at index pair.0 (text_of pair.1)
 
--- the first id that is there
+-- the first id, if there is one
 abbrev pub first_id : List ℕ → Option ℕ
 first_id [] = None
 first_id (id ∷ more) = Some id

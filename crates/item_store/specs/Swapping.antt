@@ -1,4 +1,4 @@
--- Parts of an item that are swapped with others.
+-- Parts of an item that are swapped for others.
 use Rattle.std.specs.Prelude.{Option, Some, None}
 use Rattle.keyring_file.specs.declared.area.FullItem.{FullItem}
 use Rattle.item_store.specs.declared.swapping.Swap.{Swap}
