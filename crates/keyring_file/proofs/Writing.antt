@@ -22,3 +22,17 @@ one_more text xs i x old before after lt is p q =
     let last : flat_map text (x ∷ []) ≡ text x = flat_map-cons text x [] ∙ append-nil (text x) in
     let parts : flat_map text (take (i + 1) xs) ≡ flat_map text (take i xs) ++ text x = ap (λ ys. flat_map text ys) all ∙ flat_map-append text (take i xs) (x ∷ []) ∙ ap (λ w. flat_map text (take i xs) ++ w) last in
     q ∙ ap (λ w. w ++ text x) p ∙ append_assoc old (flat_map text (take i xs)) (text x) ∙ ap (λ w. old ++ w) (sym parts)
+
+-- two texts, each put by a call of its own, and then three, four and five
+pub two-put : {T E : Type 0} (r : Result T E) (old one new a b : List ℕ) → one ≡ old ++ a → OnOk r (new ≡ one ++ b) → OnOk r (new ≡ old ++ (a ++ b))
+two-put (Ok x) old one new a b p h = h ∙ ap (λ w. w ++ b) p ∙ append_assoc old a b
+two-put (Err e) old one new a b p h = tt
+
+pub three-put : {T E : Type 0} (r : Result T E) (old one two new a b c : List ℕ) → one ≡ old ++ a → two ≡ one ++ b → OnOk r (new ≡ two ++ c) → OnOk r (new ≡ old ++ (a ++ (b ++ c)))
+three-put r old one two new a b c p q h = two-put r old one new a (b ++ c) p (two-put r one two new b c q h)
+
+pub four-put : {T E : Type 0} (r : Result T E) (old one two three new a b c d : List ℕ) → one ≡ old ++ a → two ≡ one ++ b → three ≡ two ++ c → OnOk r (new ≡ three ++ d) → OnOk r (new ≡ old ++ (a ++ (b ++ (c ++ d))))
+four-put r old one two three new a b c d p q s h = two-put r old one new a (b ++ (c ++ d)) p (three-put r one two three new b c d q s h)
+
+pub five-put : {T E : Type 0} (r : Result T E) (old one two three four new a b c d e : List ℕ) → one ≡ old ++ a → two ≡ one ++ b → three ≡ two ++ c → four ≡ three ++ d → OnOk r (new ≡ four ++ e) → OnOk r (new ≡ old ++ (a ++ (b ++ (c ++ (d ++ e)))))
+five-put r old one two three four new a b c d e p q s t h = two-put r old one new a (b ++ (c ++ (d ++ e))) p (four-put r one two three four new b c d e q s t h)

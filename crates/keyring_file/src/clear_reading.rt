@@ -8,6 +8,7 @@ ghost use Rattle.keyring_file.specs.Names.{has_name, AddsName};
 ghost use Rattle.keyring_file.specs.Numbers.{Keeps, has_number};
 ghost use Rattle.keyring_file.specs.Reading.{in_clear, part_and_area};
 
+use crate::magic::begins_with_magic;
 use crate::names::{Names, is_new_name, no_names};
 use crate::numbers::{Numbers, is_new, no_numbers};
 use crate::{Clear, ClearFault, ClearItem};
@@ -246,16 +247,12 @@ fn clear_items_at(
     Ok((items, rest))
 }
 
-/// The first 16 bytes of every keyring file.
-pub const MAGIC: [u8; 16] = *b"GnomeKeyring\n\r\0\n";
-
 /// The bytes after the first 16, which must be those of every keyring file.
 #[tactic(auto, unfolding(crate::specs::Reading::magic_at))]
 fn magic_at(bytes: &[u8]) -> Result<&[u8], ReadRefused<ClearFault>>
     ensures { Gives (λ x. (tt, x.now)) result (reading.magic_at bytes.now) }
 {
-    let there = bytes.len().min(16);
-    if bytes[..there] != MAGIC[..there] {
+    if !begins_with_magic(bytes) {
         return Err(ReadRefused::Fault(ClearFault::Magic));
     }
     if bytes.len() < 16 {

@@ -6,7 +6,7 @@ ghost use Rattle.keyring_file.specs.ClearText.{magic, version};
 ghost use Rattle.keyring_file.specs.Short.{IsShort, IsShortHashed, IsShortPair, IsShortList, IsShortClearItem, IsShortClear};
 
 use crate::area_writing::put_reserved;
-use crate::clear_reading::MAGIC;
+use crate::magic::MAGIC;
 use crate::{Clear, ClearItem};
 use keyring_text::{put_number, put_string, put_time};
 use kr_base::{HashedPair, HashedValue, OutOfMemory};

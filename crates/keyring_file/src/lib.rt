@@ -12,6 +12,7 @@ mod clear_writing;
 mod fault;
 mod known;
 mod laws;
+mod magic;
 mod names;
 mod numbers;
 

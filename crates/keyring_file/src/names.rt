@@ -21,7 +21,7 @@ pub fn no_names<'a>(alloc: Global) -> Names<'a>
 {
     let none: &[u8] = &[];
     Names {
-        few: [none, none, none, none, none, none, none, none],
+        few: [none; 8],
         count: 0,
         many: BTreeSet::new(alloc),
     }
