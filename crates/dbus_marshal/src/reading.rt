@@ -4,7 +4,7 @@ ghost use Rattle.std.specs.Int.{w8, w16, w32, w64};
 ghost use Rattle.dbus_types.specs.Types.{Ty};
 ghost use Rattle.dbus_types.specs.Signatures.{signature_at};
 ghost use Rattle.dbus_types.specs.SignatureViews.{types_in};
-ghost use Rattle.dbus_types.specs.ValueViews.{core_as, value_of};
+ghost use Rattle.dbus_types.specs.ValueViews.{core_as};
 ghost use Rattle.dbus_marshal.specs.Reading.{Reads, bytes_at, padding_at, number_at, are_zero, ended_at, string_at, path_at, signature_value_at, listed, basic_number_at, is_number, basic_at};
 ghost use Rattle.dbus_marshal.specs.Cursors.{spot_of};
 ghost use Rattle.dbus_marshal.specs.Wire.{padding, number_from, is_text};
@@ -108,9 +108,10 @@ fn u8_of(endian: Endian, bytes: &[u8]) -> u8
     requires { length bytes.now ≡ 1 }
     ensures { result ≡ number_from endian w8 bytes.now }
 {
+    let cells = [bytes[0]];
     match endian {
-        Endian::Little => bytes[0],
-        Endian::Big => bytes[0],
+        Endian::Little => u8::from_le_bytes(cells),
+        Endian::Big => u8::from_be_bytes(cells),
     }
 }
 
@@ -249,8 +250,6 @@ fn parse_signature(alloc: Global, bytes: &[u8]) -> Result<Signature, ValueFault>
 
 #[tactic(auto, unfolding(crate::specs::Reading::basic_number_at))]
 fn read_boolean(endian: Endian, cursor: Cursor<'_>) -> Result<(Value, Cursor<'_>), ValueFault>
-    ensures value { Reads (λ x. (value_of x.0, spot_of x.1)) result
-        (basic_number_at endian BasicType.Boolean (spot_of cursor.entry)) }
     ensures any { (known : Ty) → Reads (λ x. (core_as known x.0, spot_of x.1)) result
         (basic_number_at endian BasicType.Boolean (spot_of cursor.entry)) }
 {
@@ -268,8 +267,6 @@ fn read_number(
     cursor: Cursor<'_>,
 ) -> Result<(Value, Cursor<'_>), ValueFault>
     requires { IsTrue (is_number basic) }
-    ensures value { Reads (λ x. (value_of x.0, spot_of x.1)) result
-        (basic_number_at endian basic (spot_of cursor.entry)) }
     ensures any { (known : Ty) → Reads (λ x. (core_as known x.0, spot_of x.1)) result
         (basic_number_at endian basic (spot_of cursor.entry)) }
 {
@@ -323,8 +320,6 @@ pub fn read_basic(
     basic: BasicType,
     cursor: Cursor<'_>,
 ) -> Result<(Value, Cursor<'_>), ValueFault>
-    ensures value { Reads (λ x. (value_of x.0, spot_of x.1)) result
-        (basic_at endian basic (spot_of cursor.entry)) }
     ensures any { (known : Ty) → Reads (λ x. (core_as known x.0, spot_of x.1)) result
         (basic_at endian basic (spot_of cursor.entry)) }
 {

@@ -13,23 +13,21 @@ use crate::OutOfMemory;
 use crate::places::alignment;
 use crate::refused::MarshalFault;
 use crate::type_text::{write_type_of, write_types};
-use crate::writing::{pad, put_u32, write_text, write_u8, write_u16, write_u32, write_u64};
+use crate::writing::{
+    bytes_of_u8, bytes_of_u32, pad, put_u32, write_text, write_u8, write_u16, write_u32, write_u64,
+};
 use dbus_types::{
     CompleteType, DictEntry, Endian, TypedArray, Value, core_of, element_of, fields_in, held_of,
     is_array, is_variant, wrapping,
 };
 
 // Writes the length of a text into the byte at the mark.
-#[tactic(auto, unfolding(crate::specs::Wire::number_bytes))]
 fn put_length(out: &mut Vec<u8>, mark: usize, endian: Endian, count: u8)
     requires { mark + 1 ≤ length out.old.items }
     ensures { out.new.items ≡ take mark out.old.items
         ++ (number_bytes endian w8 count ++ drop (mark + 1) out.old.items) }
 {
-    match endian {
-        Endian::Little => out[mark..mark + 1].copy_from_slice(&count.to_le_bytes()),
-        Endian::Big => out[mark..mark + 1].copy_from_slice(&count.to_be_bytes()),
-    }
+    out[mark..mark + 1].copy_from_slice(&bytes_of_u8(endian, count));
 }
 
 // Ends the text that starts after the byte at the mark, and writes its length there. For a text of
@@ -123,16 +121,12 @@ fn open_array(
 }
 
 // Writes the length of an array into its four bytes.
-#[tactic(auto, unfolding(crate::specs::Wire::number_bytes))]
 fn close_array(out: &mut Vec<u8>, mark: usize, endian: Endian, count: u32)
     requires { mark + 4 ≤ length out.old.items }
     ensures { out.new.items ≡ take mark out.old.items
         ++ (number_bytes endian w32 count ++ drop (mark + 4) out.old.items) }
 {
-    match endian {
-        Endian::Little => out[mark..mark + 4].copy_from_slice(&count.to_le_bytes()),
-        Endian::Big => out[mark..mark + 4].copy_from_slice(&count.to_be_bytes()),
-    }
+    out[mark..mark + 4].copy_from_slice(&bytes_of_u32(endian, count));
 }
 
 /// Writes a value with its padding (D-Bus Specification, "Marshaling"). `known` is what is known of

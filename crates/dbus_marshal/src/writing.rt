@@ -24,49 +24,55 @@ pub fn pad(out: &mut Vec<u8>, phase: usize, alignment: usize) -> Result<(), OutO
     Ok(())
 }
 
+/// The one byte of a number, which is the same in either order.
 #[tactic(auto, unfolding(crate::specs::Wire::number_bytes))]
-fn put_u8(out: &mut Vec<u8>, endian: Endian, number: u8) -> Result<(), OutOfMemory>
-    ensures { OnOk result (out.new.items ≡ out.old.items ++ number_bytes endian w8 number) }
+pub fn bytes_of_u8(endian: Endian, number: u8) -> [u8; 1]
+    ensures { result ≡ number_bytes endian w8 number }
 {
     match endian {
-        Endian::Little => out.extend_from_slice(&number.to_le_bytes())?,
-        Endian::Big => out.extend_from_slice(&number.to_be_bytes())?,
+        Endian::Little => number.to_le_bytes(),
+        Endian::Big => number.to_be_bytes(),
     }
-    Ok(())
 }
 
+/// The two bytes of a number.
 #[tactic(auto, unfolding(crate::specs::Wire::number_bytes))]
-fn put_u16(out: &mut Vec<u8>, endian: Endian, number: u16) -> Result<(), OutOfMemory>
-    ensures { OnOk result (out.new.items ≡ out.old.items ++ number_bytes endian w16 number) }
+fn bytes_of_u16(endian: Endian, number: u16) -> [u8; 2]
+    ensures { result ≡ number_bytes endian w16 number }
 {
     match endian {
-        Endian::Little => out.extend_from_slice(&number.to_le_bytes())?,
-        Endian::Big => out.extend_from_slice(&number.to_be_bytes())?,
+        Endian::Little => number.to_le_bytes(),
+        Endian::Big => number.to_be_bytes(),
     }
-    Ok(())
+}
+
+/// The four bytes of a number.
+#[tactic(auto, unfolding(crate::specs::Wire::number_bytes))]
+pub fn bytes_of_u32(endian: Endian, number: u32) -> [u8; 4]
+    ensures { result ≡ number_bytes endian w32 number }
+{
+    match endian {
+        Endian::Little => number.to_le_bytes(),
+        Endian::Big => number.to_be_bytes(),
+    }
+}
+
+/// The eight bytes of a number.
+#[tactic(auto, unfolding(crate::specs::Wire::number_bytes))]
+fn bytes_of_u64(endian: Endian, number: u64) -> [u8; 8]
+    ensures { result ≡ number_bytes endian w64 number }
+{
+    match endian {
+        Endian::Little => number.to_le_bytes(),
+        Endian::Big => number.to_be_bytes(),
+    }
 }
 
 /// Writes the four bytes of a number.
-#[tactic(auto, unfolding(crate::specs::Wire::number_bytes))]
 pub fn put_u32(out: &mut Vec<u8>, endian: Endian, number: u32) -> Result<(), OutOfMemory>
     ensures { OnOk result (out.new.items ≡ out.old.items ++ number_bytes endian w32 number) }
 {
-    match endian {
-        Endian::Little => out.extend_from_slice(&number.to_le_bytes())?,
-        Endian::Big => out.extend_from_slice(&number.to_be_bytes())?,
-    }
-    Ok(())
-}
-
-#[tactic(auto, unfolding(crate::specs::Wire::number_bytes))]
-fn put_u64(out: &mut Vec<u8>, endian: Endian, number: u64) -> Result<(), OutOfMemory>
-    ensures { OnOk result (out.new.items ≡ out.old.items ++ number_bytes endian w64 number) }
-{
-    match endian {
-        Endian::Little => out.extend_from_slice(&number.to_le_bytes())?,
-        Endian::Big => out.extend_from_slice(&number.to_be_bytes())?,
-    }
-    Ok(())
+    out.extend_from_slice(&bytes_of_u32(endian, number))
 }
 
 /// Writes a byte.
@@ -81,7 +87,7 @@ pub fn write_u8(
         out.old.items out.new.items }
 {
     pad(out, phase, 1)?;
-    put_u8(out, endian, number)?;
+    out.extend_from_slice(&bytes_of_u8(endian, number))?;
     Ok(())
 }
 
@@ -97,7 +103,7 @@ pub fn write_u16(
         out.old.items out.new.items }
 {
     pad(out, phase, 2)?;
-    put_u16(out, endian, number)?;
+    out.extend_from_slice(&bytes_of_u16(endian, number))?;
     Ok(())
 }
 
@@ -129,7 +135,7 @@ pub fn write_u64(
         out.old.items out.new.items }
 {
     pad(out, phase, 8)?;
-    put_u64(out, endian, number)?;
+    out.extend_from_slice(&bytes_of_u64(endian, number))?;
     Ok(())
 }
 

@@ -1,19 +1,23 @@
 -- What the readers return is the result of reading.
-use Rattle.std.proofs.Common.{List, Vec, Global, sym, ap, ◌∙◌}
+use Rattle.std.proofs.Common.{◌≡◌, List, Vec, Global, Ok, refl, sym, ap, ◌∙◌}
 use Rattle.std.proofs.lemmas.Bool.{eqb-true, eqb-false}
 use Rattle.std.proofs.lemmas.List.{nil_from_length}
 use Rattle.std.proofs.lemmas.Result.{err_from_is_err_and}
+use Rattle.dbus_types.specs.declared.complete_type.BasicType.{BasicType}
 use Rattle.dbus_types.specs.declared.complete_type.CompleteType.{CompleteType, Basic}
+use Rattle.dbus_types.specs.declared.endian.Endian.{Endian}
 use Rattle.dbus_types.specs.declared.value.Value.{Value}
 use Rattle.dbus_types.specs.declared.value.TypedArray.{TypedArray}
 use Rattle.dbus_types.specs.declared.value.DictEntry.{DictEntry as KeyAndValue}
 use Rattle.dbus_types.specs.Types.{Ty}
+use Rattle.dbus_types.specs.Values.{Val}
 use Rattle.dbus_types.specs.Views.{type_of, types_of}
-use Rattle.dbus_types.specs.ValueViews.{value_of, values_of, value_as, each_as, fields_as, known_as}
+use Rattle.dbus_types.specs.ValueViews.{value_of, values_of, core_as, value_as, each_as, fields_as, known_as}
 use Rattle.dbus_marshal.specs.Cursors.{spot_of}
-use Rattle.dbus_marshal.specs.Reading.{value_at, values_then}
+use Rattle.dbus_marshal.specs.declared.refused.ValueFault.{ValueFault}
+use Rattle.dbus_marshal.specs.Reading.{Spot, Reader, Refuses, padding_at, basic_at, entry_by, value_at, values_then}
 use Rattle.dbus_types.proofs.Views.{struct_is}
-use Rattle.dbus_marshal.proofs.ValueReading.{value_at-basic, value_at-variant, value_at-array, value_at-struct, value_at-entry, too_deep, each_as-push, fields_push, fields_left, none_left, inner_are, array_are, lone_read, entry_are, read_as, basic_reads, variant_reads, elements_none, elements_over, elements_next, elements_fault, bytes_are, struct_are, is_basic, fields_next, fields_fault, fields_end}
+use Rattle.dbus_marshal.proofs.ValueReading.{refuses_as, value_at-basic, value_at-variant, value_at-array, value_at-struct, value_at-entry, too_deep, each_as-push, fields_push, fields_left, none_left, inner_are, array_are, lone_read, entry_are, read_as, basic_reads, variant_reads, elements_none, elements_over, elements_next, elements_fault, bytes_are, struct_are, is_basic, fields_next, fields_fault, fields_end}
 use Rattle.dbus_marshal.proofs.values.+readers.Goals as goal
 
 pub read_each-returns-then-is_empty : goal.read_each-returns-then-is_empty
@@ -82,6 +86,27 @@ pub read_struct-returns-in-Some : goal.read_struct-returns-in-Some
 read_struct-returns-in-Some t c =
     lone_read c.args.is_inner (value_at c.args.depth c.args.endian) (types_of c.args.types.now) (type_of c.in-Some.only.now) (spot_of c.args.cursor) (spot_of c.in_ok-start.start) c.read_value.result (sym c.in-Some.ensures)
     c.in_ok-start.ensures c.read_value.ensures
+
+-- the fault of an entry's key, and that of its value
+key_faults : (e : ValueFault) (read : Ty → Reader Val) (endian : Endian) (key : BasicType) (t : Ty) (spot start : Spot) → padding_at 8 spot ≡ Ok start → Refuses e (basic_at endian key start) → Refuses e (entry_by read endian key t spot)
+unfolding entry_by
+key_faults e read endian key t spot start padded fault = refuses_as e (basic_at endian key start) (entry_by read endian key t spot) (λ f is. rw (padded, is) refl) fault
+
+value_faults : (e : ValueFault) (read : Ty → Reader Val) (endian : Endian) (key : BasicType) (t : Ty) (spot start behind : Spot) (k : Val) → padding_at 8 spot ≡ Ok start → basic_at endian key start ≡ Ok (k, behind) → Refuses e (read t behind)
+    → Refuses e (entry_by read endian key t spot)
+unfolding entry_by
+value_faults e read endian key t spot start behind k padded first fault = refuses_as e (read t behind) (entry_by read endian key t spot) (λ f is. rw (padded, first, is) refl) fault
+
+pub read_entry-returns-in_err-key : goal.read_entry-returns-in_err-key
+read_entry-returns-in_err-key t c =
+    let p = err_from_is_err_and c.from_residual-in_err-key.result c.from_residual-in_err-key.ensures.1 in rw (p.1, p.2)
+    (key_faults c.in_err-key.field-0.0 (value_at c.args.depth c.args.endian) c.args.endian c.args.key (type_of c.args.complete_type.now) (spot_of c.args.cursor) (spot_of c.in_ok-start.start) c.in_ok-start.ensures (c.in_err-key.ensures.any Ty.variant))
+
+pub read_entry-returns-in_err-value : goal.read_entry-returns-in_err-value
+read_entry-returns-in_err-value t c =
+    let p = err_from_is_err_and c.from_residual-in_err-value.result c.from_residual-in_err-value.ensures.1 in rw (p.1, p.2)
+    (value_faults c.in_err-value.field-0.0 (value_at c.args.depth c.args.endian) c.args.endian c.args.key (type_of c.args.complete_type.now) (spot_of c.args.cursor) (spot_of c.in_ok-start.start) (spot_of c.in_ok-key.behind) (core_as Ty.variant c.in_ok-key.key)
+    c.in_ok-start.ensures (c.in_ok-key.ensures.any Ty.variant) c.in_err-value.ensures)
 
 pub read_entry-returns : goal.read_entry-returns
 read_entry-returns t c =

@@ -20,6 +20,30 @@ write_value-returns t c =
     writes_wrapped c.write_core.result c.args.endian c.args.phase (type_of c.args.known.now) (type_of c.core_of.result.now) c.args.value.now c.wrapping.result c.args.out.now.items c.pad.new.out.items c.write_core.new.out.items
     c.wrapping.ensures.value c.core_of.ensures c.in_ok-pad.ensures c.write_core.ensures
 
+pub write_core-returns-in-Byte : goal.write_core-returns-in-Byte
+write_core-returns-in-Byte t c =
+    writes_tree c.write_u8.result c.args.endian _ _ (behind c.args.phase (length c.args.out.now.items)) c.args.out.now.items c.write_u8.new.out.items (ap (core_as (type_of c.args.known.now)) c.in-Byte.is) c.write_u8.ensures
+
+pub write_core-returns-in-Uint16 : goal.write_core-returns-in-Uint16
+write_core-returns-in-Uint16 t c =
+    writes_tree c.write_u16-in-Uint16.result c.args.endian _ _ (behind c.args.phase (length c.args.out.now.items)) c.args.out.now.items c.write_u16-in-Uint16.new.out.items (ap (core_as (type_of c.args.known.now)) c.in-Uint16.is) c.write_u16-in-Uint16.ensures
+
+pub write_core-returns-in-Uint32 : goal.write_core-returns-in-Uint32
+write_core-returns-in-Uint32 t c =
+    writes_tree c.write_u32-in-Uint32.result c.args.endian _ _ (behind c.args.phase (length c.args.out.now.items)) c.args.out.now.items c.write_u32-in-Uint32.new.out.items (ap (core_as (type_of c.args.known.now)) c.in-Uint32.is) c.write_u32-in-Uint32.ensures
+
+pub write_core-returns-in-Uint64 : goal.write_core-returns-in-Uint64
+write_core-returns-in-Uint64 t c =
+    writes_tree c.write_u64-in-Uint64.result c.args.endian _ _ (behind c.args.phase (length c.args.out.now.items)) c.args.out.now.items c.write_u64-in-Uint64.new.out.items (ap (core_as (type_of c.args.known.now)) c.in-Uint64.is) c.write_u64-in-Uint64.ensures
+
+pub write_core-returns-in-Double : goal.write_core-returns-in-Double
+write_core-returns-in-Double t c =
+    writes_tree c.write_u64-in-Double.result c.args.endian _ _ (behind c.args.phase (length c.args.out.now.items)) c.args.out.now.items c.write_u64-in-Double.new.out.items (ap (core_as (type_of c.args.known.now)) c.in-Double.is) c.write_u64-in-Double.ensures
+
+pub write_core-returns-in-UnixFd : goal.write_core-returns-in-UnixFd
+write_core-returns-in-UnixFd t c =
+    writes_tree c.write_u32-in-UnixFd.result c.args.endian _ _ (behind c.args.phase (length c.args.out.now.items)) c.args.out.now.items c.write_u32-in-UnixFd.new.out.items (ap (core_as (type_of c.args.known.now)) c.in-UnixFd.is) c.write_u32-in-UnixFd.ensures
+
 pub write_core-returns-in-Array : goal.write_core-returns-in-Array
 write_core-returns-in-Array t c =
     writes_tree c.write_typed_array.result c.args.endian _ _ (behind c.args.phase (length c.args.out.now.items)) c.args.out.now.items c.write_typed_array.new.out.items
