@@ -46,7 +46,7 @@ impl<S: Slot> CollectionTable<S> {
     ghost use Rattle.collection_table.specs.contracts.table.CollectionTable.{the_row};
 
     /// The collections that a start lists, one for each of these files, in byte order of their stems. All
-    /// of them are locked.
+    /// of them are locked. Refused with `OutOfMemory` alone.
     pub fn loaded(alloc: Global, rings: Vec<Ring<S>>) -> Result<CollectionTable<S>, OutOfMemory>
         requires { IsStrictlySortedBy (slice_cmp nat_cmp) (map (λ ring. ring.stem) rings.items) }
         ensures { IfOk result (λ table. table.entries ≡ map loaded_from rings.items) }
@@ -131,7 +131,8 @@ impl<S: Slot> CollectionTable<S> {
     }
 
     /// What a search finds in each collection, in byte order of their stems (Secret Service API,
-    /// Service.SearchItems): by the items of an unlocked one, and by the hashes of a locked one.
+    /// Service.SearchItems): by the items of an unlocked one, and by the hashes of a locked one. A collection
+    /// in which nothing matches is listed too. Refused with `OutOfMemory` alone.
     pub fn search(&self, wanted: &Attributes) -> Result<Vec<Matches>, OutOfMemory>
         ensures { IfOk result (λ found. found.items
             ≡ found_in_all wanted.now (rows_of self.now.entries)) }
@@ -139,16 +140,16 @@ impl<S: Slot> CollectionTable<S> {
         entries::search(self.alloc, &self.entries, wanted)
     }
 
-    /// The number of items in all collections together. A file in doubt counts with the greater number of
-    /// its two images.
+    /// The number of items in all collections together, or 2^64 - 1 if it is greater. A file in doubt counts
+    /// with the greater number of its two images. It takes no memory.
     pub fn items_in_all(&self) -> usize
         ensures { HaveItems (rows_of self.now.entries) result }
     {
         entries::items_in(&self.entries)
     }
 
-    /// The bytes of all collections' files together. A file in doubt counts with the longer of its two
-    /// images.
+    /// The number of bytes of all collections' files together, or 2^64 - 1 if it is greater. A file in doubt
+    /// counts with the longer of its two images. It takes no memory.
     pub fn bytes_in_all(&self) -> usize
         ensures { result ≡ min (bytes_in (rows_of self.now.entries)) most }
     {
