@@ -37,7 +37,7 @@ pub enum PromptRefused {
     #[error("another connection is the agent")]
     AgentTaken,
     /// No memory was left.
-    #[error("no memory was left")]
+    #[error("out of memory")]
     OutOfMemory,
 }
 

@@ -18,7 +18,7 @@ pub enum EventRefused {
     #[error("no further connection can join")]
     TooManyConnections,
     /// No memory was left.
-    #[error("no memory was left")]
+    #[error("out of memory")]
     OutOfMemory,
 }
 

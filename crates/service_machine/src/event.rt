@@ -77,7 +77,7 @@ pub enum OpenRefused {
     #[error("the folder could not be loaded")]
     Folder,
     /// No memory was left.
-    #[error("no memory was left")]
+    #[error("out of memory")]
     OutOfMemory,
 }
 
@@ -91,7 +91,7 @@ pub enum ApplyRefused {
     #[error("no further connection can join")]
     TooManyConnections,
     /// No memory was left.
-    #[error("no memory was left")]
+    #[error("out of memory")]
     OutOfMemory,
 }
 
@@ -105,7 +105,7 @@ pub enum JoinRefused {
     #[error("no further connection can join")]
     TooManyConnections,
     /// No memory was left.
-    #[error("no memory was left")]
+    #[error("out of memory")]
     OutOfMemory,
 }
 

@@ -22,7 +22,7 @@ pub enum SessionRefused {
     #[error("the connection has no such session")]
     NoSession,
     /// No memory was left.
-    #[error("no memory was left")]
+    #[error("out of memory")]
     OutOfMemory,
 }
 
