@@ -4,3 +4,4 @@ pub mod ThereLemmas
 pub mod KeptLemmas
 pub mod PairLemmas
 pub mod FindLemmas
+pub mod HeightLemmas

@@ -1,5 +1,5 @@
 -- An id that is put or taken out on one side of a branch, or at its own pair.
-use Rattle.std.proofs.Common.{◌≡◌, ◌==◌, ℕ, Bool, true, false, cond, List, [], ◌∷◌, ◌++◌, Option, Some, None, Result, length, arith, refl, sym, ap, ◌∙◌}
+use Rattle.std.proofs.Common.{◌≡◌, ◌==◌, ℕ, Bool, true, false, cond, List, [], ◌∷◌, ◌++◌, Option, Some, None, Result, length, length-append, arith, refl, sym, ap, ◌∙◌}
 use Rattle.std.specs.Prelude.{OnOk, OnErr}
 use Rattle.std.specs.Map.{lookup, set_value}
 use Rattle.std.specs.Ordering.{is_eq}
@@ -121,3 +121,17 @@ module _ (was own : Around) (view : was ≡ own) (s : IsSorted (all_of own)) (k 
       let w : List ℕ = without_id id (or_none (lookup (is_pair k) (all_of own))) in
       let kept = written-after own (all_of own) own.before own.after refl s k w (sym more) ∙ ap (λ l. between own.before own (set_value (is_pair k) l w)) (on-after [] is) ∙ ap (between own.before own) (sym (on-after [] is)) in
       (same ∙ sym kept, sym (ap is_none_left (ap (lookup (is_pair k)) same ∙ none)))
+
+-- ---- how many pairs there are
+
+module _ (was own : Around) (view : was ≡ own) (rest now : Names) where
+  pub count-before : (side new : Names) → was.before ≡ side → was.after ≡ rest → length new ≡ length side → now ≡ between new was rest → length now ≡ length (all_of own)
+  count-before side new is other same at =
+      omega (arith, ap (λ l. length l) at, length-append new (((was.name, was.text), was.ids) ∷ rest), same, ap (λ l. length l) is, ap (λ l. length l) other, length-append was.before (((was.name, was.text), was.ids) ∷ was.after), ap (λ (a : Around). length (all_of a)) view)
+
+  pub count-after : (side new : Names) → was.after ≡ side → was.before ≡ rest → length new ≡ length side → now ≡ between rest was new → length now ≡ length (all_of own)
+  count-after side new is other same at =
+      omega (arith, ap (λ l. length l) at, length-append rest (((was.name, was.text), was.ids) ∷ new), same, ap (λ l. length l) is, ap (λ l. length l) other, length-append was.before (((was.name, was.text), was.ids) ∷ was.after), ap (λ (a : Around). length (all_of a)) view)
+
+pub count-same : (was own : Around) (now : Names) → was ≡ own → now ≡ all_of was → length now ≡ length (all_of own)
+count-same was own now view at = ap (λ l. length l) at ∙ ap (λ (a : Around). length (all_of a)) view

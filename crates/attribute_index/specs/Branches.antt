@@ -1,8 +1,9 @@
--- The pairs before and after a branch's own.
-use Rattle.std.specs.Prelude.{[], Option, Some, None}
+-- The pairs before and after a branch's own, and the heights of these two sides.
+use Rattle.std.specs.Prelude.{◌≡◌, ℕ, ◌+◌, ◌<◌, ◌≤◌, max, [], length, Option, Some, None}
 use Rattle.std.specs.declared.alloc.Global.{Global}
 use Rattle.std.proofs.Common.{Box}
-use Rattle.attribute_index.specs.Around.{all_of}
+use Rattle.attribute_index.specs.Around.{all_of, height}
+use Rattle.attribute_index.specs.Heights.{DifferByAtMost, fewest, greatest_height}
 use Rattle.attribute_index.specs.Index.{Names}
 use Rattle.attribute_index.specs.declared.branch.Branch.{Branch}
 use Rattle.attribute_index.specs.declared.branch.Sides.{Sides}
@@ -26,3 +27,41 @@ pairs_after (Both h b c) = all_of c.value
 abbrev pub pairs_of : Option (Box Branch Global) → Names
 pairs_of None = []
 pairs_of (Some b) = all_of b.value
+
+-- the height of the pairs before
+abbrev pub height_before : Sides → ℕ
+height_before Neither = 0
+height_before (Before b) = height b.value
+height_before (After b) = 0
+height_before (Both h b c) = height b.value
+
+-- the height of the pairs after
+abbrev pub height_after : Sides → ℕ
+height_after Neither = 0
+height_after (Before b) = 0
+height_after (After b) = height b.value
+height_after (Both h b c) = height c.value
+
+-- the height of a branch, where there is one
+abbrev pub height_of : Option (Box Branch Global) → ℕ
+height_of None = 0
+height_of (Some b) = height b.value
+
+-- the height of the higher side
+abbrev pub higher : Sides → ℕ
+higher sides = max (height_before sides) (height_after sides)
+
+-- the height that a pair with two sides keeps is its own
+abbrev pub IsHeightKept : Sides → Type 0
+IsHeightKept Neither = Unit {0}
+IsHeightKept (Before b) = Unit {0}
+IsHeightKept (After b) = Unit {0}
+IsHeightKept (Both h b c) = h ≡ higher (Both h b c) + 1
+
+-- the heights of the two sides differ by at most one, the height that is kept is right and fits, and there are as many pairs as a tree of
+-- that height has at least
+pub record IsBalanced (sides : Sides) : Type 0 where
+  pub alike : DifferByAtMost 1 (height_before sides) (height_after sides)
+  pub kept : IsHeightKept sides
+  pub fits : higher sides < greatest_height
+  pub many : fewest (higher sides + 1) ≤ length (pairs_before sides) + length (pairs_after sides) + 1

@@ -1,3 +1,4 @@
 pub mod Around
 pub mod Branches
+pub mod Heights
 pub mod Index

@@ -14,8 +14,7 @@ pub struct Branch {
 }
 
 /// The pairs before and after a pair. The heights of the two sides differ by at most one (an AVL tree), so a
-/// side without another has height 1, and only a pair with two sides has to keep its height. No contract
-/// mentions heights: a wrong one would cost time, but change no result.
+/// side without another has height 1, and only a pair with two sides has to keep its height.
 #[cycle(branches)]
 #[derive(Drop)]
 pub enum Sides {
@@ -30,7 +29,7 @@ impl Model for Branch {
 
     ghost Value = { Around };
 
-    ghost use Rattle.attribute_index.specs.Branches.{pairs_before, pairs_after};
+    ghost use Rattle.attribute_index.specs.Branches.{IsBalanced, higher, pairs_before, pairs_after};
 
     ghost view = { λ b. record {
       before = pairs_before b.sides;
@@ -38,7 +37,10 @@ impl Model for Branch {
       text = b.text;
       ids = b.ids;
       after = pairs_after b.sides;
+      under = higher b.sides;
     } };
+
+    ghost invariant = { λ b. IsBalanced b.sides };
 
     ghost use Rattle.std.specs.Prelude.{length};
     ghost use Rattle.attribute_index.specs.Around.{all_of};

@@ -1,9 +1,10 @@
-ghost use Rattle.std.specs.Prelude.{◌≡◌, [], ◌∷◌, ◌++◌, None, OnOk, OnErr, IfOk};
+ghost use Rattle.std.specs.Prelude.{◌≡◌, ◌+◌, ◌<◌, ◌≤◌, max, [], ◌∷◌, ◌++◌, None, OnOk, OnErr, IfOk, length, nat_le};
 ghost use Rattle.std.specs.Map.{lookup, remove_entry};
 ghost use Rattle.std.specs.Option.{option_copied};
 ghost use Rattle.std.specs.Ordering.{is_lt};
-ghost use Rattle.attribute_index.specs.Around.{all_of, between, with_own};
-ghost use Rattle.attribute_index.specs.Branches.{pairs_after, pairs_before, pairs_of};
+ghost use Rattle.attribute_index.specs.Around.{all_of, between, height as height_in, with_own};
+ghost use Rattle.attribute_index.specs.Branches.{IsBalanced, height_after, height_before, height_of as height_in_side, pairs_after, pairs_before, pairs_of};
+ghost use Rattle.attribute_index.specs.Heights.{DifferByAtMost, IsGrown, fewest, greatest_height};
 ghost use Rattle.attribute_index.specs.Index.{IsLean, IsPut, IsPutThere, IsSame, IsSorted, IsTaken, IsTakenThere, is_pair, is_this, pair_cmp};
 
 use crate::branch::{Branch, Sides};
@@ -34,7 +35,10 @@ fn is_before(one: &Branch, other: &Branch) -> bool
 }
 
 /// The height of a branch: how many pairs there are on the longest way down, with its own.
-fn height(branch: &Branch) -> u8 {
+fn height(branch: &Branch) -> u8
+    ensures height { result ≡ height_in branch.now }
+    ensures many { fewest (height_in branch.now) ≤ length (all_of branch.now) }
+{
     match &branch.sides {
         Sides::Neither => 1,
         Sides::Before(_) => 2,
@@ -44,7 +48,9 @@ fn height(branch: &Branch) -> u8 {
 }
 
 /// The height of a side.
-fn height_of(side: &Option<Box<Branch>>) -> u8 {
+fn height_of(side: &Option<Box<Branch>>) -> u8
+    ensures { result ≡ height_in_side side.now }
+{
     match side {
         Some(branch) => height(branch),
         None => 0,
@@ -53,8 +59,13 @@ fn height_of(side: &Option<Box<Branch>>) -> u8 {
 
 /// These two sides in as little memory as they need.
 fn joined_sides(before: Option<Box<Branch>>, after: Option<Box<Branch>>) -> Sides
+    requires alike { DifferByAtMost 1 (height_in_side before) (height_in_side after) }
+    requires fits { max (height_in_side before) (height_in_side after) < greatest_height }
     ensures before { pairs_before result ≡ pairs_of before }
     ensures after { pairs_after result ≡ pairs_of after }
+    ensures height_before { height_before result ≡ height_in_side before }
+    ensures height_after { height_after result ≡ height_in_side after }
+    ensures balanced { IsBalanced result }
 {
     match before {
         None => match after {
@@ -64,7 +75,7 @@ fn joined_sides(before: Option<Box<Branch>>, after: Option<Box<Branch>>) -> Side
         Some(before) => match after {
             None => Sides::Before(before),
             Some(after) => {
-                let height = height(&before).max(height(&after)).saturating_add(1);
+                let height = height(&before).max(height(&after)) + 1;
                 Sides::Both(height, before, after)
             }
         },
@@ -78,6 +89,10 @@ fn take_sides(branch: &mut Branch) -> (Option<Box<Branch>>, Option<Box<Branch>>)
     ensures name { branch.new.name ≡ branch.old.name }
     ensures text { branch.new.text ≡ branch.old.text }
     ensures ids { branch.new.ids ≡ branch.old.ids }
+    ensures under { branch.old.under
+        ≡ max (height_in_side result.0) (height_in_side result.1) }
+    ensures alike { DifferByAtMost 1 (height_in_side result.0) (height_in_side result.1) }
+    ensures fits { branch.old.under < greatest_height }
 {
     match mem::replace(&mut branch.sides, Sides::Neither) {
         Sides::Neither => (None, None),
@@ -89,7 +104,12 @@ fn take_sides(branch: &mut Branch) -> (Option<Box<Branch>>, Option<Box<Branch>>)
 
 /// A branch taken apart: the pairs before it, the branch without its sides, and the pairs after it.
 fn parted(branch: Box<Branch>) -> (Option<Box<Branch>>, Box<Branch>, Option<Box<Branch>>)
-    ensures { all_of branch.value ≡ between (pairs_of result.0) result.1.value (pairs_of result.2) }
+    ensures pairs { all_of branch.value
+        ≡ between (pairs_of result.0) result.1.value (pairs_of result.2) }
+    ensures under { branch.value.under
+        ≡ max (height_in_side result.0) (height_in_side result.2) }
+    ensures alike { DifferByAtMost 1 (height_in_side result.0) (height_in_side result.2) }
+    ensures fits { branch.value.under < greatest_height }
 {
     let mut branch = branch;
     let (before, after) = take_sides(&mut branch);
@@ -102,7 +122,12 @@ fn with_sides(
     before: Option<Box<Branch>>,
     after: Option<Box<Branch>>,
 ) -> Box<Branch>
-    ensures { all_of result.value ≡ between (pairs_of before) branch.value (pairs_of after) }
+    requires alike { DifferByAtMost 1 (height_in_side before) (height_in_side after) }
+    requires fits { max (height_in_side before) (height_in_side after) < greatest_height }
+    ensures pairs { all_of result.value
+        ≡ between (pairs_of before) branch.value (pairs_of after) }
+    ensures under { result.value.under
+        ≡ max (height_in_side before) (height_in_side after) }
 {
     let mut branch = branch;
     branch.sides = joined_sides(before, after);
@@ -111,14 +136,18 @@ fn with_sides(
 
 /// A branch with these sides, of which the one before it is higher by two, and is rotated.
 fn lean_before(branch: Box<Branch>, before: Box<Branch>, after: Option<Box<Branch>>) -> Box<Branch>
-    ensures { all_of result.value ≡ between (all_of before.value) branch.value (pairs_of after) }
+    requires lean { height_in before.value ≡ height_in_side after + 2 }
+    requires fits { height_in before.value < greatest_height }
+    ensures pairs { all_of result.value
+        ≡ between (all_of before.value) branch.value (pairs_of after) }
+    ensures height { IsGrown (height_in before.value) (height_in result.value) }
 {
     let (outer, before, inner) = parted(before);
     if height_of(&outer) >= height_of(&inner) {
         return with_sides(before, outer, Some(with_sides(branch, inner, after)));
     }
     match inner {
-        None => with_sides(before, outer, Some(with_sides(branch, None, after))),
+        None => unreachable!(),
         Some(inner) => {
             let (low, inner, high) = parted(inner);
             with_sides(
@@ -132,14 +161,18 @@ fn lean_before(branch: Box<Branch>, before: Box<Branch>, after: Option<Box<Branc
 
 /// A branch with these sides, of which the one after it is higher by two, and is rotated.
 fn lean_after(branch: Box<Branch>, before: Option<Box<Branch>>, after: Box<Branch>) -> Box<Branch>
-    ensures { all_of result.value ≡ between (pairs_of before) branch.value (all_of after.value) }
+    requires lean { height_in after.value ≡ height_in_side before + 2 }
+    requires fits { height_in after.value < greatest_height }
+    ensures pairs { all_of result.value
+        ≡ between (pairs_of before) branch.value (all_of after.value) }
+    ensures height { IsGrown (height_in after.value) (height_in result.value) }
 {
     let (inner, after, outer) = parted(after);
     if height_of(&outer) >= height_of(&inner) {
         return with_sides(after, Some(with_sides(branch, before, inner)), outer);
     }
     match inner {
-        None => with_sides(after, Some(with_sides(branch, before, None)), outer),
+        None => unreachable!(),
         Some(inner) => {
             let (low, inner, high) = parted(inner);
             with_sides(
@@ -158,29 +191,38 @@ fn balanced(
     before: Option<Box<Branch>>,
     after: Option<Box<Branch>>,
 ) -> Box<Branch>
-    ensures { all_of result.value ≡ between (pairs_of before) branch.value (pairs_of after) }
+    requires alike { DifferByAtMost 2 (height_in_side before) (height_in_side after) }
+    requires fits { max (height_in_side before) (height_in_side after) < greatest_height }
+    ensures pairs { all_of result.value
+        ≡ between (pairs_of before) branch.value (pairs_of after) }
+    ensures height { IsGrown (max (height_in_side before) (height_in_side after))
+        (height_in result.value) }
+    ensures alike { DifferByAtMost 1 (height_in_side before) (height_in_side after)
+        → height_in result.value ≡ max (height_in_side before) (height_in_side after) + 1 }
 {
     let low = height_of(&before);
     let high = height_of(&after);
-    if low > high.saturating_add(1) {
-        if let Some(before) = before {
-            return lean_before(branch, before, after);
-        }
-        return with_sides(branch, None, after);
+    if low > high + 1 {
+        return match before {
+            Some(before) => lean_before(branch, before, after),
+            None => unreachable!(),
+        };
     }
-    if high > low.saturating_add(1) {
-        if let Some(after) = after {
-            return lean_after(branch, before, after);
-        }
-        return with_sides(branch, before, None);
+    if high > low + 1 {
+        return match after {
+            Some(after) => lean_after(branch, before, after),
+            None => unreachable!(),
+        };
     }
     with_sides(branch, before, after)
 }
 
 /// The pairs with one more, which isn't among them yet.
 fn with_branch(pairs: Option<Box<Branch>>, own: Box<Branch>) -> Box<Branch>
-    requires { IsSorted (pairs_of pairs) }
-    ensures { all_of result.value ≡ with_own own.value (pairs_of pairs) }
+    requires sorted { IsSorted (pairs_of pairs) }
+    requires fits { height_in_side pairs < greatest_height }
+    ensures pairs { all_of result.value ≡ with_own own.value (pairs_of pairs) }
+    ensures height { IsGrown (height_in_side pairs) (height_in result.value) }
 {
     let branch = match pairs {
         Some(branch) => branch,
@@ -197,7 +239,8 @@ fn with_branch(pairs: Option<Box<Branch>>, own: Box<Branch>) -> Box<Branch>
 
 /// The pairs without the last one, and the last one.
 fn without_last(pairs: Box<Branch>) -> (Option<Box<Branch>>, Box<Branch>)
-    ensures { all_of pairs.value ≡ between (pairs_of result.0) result.1.value [] }
+    ensures pairs { all_of pairs.value ≡ between (pairs_of result.0) result.1.value [] }
+    ensures height { IsGrown (height_in_side result.0) (height_in pairs.value) }
 {
     let (before, branch, after) = parted(pairs);
     match after {
@@ -211,7 +254,11 @@ fn without_last(pairs: Box<Branch>) -> (Option<Box<Branch>>, Box<Branch>)
 
 /// The pairs before and after one that is removed.
 fn joined(before: Option<Box<Branch>>, after: Option<Box<Branch>>) -> Option<Box<Branch>>
-    ensures { pairs_of result ≡ pairs_of before ++ pairs_of after }
+    requires alike { DifferByAtMost 1 (height_in_side before) (height_in_side after) }
+    requires fits { max (height_in_side before) (height_in_side after) < greatest_height }
+    ensures pairs { pairs_of result ≡ pairs_of before ++ pairs_of after }
+    ensures height { IsGrown (max (height_in_side before) (height_in_side after))
+        (height_in_side result) }
 {
     match before {
         None => after,
@@ -225,7 +272,9 @@ fn joined(before: Option<Box<Branch>>, after: Option<Box<Branch>>) -> Option<Box
 /// The pairs without this one.
 fn without_pair(pairs: Option<Box<Branch>>, name: &Text, text: &Text) -> Option<Box<Branch>>
     requires { IsSorted (pairs_of pairs) }
-    ensures { pairs_of result ≡ remove_entry (is_pair (name.now, text.now)) (pairs_of pairs) }
+    ensures pairs { pairs_of result
+        ≡ remove_entry (is_pair (name.now, text.now)) (pairs_of pairs) }
+    ensures height { IsGrown (height_in_side result) (height_in_side pairs) }
 {
     let branch = match pairs {
         Some(branch) => branch,
@@ -277,8 +326,10 @@ impl Branch {
         id: ItemId,
     ) -> Option<Result<(), OutOfMemory>>
         requires { IsSorted (all_of self.old) }
-        ensures { IsPutThere result (name.now, text.now) id.0
+        ensures put { IsPutThere result (name.now, text.now) id.0
             (all_of self.old) (all_of self.new) }
+        ensures under { self.new.under ≡ self.old.under }
+        ensures count { length (all_of self.new) ≡ length (all_of self.old) }
     {
         match order(name, text, self) {
             Ordering::Equal => Some(self.ids.insert(alloc, id)),
@@ -300,8 +351,10 @@ impl Branch {
     /// Takes an id out of a pair, and returns whether the pair is there and has none left.
     fn take(&mut self, alloc: Global, name: &Text, text: &Text, id: ItemId) -> bool
         requires { IsSorted (all_of self.old) }
-        ensures { IsTakenThere result (name.now, text.now) id.0
+        ensures taken { IsTakenThere result (name.now, text.now) id.0
             (all_of self.old) (all_of self.new) }
+        ensures under { self.new.under ≡ self.old.under }
+        ensures count { length (all_of self.new) ≡ length (all_of self.old) }
     {
         match order(name, text, self) {
             Ordering::Equal => {
@@ -383,6 +436,16 @@ fn put_there(
     }
 }
 
+/// The greatest height that a branch can keep.
+const GREATEST_HEIGHT: u8 = u8::MAX;
+
+/// Whether a tree has that height. There is no memory for half as many levels.
+fn is_full(root: &Option<Box<Branch>>) -> bool
+    ensures { result ≡ nat_le greatest_height (height_in_side root.now) }
+{
+    height_of(root) >= GREATEST_HEIGHT
+}
+
 /// Puts an id at a new pair.
 fn put_new(
     alloc: Global,
@@ -399,6 +462,9 @@ fn put_new(
     ensures unchanged { OnErr result (pairs_of root.new ≡ pairs_of root.old) }
     ensures lean { IsLean (pairs_of root.old) → IsLean (pairs_of root.new) }
 {
+    if is_full(root) {
+        return Err(AllocError);
+    }
     match branch_of_one(alloc, name, text, id) {
         Ok(own) => {
             let pairs = with_branch(root.take(), own);

@@ -12,7 +12,7 @@ without_pair-pairs-requires c =
 
 pub returns-then-take_there : goal.returns-then-take_there
 returns-then-take_there c =
-    let gone = c.without_pair-pairs.ensures ∙ ap (λ o. remove_entry (is_pair (c.args.name.now, c.args.text.now)) (pairs_of o)) c.take.ensures.value in
+    let gone = c.without_pair-pairs.ensures.pairs ∙ ap (λ o. remove_entry (is_pair (c.args.name.now, c.args.text.now)) (pairs_of o)) c.take.ensures.value in
     let kept = take-gone c.args.name.now c.args.text.now c.args.id.0 c.take_there.result _ _ _ c.if-take_there.true c.requires c.take_there.ensures gone in
     record { sorted = kept.sorted; taken = kept.taken; lean = kept.lean }
 

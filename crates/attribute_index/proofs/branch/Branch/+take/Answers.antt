@@ -3,7 +3,7 @@ use Rattle.attribute_index.specs.Around.{Around, all_of}
 use Rattle.attribute_index.specs.Branches.{pairs_after, pairs_before}
 use Rattle.attribute_index.specs.Index.{IsSorted}
 use Rattle.attribute_index.proofs.BranchLemmas.{are-before, are-after, fewer-before, fewer-after}
-use Rattle.attribute_index.proofs.ThereLemmas.{take-before, take-after, take-same, take-none-before, take-none-after}
+use Rattle.attribute_index.proofs.ThereLemmas.{count-after, count-before, count-same, take-before, take-after, take-same, take-none-before, take-none-after}
 use Rattle.attribute_index.proofs.branch.Branch.+take.Goals as goal
 use Rattle.attribute_index.proofs.branch.Branch.+take.Goals.{in-Before, in-Both, in-After, in-Neither, in-After-sides, in-Both-sides, in-Before-sides, in-Neither-sides}
 
@@ -35,23 +35,42 @@ take-requires-in-Both-sides t c =
     let s = subst IsSorted side (are-after own (all_of own) own.before own.after refl c.requires) in
     rw c.deref_mut-in-Both-sides.ensures.value (omega (arith, c.decreases, ap (λ l. length l) side, fewer-after own (all_of own) own.before own.after refl), s)
 
-pub returns-in-Equal : goal.returns-in-Equal
-returns-in-Equal t c = take-same _ c.args.self.now c.self.view_is c.requires (c.args.name.now, c.args.text.now) c.args.id.0 _ _ _ c.in-Equal.ensures c.remove.ensures c.len.ensures.value refl
+pub returns-in-Equal-clause-taken : goal.returns-in-Equal-clause-taken
+returns-in-Equal-clause-taken t c = take-same _ c.args.self.now c.self.view_is c.requires (c.args.name.now, c.args.text.now) c.args.id.0 _ _ _ c.in-Equal.ensures c.remove.ensures c.len.ensures.value refl
 
-pub returns-after-self : goal.returns-after-self
-returns-after-self t c =
+pub returns-after-self-clause-taken : goal.returns-after-self-clause-taken
+returns-after-self-clause-taken t c =
     elim c.match-self.branch [
-      | in-Before w ↦ rw (w.self-inside-is, w.result-is) (take-before _ c.args.self.now c.self.view_is c.requires (c.args.name.now, c.args.text.now) c.args.id.0 _ _ _ _ (ap pairs_before w.in-Before.is) c.in-Less.ensures (rw w.deref_mut.ensures.value at w.take.ensures) _ (ap pairs_after w.in-Before.is) refl)
-      | in-Both w ↦ rw (w.self-inside-is, w.result-is) (take-before _ c.args.self.now c.self.view_is c.requires (c.args.name.now, c.args.text.now) c.args.id.0 _ _ _ _ (ap pairs_before w.in-Both.is) c.in-Less.ensures (rw w.deref_mut-in-Both.ensures.value at w.take-in-Both.ensures) _ (ap pairs_after w.in-Both.is) refl)
+      | in-Before w ↦ rw (w.self-inside-is, w.result-is) (take-before _ c.args.self.now c.self.view_is c.requires (c.args.name.now, c.args.text.now) c.args.id.0 _ _ _ _ (ap pairs_before w.in-Before.is) c.in-Less.ensures (rw w.deref_mut.ensures.value at w.take.ensures.taken) _ (ap pairs_after w.in-Before.is) refl)
+      | in-Both w ↦ rw (w.self-inside-is, w.result-is) (take-before _ c.args.self.now c.self.view_is c.requires (c.args.name.now, c.args.text.now) c.args.id.0 _ _ _ _ (ap pairs_before w.in-Both.is) c.in-Less.ensures (rw w.deref_mut-in-Both.ensures.value at w.take-in-Both.ensures.taken) _ (ap pairs_after w.in-Both.is) refl)
       | in-After w ↦ rw (w.self-inside-is, w.result-is) (take-none-before _ c.args.self.now c.self.view_is c.requires (c.args.name.now, c.args.text.now) c.args.id.0 _ (ap pairs_before w.in-After.is) c.in-Less.ensures refl)
       | in-Neither w ↦ rw (w.self-inside-is, w.result-is) (take-none-before _ c.args.self.now c.self.view_is c.requires (c.args.name.now, c.args.text.now) c.args.id.0 _ (ap pairs_before w.in-Neither.is) c.in-Less.ensures refl)
     ]
 
-pub returns-after-self-2 : goal.returns-after-self-2
-returns-after-self-2 t c =
+pub returns-after-self-2-clause-taken : goal.returns-after-self-2-clause-taken
+returns-after-self-2-clause-taken t c =
     elim c.match-self-2.branch [
-      | in-After-sides w ↦ rw (w.self-inside-is, w.result-is) (take-after _ c.args.self.now c.self.view_is c.requires (c.args.name.now, c.args.text.now) c.args.id.0 _ _ _ _ (ap pairs_after w.in-After-sides.is) c.in-Greater.ensures (rw w.deref_mut-in-After-sides.ensures.value at w.take-in-After-sides.ensures) _ (ap pairs_before w.in-After-sides.is) refl)
-      | in-Both-sides w ↦ rw (w.self-inside-is, w.result-is) (take-after _ c.args.self.now c.self.view_is c.requires (c.args.name.now, c.args.text.now) c.args.id.0 _ _ _ _ (ap pairs_after w.in-Both-sides.is) c.in-Greater.ensures (rw w.deref_mut-in-Both-sides.ensures.value at w.take-in-Both-sides.ensures) _ (ap pairs_before w.in-Both-sides.is) refl)
+      | in-After-sides w ↦ rw (w.self-inside-is, w.result-is) (take-after _ c.args.self.now c.self.view_is c.requires (c.args.name.now, c.args.text.now) c.args.id.0 _ _ _ _ (ap pairs_after w.in-After-sides.is) c.in-Greater.ensures (rw w.deref_mut-in-After-sides.ensures.value at w.take-in-After-sides.ensures.taken) _ (ap pairs_before w.in-After-sides.is) refl)
+      | in-Both-sides w ↦ rw (w.self-inside-is, w.result-is) (take-after _ c.args.self.now c.self.view_is c.requires (c.args.name.now, c.args.text.now) c.args.id.0 _ _ _ _ (ap pairs_after w.in-Both-sides.is) c.in-Greater.ensures (rw w.deref_mut-in-Both-sides.ensures.value at w.take-in-Both-sides.ensures.taken) _ (ap pairs_before w.in-Both-sides.is) refl)
       | in-Before-sides w ↦ rw (w.self-inside-is, w.result-is) (take-none-after _ c.args.self.now c.self.view_is c.requires (c.args.name.now, c.args.text.now) c.args.id.0 _ (ap pairs_after w.in-Before-sides.is) c.in-Greater.ensures refl)
       | in-Neither-sides w ↦ rw (w.self-inside-is, w.result-is) (take-none-after _ c.args.self.now c.self.view_is c.requires (c.args.name.now, c.args.text.now) c.args.id.0 _ (ap pairs_after w.in-Neither-sides.is) c.in-Greater.ensures refl)
+    ]
+
+-- as many pairs as before
+pub returns-after-self-clause-count : goal.returns-after-self-clause-count
+returns-after-self-clause-count t c =
+    elim c.match-self.branch [
+      | in-Before w ↦ rw w.self-inside-is (count-before _ c.args.self.now c.self.view_is _ _ _ _ (ap pairs_before w.in-Before.is) (ap pairs_after w.in-Before.is) (rw w.deref_mut.ensures.value at w.take.ensures.count) refl)
+      | in-Both w ↦ rw w.self-inside-is (count-before _ c.args.self.now c.self.view_is _ _ _ _ (ap pairs_before w.in-Both.is) (ap pairs_after w.in-Both.is) (rw w.deref_mut-in-Both.ensures.value at w.take-in-Both.ensures.count) refl)
+      | in-After w ↦ rw w.self-inside-is (count-same _ c.args.self.now _ c.self.view_is refl)
+      | in-Neither w ↦ rw w.self-inside-is (count-same _ c.args.self.now _ c.self.view_is refl)
+    ]
+
+pub returns-after-self-2-clause-count : goal.returns-after-self-2-clause-count
+returns-after-self-2-clause-count t c =
+    elim c.match-self-2.branch [
+      | in-After-sides w ↦ rw w.self-inside-is (count-after _ c.args.self.now c.self.view_is _ _ _ _ (ap pairs_after w.in-After-sides.is) (ap pairs_before w.in-After-sides.is) (rw w.deref_mut-in-After-sides.ensures.value at w.take-in-After-sides.ensures.count) refl)
+      | in-Both-sides w ↦ rw w.self-inside-is (count-after _ c.args.self.now c.self.view_is _ _ _ _ (ap pairs_after w.in-Both-sides.is) (ap pairs_before w.in-Both-sides.is) (rw w.deref_mut-in-Both-sides.ensures.value at w.take-in-Both-sides.ensures.count) refl)
+      | in-Before-sides w ↦ rw w.self-inside-is (count-same _ c.args.self.now _ c.self.view_is refl)
+      | in-Neither-sides w ↦ rw w.self-inside-is (count-same _ c.args.self.now _ c.self.view_is refl)
     ]
