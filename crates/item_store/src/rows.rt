@@ -31,10 +31,13 @@ fn last_number(rows: &BTreeMap<u32, Row>) -> u32
 }
 
 /// The greatest number that a row can have.
+const GREATEST_NUMBER: u32 = u32::MAX;
+
+/// The greatest number that a row can have, as the definitions have it.
 fn greatest() -> u32
     ensures { result ≡ greatest_id }
 {
-    u32::MAX
+    GREATEST_NUMBER
 }
 
 /// The number of a new row; None if the greatest one is taken.

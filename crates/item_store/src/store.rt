@@ -45,11 +45,14 @@ pub fn store_of(rows: BTreeMap<u32, Row>, index: AttributeIndex) -> ItemStore
     ItemStore { rows, index }
 }
 
-/// How many attributes an item may be given.
+/// The most attributes that a call may give an item.
+const MOST_ATTRIBUTES: usize = 256;
+
+/// The most attributes that a call may give an item, as the definitions have it.
 fn most() -> usize
     ensures { result ≡ most_attributes }
 {
-    256
+    MOST_ATTRIBUTES
 }
 
 impl ItemStore {
