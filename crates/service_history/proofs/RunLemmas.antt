@@ -8,7 +8,7 @@ use Rattle.service_machine.specs.declared.event.Event.TheVariants as event
 use Rattle.service_machine.specs.declared.event.Incoming.{Incoming}
 use Rattle.service_machine.specs.declared.event.Output.{Output}
 use Rattle.service_machine.specs.Replay.{Legal, cost}
-use Rattle.service_history.specs.History.{History, opened_history, cut_where_due, with_event, IsRecorded, taken_by, left_by, gone_by}
+use Rattle.service_history.specs.History.{History, opened_history, cut_where_due, with_event, Stores, IsRecorded, taken_by, left_by, gone_by}
 use Rattle.service_history.specs.Limits.{most_stored, most_cost}
 use Rattle.service_history.specs.Runs.{GoesOn, Follows, AreCalls, windows_of}
 use Rattle.service_history.specs.Windows.{Window, is_due, first_window, next_window, Begins, AreInRow, AreWindows}
@@ -30,14 +30,17 @@ cut-some : (events : List Event) → (nat_le most_stored (length events) || nat_
 cut-some [] due = let no : ⊥ = cc in absurd no
 cut-some (event ∷ events) due = omega arith
 
-pub recorded_follows : (old new : History) (came : Incoming) (answer : Output) → IsRecorded old came answer new → Follows old.window new.window
-recorded_follows old new came answer so =
-    let pass : (b : Bool) → is_due old.window ≡ b → Follows old.window (with_event so.event (cut_where_due old)).window =
+pub stored_follows : (old new : History) (event : Event) → Stores old event new → Follows old.window new.window
+stored_follows old new event so =
+    let pass : (b : Bool) → is_due old.window ≡ b → Follows old.window (with_event event (cut_where_due old)).window =
     elim [
-      | true ↦ λ is. rw is (inr (record { some = cut-some old.window.events is; next = record { more = so.event ∷ []; is = refl } }))
-      | false ↦ λ is. rw is (inl (one-more so.event old))
+      | true ↦ λ is. rw is (inr (record { some = cut-some old.window.events is; next = record { more = event ∷ []; is = refl } }))
+      | false ↦ λ is. rw is (inl (one-more event old))
     ] in
     subst (λ (h : History). Follows old.window h.window) (sym so.appends) (pass (is_due old.window) refl)
+
+pub recorded_follows : (old new : History) (came : Incoming) (answer : Output) → IsRecorded old came answer new → Follows old.window new.window
+recorded_follows old new came answer so = stored_follows old new so.event (record { fits = so.fits; appends = so.appends })
 
 pub take_goes : (conn : ConnId) (desk : Option DeskRow) (old : History) → GoesOn old.window (taken_by conn desk old).window
 take_goes conn None old = same-window old.window

@@ -1,12 +1,13 @@
 // What the definitions of histories and windows say together. Each law is the contract of a function
 // that does nothing.
 ghost use Rattle.std.specs.Prelude.{◌≡◌, ◌++◌, ◌∷◌, [], List, length};
+ghost use Rattle.service_machine.specs.declared.event.Event.{Event};
 ghost use Rattle.service_machine.specs.declared.event.Incoming.{Incoming};
 ghost use Rattle.service_machine.specs.declared.event.Output.{Output};
 ghost use Rattle.service_machine.specs.Step.{opened_rows};
 ghost use Rattle.service_machine.specs.Replay.{replay, Legal, outputs};
 ghost use Rattle.kr_base.specs.declared.ids.ConnId.{ConnId};
-ghost use Rattle.service_history.specs.History.{History, opened_history, IsHistory, IsRecorded, IsAppended, told, taken_by, left_by, gone_by};
+ghost use Rattle.service_history.specs.History.{History, opened_history, IsHistory, Stores, IsRecorded, IsAppended, told, taken_by, left_by, gone_by};
 ghost use Rattle.service_history.specs.Runs.{GoesOn, Follows, AreCalls, windows_of};
 ghost use Rattle.service_history.specs.Windows.{Window, first_window, AreWindows, history_of, window_behind};
 
@@ -23,8 +24,10 @@ pub fn windows_are_one_history()
 
 /// Each call of a service goes on in its window, or ends it and begins the next one: so the windows that
 /// a service is in, one call after another, are the windows of a run.
-#[tactic(auto, using(crate::proofs::RunLemmas::recorded_follows, crate::proofs::RunLemmas::take_goes, crate::proofs::RunLemmas::leave_goes, crate::proofs::RunLemmas::gone_goes, crate::proofs::RunLemmas::calls_row))]
+#[tactic(auto, using(crate::proofs::RunLemmas::stored_follows, crate::proofs::RunLemmas::recorded_follows, crate::proofs::RunLemmas::take_goes, crate::proofs::RunLemmas::leave_goes, crate::proofs::RunLemmas::gone_goes, crate::proofs::RunLemmas::calls_row))]
 pub fn calls_yield_windows_in_a_row()
+    ensures stores { (old new : History) (event : Event) → Stores old event new
+        → Follows old.window new.window }
     ensures event { (old new : History) (came : Incoming) (answer : Output)
         → IsRecorded old came answer new → Follows old.window new.window }
     ensures take { (old : History) (conn : ConnId)
