@@ -1,4 +1,4 @@
-// Services over folders in memory.
+// Services over folders in memory, and what lends them to a test.
 ghost use Rattle.std.specs.Prelude.{◌≡◌, []};
 
 use kr_memory_disk::MemoryFolder;
@@ -25,4 +25,13 @@ pub fn machine_over_nothing(alloc: Global) -> Result<Machine, Fail> {
 /// A service over a folder without files.
 pub fn service_over_nothing(alloc: Global) -> Result<Service, Fail> {
     Ok(Service::open(alloc, no_files(alloc))?)
+}
+
+/// Lends a value to a test, and drops it then. The drop is here, where the type isn't known: in a
+/// function that knows it, the prover takes seconds for each drop.
+pub fn over<T: Drop, L: FnOnce(&mut T) -> Result<(), Fail>>(value: T, test: L) -> Result<(), Fail>
+    requires { L.IsAlwaysCallable test }
+{
+    let mut value = value;
+    test(&mut value)
 }

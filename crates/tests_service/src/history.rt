@@ -1,5 +1,5 @@
 use crate::checks::{cell, same_number, same_text};
-use crate::folders::{Service, service_over_nothing};
+use crate::folders::{Service, over, service_over_nothing};
 use crate::words::{call_of, decimal, last_told, session_told};
 use kr_base::ConnId;
 use secret_calls::{Call, CallFault, Request, Serial, Taken};
@@ -161,14 +161,20 @@ fn does(service: &mut Service, what: &str) -> Result<&'static str, Fail> {
     Ok("")
 }
 
-#[test]
-fn a_connection_that_left_is_closed_once_nothing_waits(rt: HostRuntime) -> Result<(), Fail> {
-    let mut service = service_over_nothing(rt.alloc())?;
+fn lives(rt: &impl Abort, service: &mut Service) -> Result<(), Fail> {
     for row in LIFE.lines() {
-        let found = does(&mut service, cell(row, 0))?;
-        same_text(&rt, found, cell(row, 1), row);
+        let found = does(service, cell(row, 0))?;
+        same_text(rt, found, cell(row, 1), row);
     }
     // It joined, asked, left, took and went.
-    same_number(&rt, stored(&service), 5, "the events");
+    same_number(rt, stored(service), 5, "the events");
     Ok(())
+}
+
+#[test]
+fn a_connection_that_left_is_closed_once_nothing_waits(rt: HostRuntime) -> Result<(), Fail> {
+    over(
+        service_over_nothing(rt.alloc())?,
+        |service| lives(&rt, service),
+    )
 }
