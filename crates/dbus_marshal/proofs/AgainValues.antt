@@ -10,6 +10,7 @@ use Rattle.dbus_types.specs.declared.endian.Endian.{Endian}
 use Rattle.dbus_types.specs.Types.{Ty, Tys, has_type, is_within, are_within, is_signature, text_of, texts_of}
 use Rattle.dbus_types.specs.Values.{Val, Vals, ty_of}
 use Rattle.dbus_types.specs.Signatures.{◌>>=◌}
+use Rattle.dbus_marshal.specs.Limits.{array_limit}
 use Rattle.dbus_marshal.specs.Wire.{width_of, alignment_of, padding, behind, start_of, zeros, number_bytes, limit_of, is_byte, IsTextOf}
 use Rattle.dbus_marshal.specs.Fitting.{Fits, AllFit, EachFits}
 use Rattle.dbus_marshal.specs.Spelling.{aligned, text_spelled, array_spelled, first_at, spelled, all_spelled, is_short, are_short}
@@ -214,13 +215,13 @@ unfolding array_by elements_of
 array_again fewer endian read t vs place rest reads other solid f s =
     let first = first_at (alignment_of t) place in
     let E = all_spelled endian vs first in
-    let shorts = both (are_short endian vs first) (nat_le (length E) 67108864) s in
-    let long : length E ≤ 67108864 = leb-true _ _ shorts.1 in
+    let shorts = both (are_short endian vs first) (nat_le (length E) array_limit) s in
+    let long : length E ≤ array_limit = leb-true _ _ shorts.1 in
     let Z = zeros (padding (alignment_of t) (behind (start_of 4 place) 4)) in
     rw (
       array_regroup (zeros (padding 4 place)) (number_bytes endian w32 (length E)) Z E rest,
       number_again w32 (2 ^ 32) wide32 endian place (length E) (Z ++ (E ++ rest)) (omega arith),
-      le-ltb 67108864 (length E) long,
+      le-ltb array_limit (length E) long,
       padding_again (alignment_of t) (behind (start_of 4 place) 4) (E ++ rest),
       bytes_again first (length E) E rest refl,
       other,
@@ -233,12 +234,12 @@ bytes_array_again : (endian : Endian) (read : Reader Val) (them : List ℕ) (pla
 unfolding array_by elements_of
 bytes_array_again endian read them place rest s =
     let first = first_at 1 place in
-    let long : length them ≤ 67108864 = leb-true _ _ s in
+    let long : length them ≤ array_limit = leb-true _ _ s in
     let Z = zeros (padding 1 (behind (start_of 4 place) 4)) in
     rw (
       array_regroup (zeros (padding 4 place)) (number_bytes endian w32 (length them)) Z them rest,
       number_again w32 (2 ^ 32) wide32 endian place (length them) (Z ++ (them ++ rest)) (omega arith),
-      le-ltb 67108864 (length them) long,
+      le-ltb array_limit (length them) long,
       padding_again 1 (behind (start_of 4 place) 4) (them ++ rest),
       bytes_again first (length them) them rest refl,
     )

@@ -3,6 +3,7 @@ use Rattle.std.proofs.Common.{◌≡◌, ℕ, ◌%◌, Bool, true, false, List, 
 use Rattle.dbus_types.specs.declared.endian.Endian.{Endian}
 use Rattle.dbus_types.specs.Types.{Tys, is_signature}
 use Rattle.dbus_types.specs.Values.{Vals, tys_of}
+use Rattle.dbus_marshal.specs.Limits.{depth_limit}
 use Rattle.dbus_marshal.specs.declared.refused.ValueFault.{ValueFault}
 use Rattle.dbus_marshal.specs.declared.refused.MarshalFault.{MarshalFault}
 use Rattle.dbus_marshal.specs.declared.refused.MarshalFault.TheVariants.{TooLong, OutOfMemory}
@@ -38,18 +39,18 @@ too_long OutOfMemory bytes short old new w same = absurd cc
 pub marshal_spelled : (endian : Endian) (vs : Vals) (place : ℕ) (bytes : List ℕ) → HaveSpelling vs → bytes ≡ all_spelled endian vs (place % 8) → are_short endian vs (place % 8) ≡ true
     → AreSpelled endian place (tys_of vs) vs bytes
 marshal_spelled endian vs place bytes fits is short =
-    subst (λ (bs : List ℕ). AreSpelled endian place (tys_of vs) vs bs) (sym is) (all_spelled_marshal 64 endian (place % 8) (tys_of vs) vs fits short)
+    subst (λ (bs : List ℕ). AreSpelled endian place (tys_of vs) vs bs) (sym is) (all_spelled_marshal depth_limit endian (place % 8) (tys_of vs) vs fits short)
 
 pub marshal_again : (endian : Endian) (vs : Vals) (place : ℕ) (bytes : List ℕ) → is_signature (tys_of vs) ≡ true → AreSpelled endian place (tys_of vs) vs bytes
     → values_at endian (tys_of vs) (at (place % 8) bytes) ≡ Ok vs
 marshal_again endian vs place bytes valid m = values_only endian (tys_of vs) (place % 8) bytes vs (omega arith) valid m
 
 read_on : (endian : Endian) (place : ℕ) (ts : Tys) (vs : Vals) (bytes rest : List ℕ) → is_signature ts ≡ true → AreSpelled endian place ts vs bytes
-    → fields_by (value_at 64 endian) ts (at (place % 8) (bytes ++ rest)) ≡ Ok (vs, at (behind (place % 8) (length (all_spelled endian vs (place % 8)))) rest)
+    → fields_by (value_at depth_limit endian) ts (at (place % 8) (bytes ++ rest)) ≡ Ok (vs, at (behind (place % 8) (length (all_spelled endian vs (place % 8)))) rest)
 read_on endian place ts vs bytes rest valid m =
-    let is = all_is 64 endian (place % 8) ts vs bytes m in
-    ap (λ (bs : List ℕ). fields_by (value_at 64 endian) ts (at (place % 8) (bs ++ rest))) is.is
-    ∙ fields_again 64 endian (value_at 64 endian) ts vs (place % 8) rest (readers_again 64 endian) (omega arith) (signature_solid ts valid) is.fits is.short
+    let is = all_is depth_limit endian (place % 8) ts vs bytes m in
+    ap (λ (bs : List ℕ). fields_by (value_at depth_limit endian) ts (at (place % 8) (bs ++ rest))) is.is
+    ∙ fields_again depth_limit endian (value_at depth_limit endian) ts vs (place % 8) rest (readers_again depth_limit endian) (omega arith) (signature_solid ts valid) is.fits is.short
 
 abbrev both_done : Vals × Spot → Result (Vals × Spot) ValueFault
 both_done x = Ok x
@@ -62,6 +63,6 @@ pub goes_on : (endian : Endian) (place : ℕ) (ts : Tys) (vs ws : Vals) (bytes r
 goes_on endian place ts vs ws bytes rest valid m n =
     let one = read_on endian place ts vs bytes rest valid m in
     let other = read_on endian place ts ws (bytes ++ rest) [] valid n in
-    let whole = ap (λ (bs : List ℕ). fields_by (value_at 64 endian) ts (at (place % 8) bs)) (append-nil (bytes ++ rest)) in
+    let whole = ap (λ (bs : List ℕ). fields_by (value_at depth_limit endian) ts (at (place % 8) bs)) (append-nil (bytes ++ rest)) in
     let same = both_is (vs, at (behind (place % 8) (length (all_spelled endian vs (place % 8)))) rest) (ws, at (behind (place % 8) (length (all_spelled endian ws (place % 8)))) []) (sym one ∙ sym whole ∙ other) in
     (ap (λ (x : Vals × Spot). x.0) same, ap (λ (x : Vals × Spot). x.1.left) same)

@@ -8,6 +8,7 @@ use Rattle.dbus_types.specs.declared.complete_type.BasicType.TheVariants as basi
 use Rattle.dbus_types.specs.declared.endian.Endian.{Endian}
 use Rattle.dbus_types.specs.Types.{Ty, Tys, is_signature, text_of}
 use Rattle.dbus_types.specs.Values.{Val, Vals, ty_of, tys_of, entry_of}
+use Rattle.dbus_marshal.specs.Limits.{array_limit}
 use Rattle.dbus_marshal.specs.Wire.{width_of, alignment_of, padding, behind, start_of, zeros, number_bytes, is_byte, AreBytes}
 use Rattle.dbus_marshal.specs.Fitting.{Fits, AllFit, EachFits}
 use Rattle.dbus_marshal.specs.Spelling.{number_spelled, text_spelled, array_spelled, first_at, spelled, all_spelled, is_short, are_short}
@@ -96,25 +97,25 @@ variant_is fewer endian place t v signature rest bytes valid parts text inner =
       is = parts ∙ ap (λ (r : List ℕ). signature ++ r) inner.is ∙ ap (λ (s : List ℕ). s ++ spelled endian v (behind place (length s))) front;
     }
 
-array_is_same : (fewer : ℕ) (endian : Endian) (place : ℕ) (t : Ty) (vs : Vals) (bytes elements four first padded : List ℕ) → is_byte t ≡ false → length elements ≤ 67108864
+array_is_same : (fewer : ℕ) (endian : Endian) (place : ℕ) (t : Ty) (vs : Vals) (bytes elements four first padded : List ℕ) → is_byte t ≡ false → length elements ≤ array_limit
     → bytes ≡ zeros (padding 4 place) ++ four → four ≡ number_bytes endian w32 (length elements) ++ first
     → first ≡ zeros (padding (alignment_of t) (behind (start_of 4 place) 4)) ++ padded → padded ≡ elements
     → AreEachSpelled fewer endian (first_at (alignment_of t) place) t vs elements → IsSpelled (suc fewer) endian place (Ty.array t) (Val.array t vs) bytes
 array_is_same fewer endian place t vs bytes elements four first padded other long parts counted aligns same inner = record {
   fits = (refl, inner.fits, other);
-  short = and_both _ _ inner.short (subst (λ (e : List ℕ). nat_le (length e) 67108864 ≡ true) inner.is (le-leb _ _ long));
+  short = and_both _ _ inner.short (subst (λ (e : List ℕ). nat_le (length e) array_limit ≡ true) inner.is (le-leb _ _ long));
   is = parts ∙ ap (λ (r : List ℕ). zeros (padding 4 place) ++ r) (counted ∙ ap (λ (r : List ℕ). number_bytes endian w32 (length elements) ++ r)
       (aligns ∙ ap (λ (r : List ℕ). zeros (padding (alignment_of t) (behind (start_of 4 place) 4)) ++ r) same))
       ∙ ap (array_spelled endian (alignment_of t) place) inner.is;
 }
 
-bytes_is : (fewer : ℕ) (endian : Endian) (place : ℕ) (t : Ty) (them bytes elements four first padded : List ℕ) → t ≡ Ty.basic basics.Byte → AreBytes them → length elements ≤ 67108864
+bytes_is : (fewer : ℕ) (endian : Endian) (place : ℕ) (t : Ty) (them bytes elements four first padded : List ℕ) → t ≡ Ty.basic basics.Byte → AreBytes them → length elements ≤ array_limit
     → bytes ≡ zeros (padding 4 place) ++ four → four ≡ number_bytes endian w32 (length elements) ++ first
     → first ≡ zeros (padding (alignment_of t) (behind (start_of 4 place) 4)) ++ padded → padded ≡ elements → elements ≡ them
     → IsSpelled (suc fewer) endian place (Ty.array t) (Val.bytes them) bytes
 bytes_is fewer endian place t them bytes elements four first padded byte each long parts counted aligns same is = record {
   fits = (byte, each);
-  short = subst (λ (e : List ℕ). nat_le (length e) 67108864 ≡ true) is (le-leb _ _ long);
+  short = subst (λ (e : List ℕ). nat_le (length e) array_limit ≡ true) is (le-leb _ _ long);
   is = parts ∙ ap (λ (r : List ℕ). zeros (padding 4 place) ++ r) (counted ∙ ap (λ (r : List ℕ). number_bytes endian w32 (length elements) ++ r)
       (aligns ∙ ap (λ (r : List ℕ). zeros (padding (alignment_of t) (behind (start_of 4 place) 4)) ++ r) same))
       ∙ ap (array_spelled endian (alignment_of t) place) is ∙ ap (λ (u : Ty). array_spelled endian (alignment_of u) place them) byte;
@@ -194,12 +195,12 @@ mutual
 
 -- ---- the spelling is related
 
-array_spelled_same : (fewer : ℕ) (endian : Endian) (place : ℕ) (t : Ty) (vs : Vals) → is_byte t ≡ false → length (all_spelled endian vs (first_at (alignment_of t) place)) ≤ 67108864
+array_spelled_same : (fewer : ℕ) (endian : Endian) (place : ℕ) (t : Ty) (vs : Vals) → is_byte t ≡ false → length (all_spelled endian vs (first_at (alignment_of t) place)) ≤ array_limit
     → EachMarshals fewer endian (first_at (alignment_of t) place) t vs (all_spelled endian vs (first_at (alignment_of t) place))
     → Marshals (suc fewer) endian place (Ty.array t) (Val.array t vs) (spelled endian (Val.array t vs) place)
 array_spelled_same fewer endian place t vs other long inner = (refl, other, (_, long, (_, refl, (_, refl, (_, refl, (refl, inner))))))
 
-bytes_spelled_same : (fewer : ℕ) (endian : Endian) (place : ℕ) (them : List ℕ) → AreBytes them → length them ≤ 67108864
+bytes_spelled_same : (fewer : ℕ) (endian : Endian) (place : ℕ) (them : List ℕ) → AreBytes them → length them ≤ array_limit
     → Marshals (suc fewer) endian place (Ty.array (Ty.basic basics.Byte)) (Val.bytes them) (spelled endian (Val.bytes them) place)
 bytes_spelled_same fewer endian place them each long = (refl, each, (_, long, (_, refl, (_, refl, (_, refl, (refl, refl))))))
 

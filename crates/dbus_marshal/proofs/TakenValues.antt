@@ -10,6 +10,7 @@ use Rattle.dbus_types.specs.declared.endian.Endian.{Endian}
 use Rattle.dbus_types.specs.Types.{Ty, Tys, is_signature, text_of, texts_of}
 use Rattle.dbus_types.specs.Values.{Val, Vals, ty_of}
 use Rattle.dbus_types.specs.Signatures.{◌>>=◌}
+use Rattle.dbus_marshal.specs.Limits.{array_limit}
 use Rattle.dbus_marshal.specs.declared.refused.ValueFault.{ValueFault}
 use Rattle.dbus_marshal.specs.declared.refused.ValueFault.TheVariants.{ArrayTooLong}
 use Rattle.dbus_marshal.specs.Wire.{alignment_of, padding, behind, start_of, zeros, number_bytes, is_byte, AreBytes}
@@ -151,7 +152,7 @@ behind_four endian n place =
 joined : (a b c d : List ℕ) → (a ++ b) ++ (c ++ d) ≡ a ++ (b ++ (c ++ d))
 joined a b c d = append_assoc a b (c ++ d)
 
-array_took_as : (fewer : ℕ) (endian : Endian) (t : Ty) (spot : Spot) (n : ℕ × Spot) (start : Spot) (y : List ℕ × Spot) (vs : Vals) → is_byte t ≡ false → n.0 ≤ 67108864
+array_took_as : (fewer : ℕ) (endian : Endian) (t : Ty) (spot : Spot) (n : ℕ × Spot) (start : Spot) (y : List ℕ × Spot) (vs : Vals) → is_byte t ≡ false → n.0 ≤ array_limit
     → Takes spot (aligned 4 spot.place (number_bytes endian w32 n.0)) n.1 → Takes n.1 (zeros (padding (alignment_of t) n.1.place)) start → Takes start y.0 y.1 → length y.0 ≡ n.0
     → TookEach fewer endian t (record { place = start.place; left = y.0 }) vs → Took (suc fewer) endian (Ty.array t) spot (Val.array t vs, y.1)
 array_took_as fewer endian t spot n start y vs other long counted aligns whole count inner =
@@ -166,10 +167,10 @@ array_took_as fewer endian t spot n start y vs other long counted aligns whole c
     joined (zeros (padding 4 spot.place)) (number_bytes endian w32 n.0) Z y.0
     ∙ ap (λ (k : ℕ). zeros (padding 4 spot.place) ++ (number_bytes endian w32 k ++ (Z ++ y.0))) (sym count)
     ∙ ap (λ (p : ℕ). zeros (padding 4 spot.place) ++ (number_bytes endian w32 (length y.0) ++ (zeros (padding (alignment_of t) p) ++ y.0))) four in
-    let short_enough : nat_le (length y.0) 67108864 ≡ true = le-leb _ _ (subst (λ (k : ℕ). k ≤ 67108864) (sym count) long) in
+    let short_enough : nat_le (length y.0) array_limit ≡ true = le-leb _ _ (subst (λ (k : ℕ). k ≤ array_limit) (sym count) long) in
     record {
       fits = (refl, inner.fits, other);
-      short = and_both _ _ (subst (λ (p : ℕ). are_short endian vs p ≡ true) first inner.short) (subst (λ (e : List ℕ). nat_le (length e) 67108864 ≡ true) is short_enough);
+      short = and_both _ _ (subst (λ (p : ℕ). are_short endian vs p ≡ true) first inner.short) (subst (λ (e : List ℕ). nat_le (length e) array_limit ≡ true) is short_enough);
       takes = subst (λ (bs : List ℕ). Takes spot bs y.1) (text ∙ ap (array_spelled endian (alignment_of t) spot.place) is) all;
     }
 
@@ -198,7 +199,7 @@ each_byte [] fits = tt
 each_byte (b ∷ them) fits = (fits 0, each_byte them (λ i. fits (suc i)))
 
 -- an array of bytes
-bytes_took_as : (fewer : ℕ) (endian : Endian) (spot : Spot) (n : ℕ × Spot) (start : Spot) (y : List ℕ × Spot) → n.0 ≤ 67108864
+bytes_took_as : (fewer : ℕ) (endian : Endian) (spot : Spot) (n : ℕ × Spot) (start : Spot) (y : List ℕ × Spot) → n.0 ≤ array_limit
     → Takes spot (aligned 4 spot.place (number_bytes endian w32 n.0)) n.1 → Takes n.1 (zeros (padding 1 n.1.place)) start → Takes start y.0 y.1 → length y.0 ≡ n.0 → IsBytes y.0
     → Took (suc fewer) endian (Ty.array (Ty.basic basics.Byte)) spot (Val.bytes y.0, y.1)
 bytes_took_as fewer endian spot n start y long counted aligns whole count fits =
@@ -212,12 +213,12 @@ bytes_took_as fewer endian spot n start y long counted aligns whole count fits =
     ∙ ap (λ (p : ℕ). zeros (padding 4 spot.place) ++ (number_bytes endian w32 (length y.0) ++ (zeros (padding 1 p) ++ y.0))) four in
     record {
       fits = (refl, each_byte y.0 fits);
-      short = le-leb _ _ (subst (λ (k : ℕ). k ≤ 67108864) (sym count) long);
+      short = le-leb _ _ (subst (λ (k : ℕ). k ≤ array_limit) (sym count) long);
       takes = subst (λ (bs : List ℕ). Takes spot bs y.1) text all;
     }
 
 elements_took_as : (test : Bool) (fewer : ℕ) (endian : Endian) (read : Ty → Reader Val) (t : Ty) (spot : Spot) (n : ℕ × Spot) (start : Spot) (y : List ℕ × Spot) (v : Val) → is_byte t ≡ test → IsTaker fewer endian read
-    → n.0 ≤ 67108864 → Takes spot (aligned 4 spot.place (number_bytes endian w32 n.0)) n.1 → Takes n.1 (zeros (padding (alignment_of t) n.1.place)) start → Takes start y.0 y.1 → length y.0 ≡ n.0 → IsBytes y.0
+    → n.0 ≤ array_limit → Takes spot (aligned 4 spot.place (number_bytes endian w32 n.0)) n.1 → Takes n.1 (zeros (padding (alignment_of t) n.1.place)) start → Takes start y.0 y.1 → length y.0 ≡ n.0 → IsBytes y.0
     → cond test (Ok (Val.bytes y.0)) (elements_from (read t) (length y.0) (record { place = start.place; left = y.0 }) y.0 >>= λ vs. Ok (Val.array t vs)) ≡ Ok v
     → Took (suc fewer) endian (Ty.array t) spot (v, y.1)
 elements_took_as true fewer endian read t spot n start y v test taker long counted aligns whole count fits e =
@@ -235,10 +236,10 @@ array_took : (fewer : ℕ) (endian : Endian) (read : Ty → Reader Val) (t : Ty)
     → Took (suc fewer) endian (Ty.array t) spot x
 unfolding array_by elements_of
 array_took fewer endian read t spot x taker fits e =
-    let a = bind_ok (number_at endian w32 spot) (λ n. if nat_lt 67108864 n.0 then Err ArrayTooLong
+    let a = bind_ok (number_at endian w32 spot) (λ n. if nat_lt array_limit n.0 then Err ArrayTooLong
     else (padding_at (alignment_of t) n.1 >>= λ start. bytes_at n.0 start >>= λ y. elements_of (read t) t (record { place = start.place; left = y.0 }) >>= λ v. Ok (v, y.1))) x e in
     let counted = number_taken w32 (2 ^ 32) wide32 endian spot a.0 fits a.1 in
-    elim (cases_lt 67108864 a.0.0) [
+    elim (cases_lt array_limit a.0.0) [
       | inl lt ↦
           let none : Err ArrayTooLong ≡ ok_value x = subst (λ (b : Bool). cond b (Err ArrayTooLong) (padding_at (alignment_of t) a.0.1 >>= λ start. bytes_at a.0.0 start >>= λ y. elements_of (read t) t (record { place = start.place; left = y.0 }) >>= λ v. Ok (v, y.1)) ≡ Ok x) (lt-ltb _ _ lt) a.2 in
           absurd cc

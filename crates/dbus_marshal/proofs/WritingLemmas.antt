@@ -19,6 +19,7 @@ use Rattle.dbus_types.specs.Types.{Ty, Tys}
 use Rattle.dbus_types.specs.Values.{Val, Vals}
 use Rattle.dbus_types.specs.Views.{type_of}
 use Rattle.dbus_types.specs.ValueViews.{value_as, core_as, each_as, all_as, core_of, wrapped, element_of, fields_of, struct_fields, typed_array, in_variant, nothing}
+use Rattle.dbus_marshal.specs.Limits.{array_limit}
 use Rattle.dbus_marshal.specs.declared.refused.MarshalFault.{MarshalFault}
 use Rattle.dbus_marshal.specs.declared.refused.MarshalFault.TheVariants.{TooLong, OutOfMemory}
 use Rattle.dbus_marshal.specs.Wire.{alignment_of, padding, behind, start_of, zeros, number_bytes}
@@ -211,11 +212,11 @@ writes_tree result endian v w place old new same written = subst (λ (u : Val). 
 
 pub writes_array : {X : Type 0} (result : Result X MarshalFault) (endian : Endian) (t : Ty) (vs : Vals) (place alignment : ℕ) (old new : List ℕ) → alignment ≡ alignment_of t
     → Writes result (array_spelled endian alignment place (all_spelled endian vs (first_at alignment place)))
-    (are_short endian vs (first_at alignment place) && nat_le (length (all_spelled endian vs (first_at alignment place))) 67108864) old new
+    (are_short endian vs (first_at alignment place) && nat_le (length (all_spelled endian vs (first_at alignment place))) array_limit) old new
     → Writes result (spelled endian (Val.array t vs) place) (is_short endian (Val.array t vs) place) old new
 writes_array result endian t vs place alignment old new same written =
     subst (λ (a : ℕ). Writes result (array_spelled endian a place (all_spelled endian vs (first_at a place)))
-    (are_short endian vs (first_at a place) && nat_le (length (all_spelled endian vs (first_at a place))) 67108864) old new) same written
+    (are_short endian vs (first_at a place) && nat_le (length (all_spelled endian vs (first_at a place))) array_limit) old new) same written
 
 pub array_tree : (value : Value) (known : Ty) (array : Box TypedArray Global) → value ≡ Array array
     → core_as known value ≡ typed_array known (type_of array.value.element) (each_as (type_of array.value.element) array.value.values.items)
@@ -381,7 +382,7 @@ pub array_fault : (e : MarshalFault) (endian : Endian) (phase alignment mark : �
     → mark ≡ length old + length (zeros (padding 4 (behind phase (length old))))
     → Writes {X = Unit {0}} (Err e) (all_spelled endian vs (behind phase (length opened))) (are_short endian vs (behind phase (length opened))) opened done
     → Writes {X = Unit {0}} (Err e) (array_spelled endian alignment (behind phase (length old)) (all_spelled endian vs (first_at alignment (behind phase (length old)))))
-    (are_short endian vs (first_at alignment (behind phase (length old))) && nat_le (length (all_spelled endian vs (first_at alignment (behind phase (length old))))) 67108864) old done
+    (are_short endian vs (first_at alignment (behind phase (length old))) && nat_le (length (all_spelled endian vs (first_at alignment (behind phase (length old))))) array_limit) old done
 array_fault e endian phase alignment mark vs old opened done opens at w =
     let there = elements_at endian phase alignment mark old opened opens at in
     writes_fault e (all_spelled endian vs (behind phase (length opened))) (array_spelled endian alignment (behind phase (length old)) (all_spelled endian vs (first_at alignment (behind phase (length old)))))
@@ -402,11 +403,11 @@ elements_long endian phase alignment mark vs old opened done start end opens at 
 pub array_long : (endian : Endian) (phase alignment mark : ℕ) (vs : Vals) (old opened done : List ℕ) (start end : ℕ)
     → opened ≡ old ++ (zeros (padding 4 (behind phase (length old))) ++ (number_bytes endian w32 0 ++ zeros (padding alignment (behind phase (mark + 4)))))
     → mark ≡ length old + length (zeros (padding 4 (behind phase (length old)))) → done ≡ opened ++ all_spelled endian vs (behind phase (length opened)) → start ≡ length opened → end ≡ length done
-    → 67108864 < end - start
-    → (are_short endian vs (first_at alignment (behind phase (length old))) && nat_le (length (all_spelled endian vs (first_at alignment (behind phase (length old))))) 67108864) ≡ false
+    → array_limit < end - start
+    → (are_short endian vs (first_at alignment (behind phase (length old))) && nat_le (length (all_spelled endian vs (first_at alignment (behind phase (length old))))) array_limit) ≡ false
 array_long endian phase alignment mark vs old opened done start end opens at is from to over =
     let long = elements_long endian phase alignment mark vs old opened done start end opens at is from to in
-    false_behind _ _ (lt-leb _ _ (subst (λ (k : ℕ). 67108864 < k) long over))
+    false_behind _ _ (lt-leb _ _ (subst (λ (k : ℕ). array_limit < k) long over))
 
 pub array_room : (endian : Endian) (phase alignment mark : ℕ) (vs : Vals) (old opened done : List ℕ)
     → opened ≡ old ++ (zeros (padding 4 (behind phase (length old))) ++ (number_bytes endian w32 0 ++ zeros (padding alignment (behind phase (mark + 4)))))
@@ -423,10 +424,10 @@ array_room endian phase alignment mark vs old opened done opens at is =
 pub array_done : (endian : Endian) (phase alignment mark : ℕ) (vs : Vals) (old opened done new : List ℕ) (start end : ℕ)
     → opened ≡ old ++ (zeros (padding 4 (behind phase (length old))) ++ (number_bytes endian w32 0 ++ zeros (padding alignment (behind phase (mark + 4)))))
     → mark ≡ length old + length (zeros (padding 4 (behind phase (length old)))) → done ≡ opened ++ all_spelled endian vs (behind phase (length opened))
-    → are_short endian vs (behind phase (length opened)) ≡ true → start ≡ length opened → end ≡ length done → end - start ≤ 67108864
+    → are_short endian vs (behind phase (length opened)) ≡ true → start ≡ length opened → end ≡ length done → end - start ≤ array_limit
     → new ≡ take mark done ++ (number_bytes endian w32 (end - start) ++ drop (mark + 4) done)
     → (new ≡ old ++ array_spelled endian alignment (behind phase (length old)) (all_spelled endian vs (first_at alignment (behind phase (length old)))))
-    × ((are_short endian vs (first_at alignment (behind phase (length old))) && nat_le (length (all_spelled endian vs (first_at alignment (behind phase (length old))))) 67108864) ≡ true)
+    × ((are_short endian vs (first_at alignment (behind phase (length old))) && nat_le (length (all_spelled endian vs (first_at alignment (behind phase (length old))))) array_limit) ≡ true)
 array_done endian phase alignment mark vs old opened done new start end opens at is short from to fits closed =
     let place = behind phase (length old) in
     let there = elements_at endian phase alignment mark old opened opens at in
@@ -439,7 +440,7 @@ array_done endian phase alignment mark vs old opened done new start end opens at
       array_wrote endian old opened done new Z (zeros (padding alignment (behind phase (mark + 4)))) E mark (end - start) opens at is_done closed
           ∙ ap (λ (k : ℕ). old ++ (Z ++ (number_bytes endian w32 k ++ (zeros (padding alignment (behind phase (mark + 4))) ++ E)))) long
           ∙ ap (λ (p : ℕ). old ++ (Z ++ (number_bytes endian w32 (length E) ++ (zeros (padding alignment p) ++ E)))) four_at,
-      true_both _ _ (subst (λ (p : ℕ). are_short endian vs p ≡ true) there short) (le-leb _ _ (subst (λ (k : ℕ). k ≤ 67108864) long fits)),
+      true_both _ _ (subst (λ (p : ℕ). are_short endian vs p ≡ true) there short) (le-leb _ _ (subst (λ (k : ℕ). k ≤ array_limit) long fits)),
     )
 
 -- ---- values one after the other

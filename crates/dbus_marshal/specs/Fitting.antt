@@ -3,6 +3,7 @@ use Rattle.std.specs.Prelude.{ℕ, ◌<◌, ◌≡◌, IsTrue, IsFalse}
 use Rattle.dbus_types.specs.declared.complete_type.BasicType.TheVariants as basics
 use Rattle.dbus_types.specs.Types.{Ty, Tys, is_signature}
 use Rattle.dbus_types.specs.Values.{Val, Vals, ty_of, tys_of}
+use Rattle.dbus_marshal.specs.Limits.{depth_limit}
 use Rattle.dbus_marshal.specs.Wire.{limit_of, is_byte, AreBytes, IsTextOf, Opens}
 
 abbrev mutual
@@ -28,8 +29,8 @@ abbrev mutual
   EachFits depth t Vals.end = Unit {0}
   EachFits depth t (Vals.more v vs) = Fits depth t v × EachFits depth t vs
 
--- Each value fits the type that it has, with at most 64 containers open at once: so it is spelled by the rules, except
--- for the length of its arrays. Only inside a variant must a signature list the types (docs/DECISIONS.md, "What no
--- signature lists can be written too").
+-- Each value fits the type that it has, with no more containers open at once than may be: so it is spelled by the
+-- rules, except for the length of its arrays. Only inside a variant must a signature list the types
+-- (docs/DECISIONS.md, "What no signature lists can be written too").
 abbrev pub HaveSpelling : Vals → Type 0
-HaveSpelling vs = AllFit 64 (tys_of vs) vs
+HaveSpelling vs = AllFit depth_limit (tys_of vs) vs

@@ -7,6 +7,7 @@ use Rattle.dbus_types.specs.declared.complete_type.BasicType.TheVariants as basi
 use Rattle.dbus_types.specs.declared.endian.Endian.{Endian}
 use Rattle.dbus_types.specs.Types.{Ty, Tys, is_signature, text_of}
 use Rattle.dbus_types.specs.Values.{Val, Vals}
+use Rattle.dbus_marshal.specs.Limits.{array_limit, depth_limit}
 use Rattle.dbus_marshal.specs.Wire.{width_of, alignment_of, padding, behind, start_of, zeros, number_bytes, limit_of, is_byte, AreBytes, IsTextOf, Opens}
 
 -- the bytes are zeros up to a multiple of the alignment, and then bytes that have the given property at their position
@@ -25,7 +26,7 @@ TextMarshals endian place b text bytes =
 -- The bytes of an array: the length of its elements in bytes, padding that the length doesn't count, and the elements.
 abbrev pub ArrayMarshals : Endian → ℕ → Ty → (ℕ → List ℕ → Type 0) → List ℕ → Type 0
 ArrayMarshals endian place t Elements bytes =
-    (elements : List ℕ) × (length elements ≤ 67108864)
+    (elements : List ℕ) × (length elements ≤ array_limit)
     × Padded 4 place (λ at rest. (behind_length : List ℕ) × (rest ≡ number_bytes endian w32 (length elements) ++ behind_length)
     × Padded (alignment_of t) (behind at 4) (λ first padded. (padded ≡ elements) × Elements first elements) behind_length) bytes
 
@@ -64,4 +65,4 @@ abbrev mutual
 
 -- The bytes are the spelling of these values of the types, with the first byte at this position.
 abbrev pub AreSpelled : Endian → ℕ → Tys → Vals → List ℕ → Type 0
-AreSpelled endian place ts vs bytes = AllMarshal 64 endian (place % 8) ts vs bytes
+AreSpelled endian place ts vs bytes = AllMarshal depth_limit endian (place % 8) ts vs bytes

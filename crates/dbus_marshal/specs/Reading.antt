@@ -9,6 +9,7 @@ use Rattle.dbus_types.specs.Types.{Ty, Tys, texts_of}
 use Rattle.dbus_types.specs.Signatures.{◌>>=◌, signature_at}
 use Rattle.dbus_types.specs.Paths.{is_object_path}
 use Rattle.dbus_types.specs.Values.{Val, Vals}
+use Rattle.dbus_marshal.specs.Limits.{array_limit, depth_limit}
 use Rattle.dbus_marshal.specs.declared.refused.ValueFault.{ValueFault}
 use Rattle.dbus_marshal.specs.declared.refused.ValueFault.TheVariants.{Short, Padding, BadBool, BadText, BadPath, BadSignature, ArrayTooLong, TooDeep, Rest, OutOfMemory}
 use Rattle.dbus_marshal.specs.Wire.{width_of, alignment_of, padding, behind, number_from, is_text, is_byte}
@@ -146,7 +147,7 @@ elements_of read t spot =
 unfoldable pub array_by : Reader Val → Endian → Ty → Reader Val
 array_by read endian t spot =
     number_at endian w32 spot >>= λ n.
-    if nat_lt 67108864 n.0 then Err ArrayTooLong
+    if nat_lt array_limit n.0 then Err ArrayTooLong
     else (padding_at (alignment_of t) n.1 >>= λ start. bytes_at n.0 start >>= λ x. elements_of read t (record { place = start.place; left = x.0 }) >>= λ v. Ok (v, x.1))
 
 -- values of the types, one after the other
@@ -178,4 +179,4 @@ value_at (suc depth) endian (Ty.entry key t) spot = entry_by (value_at depth end
 
 -- values of the types, which all of the bytes spell
 unfoldable pub values_at : Endian → Tys → Spot → Result Vals ValueFault
-values_at endian ts spot = fields_by (value_at 64 endian) ts spot >>= λ vs. if nat_lt 0 (length vs.1.left) then Err Rest else Ok vs.0
+values_at endian ts spot = fields_by (value_at depth_limit endian) ts spot >>= λ vs. if nat_lt 0 (length vs.1.left) then Err Rest else Ok vs.0

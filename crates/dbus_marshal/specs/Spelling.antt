@@ -6,6 +6,7 @@ use Rattle.dbus_types.specs.declared.complete_type.BasicType.TheVariants as basi
 use Rattle.dbus_types.specs.declared.endian.Endian.{Endian}
 use Rattle.dbus_types.specs.Types.{text_of}
 use Rattle.dbus_types.specs.Values.{Val, Vals, ty_of}
+use Rattle.dbus_marshal.specs.Limits.{array_limit}
 use Rattle.dbus_marshal.specs.Wire.{width_of, alignment_of, padding, behind, start_of, zeros, number_bytes}
 
 -- zeros up to a multiple of the alignment, and then these bytes
@@ -48,14 +49,14 @@ abbrev mutual
   all_spelled endian (Vals.more v vs) place = spelled endian v place ++ all_spelled endian vs (behind place (length (spelled endian v place)))
 
 abbrev mutual
-  -- no array within the value at this position has more than 67,108,864 bytes of elements
+  -- the elements of each array within the value at this position are within the limit
   pub is_short : Endian → Val → ℕ → Bool
   is_short endian (Val.number b n) place = true
   is_short endian (Val.text b bytes) place = true
   is_short endian (Val.variant v) place = is_short endian v (behind place (length (text_spelled endian basics.Signature (text_of (ty_of v)) place)))
   is_short endian (Val.array t vs) place =
-      are_short endian vs (first_at (alignment_of t) place) && nat_le (length (all_spelled endian vs (first_at (alignment_of t) place))) 67108864
-  is_short endian (Val.bytes them) place = nat_le (length them) 67108864
+      are_short endian vs (first_at (alignment_of t) place) && nat_le (length (all_spelled endian vs (first_at (alignment_of t) place))) array_limit
+  is_short endian (Val.bytes them) place = nat_le (length them) array_limit
   is_short endian (Val.struct vs) place = are_short endian vs (start_of 8 place)
   is_short endian (Val.entry key v) place =
       is_short endian key (start_of 8 place) && is_short endian v (behind (start_of 8 place) (length (spelled endian key (start_of 8 place))))

@@ -5,6 +5,7 @@
 
 mod cursor;
 mod laws;
+mod limits;
 mod marshalling;
 mod places;
 mod put;

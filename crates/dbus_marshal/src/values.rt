@@ -2,6 +2,7 @@ ghost use Rattle.std.specs.Prelude.{◌≡◌, ◌<◌, ◌≤◌, ◌+◌, ◌*
 ghost use Rattle.dbus_types.specs.Views.{type_of, types_of};
 ghost use Rattle.dbus_types.specs.SignatureViews.{types_in};
 ghost use Rattle.dbus_types.specs.ValueViews.{value_as, values_of, each_as, fields_as, known_as};
+ghost use Rattle.dbus_marshal.specs.Limits.{depth_limit};
 ghost use Rattle.dbus_marshal.specs.Reading.{Reads, value_at, variant_by, array_by, struct_by, entry_by, fields_by, elements_of, elements_from, values_at, only_type, with_values, with_fields};
 ghost use Rattle.dbus_types.specs.Types.{Ty, texts_of};
 ghost use Rattle.dbus_types.specs.Values.{Vals, tys_of};
@@ -12,6 +13,7 @@ ghost use Rattle.dbus_marshal.specs.Cursors.{spot_of};
 ghost use Rattle.dbus_marshal.specs.Marshals.{AreSpelled};
 
 use crate::cursor::Cursor;
+use crate::limits::{ARRAY_LIMIT, DEPTH_LIMIT};
 use crate::places::{alignment, is_byte};
 use crate::reading::{read_basic, read_signature, read_u32, skip_padding, take_bytes};
 use crate::refused::ValueFault;
@@ -122,7 +124,7 @@ fn read_array<'a>(
         (type_of element.now) (spot_of cursor.entry)) }
 {
     let (count, start) = read_u32(endian, cursor)?;
-    if count > 67_108_864 {
+    if count as usize > ARRAY_LIMIT {
         return Err(ValueFault::ArrayTooLong);
     }
     let start = skip_padding(start, alignment(element))?;
@@ -281,7 +283,7 @@ fn read_values(
         place: (place % 8) as usize,
         left: bytes,
     };
-    let (values, after) = read_fields(alloc, 64, endian, types, false, start)?;
+    let (values, after) = read_fields(alloc, DEPTH_LIMIT, endian, types, false, start)?;
     if !after.left.is_empty() {
         return Err(ValueFault::Rest);
     }
@@ -315,7 +317,8 @@ pub fn unmarshal(
     // The values have these types and can be written, and their number is bounded by that of the bytes.
     ensures types { IfOk result (λ x. tys_of (values_of x.items) ≡ types_in signature.now) }
     ensures fits { IfOk result (λ x. HaveSpelling (values_of x.items)) }
-    ensures few { IfOk result (λ x. counts (values_of x.items) ≤ 65 * length bytes.now) }
+    ensures few { IfOk result (λ x. counts (values_of x.items)
+        ≤ (depth_limit + 1) * length bytes.now) }
 
     // All that they take in memory is at most two parts for each byte, and one for each byte
     // of the signature.

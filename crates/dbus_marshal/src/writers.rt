@@ -10,6 +10,7 @@ ghost use Rattle.dbus_marshal.specs.Spelling.{aligned, spelled, all_spelled, arr
 ghost use Rattle.dbus_marshal.specs.Writing.{Writes};
 
 use crate::OutOfMemory;
+use crate::limits::ARRAY_LIMIT;
 use crate::places::alignment;
 use crate::refused::MarshalFault;
 use crate::type_text::{write_type_of, write_types};
@@ -90,7 +91,7 @@ fn write_bytes(
         (is_short endian (Val.bytes bytes.now) (behind phase (length out.old.items)))
         out.old.items out.new.items }
 {
-    if bytes.len() > 67_108_864 {
+    if bytes.len() > ARRAY_LIMIT {
         return Err(MarshalFault::TooLong);
     }
     write_u32(out, phase, endian, bytes.len() as u32)?;
@@ -265,7 +266,7 @@ fn write_array(
     let start = out.len();
     write_each(out, phase, endian, values, element)?;
     let count = out.len() - start;
-    if count > 67_108_864 {
+    if count > ARRAY_LIMIT {
         return Err(MarshalFault::TooLong);
     }
     close_array(out, mark, endian, count as u32);

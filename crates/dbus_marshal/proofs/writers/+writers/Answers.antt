@@ -142,12 +142,12 @@ write_array-returns-in_err-write_each t c =
     (array_fault c.in_err-write_each.field-0.0 c.args.endian c.args.phase c.alignment-alignment.result c.in_ok-mark.mark vs c.args.out.now.items c.open_array.new.out.items c.write_each.new.out.items
     c.in_ok-mark.ensures.opens c.in_ok-mark.ensures.mark c.in_err-write_each.ensures))
 
-pub write_array-returns-then-count-gt67108864 : goal.write_array-returns-then-count-gt67108864
-write_array-returns-then-count-gt67108864 t c =
+pub write_array-returns-then-count-gt-ARRAY_LIMIT : goal.write_array-returns-then-count-gt-ARRAY_LIMIT
+write_array-returns-then-count-gt-ARRAY_LIMIT t c =
     let vs = each_as (type_of c.args.element.now) c.args.values.now in
     writes_array {X = Unit {0}} (Err TooLong) c.args.endian (type_of c.args.element.now) vs (behind c.args.phase (length c.args.out.now.items)) c.alignment-alignment.result c.args.out.now.items c.write_each.new.out.items c.alignment-alignment.ensures.value
     (array_long c.args.endian c.args.phase c.alignment-alignment.result c.in_ok-mark.mark vs c.args.out.now.items c.open_array.new.out.items c.write_each.new.out.items _ _
-    c.in_ok-mark.ensures.opens c.in_ok-mark.ensures.mark c.in_ok-write_each.ensures.0 (c.len-start.ensures ∙ c.open_array.new.out.ok.0) (c.len.ensures ∙ c.write_each.new.out.ok.0) c.if-count-gt67108864.true)
+    c.in_ok-mark.ensures.opens c.in_ok-mark.ensures.mark c.in_ok-write_each.ensures.0 (c.len-start.ensures ∙ c.open_array.new.out.ok.0) (c.len.ensures ∙ c.write_each.new.out.ok.0) c.if-count-gt-ARRAY_LIMIT.true)
 
 pub write_array-close_array-requires : goal.write_array-close_array-requires
 write_array-close_array-requires t c =
@@ -160,7 +160,7 @@ write_array-returns t c =
     writes_array {X = Unit {0}} (Ok tt) c.args.endian (type_of c.args.element.now) vs (behind c.args.phase (length c.args.out.now.items)) c.alignment-alignment.result c.args.out.now.items c.close_array.new.out.items c.alignment-alignment.ensures.value
     (array_done c.args.endian c.args.phase c.alignment-alignment.result c.in_ok-mark.mark vs c.args.out.now.items c.open_array.new.out.items c.write_each.new.out.items c.close_array.new.out.items _ _
     c.in_ok-mark.ensures.opens c.in_ok-mark.ensures.mark c.in_ok-write_each.ensures.0 c.in_ok-write_each.ensures.1 (c.len-start.ensures ∙ c.open_array.new.out.ok.0) (c.len.ensures ∙ c.write_each.new.out.ok.0)
-    c.if-count-gt67108864.false c.close_array.ensures)
+    c.if-count-gt-ARRAY_LIMIT.false c.close_array.ensures)
 
 pub write_each-loop-each-preserved : goal.write_each-loop-each-preserved
 write_each-loop-each-preserved t c =

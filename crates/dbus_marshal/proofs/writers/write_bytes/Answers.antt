@@ -6,8 +6,8 @@ use Rattle.dbus_marshal.specs.Spelling.{aligned}
 use Rattle.dbus_marshal.proofs.WritingLemmas.{bytes_array}
 use Rattle.dbus_marshal.proofs.writers.write_bytes.Goals as goal
 
-pub returns-then-bytes-gt67108864 : goal.returns-then-bytes-gt67108864
-returns-then-bytes-gt67108864 c = lt-leb _ _ c.if-bytes-gt67108864.true
+pub returns-then-bytes-gt-ARRAY_LIMIT : goal.returns-then-bytes-gt-ARRAY_LIMIT
+returns-then-bytes-gt-ARRAY_LIMIT c = lt-leb _ _ c.if-bytes-gt-ARRAY_LIMIT.true
 
 pub returns : goal.returns
 returns c =
@@ -15,5 +15,5 @@ returns c =
       c.in_ok-extend_from_slice.ensures.items ∙ ap (λ (l : List ℕ). l ++ c.args.bytes.now) c.in_ok-write_u32.ensures.0
           ∙ append_assoc c.args.out.now.items (aligned 4 place (number_bytes c.args.endian w32 (length c.args.bytes.now))) c.args.bytes.now
           ∙ ap (λ (r : List ℕ). c.args.out.now.items ++ r) (sym (bytes_array c.args.endian c.args.bytes.now place)),
-      le-leb _ _ c.if-bytes-gt67108864.false,
+      le-leb _ _ c.if-bytes-gt-ARRAY_LIMIT.false,
     )
