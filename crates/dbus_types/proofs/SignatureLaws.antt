@@ -11,7 +11,7 @@ use Rattle.dbus_types.specs.declared.complete_type.CompleteType.{CompleteType}
 use Rattle.dbus_types.specs.Views.{types_of}
 use Rattle.dbus_types.specs.declared.signature.SignatureFault.{SignatureFault}
 use Rattle.dbus_types.specs.declared.signature.SignatureFault.TheVariants.{BadType, TooLong}
-use Rattle.dbus_types.specs.Types.{Ty, Tys, basic, variant, array, struct, entry, end, more, code_of, text_of, texts_of, has_type, is_within, are_within, is_signature}
+use Rattle.dbus_types.specs.Types.{Ty, Tys, basic, variant, array, struct, entry, end, more, code_of, text_of, texts_of, has_type, is_within, are_within, is_signature, nesting_limit, signature_limit}
 use Rattle.dbus_types.specs.Signatures.{◌>>=◌, Reads, Reader, lead_of, led_by, closed_by, keyed_by, entry_by, element_by, array_by, struct_by, fields_by, types_by, type_at, signature_at}
 use Rattle.dbus_types.proofs.SignatureReading.{array_in, struct_in, type_at-is}
 
@@ -182,22 +182,22 @@ readers zero structs = readers_inner zero (λ fewer e. absurd cc) structs
 readers (suc arrays) structs =
     readers_inner (suc arrays) (λ fewer e s. let same : arrays ≡ fewer = cc in subst (λ (n : ℕ). IsReader n s (type_at n s)) same (readers arrays s)) structs
 
-types_again : (read : Reader) (ts : Tys) (n : ℕ) → IsReader 32 32 read → are_within 32 32 ts ≡ true → length (texts_of ts) ≤ n → types_by read n (texts_of ts) ≡ Ok ts
+types_again : (read : Reader) (ts : Tys) (n : ℕ) → IsReader nesting_limit nesting_limit read → are_within nesting_limit nesting_limit ts ≡ true → length (texts_of ts) ≤ n → types_by read n (texts_of ts) ≡ Ok ts
 unfolding types_by
 types_again read end zero reads within turns = refl
 types_again read end (suc n) reads within turns = refl
 types_again read (more t ts) zero reads within turns = absurd (omega (arith, some_code t, length-append (text_of t) (texts_of ts)))
 types_again read (more t ts) (suc n) reads within turns =
-    let each = both_true (is_within false 32 32 t) (are_within 32 32 ts) within in
-    types_on read n t (texts_of ts) 32 32 each.0
+    let each = both_true (is_within false nesting_limit nesting_limit t) (are_within nesting_limit nesting_limit ts) within in
+    types_on read n t (texts_of ts) nesting_limit nesting_limit each.0
     ∙ rw (reads.again t (texts_of ts) each.0, types_again read ts n reads each.1 (omega (arith, some_code t, length-append (text_of t) (texts_of ts)))) refl
 
 pub signature_again : (ts : Tys) → is_signature ts ≡ true → signature_at (texts_of ts) ≡ Ok ts
 unfolding signature_at
 signature_again ts within =
-    let each = both_true (are_within 32 32 ts) (nat_le (length (texts_of ts)) 255) within in
-    let short : ltb 255 (length (texts_of ts)) ≡ false = le-ltb _ _ (leb-true _ _ each.1) in
-    rw short (types_again (type_at 32 32) ts (length (texts_of ts)) (readers 32 32) each.0 (omega arith))
+    let each = both_true (are_within nesting_limit nesting_limit ts) (nat_le (length (texts_of ts)) signature_limit) within in
+    let short : ltb signature_limit (length (texts_of ts)) ≡ false = le-ltb _ _ (leb-true _ _ each.1) in
+    rw short (types_again (type_at nesting_limit nesting_limit) ts (length (texts_of ts)) (readers nesting_limit nesting_limit) each.0 (omega arith))
 
 -- ---- what is read is spelled that way
 
@@ -377,32 +377,32 @@ takers zero structs = takers_inner zero (λ fewer e. absurd cc) structs
 takers (suc arrays) structs =
     takers_inner (suc arrays) (λ fewer e s. let same : arrays ≡ fewer = cc in subst (λ (n : ℕ). IsTaker n s (type_at n s)) same (takers arrays s)) structs
 
-types_take : (read : Reader) (n : ℕ) (codes : List ℕ) (ts : Tys) → IsTaker 32 32 read → types_by read n codes ≡ Ok ts → (codes ≡ texts_of ts) × (are_within 32 32 ts ≡ true)
+types_take : (read : Reader) (n : ℕ) (codes : List ℕ) (ts : Tys) → IsTaker nesting_limit nesting_limit read → types_by read n codes ≡ Ok ts → (codes ≡ texts_of ts) × (are_within nesting_limit nesting_limit ts ≡ true)
 unfolding types_by
-types_take read zero [] ts taker e = subst (λ (us : Tys). ([] ≡ texts_of us) × (are_within 32 32 us ≡ true)) (types_ok end ts e) (refl, refl)
-types_take read (suc n) [] ts taker e = subst (λ (us : Tys). ([] ≡ texts_of us) × (are_within 32 32 us ≡ true)) (types_ok end ts e) (refl, refl)
+types_take read zero [] ts taker e = subst (λ (us : Tys). ([] ≡ texts_of us) × (are_within nesting_limit nesting_limit us ≡ true)) (types_ok end ts e) (refl, refl)
+types_take read (suc n) [] ts taker e = subst (λ (us : Tys). ([] ≡ texts_of us) × (are_within nesting_limit nesting_limit us ≡ true)) (types_ok end ts e) (refl, refl)
 types_take read zero (code ∷ codes) ts taker e = absurd cc
 types_take read (suc n) (code ∷ codes) ts taker e =
     let a = bind_ok (read (code ∷ codes)) (λ t. types_by read n t.1 >>= λ us. Ok (more t.0 us)) ts e in
     let b = bind_ok (types_by read n a.0.1) (λ us. Ok (more a.0.0 us)) ts a.2 in
     let first = taker.takes (code ∷ codes) a.0 a.1 in
     let others = types_take read n a.0.1 b.0 taker b.1 in
-    subst (λ (us : Tys). (code ∷ codes ≡ texts_of us) × (are_within 32 32 us ≡ true)) (types_ok (more a.0.0 b.0) ts b.2)
-    (first.parts ∙ ap (λ (r : List ℕ). text_of a.0.0 ++ r) others.0, and_true (is_within false 32 32 a.0.0) (are_within 32 32 b.0) first.within others.1)
+    subst (λ (us : Tys). (code ∷ codes ≡ texts_of us) × (are_within nesting_limit nesting_limit us ≡ true)) (types_ok (more a.0.0 b.0) ts b.2)
+    (first.parts ∙ ap (λ (r : List ℕ). text_of a.0.0 ++ r) others.0, and_true (is_within false nesting_limit nesting_limit a.0.0) (are_within nesting_limit nesting_limit b.0) first.within others.1)
 
 pub signature_takes : (codes : List ℕ) (ts : Tys) → signature_at codes ≡ Ok ts → (is_signature ts ≡ true) × (codes ≡ texts_of ts)
 unfolding signature_at
-signature_takes codes ts e = elim (cases_lt 255 (length codes)) [
+signature_takes codes ts e = elim (cases_lt signature_limit (length codes)) [
   | inl lt ↦
-      let got : Err TooLong ≡ types_done ts = subst (λ (b : Bool). cond b (Err TooLong) (types_by (type_at 32 32) (length codes) codes) ≡ Ok ts) (lt-ltb _ _ lt) e in
+      let got : Err TooLong ≡ types_done ts = subst (λ (b : Bool). cond b (Err TooLong) (types_by (type_at nesting_limit nesting_limit) (length codes) codes) ≡ Ok ts) (lt-ltb _ _ lt) e in
       absurd cc
   | inr le ↦
-      let got = types_take (type_at 32 32) (length codes) codes ts (takers 32 32) (subst (λ (b : Bool). cond b (Err TooLong) (types_by (type_at 32 32) (length codes) codes) ≡ Ok ts) (le-ltb _ _ le) e) in
-      (and_true (are_within 32 32 ts) (nat_le (length (texts_of ts)) 255) got.1 (subst (λ (text : List ℕ). nat_le (length text) 255 ≡ true) got.0 (le-leb _ _ le)), got.0)
+      let got = types_take (type_at nesting_limit nesting_limit) (length codes) codes ts (takers nesting_limit nesting_limit) (subst (λ (b : Bool). cond b (Err TooLong) (types_by (type_at nesting_limit nesting_limit) (length codes) codes) ≡ Ok ts) (le-ltb _ _ le) e) in
+      (and_true (are_within nesting_limit nesting_limit ts) (nat_le (length (texts_of ts)) signature_limit) got.1 (subst (λ (text : List ℕ). nat_le (length text) signature_limit ≡ true) got.0 (le-leb _ _ le)), got.0)
 ]
 
 -- what was read of a short text is what its signature lists, or the same fault
-pub signature_short : (codes : List ℕ) → length codes ≤ 255 → signature_at codes ≡ types_by (type_at 32 32) (length codes) codes
+pub signature_short : (codes : List ℕ) → length codes ≤ signature_limit → signature_at codes ≡ types_by (type_at nesting_limit nesting_limit) (length codes) codes
 unfolding signature_at
 signature_short codes short = rw (le-ltb _ _ short) refl
 

@@ -6,7 +6,7 @@ use Rattle.dbus_types.specs.declared.signature_reading.Lead.{Lead}
 use Rattle.dbus_types.specs.declared.signature_reading.Lead.TheVariants as leads
 use Rattle.dbus_types.specs.declared.signature.SignatureFault.{SignatureFault}
 use Rattle.dbus_types.specs.declared.signature.SignatureFault.TheVariants.{BadType, TooDeep, TooLong, OutOfMemory}
-use Rattle.dbus_types.specs.Types.{Ty, Tys, basic, variant, array, struct, entry, end, more}
+use Rattle.dbus_types.specs.Types.{Ty, Tys, basic, variant, array, struct, entry, end, more, nesting_limit, signature_limit}
 
 infixl 10 ◌>>=◌
 -- the result of the next step, or the fault that came before it
@@ -136,4 +136,4 @@ types_behind front read = read >>= λ ts. Ok (types_then front ts)
 
 -- The types that a signature lists. TooLong comes first, then the first fault from the left.
 unfoldable pub signature_at : List ℕ → Result Tys SignatureFault
-signature_at codes = if nat_lt 255 (length codes) then Err TooLong else types_by (type_at 32 32) (length codes) codes
+signature_at codes = if nat_lt signature_limit (length codes) then Err TooLong else types_by (type_at nesting_limit nesting_limit) (length codes) codes

@@ -72,6 +72,14 @@ abbrev mutual
   are_within arrays structs end = true
   are_within arrays structs (more t ts) = is_within false arrays structs t && are_within arrays structs ts
 
--- The types have a signature: at most 32 arrays and 32 structs are open at once, and the text has at most 255 bytes.
+-- how many arrays a signature may have open at once, and how many structs
+abbrev pub nesting_limit : ℕ
+nesting_limit = 32
+
+-- the most bytes of a signature
+abbrev pub signature_limit : ℕ
+signature_limit = 255
+
+-- the types have a signature: they and their text are within the limits
 abbrev pub is_signature : Tys → Bool
-is_signature ts = are_within 32 32 ts && nat_le (length (texts_of ts)) 255
+is_signature ts = are_within nesting_limit nesting_limit ts && nat_le (length (texts_of ts)) signature_limit

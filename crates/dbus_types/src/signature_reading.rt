@@ -1,11 +1,17 @@
 ghost use Rattle.std.specs.Prelude.{◌≡◌, ◌<◌, length, IfOk, IsTrue};
-ghost use Rattle.dbus_types.specs.Types.{is_signature, texts_of};
+ghost use Rattle.dbus_types.specs.Types.{is_signature, texts_of, nesting_limit};
 ghost use Rattle.dbus_types.specs.Views.{type_of, types_of};
 ghost use Rattle.dbus_types.specs.Signatures.{Reads, with_front, lead_of, array_by, element_by, entry_by, struct_by, fields_by, types_by, type_at, signature_at};
 
 use crate::complete_type::{BasicType, CompleteType};
 use crate::signature::SignatureFault;
 use std::alloc::Global;
+
+/// How many arrays a signature may have open at once, and how many structs.
+const NESTING_LIMIT: u8 = 32;
+
+/// The most bytes of a signature.
+const SIGNATURE_LIMIT: usize = 255;
 
 /// What a type code begins.
 #[derive(Clone, Copy)]
@@ -199,7 +205,7 @@ fn read_fields(
 
 fn read_types(alloc: Global, codes: &[u8]) -> Result<Vec<CompleteType>, SignatureFault>
     ensures { Reads (λ x. types_of x.items) result
-        (types_by (type_at 32 32) (length codes.now) codes.now) }
+        (types_by (type_at nesting_limit nesting_limit) (length codes.now) codes.now) }
 {
     // Most signatures list one type, as a variant's does.
     let mut types = Vec::with_capacity(alloc, 1)?;
@@ -208,7 +214,7 @@ fn read_types(alloc: Global, codes: &[u8]) -> Result<Vec<CompleteType>, Signatur
         if left.is_empty() {
             return Ok(types);
         }
-        let (next, rest) = read_type(alloc, 32, 32, left)?;
+        let (next, rest) = read_type(alloc, NESTING_LIMIT, NESTING_LIMIT, left)?;
         types.push(next)?;
         left = rest;
     }
@@ -222,7 +228,7 @@ pub fn read_signature(alloc: Global, text: &[u8]) -> Result<Vec<CompleteType>, S
     ensures found { IfOk result (λ x. IsTrue (is_signature (types_of x.items))
         × (text.now ≡ texts_of (types_of x.items))) }
 {
-    if text.len() > 255 {
+    if text.len() > SIGNATURE_LIMIT {
         return Err(SignatureFault::TooLong);
     }
     let mut types = read_types(alloc, text)?;
