@@ -7,7 +7,7 @@ use Rattle.std.proofs.lemmas.List.{take_at, drop_at, get_or_at, length_push, len
 use Rattle.dbus_types.specs.declared.complete_type.BasicType.{BasicType}
 use Rattle.dbus_types.specs.declared.complete_type.BasicType.TheVariants as basics
 use Rattle.dbus_types.specs.declared.endian.Endian.{Endian}
-use Rattle.dbus_types.specs.Types.{Tys, is_signature, are_within, texts_of}
+use Rattle.dbus_types.specs.Types.{Tys, is_signature, are_within, texts_of, nesting_limit, signature_limit}
 use Rattle.dbus_types.specs.Values.{Val}
 use Rattle.dbus_types.specs.Signatures.{◌>>=◌, signature_at}
 use Rattle.dbus_types.proofs.SignatureLaws.{signature_of}
@@ -144,7 +144,7 @@ pub signature_again : (endian : Endian) (place : ℕ) (ts : Tys) (rest : List �
     → signature_value_at endian (at place (text_spelled endian basics.Signature (texts_of ts) place ++ rest)) ≡ Ok (ts, at (behind place (length (text_spelled endian basics.Signature (texts_of ts) place))) rest)
 unfolding signature_value_at
 signature_again endian place ts rest valid =
-    let short : length (texts_of ts) ≤ 255 = leb-true _ _ (second_of (are_within 32 32 ts) (nat_le (length (texts_of ts)) 255) valid) in
+    let short : length (texts_of ts) ≤ signature_limit = leb-true _ _ (second_of (are_within nesting_limit nesting_limit ts) (nat_le (length (texts_of ts)) signature_limit) valid) in
     then_then (number_at endian w8 (at place (text_spelled endian basics.Signature (texts_of ts) place ++ rest))) (λ n. ended_at BadSignature n.0 n.1) (λ x. listed (signature_at x.0) >>= λ us. Ok (us, x.1))
     ∙ rw (counted_again w8 (2 ^ 8) wide8 endian BadSignature place (texts_of ts) rest (omega arith), signature_of (texts_of ts) ts valid refl) refl
 

@@ -7,7 +7,7 @@ use Rattle.std.proofs.lemmas.List.{length-replicate, length_push}
 use Rattle.dbus_types.specs.declared.complete_type.BasicType.{BasicType}
 use Rattle.dbus_types.specs.declared.complete_type.BasicType.TheVariants as basics
 use Rattle.dbus_types.specs.declared.endian.Endian.{Endian}
-use Rattle.dbus_types.specs.Types.{Ty, Tys, has_type, is_within, are_within, is_signature, text_of, texts_of}
+use Rattle.dbus_types.specs.Types.{Ty, Tys, has_type, is_within, are_within, is_signature, text_of, texts_of, nesting_limit, signature_limit}
 use Rattle.dbus_types.specs.Values.{Val, Vals, ty_of}
 use Rattle.dbus_types.specs.Signatures.{◌>>=◌}
 use Rattle.dbus_marshal.specs.Limits.{array_limit}
@@ -60,7 +60,7 @@ mutual
       and_both _ _ (within_solid false arrays structs t parts.0) (within_are_solid arrays structs ts parts.1)
 
 pub signature_solid : (ts : Tys) → is_signature ts ≡ true → are_solid ts ≡ true
-signature_solid ts valid = within_are_solid 32 32 ts (both (are_within 32 32 ts) (nat_le (length (texts_of ts)) 255) valid).0
+signature_solid ts valid = within_are_solid nesting_limit nesting_limit ts (both (are_within nesting_limit nesting_limit ts) (nat_le (length (texts_of ts)) signature_limit) valid).0
 
 pub one_solid : (t : Ty) → is_signature (Tys.more t Tys.end) ≡ true → is_solid t ≡ true
 one_solid t valid = (both (is_solid t) true (signature_solid (Tys.more t Tys.end) valid)).0
