@@ -13,7 +13,7 @@ use Rattle.kr_base.specs.Stem.{IsStem}
 use Rattle.kr_names.specs.declared.object_name.ObjectName.{ObjectName}
 use Rattle.kr_names.specs.declared.object_name.ObjectName.TheVariants.{Nothing, Service, Agent, Collection, Item, Alias, Session, Prompt}
 use Rattle.kr_names.specs.Escape.{is_path_byte}
-use Rattle.kr_names.specs.Path.{path_text, IsAliasName, IsName, IsPathOf}
+use Rattle.kr_names.specs.Path.{alias_limit, path_text, IsAliasName, IsName, IsPathOf}
 use Rattle.kr_names.specs.Naming.{is_stem, is_alias, is_number, is_name, name_at, name_of_path}
 use Rattle.kr_names.specs.Reading.{Reads}
 use Rattle.kr_names.proofs.NameLemmas.{name_back}
@@ -39,7 +39,7 @@ alias_Decides bytes =
     (λ h. record { some = h.0; fits = h.1.0; bytes = h.1.1 })
     (λ is. (is.some, (is.fits, is.bytes)))
     (Decides-and _ _ (Decides-ltb 0 (length bytes))
-    (Decides-and _ _ (le_Decides (length bytes) 64)
+    (Decides-and _ _ (le_Decides (length bytes) alias_limit)
     (Decides-by_and is_path_byte (λ byte. IsTrue (is_path_byte byte)) (list_all is_path_byte) (λ byte. (λ e. e, λ e. e)) refl (λ x xs. refl) bytes)))
 
 number_Decides : (n : ℕ) → Decides (is_number n) ((0 < n) × (n < 2 ^ 64))

@@ -7,7 +7,7 @@ use Rattle.std.specs.Str.Parse.{digits_value}
 use Rattle.kr_names.specs.declared.object_name.ObjectName.{ObjectName}
 use Rattle.kr_names.specs.declared.object_name.ObjectName.TheVariants.{Nothing, Service, Agent, Collection, Item, Alias, Session, Prompt}
 use Rattle.kr_names.specs.Escape.{is_path_byte, unescaped}
-use Rattle.kr_names.specs.Path.{path_text}
+use Rattle.kr_names.specs.Path.{alias_limit, path_text}
 
 -- whether the bytes are a stem
 abbrev pub is_stem : List ℕ → Bool
@@ -15,7 +15,7 @@ is_stem bytes = is_utf8 bytes && (not (list_any (nat_eq 0) bytes) && (nat_lt 0 (
 
 -- whether the bytes are the name of an alias
 abbrev pub is_alias : List ℕ → Bool
-is_alias bytes = nat_lt 0 (length bytes) && (nat_le (length bytes) 64 && list_all is_path_byte bytes)
+is_alias bytes = nat_lt 0 (length bytes) && (nat_le (length bytes) alias_limit && list_all is_path_byte bytes)
 
 -- whether a session or a prompt may have the number
 abbrev pub is_number : ℕ → Bool

@@ -5,10 +5,14 @@ use Rattle.kr_names.specs.Escape.{is_path_byte, escaped}
 use Rattle.kr_names.specs.declared.object_name.ObjectName.{ObjectName}
 use Rattle.kr_names.specs.declared.object_name.ObjectName.TheVariants.{Nothing, Service, Agent, Collection, Item, Alias, Session, Prompt}
 
--- the name of an alias: 1 to 64 of these bytes
+-- the most bytes of the name of an alias
+abbrev pub alias_limit : ℕ
+alias_limit = 64
+
+-- the name of an alias: 1 of these bytes or more, within the limit
 pub record IsAliasName (name : List ℕ) : Type 0 where
   pub some : 0 < length name
-  pub fits : length name ≤ 64
+  pub fits : length name ≤ alias_limit
   pub bytes : All (λ byte. IsTrue (is_path_byte byte)) name
 
 -- the path of the service, below which the others are, and that of the agent

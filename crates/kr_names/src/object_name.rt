@@ -3,6 +3,9 @@ ghost use Rattle.kr_names.specs.Path.{IsAliasName, HasPath};
 
 use kr_base::{ItemId, OutOfMemory, PromptId, SessionId, Stem, Text};
 
+/// The most bytes of the name of an alias.
+const ALIAS_LIMIT: usize = 64;
+
 /// What a path names: an object of the service, which need not exist.
 #[derive(Debug, Drop, PartialEq, Eq, PartialOrd, Ord)]
 pub enum ObjectName {
@@ -30,7 +33,7 @@ pub fn is_alias_name(name: &str) -> bool
 {
     let bytes = name.as_bytes();
     !bytes.is_empty()
-        && bytes.len() <= 64
+        && bytes.len() <= ALIAS_LIMIT
         && bytes
             .iter()
             .all(|byte| byte.is_ascii_alphanumeric() || *byte == b'_')
