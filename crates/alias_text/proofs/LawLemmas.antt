@@ -22,7 +22,7 @@ use Rattle.kr_names.specs.Escape.{escape, escaped}
 use Rattle.kr_names.specs.Path.{IsAliasName}
 use Rattle.alias_text.specs.Line.{IsPair}
 use Rattle.alias_text.specs.Pairs.{ended, IsOneLine, HasLines, Gives, nothing, skipped, given, LinesGive, longest, AliasesOf, too_long, read}
-use Rattle.alias_text.specs.Writing.{AreAliases, line_of, text_of}
+use Rattle.alias_text.specs.Writing.{AreAliases, line_of, most_aliases, text_of}
 use Rattle.alias_text.proofs.LineLemmas.{one_cut, one_pair, line_is_pair, line_is_one}
 
 abbrev Pairs : Type 0
@@ -218,5 +218,5 @@ length_text [] all = omega arith
 length_text (alias ∷ aliases) (is, all) =
     omega (arith, length-append (line_of alias ++ 10 ∷ []) (text_of aliases), length_line alias is, length_text aliases all)
 
-pub few_fit : (aliases : Pairs) → AreAliases aliases → length aliases ≤ 1024 → length (text_of aliases) ≤ longest
+pub few_fit : (aliases : Pairs) → AreAliases aliases → length aliases ≤ most_aliases → length (text_of aliases) ≤ longest
 few_fit aliases are few = omega (arith, length_text aliases (recursion_from_All IsAlias aliases are.each), few)

@@ -24,3 +24,7 @@ text_of aliases = flat_map (λ alias. line_of alias ++ 10 ∷ []) aliases
 pub record AreAliases (aliases : List (List ℕ × List ℕ)) : Type 0 where
   pub ordered : IsInOrder aliases
   pub each : All (λ alias. IsAliasName alias.0 × IsStem alias.1) aliases
+
+-- the most aliases that are stored
+abbrev pub most_aliases : ℕ
+most_aliases = 1024

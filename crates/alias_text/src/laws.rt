@@ -2,7 +2,7 @@
 // that does nothing.
 ghost use Rattle.std.specs.Prelude.{◌≡◌, ◌≤◌, ◌↔◌, ℕ, List, length};
 ghost use Rattle.alias_text.specs.Pairs.{longest, AliasesOf};
-ghost use Rattle.alias_text.specs.Writing.{AreAliases, text_of};
+ghost use Rattle.alias_text.specs.Writing.{AreAliases, most_aliases, text_of};
 
 /// The text that is written of aliases is read as these aliases, and as no others, if it isn't too long.
 pub fn what_is_written_is_read()
@@ -23,8 +23,9 @@ pub fn what_is_read_can_be_written()
         → AliasesOf bytes aliases → AreAliases aliases }
 {}
 
-/// The text of 1,024 aliases isn't too long.
+/// The text of the most aliases that are stored isn't too long.
 pub fn a_thousand_aliases_fit()
-    ensures { (aliases : List (List ℕ × List ℕ)) → AreAliases aliases → length aliases ≤ 1024
+    ensures { (aliases : List (List ℕ × List ℕ)) → AreAliases aliases
+        → length aliases ≤ most_aliases
         → length (text_of aliases) ≤ longest }
 {}
