@@ -5,7 +5,7 @@ use Rattle.std.specs.List.{list_any}
 use Rattle.std.specs.Ordering.{nat_cmp, is_lt}
 use Rattle.kr_base.specs.Attributes.{is_name}
 use Rattle.alias_text.specs.Pairs.{longest}
-use Rattle.alias_text.specs.Writing.{AreAliases, text_of}
+use Rattle.alias_text.specs.Writing.{AreAliases, most_aliases, text_of}
 
 -- the aliases: the name of each, and the stem of the collection that it stands for
 abbrev pub Aliases : Type 0
@@ -41,13 +41,9 @@ with_alias name (Some stem) aliases = before name aliases ++ (name, stem) ∷ af
 abbrev pub changed : List ℕ → Option (List ℕ) → List (List ℕ) → Aliases → Aliases
 changed name stem live aliases = with_alias name stem (kept live aliases)
 
--- the most aliases that there may be
-abbrev pub most : ℕ
-most = 1024
-
 -- the aliases, unless there are too many
 abbrev pub few : Aliases → Option Aliases
-few aliases = if nat_le (length aliases) most then Some aliases else None
+few aliases = if nat_le (length aliases) most_aliases then Some aliases else None
 
 -- the aliases can be stored: a file can contain them, and this is their text, which isn't too long to be read again
 pub record IsStorable (aliases : Aliases) (text : List ℕ) : Type 0 where
