@@ -19,6 +19,9 @@ use kr_base::{HashedPair, HashedValue, ItemId, OutOfMemory, Text};
 use kr_items::Items;
 use std::alloc::Global;
 
+/// The most times that a password may be hashed.
+const MOST_ITERATIONS: u32 = 1_000_000;
+
 /// A hashed value with its kind, and the bytes after it.
 #[tactic(auto, unfolding(crate::specs::Reading::hashed_at))]
 fn hashed_at(alloc: Global, bytes: &[u8]) -> Result<(HashedValue, &[u8]), ReadRefused<FieldFault>>
@@ -346,7 +349,7 @@ fn limited_at(alloc: Global, bytes: &[u8]) -> Result<(Front, &[u8]), ReadRefused
 {
     match front_at(alloc, bytes) {
         Ok((front, rest)) => {
-            if front.iterations > 1_000_000 {
+            if front.iterations > MOST_ITERATIONS {
                 return Err(ReadRefused::Fault(ClearFault::TooManyIterations));
             }
             Ok((front, rest))
