@@ -16,10 +16,14 @@ are_name_elements begun (code ∷ codes) =
 abbrev pub has_dot : List ℕ → Bool
 has_dot bytes = list_any (λ code. code == 46) bytes
 
+-- the most bytes of a name
+abbrev pub name_limit : ℕ
+name_limit = 255
+
 -- a member name is one element
 abbrev pub is_member_name : List ℕ → Bool
-is_member_name bytes = nat_le (length bytes) 255 && (not (has_dot bytes) && are_name_elements false bytes)
+is_member_name bytes = nat_le (length bytes) name_limit && (not (has_dot bytes) && are_name_elements false bytes)
 
 -- an interface name, and an error name, is two or more elements
 abbrev pub is_interface_name : List ℕ → Bool
-is_interface_name bytes = nat_le (length bytes) 255 && (has_dot bytes && are_name_elements false bytes)
+is_interface_name bytes = nat_le (length bytes) name_limit && (has_dot bytes && are_name_elements false bytes)

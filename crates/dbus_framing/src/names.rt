@@ -4,12 +4,15 @@ ghost use Rattle.std.specs.List.{list_any};
 ghost use Rattle.dbus_types.specs.Paths.{is_element_code};
 ghost use Rattle.dbus_framing.specs.Names.{is_member_name, is_interface_name, are_name_elements, has_dot};
 
+/// The most bytes of a name (D-Bus Specification, "Valid Names").
+const NAME_LIMIT: usize = 255;
+
 /// Whether the bytes are the name of a method or a signal: one element of `[A-Za-z0-9_]` that doesn't
 /// begin with a digit, of at most 255 bytes (D-Bus Specification, "Valid Names").
 pub fn is_member_name(bytes: &[u8]) -> bool
     ensures { result ≡ is_member_name bytes.now }
 {
-    bytes.len() <= 255 && !has_dot(bytes) && are_elements(bytes)
+    bytes.len() <= NAME_LIMIT && !has_dot(bytes) && are_elements(bytes)
 }
 
 /// Whether the bytes are the name of an interface or an error: two or more such elements, joined by
@@ -17,7 +20,7 @@ pub fn is_member_name(bytes: &[u8]) -> bool
 pub fn is_interface_name(bytes: &[u8]) -> bool
     ensures { result ≡ is_interface_name bytes.now }
 {
-    bytes.len() <= 255 && has_dot(bytes) && are_elements(bytes)
+    bytes.len() <= NAME_LIMIT && has_dot(bytes) && are_elements(bytes)
 }
 
 fn has_dot(bytes: &[u8]) -> bool
