@@ -9,6 +9,7 @@ use Rattle.dbus_types.specs.declared.endian.Endian.TheVariants.{Little}
 use Rattle.dbus_types.specs.declared.complete_type.BasicType.TheVariants as basics
 use Rattle.dbus_types.specs.Types.{is_signature}
 use Rattle.dbus_types.specs.Values.{Val, Vals, tys_of}
+use Rattle.dbus_marshal.specs.Limits.{array_limit}
 use Rattle.dbus_marshal.specs.Wire.{number_bytes}
 use Rattle.dbus_marshal.specs.Spelling.{all_spelled, are_short}
 use Rattle.dbus_marshal.specs.Fitting.{HaveSpelling}
@@ -98,7 +99,7 @@ one_error one other same = sym (named one).alone ∙ ap which same ∙ (named ot
 -- ---- each output
 
 -- the fields of an output are few
-fields_short : (out : Out) (serial : ℕ) → length (all_spelled Little (fields_of (sent out serial)) 0) ≤ 67108864
+fields_short : (out : Out) (serial : ℕ) → length (all_spelled Little (fields_of (sent out serial)) 0) ≤ array_limit
 unfolding number_bytes
 fields_short (out.Return to body.Empty) serial = omega arith
 fields_short (out.Return to (body.Session session)) serial = omega arith

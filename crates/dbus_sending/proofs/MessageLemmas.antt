@@ -7,6 +7,7 @@ use Rattle.std.specs.Int.{w32}
 use Rattle.dbus_types.specs.declared.endian.Endian.TheVariants.{Little}
 use Rattle.dbus_types.specs.Types.{Tys, is_signature}
 use Rattle.dbus_types.specs.Values.{Val, Vals, tys_of}
+use Rattle.dbus_marshal.specs.Limits.{array_limit}
 use Rattle.dbus_marshal.specs.Wire.{padding, zeros, number_bytes, number_from}
 use Rattle.dbus_marshal.specs.Reading.{are_zero}
 use Rattle.dbus_marshal.specs.Spelling.{all_spelled, are_short}
@@ -120,10 +121,10 @@ array_spelled : (sent : Sent) → word (length (fields_in sent)) ++ fields_in se
 unfolding number_bytes
 array_spelled sent = sym (append-nil (word (length (fields_in sent)) ++ fields_in sent))
 
-array_short : (sent : Sent) → AreRows (fields_of sent) → length (fields_in sent) ≤ 67108864 → are_short Little (array_of sent) 4 ≡ true
+array_short : (sent : Sent) → AreRows (fields_of sent) → length (fields_in sent) ≤ array_limit → are_short Little (array_of sent) 4 ≡ true
 unfolding number_bytes
 array_short sent are short =
-    ap (λ b. (b && nat_le (length (fields_in sent)) 67108864) && true) (are.short 0) ∙ ap (λ b. (true && b) && true) (le-leb (length (fields_in sent)) 67108864 short)
+    ap (λ b. (b && nat_le (length (fields_in sent)) array_limit) && true) (are.short 0) ∙ ap (λ b. (true && b) && true) (le-leb (length (fields_in sent)) array_limit short)
 
 pub sent_is_message : (most : ℕ) (sent : Sent) → CanBeSent sent → length (spelled_message sent) ≤ most → IsMessage most (spelled_message sent) (said_by sent)
 sent_is_message most sent can within =

@@ -5,6 +5,7 @@ use Rattle.dbus_types.specs.declared.complete_type.BasicType.TheVariants as basi
 use Rattle.dbus_types.specs.declared.endian.Endian.TheVariants.{Little}
 use Rattle.dbus_types.specs.Types.{Tys, texts_of, is_signature}
 use Rattle.dbus_types.specs.Values.{Val, Vals, tys_of}
+use Rattle.dbus_marshal.specs.Limits.{array_limit}
 use Rattle.dbus_marshal.specs.Wire.{IsTextOf}
 use Rattle.dbus_marshal.specs.Spelling.{all_spelled, are_short}
 use Rattle.dbus_marshal.specs.Fitting.{HaveSpelling}
@@ -161,5 +162,5 @@ pub record CanBeSent (sent : Sent) : Type 0 where
   pub listed : IsTrue (is_signature (tys_of sent.body))
   pub spelled : HaveSpelling sent.body
   pub arrays : IsTrue (are_short Little sent.body 0)
-  pub fields_short : length (all_spelled Little (fields_of sent) 0) ≤ 67108864
+  pub fields_short : length (all_spelled Little (fields_of sent) 0) ≤ array_limit
   pub body_short : length (all_spelled Little sent.body 0) < 2 ^ 32
