@@ -4,6 +4,7 @@ pub mod AreaText
 pub mod Canonical
 pub mod Gathered
 pub mod Known
+pub mod Limits
 pub mod Names
 pub mod Numbers
 pub mod Reading

@@ -12,6 +12,13 @@ ghost use Rattle.keyring_file.specs.Short.{IsShortClear, IsShortItem};
 ghost use Rattle.keyring_file.specs.Known.{IsKnownItem};
 ghost use Rattle.keyring_file.specs.Sound.{IsSoundClear};
 ghost use Rattle.keyring_file.specs.Reading.{clear_read, area_read};
+ghost use Rattle.keyring_file.specs.Limits.{file_limit};
+ghost use Rattle.keyring_file.specs.declared.limits.TheConstants.{FILE_LIMIT};
+
+/// The limit for callers is the one of the definitions.
+pub fn a_file_has_67_108_864_bytes_at_most()
+    ensures { FILE_LIMIT ≡ file_limit }
+{}
 
 /// If reading a file succeeds, the file is a text of what was read.
 pub fn a_file_that_is_read_is_spelled_so()

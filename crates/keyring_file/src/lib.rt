@@ -12,6 +12,7 @@ mod clear_writing;
 mod fault;
 mod known;
 mod laws;
+mod limits;
 mod magic;
 mod names;
 mod numbers;
@@ -26,6 +27,8 @@ pub use fault::{AreaFault, ClearFault};
 pub use known::{known_clear, known_clear_item, known_clear_items, known_item, known_items};
 pub use laws::{
     a_canonical_area_is_spelled_so, a_canonical_clear_part_is_spelled_so,
-    a_file_that_is_read_is_spelled_so, a_file_that_is_spelled_so_is_read,
-    an_area_that_is_read_is_spelled_so, an_area_that_is_spelled_so_is_read,
+    a_file_has_67_108_864_bytes_at_most, a_file_that_is_read_is_spelled_so,
+    a_file_that_is_spelled_so_is_read, an_area_that_is_read_is_spelled_so,
+    an_area_that_is_spelled_so_is_read,
 };
+pub use limits::FILE_LIMIT;
