@@ -6,6 +6,7 @@ use Rattle.keyring_file.specs.AreaText.{AreaText}
 use Rattle.keyring_file.specs.Canonical.{area_text, clear_text}
 use Rattle.keyring_file.specs.Clear.{ClearPart}
 use Rattle.keyring_file.specs.ClearText.{ClearText}
+use Rattle.keyring_file.specs.Limits.{file_limit}
 use Rattle.keyring_file.specs.Reading.{area_read, clear_read}
 use Rattle.keyring_file.specs.declared.fault.AreaFault.{AreaFault}
 use Rattle.keyring_file.specs.declared.fault.ClearFault.{ClearFault}
@@ -46,7 +47,7 @@ sealed content key vector =
 
 -- the most bytes that a file may have
 abbrev pub most_bytes : ℕ
-most_bytes = 67108864
+most_bytes = file_limit
 
 -- the two files have one clear part
 pub record HaveOneClearPart (one two : List ℕ) : Type 0 where

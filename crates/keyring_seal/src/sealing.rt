@@ -19,12 +19,14 @@ use crate::room::{row_sizes, sizes};
 use crate::writing::{put_area, put_clear, put_kept_clear};
 use aes_cbc::Key;
 use key_derivation::Derived;
-use keyring_file::{Clear, ClearItem, FullItem, known_clear, known_clear_item, known_item};
+use keyring_file::{
+    Clear, ClearItem, FILE_LIMIT, FullItem, known_clear, known_clear_item, known_item,
+};
 use keyring_text::known_bytes;
 use kr_base::OutOfMemory;
 use std::alloc::Global;
 
-const MOST_BYTES: usize = 67_108_864;
+const MOST_BYTES: usize = FILE_LIMIT;
 
 /// Why a content wasn't sealed.
 #[derive(Clone, Copy, Drop, PartialEq, Eq)]
