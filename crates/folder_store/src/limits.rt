@@ -1,3 +1,5 @@
+use keyring_file::FILE_LIMIT;
+
 /// How much of a folder is listed.
 #[derive(Clone, Copy, PartialEq, Eq)]
 pub struct Limits {
@@ -14,7 +16,7 @@ pub struct Limits {
 /// The limits of `load`: 67,108,864 bytes in one keyring file, 1,024 collections, 100,000 items in all,
 /// and 268,435,456 bytes in all listed keyring files.
 pub const LIMITS: Limits = Limits {
-    one_file: 67_108_864,
+    one_file: FILE_LIMIT,
     collections: 1_024,
     items: 100_000,
     all_files: 268_435_456,
