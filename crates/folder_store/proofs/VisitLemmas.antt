@@ -1,5 +1,5 @@
 -- How one file changes what is open, at each exit of the call that takes it.
-use Rattle.std.proofs.Common.{◌≡◌, ◌⊎◌, ⊎_elim, inl, inr, ℕ, ◌+◌, ◌<◌, Option, List, [], ◌∷◌, ◌++◌, Bool, true, false, IsTrue, None, Some, IsSome, length, refl, sym, ◌∙◌, ap, subst, arith}
+use Rattle.std.proofs.Common.{◌≡◌, ◌⊎◌, ⊎_elim, inl, inr, ℕ, ◌+◌, ◌<◌, Option, List, [], ◌∷◌, ◌++◌, Bool, true, false, IsTrue, None, Some, IsSome, Result, Ok, Err, OnOk, OnErr, length, refl, sym, ◌∙◌, ap, subst, arith}
 use Rattle.std.specs.List.{Contains}
 use Rattle.std.proofs.lemmas.List.{length-append}
 use Rattle.std.proofs.lemmas.List.Elements.{Contains-push}
@@ -10,10 +10,10 @@ use Rattle.kr_outside.specs.RenameDisk.{Image, Temporary, Unknown, Only, LeavesA
 use Rattle.keyring_file.specs.Clear.{ClearPart}
 use Rattle.keyring_file.specs.ClearText.{HasClear}
 use Rattle.folder_store.specs.declared.limits.Limits.{Limits}
-use Rattle.folder_store.specs.Names.{IsRingName}
+use Rattle.folder_store.specs.Names.{IsRingName, IsLoadName}
 use Rattle.folder_store.specs.Opened.{Takes, other, left_alone, Fits, leaves_alone}
-use Rattle.folder_store.specs.Ring.{rows_of, IsAsFound, HandsBack, with_ring, alone, IsLook, HasFailedSlot}
-use Rattle.folder_store.specs.Walk.{OpeningState, plain, MakesAtMost, none, one, Visits, Keeps, in_ring, by_itself}
+use Rattle.folder_store.specs.Ring.{rows_of, IsAsFound, HandsBack, with_ring, alone, ReturnsAll, between_files, at_a_file, IsLook, HasFailedSlot}
+use Rattle.folder_store.specs.Walk.{OpeningState, plain, MakesAtMost, none, one, Visits, Keeps, in_ring, by_itself, StopsAt}
 
 -- an empty file isn't a keyring file
 no_keyring : (clear : ClearPart) → HasClear [] clear → ⊥
@@ -128,6 +128,41 @@ keeps_handed found images made made_new name stem slot old new is named as_found
     (subst (λ r. HandsBack found images (name ∷ made) r new.left) (sym rings)
     (subst (λ l. HandsBack found images (name ∷ made) old.rings l) (sym left)
     (alone made old.rings old.left name file before (subst (λ s. IsRingName name s) (sym of_stem) named) (subst (λ s. found (images name) s) (sym of_slot) as_found))))
+
+-- the load stops at a slot that was made for this name
+pub stops_at : {S : Type 0} (found : Image → S → Type 0) (images : List ℕ → Image) (made made_new : List (List ℕ)) (name : List ℕ) (slot : S) (old new : OpeningState S)
+    → made_new ≡ name ∷ made → IsLoadName name → found (images name) slot → HandsBack found images made old.rings old.left
+    → StopsAt slot old new → ReturnsAll found images made_new new.rings new.left new.last
+stops_at found images made made_new name slot old new is named as_found before stops =
+    subst (λ m. ReturnsAll found images m new.rings new.left new.last) (sym is)
+    (subst (λ s. ReturnsAll found images (name ∷ made) new.rings new.left s) (sym stops.last)
+    (subst (λ r. ReturnsAll found images (name ∷ made) r new.left (Some slot)) (sym stops.rings)
+    (subst (λ l. ReturnsAll found images (name ∷ made) old.rings l (Some slot)) (sym stops.left)
+    (at_a_file made old.rings old.left name slot before named as_found))))
+
+-- a slot at which the load stops is kept, and so are all others
+pub stops_by : {S : Type 0} (slot : S) (old new : OpeningState S) → new ≡ record old { last = Some slot } → StopsAt slot old new
+stops_by slot old new kept = record { last = ap (λ o. o.last) kept; rings = ap (λ o. o.rings) kept; left = ap (λ o. o.left) kept }
+
+-- or before one was made
+pub stops_before : {S : Type 0} (found : Image → S → Type 0) (images : List ℕ → Image) (made made_new : List (List ℕ)) (old new : OpeningState S)
+    → made_new ≡ made → HandsBack found images made old.rings old.left → old.last ≡ None
+    → new.rings ≡ old.rings → new.left ≡ old.left → new.last ≡ old.last → ReturnsAll found images made_new new.rings new.left new.last
+stops_before found images made made_new old new is before no_slot rings left last =
+    subst (λ m. ReturnsAll found images m new.rings new.left new.last) (sym is)
+    (subst (λ s. ReturnsAll found images made new.rings new.left s) (sym (last ∙ no_slot))
+    (subst (λ r. ReturnsAll found images made r new.left None) (sym rings)
+    (subst (λ l. ReturnsAll found images made old.rings l None) (sym left)
+    (between_files made old.rings old.left before))))
+
+-- what holds whatever the result is
+pub anyhow : {T E P : Type 0} (r : Result T E) → P → OnOk r P
+anyhow (Ok x) p = p
+anyhow (Err e) p = tt
+
+pub whatever : {T E P : Type 0} (r : Result T E) → P → OnErr r P
+whatever (Ok x) p = tt
+whatever (Err e) p = p
 
 -- a slot that was made for this name failed while its file was looked at
 pub failed_slot : {S : Type 0} (found : Image → S → Type 0) (images : List ℕ → Image) (made before : List (List ℕ)) (faults : S → ℕ) (failed : S → Option DeviceCall) (is_steady : S → Bool) (steady : Bool) (name : List ℕ) (start slot : S)

@@ -1,5 +1,5 @@
 -- One more name of a folder.
-use Rattle.std.proofs.Common.{◌≡◌, ⊎_elim, ◌↔◌, ℕ, ◌<◌, List, [], ◌∷◌, ◌++◌, Bool, IsTrue, IsSome, suc, length, take, get_or, refl, sym, ◌∙◌, ap, subst, arith}
+use Rattle.std.proofs.Common.{◌≡◌, ⊎_elim, inl, inr, ◌↔◌, ℕ, ◌<◌, List, [], ◌∷◌, ◌++◌, Bool, IsTrue, IsSome, suc, length, take, get_or, refl, sym, ◌∙◌, ap, subst, arith}
 use Rattle.std.specs.List.{Contains}
 use Rattle.std.specs.List.Sorted.{IsStrictlySortedBy}
 use Rattle.std.specs.declared.cmp.Ordering.TheVariants.{Less, Equal}
@@ -14,6 +14,7 @@ use Rattle.kr_outside.specs.RenameDisk.{Image}
 use Rattle.folder_store.specs.declared.limits.Limits.{Limits}
 use Rattle.folder_store.specs.Names.{IsRingName}
 use Rattle.folder_store.specs.Opened.{Opening, Takes, none, more, other, left_alone, listed}
+use Rattle.folder_store.specs.Ring.{MakesOneAtMost}
 use Rattle.folder_store.specs.Walk.{OpeningState, plain, MakesAtMost, one, Visits, Walk}
 use Rattle.folder_store.specs.Walk.{none as made_none}
 use Rattle.folder_store.proofs.OpenedLemmas.{told_push, keys_push, cons_cases}
@@ -96,3 +97,30 @@ listed_settled made images now names sorted fresh lists same among name =
       λ has. subst (λ (i : Image). IsSome i) (sym (same name off)) ((lists.all name off).0 ((among name).0 has)),
       λ some. (among name).1 ((lists.all name off).1 (subst (λ (i : Image). IsSome i) (same name off) some)),
     )
+
+module _ {F : Type 0} (images : F → List ℕ → Image) (may_leave : F → List ℕ → Image → Type 0) where
+  pub Stays-none : (made : List (List ℕ)) (old : F) → Stays images may_leave made old old
+  Stays-none made old = record { same = λ name off. refl; crash = λ name off image may. may }
+
+  -- one call after another, of which no fewer slots were made
+  pub Stays-trans : (first second : List (List ℕ)) (old mid new : F) → ((name : List ℕ) → ¬ (Contains second name) → ¬ (Contains first name))
+      → Stays images may_leave first old mid → Stays images may_leave second mid new → Stays images may_leave second old new
+  Stays-trans first second old mid new among before after = record {
+    same = λ name off. after.same name off ∙ before.same name (among name off);
+    crash = λ name off image may. before.crash name (among name off) image (after.crash name off image may);
+  }
+
+  -- no slot was made in between
+  pub Stays-again : (made same : List (List ℕ)) (old mid new : F) → same ≡ made → Stays images may_leave made old mid → Stays images may_leave same mid new
+      → Stays images may_leave made old new
+  Stays-again made same old mid new is before after =
+      Stays-trans made made old mid new (λ name off. off) before (subst (λ m. Stays images may_leave m mid new) is after)
+
+-- a name without a slot had none before one more was made
+pub one_fewer : (name : List ℕ) (before after : List (List ℕ)) → MakesOneAtMost name before after → (n : List ℕ) → ¬ (Contains after n) → ¬ (Contains before n)
+one_fewer name before after (inl same) n off has = off (subst (λ l. Contains l n) (sym same) has)
+one_fewer name before after (inr longer) n off (k, in_range, is) = off (subst (λ l. Contains l n) (sym longer) (suc k, omega (arith, in_range), is))
+
+-- nor before the first was made
+pub none_fewer : (before after : List (List ℕ)) → before ≡ [] → (n : List ℕ) → ¬ (Contains after n) → ¬ (Contains before n)
+none_fewer before after fresh n off has = absurd (omega (arith, (subst (λ l. Contains l n) fresh has).1))

@@ -1,5 +1,5 @@
 -- The names in a folder (docs/KEYRING_FILES.md, "A folder").
-use Rattle.std.specs.Prelude.{◌≡◌, ℕ, List, ◌++◌, codes}
+use Rattle.std.specs.Prelude.{◌≡◌, ◌⊎◌, ℕ, List, ◌++◌, codes}
 use Rattle.kr_base.specs.Stem.{IsStem}
 
 -- how the name of a keyring file ends
@@ -15,3 +15,7 @@ aliases = codes "aliases"
 pub record IsRingName (name stem : List ℕ) : Type 0 where
   pub is_stem : IsStem stem
   pub spelled : name ≡ stem ++ ending
+
+-- the name is that of a file that a load looks at: a keyring file, or the file of the aliases
+abbrev pub IsLoadName : List ℕ → Type 0
+IsLoadName name = (name ≡ aliases) ⊎ ((stem : List ℕ) × IsRingName name stem)

@@ -7,7 +7,7 @@ use Rattle.kr_outside.specs.declared.slot.DeviceCall.TheVariants.{Size, Read, Sy
 use Rattle.keyring_file.specs.Clear.{ClearPart}
 use Rattle.replace_slot.specs.Cell.{CellState, File, Known, Doubt}
 use Rattle.folder_store.specs.Opened.{RingRow}
-use Rattle.folder_store.specs.Names.{IsRingName}
+use Rattle.folder_store.specs.Names.{IsRingName, IsLoadName}
 use Rattle.folder_store.specs.declared.opening.LeftAlone.{LeftAlone}
 use Rattle.folder_store.specs.declared.refused.LoadRefused.{LoadRefused}
 use Rattle.folder_store.specs.declared.refused.LoadRefused.TheVariants.{Folder}
@@ -58,6 +58,10 @@ pub record IsAsFound {S : Type 0} (seen : S → Image) (temporary : S → Tempor
   pub any_moment : IsTrue honest → Only image (left_since slot 0)
   pub untouched : IsTrue honest → temporary slot ≡ Unknown
 
+-- no slot was made, or one for this name
+abbrev pub MakesOneAtMost : List ℕ → List (List ℕ) → List (List ℕ) → Type 0
+MakesOneAtMost name old new = (new ≡ old) ⊎ (new ≡ name ∷ old)
+
 -- each slot that was made for these names, the newest first, is returned with a listed collection or with a
 -- file that was left alone, and is as it was found
 pub data HandsBack {S : Type 0} (found : Image → S → Type 0) (images : List ℕ → Image) : List (List ℕ) → List (RingState S) → List (LeftAlone S) → Type 0 where
@@ -68,6 +72,16 @@ pub data HandsBack {S : Type 0} (found : Image → S → Type 0) (images : List 
   alone : (made : List (List ℕ)) (rings : List (RingState S)) (left : List (LeftAlone S)) (name : List ℕ) (file : LeftAlone S)
       → HandsBack found images made rings left → IsRingName name file.stem → found (images name) file.slot
       → HandsBack found images (name ∷ made) rings (left ++ file ∷ [])
+
+-- Each slot that was made for these names, the newest first, is returned as it was found: those that are returned with
+-- a listed collection or with a file that was left alone, and the one at which the load stopped, if it had made one
+-- that isn't among them. That one is of a keyring file, or of the file of the aliases.
+pub data ReturnsAll {S : Type 0} (found : Image → S → Type 0) (images : List ℕ → Image) : List (List ℕ) → List (RingState S) → List (LeftAlone S) → Option S → Type 0 where
+  between_files : (made : List (List ℕ)) (rings : List (RingState S)) (left : List (LeftAlone S))
+      → HandsBack found images made rings left → ReturnsAll found images made rings left None
+  at_a_file : (made : List (List ℕ)) (rings : List (RingState S)) (left : List (LeftAlone S)) (name : List ℕ) (slot : S)
+      → HandsBack found images made rings left → IsLoadName name → found (images name) slot
+      → ReturnsAll found images (name ∷ made) rings left (Some slot)
 
 -- the call that failed is one of the three that a load makes on a slot
 abbrev pub IsLook : Option DeviceCall → Type 0

@@ -27,12 +27,13 @@ abbrev pub Looks : ℕ → Image → Look → Type 0
 Looks most seen (look.Whole image) = (image_of image ≡ seen) × ¬ (IsLonger most seen)
 Looks most seen look.Longer = IsLonger most seen
 
--- the collections that are listed so far, with their cells, the stems that are used, and the slots of the
--- files that were left alone
+-- the collections that are listed so far, with their cells, the stems that are used, the slots of the files that
+-- were left alone, and the slot at which the load stopped
 pub record OpeningState (S : Type 0) : Type 0 where
   pub rings : List (RingState S)
   pub used : List (List ℕ)
   pub left : List (LeftAlone S)
+  pub last : Option S
 
 -- the same without the slots
 abbrev pub plain : {S : Type 0} → OpeningState S → Opening
@@ -62,6 +63,12 @@ pub record Walk {F : Type 0} (limits : Limits) (honest : Bool) (images : F → L
   -- every other name is as it was
   pub same : IsTrue honest → (name : List ℕ) → ¬ (Contains (made new) name) → images new name ≡ images old name
   pub settled : IsTrue honest → (name : List ℕ) → ¬ (Contains (made new) name) → Only (images old name) (may_leave new name)
+
+-- the load stops at this slot, which is kept, and so are all others
+pub record StopsAt {S : Type 0} (slot : S) (old new : OpeningState S) : Type 0 where
+  pub last : new.last ≡ Some slot
+  pub rings : new.rings ≡ old.rings
+  pub left : new.left ≡ old.left
 
 -- the slot of a file with this stem is kept, with a collection that is listed or by itself
 pub data Keeps {S : Type 0} (stem : List ℕ) (slot : S) (old new : OpeningState S) : Type 0 where

@@ -1,4 +1,4 @@
-ghost use Rattle.std.specs.Prelude.{◌≡◌, IsTrue, IfOk};
+ghost use Rattle.std.specs.Prelude.{◌≡◌, IsTrue, IfOk, IfErr};
 ghost use Rattle.kr_outside.specs.RenameDisk.{Only};
 ghost use Rattle.alias_text.specs.Pairs.{GivesAliases};
 ghost use Rattle.replace_slot.specs.Cell.{Known, IsKnownImage};
@@ -8,7 +8,7 @@ use alias_text::read_aliases;
 use kr_base::{OutOfMemory, Stem, Text};
 use kr_outside::Slot;
 use replace_slot::{FileCell, Image};
-use std::alloc::Global;
+use std::alloc::{AllocFailed, Global};
 use std::marker::Model;
 
 /// The file of the aliases: its cell, and the aliases in byte order of their names, each with its
@@ -34,17 +34,25 @@ impl<S: Slot> Model for AliasFile<S> {
 
 impl<S: Slot> AliasFile<S> {
     /// The aliases of a file that is known to have this image, or not to exist.
-    pub fn read(alloc: Global, slot: S, image: Option<Vec<u8>>) -> Result<AliasFile<S>, OutOfMemory>
+    ///
+    /// Refused if no memory was left; the slot is returned then.
+    pub fn read(
+        alloc: Global,
+        slot: S,
+        image: Option<Vec<u8>>,
+    ) -> Result<AliasFile<S>, AllocFailed<S>>
         requires { IsTrue (S.is_honest slot) → Only (image_of image) (S.may_leave slot) }
-        ensures { IfOk result (λ file.
+        ensures read { IfOk result (λ file.
             file.cell ≡ record { slot = slot; file = Known (image_of image) }) }
+        ensures returned { IfErr result (λ failed. failed.value ≡ slot) }
     {
-        let pairs = pairs_of(alloc, &image)?;
-        let image = shared(alloc, image)?;
-        Ok(AliasFile {
-            cell: FileCell::known(slot, image),
-            pairs,
-        })
+        match parsed(alloc, image) {
+            Ok((pairs, image)) => Ok(AliasFile {
+                cell: FileCell::known(slot, image),
+                pairs,
+            }),
+            Err(_) => Err(AllocFailed { value: slot }),
+        }
     }
 
     /// The aliases, borrowed, in order.
@@ -64,6 +72,19 @@ impl<S: Slot> AliasFile<S> {
     {
         (self.cell, self.pairs)
     }
+}
+
+// The aliases of an image, and the image.
+fn parsed(
+    alloc: Global,
+    image: Option<Vec<u8>>,
+) -> Result<(Vec<(Text, Stem)>, Option<Image>), OutOfMemory>
+    ensures pairs { IfOk result (λ both. GivesAliases (image_of image) both.0.items) }
+    ensures image { IfOk result (λ both. both.1 ≡ image_of image) }
+{
+    let pairs = pairs_of(alloc, &image)?;
+    let image = shared(alloc, image)?;
+    Ok((pairs, image))
 }
 
 // The aliases of an image.

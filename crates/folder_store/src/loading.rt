@@ -1,4 +1,4 @@
-ghost use Rattle.std.specs.Prelude.{◌≡◌, ◌≤◌, ◌⊎◌, ◌↔◌, ◌∷◌, ℕ, List, Option, [], IsTrue, Contains, IsSome, IfOk, OnOk, IsErrOf};
+ghost use Rattle.std.specs.Prelude.{◌≡◌, ◌≤◌, ◌⊎◌, ◌↔◌, ◌∷◌, ℕ, List, Option, None, [], IsTrue, Contains, IsSome, IfOk, IfErr, OnOk, OnErr, IsErrOf};
 ghost use Rattle.std.specs.Cmp.Lexicographic.{slice_cmp};
 ghost use Rattle.std.specs.List.Sorted.{IsStrictlySortedBy};
 ghost use Rattle.std.specs.Ordering.{nat_cmp};
@@ -9,20 +9,21 @@ ghost use Rattle.folder_store.specs.Aliases.{AreFound, alias_slot};
 ghost use Rattle.folder_store.specs.Limits.{the_limits};
 ghost use Rattle.folder_store.specs.Loads.{Loads};
 ghost use Rattle.folder_store.specs.Names.{aliases, IsRingName};
-ghost use Rattle.folder_store.specs.Ring.{HasFailedSlot, HasLoadCause, IsAsFound, HandsBack};
+ghost use Rattle.folder_store.specs.Ring.{HasFailedSlot, HasLoadCause, IsAsFound, HandsBack, MakesOneAtMost, ReturnsAll};
 ghost use Rattle.folder_store.specs.Walk.{Visits, Walk, plain};
 
 use crate::found_aliases::{FoundAliases, found_by};
 use crate::limits::{LIMITS, Limits};
 use crate::names::{in_order, stem_of_name};
 use crate::opening::{LeftAlone, Opening};
-use crate::reading::{read_settled, read_within};
-use crate::refused::LoadRefused;
+use crate::reading::look_at;
+use crate::refused::{LoadRefused, NotLoaded};
 use crate::ring::Ring;
 use alias_text::LONGEST;
 use kr_base::{Stem, Text};
 use kr_outside::{Folder, OutsideRefused, Slot};
 use std::alloc::Global;
+use std::mem;
 
 /// What is found in a folder at startup.
 #[derive(Drop)]
@@ -40,28 +41,40 @@ pub struct Loaded<S: Slot> {
 
 /// Loads a folder for which no slot has been made yet: settles it, then settles the file of the aliases and, as
 /// long as more can be listed, each keyring file, and reads each of these once unless it is too long. No file
-/// is changed, created or removed at any moment, and each slot that was made is returned.
+/// is changed, created or removed at any moment, and each slot that was made is returned, also by a refusal.
 ///
 /// Refused with `Folder` only if the folder's count of faults or that of a slot rose, and with `OutOfMemory`.
-pub fn load<F: Folder>(alloc: Global, folder: &mut F) -> Result<Loaded<F::Cell>, LoadRefused>
+pub fn load<F: Folder>(alloc: Global, folder: &mut F) -> Result<Loaded<F::Cell>, NotLoaded<F::Cell>>
     requires fresh { F.made folder.old ≡ [] }
     ensures loaded { IfOk result (Loads the_limits (IsAsFound F.Cell.seen F.Cell.temporary
         F.Cell.may_leave F.Cell.left_since F.Cell.is_honest F.Cell.is_steady
         (F.is_honest folder.old) (F.is_steady folder.old))
         (F.is_honest folder.old) F.images F.may_leave F.made folder.old folder.new) }
 
+    // Whatever the result, no name is changed: a name without a slot is as it was, and after a refusal each
+    // slot is returned as it was found.
+    ensures others { IsTrue (F.is_honest folder.old)
+        → Stays F.images F.may_leave (F.made folder.new) folder.old folder.new }
+    ensures returned { IfErr result (λ not_loaded. ReturnsAll (IsAsFound
+        F.Cell.seen F.Cell.temporary F.Cell.may_leave F.Cell.left_since
+        F.Cell.is_honest F.Cell.is_steady
+        (F.is_honest folder.old) (F.is_steady folder.old))
+        (F.images folder.old) (F.made folder.new)
+        not_loaded.rings.items not_loaded.left_alone.items not_loaded.last) }
+
     ensures honest { F.is_honest folder.new ≡ F.is_honest folder.old }
     ensures steady { KeepsSteady (F.is_steady folder.old) (F.is_steady folder.new)
         (F.faults folder.old) (F.faults folder.new) }
     ensures later { F.faults folder.old ≤ F.faults folder.new }
-    ensures cause { IsErrOf result LoadRefused.Folder
+    ensures cause { IfErr result (λ not_loaded. not_loaded.refused ≡ LoadRefused.Folder
         → Rose (F.faults folder.old) (F.faults folder.new)
         ⊎ HasFailedSlot (IsAsFound F.Cell.seen F.Cell.temporary
         F.Cell.may_leave F.Cell.left_since F.Cell.is_honest F.Cell.is_steady
         (F.is_honest folder.old) (F.is_steady folder.old))
         (F.images folder.old) (F.made folder.new) F.Cell.faults F.Cell.failed
-        (F.is_steady folder.old) }
-    ensures never { IsTrue (F.is_steady folder.old) → ¬ (IsErrOf result LoadRefused.Folder) }
+        (F.is_steady folder.old)) }
+    ensures never { IsTrue (F.is_steady folder.old) → IfErr result (λ not_loaded.
+        ¬ (not_loaded.refused ≡ LoadRefused.Folder)) }
 {
     load_within(alloc, folder, &LIMITS)
 }
@@ -71,12 +84,67 @@ pub fn load_within<F: Folder>(
     alloc: Global,
     folder: &mut F,
     limits: &Limits,
-) -> Result<Loaded<F::Cell>, LoadRefused>
+) -> Result<Loaded<F::Cell>, NotLoaded<F::Cell>>
     requires fresh { F.made folder.old ≡ [] }
     ensures loaded { IfOk result (Loads limits.now (IsAsFound F.Cell.seen F.Cell.temporary
         F.Cell.may_leave F.Cell.left_since F.Cell.is_honest F.Cell.is_steady
         (F.is_honest folder.old) (F.is_steady folder.old))
         (F.is_honest folder.old) F.images F.may_leave F.made folder.old folder.new) }
+
+    // Whatever the result, no name is changed: a name without a slot is as it was, and after a refusal each
+    // slot is returned as it was found.
+    ensures others { IsTrue (F.is_honest folder.old)
+        → Stays F.images F.may_leave (F.made folder.new) folder.old folder.new }
+    ensures returned { IfErr result (λ not_loaded. ReturnsAll (IsAsFound
+        F.Cell.seen F.Cell.temporary F.Cell.may_leave F.Cell.left_since
+        F.Cell.is_honest F.Cell.is_steady
+        (F.is_honest folder.old) (F.is_steady folder.old))
+        (F.images folder.old) (F.made folder.new)
+        not_loaded.rings.items not_loaded.left_alone.items not_loaded.last) }
+
+    ensures honest { F.is_honest folder.new ≡ F.is_honest folder.old }
+    ensures steady { KeepsSteady (F.is_steady folder.old) (F.is_steady folder.new)
+        (F.faults folder.old) (F.faults folder.new) }
+    ensures later { F.faults folder.old ≤ F.faults folder.new }
+    ensures cause { IfErr result (λ not_loaded. not_loaded.refused ≡ LoadRefused.Folder
+        → Rose (F.faults folder.old) (F.faults folder.new)
+        ⊎ HasFailedSlot (IsAsFound F.Cell.seen F.Cell.temporary
+        F.Cell.may_leave F.Cell.left_since F.Cell.is_honest F.Cell.is_steady
+        (F.is_honest folder.old) (F.is_steady folder.old))
+        (F.images folder.old) (F.made folder.new) F.Cell.faults F.Cell.failed
+        (F.is_steady folder.old)) }
+    ensures never { IsTrue (F.is_steady folder.old) → IfErr result (λ not_loaded.
+        ¬ (not_loaded.refused ≡ LoadRefused.Folder)) }
+{
+    let mut opening = Opening::new(alloc);
+    match load_into(alloc, folder, limits, &mut opening) {
+        Ok(loaded) => Ok(loaded),
+        Err(refused) => Err(opening.into_refusal(refused)),
+    }
+}
+
+// Loads a folder. After a refusal the slots that were made are in `opening`.
+fn load_into<F: Folder>(
+    alloc: Global,
+    folder: &mut F,
+    limits: &Limits,
+    opening: &mut Opening<F::Cell>,
+) -> Result<Loaded<F::Cell>, LoadRefused>
+    requires fresh { F.made folder.old ≡ [] }
+    requires empty { opening.old ≡ record { rings = []; used = []; left = []; last = None } }
+    ensures loaded { IfOk result (Loads limits.now (IsAsFound F.Cell.seen F.Cell.temporary
+        F.Cell.may_leave F.Cell.left_since F.Cell.is_honest F.Cell.is_steady
+        (F.is_honest folder.old) (F.is_steady folder.old))
+        (F.is_honest folder.old) F.images F.may_leave F.made folder.old folder.new) }
+
+    ensures others { IsTrue (F.is_honest folder.old)
+        → Stays F.images F.may_leave (F.made folder.new) folder.old folder.new }
+    ensures returned { OnErr result (ReturnsAll (IsAsFound
+        F.Cell.seen F.Cell.temporary F.Cell.may_leave F.Cell.left_since
+        F.Cell.is_honest F.Cell.is_steady
+        (F.is_honest folder.old) (F.is_steady folder.old))
+        (F.images folder.old) (F.made folder.new)
+        opening.new.rings opening.new.left opening.new.last) }
 
     ensures honest { F.is_honest folder.new ≡ F.is_honest folder.old }
     ensures steady { KeepsSteady (F.is_steady folder.old) (F.is_steady folder.new)
@@ -92,9 +160,9 @@ pub fn load_within<F: Folder>(
     ensures never { IsTrue (F.is_steady folder.old) → ¬ (IsErrOf result LoadRefused.Folder) }
 {
     let names = settled_names(alloc, folder)?;
-    let opening = walk(alloc, folder, limits, &names)?;
-    let aliases = load_aliases(alloc, folder)?;
-    let (rings, used, left_alone) = opening.into_parts();
+    walk(alloc, folder, limits, &names, opening)?;
+    let aliases = load_aliases(alloc, folder, opening)?;
+    let (rings, used, left_alone) = mem::replace(opening, Opening::new(alloc)).into_parts();
     Ok(Loaded {
         rings,
         used,
@@ -115,6 +183,8 @@ fn settled_names<F: Folder>(alloc: Global, folder: &mut F) -> Result<Vec<Text>, 
 
     ensures same { IsTrue (F.is_honest folder.old) → (name : List ℕ)
         → F.images folder.new name ≡ F.images folder.old name }
+    ensures others { IsTrue (F.is_honest folder.old)
+        → Stays F.images F.may_leave (F.made folder.old) folder.old folder.new }
     ensures made { F.made folder.new ≡ [] }
     ensures honest { F.is_honest folder.new ≡ F.is_honest folder.old }
     ensures cause { HasLoadCause (F.faults folder.old) (F.faults folder.new) result }
@@ -137,21 +207,33 @@ fn walk<F: Folder>(
     folder: &mut F,
     limits: &Limits,
     names: &[Text],
-) -> Result<Opening<F::Cell>, LoadRefused>
+    opening: &mut Opening<F::Cell>,
+) -> Result<(), LoadRefused>
     requires fresh { F.made folder.old ≡ [] }
+    requires empty { opening.old ≡ record { rings = []; used = []; left = []; last = None } }
     requires sorted { IsStrictlySortedBy (slice_cmp nat_cmp) names.now }
     requires listed { IsTrue (F.is_honest folder.old) → (name : List ℕ)
         → Contains names.now name → IsSome (F.images folder.old name) }
     requires settled { IsTrue (F.is_honest folder.old)
         → IsSettled [] (F.images folder.old) (F.may_leave folder.old) }
-    ensures walked { IfOk result (λ opening. Walk limits.now (F.is_honest folder.old)
-        F.images F.may_leave F.made folder.old folder.new names.now (plain opening)) }
+    ensures walked { OnOk result (Walk limits.now (F.is_honest folder.old)
+        F.images F.may_leave F.made folder.old folder.new names.now (plain opening.new)) }
     ensures handed { (images : List ℕ → Option (List ℕ)) → (IsTrue (F.is_honest folder.old)
         → (name : List ℕ) → images name ≡ F.images folder.old name)
-        → IfOk result (λ opening. HandsBack (IsAsFound F.Cell.seen F.Cell.temporary
+        → OnOk result (HandsBack (IsAsFound F.Cell.seen F.Cell.temporary
         F.Cell.may_leave F.Cell.left_since F.Cell.is_honest F.Cell.is_steady
         (F.is_honest folder.old) (F.is_steady folder.old))
-        images (F.made folder.new) opening.rings opening.left) }
+        images (F.made folder.new) opening.new.rings opening.new.left) }
+    ensures returned { (images : List ℕ → Option (List ℕ)) → (IsTrue (F.is_honest folder.old)
+        → (name : List ℕ) → images name ≡ F.images folder.old name)
+        → OnErr result (ReturnsAll (IsAsFound
+        F.Cell.seen F.Cell.temporary F.Cell.may_leave F.Cell.left_since
+        F.Cell.is_honest F.Cell.is_steady
+        (F.is_honest folder.old) (F.is_steady folder.old))
+        images (F.made folder.new) opening.new.rings opening.new.left opening.new.last) }
+    ensures others { IsTrue (F.is_honest folder.old)
+        → Stays F.images F.may_leave (F.made folder.new) folder.old folder.new }
+    ensures last { OnOk result (opening.new.last ≡ None) }
 
     ensures honest { F.is_honest folder.new ≡ F.is_honest folder.old }
     ensures count { F.faults folder.new ≡ F.faults folder.old }
@@ -164,11 +246,10 @@ fn walk<F: Folder>(
         images (F.made folder.new) F.Cell.faults F.Cell.failed
         (F.is_steady folder.old) }
 {
-    let mut opening = Opening::new(alloc);
     for name in names {
-        visit(alloc, folder, limits, name.as_str(), &mut opening)?;
+        visit(alloc, folder, limits, name.as_str(), opening)?;
     }
-    Ok(opening)
+    Ok(())
 }
 
 // Takes the file with this name, if it is the name of a keyring file.
@@ -196,6 +277,19 @@ fn visit<F: Folder>(
         F.Cell.may_leave F.Cell.left_since F.Cell.is_honest F.Cell.is_steady
         (F.is_honest folder.old) (F.is_steady folder.old))
         images (F.made folder.new) opening.new.rings opening.new.left) }
+    ensures returned { (images : List ℕ → Option (List ℕ)) → (IsTrue (F.is_honest folder.old)
+        → images name.now ≡ F.images folder.old name.now)
+        → HandsBack (IsAsFound F.Cell.seen F.Cell.temporary
+        F.Cell.may_leave F.Cell.left_since F.Cell.is_honest F.Cell.is_steady
+        (F.is_honest folder.old) (F.is_steady folder.old))
+        images (F.made folder.old) opening.old.rings opening.old.left
+        → opening.old.last ≡ None → OnErr result (ReturnsAll (IsAsFound
+        F.Cell.seen F.Cell.temporary F.Cell.may_leave F.Cell.left_since
+        F.Cell.is_honest F.Cell.is_steady
+        (F.is_honest folder.old) (F.is_steady folder.old))
+        images (F.made folder.new) opening.new.rings opening.new.left opening.new.last) }
+    ensures made { MakesOneAtMost name.now (F.made folder.old) (F.made folder.new) }
+    ensures last { OnOk result (opening.new.last ≡ opening.old.last) }
 
     ensures honest { F.is_honest folder.new ≡ F.is_honest folder.old }
     ensures count { F.faults folder.new ≡ F.faults folder.old }
@@ -241,6 +335,19 @@ fn take_file<F: Folder>(
         F.Cell.may_leave F.Cell.left_since F.Cell.is_honest F.Cell.is_steady
         (F.is_honest folder.old) (F.is_steady folder.old))
         images (F.made folder.new) opening.new.rings opening.new.left) }
+    ensures returned { (images : List ℕ → Option (List ℕ)) → (IsTrue (F.is_honest folder.old)
+        → images name.now ≡ F.images folder.old name.now)
+        → HandsBack (IsAsFound F.Cell.seen F.Cell.temporary
+        F.Cell.may_leave F.Cell.left_since F.Cell.is_honest F.Cell.is_steady
+        (F.is_honest folder.old) (F.is_steady folder.old))
+        images (F.made folder.old) opening.old.rings opening.old.left
+        → opening.old.last ≡ None → OnErr result (ReturnsAll (IsAsFound
+        F.Cell.seen F.Cell.temporary F.Cell.may_leave F.Cell.left_since
+        F.Cell.is_honest F.Cell.is_steady
+        (F.is_honest folder.old) (F.is_steady folder.old))
+        images (F.made folder.new) opening.new.rings opening.new.left opening.new.last) }
+    ensures made { MakesOneAtMost name.now (F.made folder.old) (F.made folder.new) }
+    ensures last { OnOk result (opening.new.last ≡ opening.old.last) }
 
     ensures honest { F.is_honest folder.new ≡ F.is_honest folder.old }
     ensures count { F.faults folder.new ≡ F.faults folder.old }
@@ -256,8 +363,8 @@ fn take_file<F: Folder>(
     let Some(room) = opening.room(limits) else {
         return opening.leave(stem);
     };
-    let mut slot = folder.slot(name)?;
-    match read_within(alloc, &mut slot, room)? {
+    let (slot, look) = look_at(alloc, folder, name, room, opening)?;
+    match look.into_bytes() {
         Some(image) => opening.take(alloc, limits, stem, slot, image),
         None => opening.leave_slot(stem, slot),
     }
@@ -267,6 +374,7 @@ fn take_file<F: Folder>(
 fn load_aliases<F: Folder>(
     alloc: Global,
     folder: &mut F,
+    opening: &mut Opening<F::Cell>,
 ) -> Result<FoundAliases<F::Cell>, LoadRefused>
     requires settled { IsTrue (F.is_honest folder.old) → ¬ (Contains (F.made folder.old) aliases)
         × Only (F.images folder.old aliases) (F.may_leave folder.old aliases) }
@@ -276,6 +384,19 @@ fn load_aliases<F: Folder>(
         (F.is_honest folder.old) (F.is_steady folder.old)
         (F.images folder.old aliases) (alias_slot found)) }
     ensures made { OnOk result (F.made folder.new ≡ aliases ∷ F.made folder.old) }
+    ensures one { MakesOneAtMost aliases (F.made folder.old) (F.made folder.new) }
+    ensures returned { (images : List ℕ → Option (List ℕ)) → (IsTrue (F.is_honest folder.old)
+        → images aliases ≡ F.images folder.old aliases)
+        → HandsBack (IsAsFound F.Cell.seen F.Cell.temporary
+        F.Cell.may_leave F.Cell.left_since F.Cell.is_honest F.Cell.is_steady
+        (F.is_honest folder.old) (F.is_steady folder.old))
+        images (F.made folder.old) opening.old.rings opening.old.left
+        → opening.old.last ≡ None → OnErr result (ReturnsAll (IsAsFound
+        F.Cell.seen F.Cell.temporary F.Cell.may_leave F.Cell.left_since
+        F.Cell.is_honest F.Cell.is_steady
+        (F.is_honest folder.old) (F.is_steady folder.old))
+        images (F.made folder.new) opening.new.rings opening.new.left opening.new.last) }
+    ensures opening { OnOk result (opening.new ≡ opening.old) }
     ensures stays { IsTrue (F.is_honest folder.old)
         → Stays F.images F.may_leave (F.made folder.new) folder.old folder.new }
 
@@ -290,8 +411,9 @@ fn load_aliases<F: Folder>(
         images (F.made folder.new) F.Cell.faults F.Cell.failed
         (F.is_steady folder.old) }
 {
-    let mut slot = folder.slot("aliases")?;
-    let look = read_settled(alloc, &mut slot, LONGEST)?;
-    let found = found_by(alloc, slot, look)?;
-    Ok(found)
+    let (slot, look) = look_at(alloc, folder, "aliases", LONGEST, opening)?;
+    match found_by(alloc, slot, look) {
+        Ok(found) => Ok(found),
+        Err(failed) => Err(opening.stop(failed.value, LoadRefused::OutOfMemory)),
+    }
 }

@@ -1,5 +1,5 @@
 // What is open so far, while the names of a folder are gone through.
-ghost use Rattle.std.specs.Prelude.{◌≡◌, ◌<◌, ◌≤◌, ◌↔◌, ◌+◌, ◌^◌, ◌++◌, ◌∷◌, [], IsTrue, Some, IfOk, IfErr, IfSome, IsNone, OnOk, length, List, ℕ};
+ghost use Rattle.std.specs.Prelude.{◌≡◌, ◌<◌, ◌≤◌, ◌↔◌, ◌+◌, ◌^◌, ◌++◌, ◌∷◌, [], IsTrue, Some, None, IfOk, IfErr, IfSome, IsNone, OnOk, OnErr, length, List, ℕ};
 ghost use Rattle.std.specs.Cmp.Lexicographic.{slice_cmp};
 ghost use Rattle.std.specs.List.Sorted.{IsPermutation, IsSortedByKey};
 ghost use Rattle.std.specs.Ordering.{nat_cmp};
@@ -8,14 +8,14 @@ ghost use Rattle.keyring_file.specs.Clear.{ClearPart};
 ghost use Rattle.folder_store.specs.Names.{IsRingName};
 ghost use Rattle.folder_store.specs.Opened.{Fits, Takes, items_in, bytes_in, leaves_alone};
 ghost use Rattle.folder_store.specs.Ring.{rows_of, bytes_of};
-ghost use Rattle.folder_store.specs.Walk.{plain, Keeps};
+ghost use Rattle.folder_store.specs.Walk.{plain, Keeps, StopsAt};
 
 use crate::limits::Limits;
-use crate::refused::LoadRefused;
+use crate::refused::{LoadRefused, NotLoaded};
 use crate::ring::{Ring, sort_by_stem};
 use keyring_file::{Clear, read_clear};
 use keyring_text::ReadRefused;
-use kr_base::Stem;
+use kr_base::{OutOfMemory, Stem};
 use kr_outside::Slot;
 use replace_slot::{FileCell, Image};
 use std::alloc::Global;
@@ -31,12 +31,13 @@ pub struct LeftAlone<S: Slot> {
 }
 
 /// The collections listed so far, the stems that are used, and the files that were looked at and left
-/// alone, all in the order of the names.
+/// alone, all in the order of the names; and the slot at which the load stopped.
 #[derive(Drop)]
 pub struct Opening<S: Slot> {
     rings: Vec<Ring<S>>,
     used: Vec<Stem>,
     left: Vec<LeftAlone<S>>,
+    last: Option<S>,
     items: usize,
     bytes: usize,
 }
@@ -53,6 +54,7 @@ impl<S: Slot> Model for Opening<S> {
       rings = o.rings.items;
       used = o.used.items;
       left = o.left.items;
+      last = o.last;
     } };
 
     ghost invariant = { λ o. (o.items ≡ items_in (rows_of o.rings.items))
@@ -62,12 +64,13 @@ impl<S: Slot> Model for Opening<S> {
 impl<S: Slot> Opening<S> {
     /// Nothing is open.
     pub fn new(alloc: Global) -> Opening<S>
-        ensures { result ≡ record { rings = []; used = []; left = [] } }
+        ensures { result ≡ record { rings = []; used = []; left = []; last = None } }
     {
         Opening {
             rings: Vec::new(alloc),
             used: Vec::new(alloc),
             left: Vec::new(alloc),
+            last: None,
             items: 0,
             bytes: 0,
         }
@@ -83,6 +86,30 @@ impl<S: Slot> Opening<S> {
         let mut rings = self.rings;
         sort_by_stem(&mut rings);
         (rings, self.used, self.left)
+    }
+
+    /// What is returned of a load that was refused: each slot that is in here.
+    pub fn into_refusal(self, refused: LoadRefused) -> NotLoaded<S>
+        ensures cause { result.refused ≡ refused }
+        ensures rings { result.rings.items ≡ self.rings }
+        ensures left { result.left_alone.items ≡ self.left }
+        ensures last { result.last ≡ self.last }
+    {
+        NotLoaded {
+            refused,
+            rings: self.rings,
+            left_alone: self.left,
+            last: self.last,
+        }
+    }
+
+    /// Keeps the slot at which the load stops, and returns the cause.
+    pub fn stop(&mut self, slot: S, refused: LoadRefused) -> LoadRefused
+        ensures cause { result ≡ refused }
+        ensures kept { self.new ≡ record self.old { last = Some slot } }
+    {
+        self.last = Some(slot);
+        refused
     }
 
     /// The most bytes that another file may have; None if no more files can be listed.
@@ -119,6 +146,7 @@ impl<S: Slot> Opening<S> {
         ensures left { OnOk result (plain self.new ≡ leaves_alone stem (plain self.old)) }
         ensures rings { self.new.rings ≡ self.old.rings }
         ensures slots { self.new.left ≡ self.old.left }
+        ensures last { self.new.last ≡ self.old.last }
         ensures memory { IfErr result (λ refused. refused ≡ LoadRefused.OutOfMemory) }
     {
         self.used.push(stem)?;
@@ -132,31 +160,71 @@ impl<S: Slot> Opening<S> {
         ensures rings { self.new.rings ≡ self.old.rings }
         ensures slots { OnOk result
             (self.new.left ≡ self.old.left ++ (record { stem = stem; slot = slot }) ∷ []) }
+        ensures last { OnOk result (self.new.last ≡ self.old.last) }
+        ensures stopped { OnErr result (StopsAt slot self.old self.new) }
         ensures memory { IfErr result (λ refused. refused ≡ LoadRefused.OutOfMemory) }
+    {
+        if self.count_used(&stem).is_err() {
+            return Err(self.stop(slot, LoadRefused::OutOfMemory));
+        }
+        match self.left.push(LeftAlone { stem, slot }) {
+            Ok(()) => Ok(()),
+            Err(failed) => Err(self.stop(failed.value.slot, LoadRefused::OutOfMemory)),
+        }
+    }
+
+    // Counts the stem as used.
+    fn count_used(&mut self, stem: &Stem) -> Result<(), OutOfMemory>
+        ensures used { OnOk result (self.new.used ≡ self.old.used ++ stem.now ∷ []) }
+        ensures rings { self.new.rings ≡ self.old.rings }
+        ensures left { self.new.left ≡ self.old.left }
+        ensures last { self.new.last ≡ self.old.last }
     {
         let used = stem.copy()?;
         self.used.push(used)?;
-        self.left.push(LeftAlone { stem, slot })?;
         Ok(())
     }
 
     // Lists a collection, and counts this stem as used.
-    fn list(&mut self, stem: Stem, ring: Ring<S>) -> Result<(), LoadRefused>
+    fn list(&mut self, stem: &Stem, ring: Ring<S>) -> Result<(), LoadRefused>
         requires items { items_in (rows_of self.old.rings) + length ring.clear.items < 2 ^ 64 }
         requires bytes { bytes_in (rows_of self.old.rings) + length (bytes_of ring.cell.file)
             < 2 ^ 64 }
         ensures rings { OnOk result (self.new.rings ≡ self.old.rings ++ ring ∷ []) }
-        ensures used { OnOk result (self.new.used ≡ self.old.used ++ stem ∷ []) }
+        ensures used { OnOk result (self.new.used ≡ self.old.used ++ stem.now ∷ []) }
         ensures left { self.new.left ≡ self.old.left }
+        ensures last { OnOk result (self.new.last ≡ self.old.last) }
+        ensures stopped { OnErr result (StopsAt ring.cell.slot self.old self.new) }
+        ensures memory { IfErr result (λ refused. refused ≡ LoadRefused.OutOfMemory) }
+    {
+        if self.count_used(stem).is_err() {
+            return Err(self.stop(ring.into_slot(), LoadRefused::OutOfMemory));
+        }
+        self.push(ring)
+    }
+
+    // Lists a collection.
+    fn push(&mut self, ring: Ring<S>) -> Result<(), LoadRefused>
+        requires items { items_in (rows_of self.old.rings) + length ring.clear.items < 2 ^ 64 }
+        requires bytes { bytes_in (rows_of self.old.rings) + length (bytes_of ring.cell.file)
+            < 2 ^ 64 }
+        ensures rings { OnOk result (self.new.rings ≡ self.old.rings ++ ring ∷ []) }
+        ensures used { self.new.used ≡ self.old.used }
+        ensures left { self.new.left ≡ self.old.left }
+        ensures last { OnOk result (self.new.last ≡ self.old.last) }
+        ensures stopped { OnErr result (StopsAt ring.cell.slot self.old self.new) }
         ensures memory { IfErr result (λ refused. refused ≡ LoadRefused.OutOfMemory) }
     {
         let clear = ring.clear().items.len();
         let bytes = ring.image().bytes().len();
-        self.used.push(stem)?;
-        self.rings.push(ring)?;
-        self.items += clear;
-        self.bytes += bytes;
-        Ok(())
+        match self.rings.push(ring) {
+            Ok(()) => {
+                self.items += clear;
+                self.bytes += bytes;
+                Ok(())
+            }
+            Err(failed) => { Err(self.stop(failed.value.into_slot(), LoadRefused::OutOfMemory)) }
+        }
     }
 
     /// Takes one more file: lists it if it is a keyring file and the limits allow it, and otherwise
@@ -174,6 +242,8 @@ impl<S: Slot> Opening<S> {
             (Takes limits.now name image.items (plain self.old) (plain self.new)) }
         ensures used { OnOk result (self.new.used ≡ self.old.used ++ stem ∷ []) }
         ensures kept { OnOk result (Keeps stem slot self.old self.new) }
+        ensures last { OnOk result (self.new.last ≡ self.old.last) }
+        ensures stopped { OnErr result (StopsAt slot self.old self.new) }
         ensures memory { IfErr result (λ refused. refused ≡ LoadRefused.OutOfMemory) }
     {
         match read_clear(alloc, &image) {
@@ -181,15 +251,28 @@ impl<S: Slot> Opening<S> {
                 if !self.fits(limits, &clear, &image) {
                     return self.leave_slot(stem, slot);
                 }
-                let used = stem.copy()?;
-                let image = Image::new(alloc, image)?;
-                let cell = FileCell::known(slot, Some(image));
-                self.list(used, Ring::new(stem, cell, clear))
+                match used_and_image(alloc, &stem, image) {
+                    Ok((used, image)) => {
+                        let cell = FileCell::known(slot, Some(image));
+                        self.list(&used, Ring::new(stem, cell, clear))
+                    }
+                    Err(_) => Err(self.stop(slot, LoadRefused::OutOfMemory)),
+                }
             }
-            Err(ReadRefused::OutOfMemory) => Err(LoadRefused::OutOfMemory),
+            Err(ReadRefused::OutOfMemory) => Err(self.stop(slot, LoadRefused::OutOfMemory)),
             Err(ReadRefused::Fault(_)) => self.leave_slot(stem, slot),
         }
     }
+}
+
+// A copy of the stem, and the image with these bytes.
+fn used_and_image(alloc: Global, stem: &Stem, image: Vec<u8>) -> Result<(Stem, Image), OutOfMemory>
+    ensures used { IfOk result (λ both. both.0 ≡ stem.now) }
+    ensures image { IfOk result (λ both. both.1 ≡ image.items) }
+{
+    let used = stem.copy()?;
+    let image = Image::new(alloc, image)?;
+    Ok((used, image))
 }
 
 // Whether this many more are within the limit.

@@ -1,13 +1,16 @@
 // Settling, measuring and reading one file.
-ghost use Rattle.std.specs.Prelude.{◌≡◌, ◌⊎◌, IsTrue, Some, IfOk, OnOk, IsErr, IsErrOf};
+ghost use Rattle.std.specs.Prelude.{◌≡◌, ◌⊎◌, ◌∷◌, ℕ, List, Option, Contains, IsTrue, None, Some, IfOk, OnOk, OnErr, IsErr, IsErrOf};
 ghost use Rattle.kr_outside.specs.Faults.{HasCause, KeepsSteady};
+ghost use Rattle.kr_outside.specs.Folder.{Stays};
 ghost use Rattle.kr_outside.specs.Moments.{LeavesOnly};
 ghost use Rattle.kr_outside.specs.RenameDisk.{Only, LeavesAnyBytes, LeavesNoMore, size_of};
-ghost use Rattle.folder_store.specs.Ring.{HasLoadCause, IsLook};
+ghost use Rattle.folder_store.specs.Names.{IsLoadName};
+ghost use Rattle.folder_store.specs.Ring.{HasFailedSlot, HasLoadCause, IsAsFound, IsLook, HandsBack, MakesOneAtMost, ReturnsAll};
 ghost use Rattle.folder_store.specs.Walk.{Looks, ReadsWithin, image_of};
 
+use crate::opening::Opening;
 use crate::refused::LoadRefused;
-use kr_outside::{Failed, Seen, Slot};
+use kr_outside::{Failed, Folder, Seen, Slot};
 use std::alloc::Global;
 
 /// Puts on the disk what the name stands for, and returns the number of bytes of the file, or None if
@@ -81,6 +84,19 @@ pub enum Look {
     Longer,
 }
 
+impl Look {
+    /// The bytes of the file; None if there is no file, or a longer one.
+    pub fn into_bytes(self) -> Option<Vec<u8>>
+        ensures { (most : ℕ) (seen : Option (List ℕ)) → Looks most seen self
+            → ReadsWithin most seen result }
+    {
+        match self {
+            Look::Whole(bytes) => bytes,
+            Look::Longer => None,
+        }
+    }
+}
+
 /// Settles a file, and reads it if it has at most `most` bytes.
 pub fn read_settled<S: Slot>(alloc: Global, slot: &mut S, most: usize) -> Result<Look, LoadRefused>
     ensures read { IsTrue (S.is_honest slot.old)
@@ -115,33 +131,56 @@ pub fn read_settled<S: Slot>(alloc: Global, slot: &mut S, most: usize) -> Result
     }
 }
 
-/// Settles a file, and reads it if it has at most `room` bytes; None if there is no such file.
-pub fn read_within<S: Slot>(
+/// Makes the slot of a name, settles its file, and reads it if it has at most `most` bytes. After a refusal the
+/// slot is in `opening`, if it was made.
+pub fn look_at<F: Folder>(
     alloc: Global,
-    slot: &mut S,
-    room: usize,
-) -> Result<Option<Vec<u8>>, LoadRefused>
-    ensures read { IsTrue (S.is_honest slot.old)
-        → IfOk result (ReadsWithin room (S.seen slot.new)) }
-    ensures settled { IsTrue (S.is_honest slot.old)
-        → OnOk result (LeavesAnyBytes (S.may_leave slot.old)
-        ⊎ Only (S.seen slot.new) (S.may_leave slot.new)) }
+    folder: &mut F,
+    name: &str,
+    most: usize,
+    opening: &mut Opening<F::Cell>,
+) -> Result<(F::Cell, Look), LoadRefused>
+    requires settled { IsTrue (F.is_honest folder.old) → ¬ (Contains (F.made folder.old) name.now)
+        × Only (F.images folder.old name.now) (F.may_leave folder.old name.now) }
+    ensures looked { IsTrue (F.is_honest folder.old) → IfOk result (λ found.
+        Looks most (F.images folder.old name.now) found.1) }
+    ensures found { (image : Option (List ℕ)) → (IsTrue (F.is_honest folder.old)
+        → image ≡ F.images folder.old name.now) → IfOk result (λ found.
+        IsAsFound F.Cell.seen F.Cell.temporary F.Cell.may_leave F.Cell.left_since
+        F.Cell.is_honest F.Cell.is_steady (F.is_honest folder.old) (F.is_steady folder.old)
+        image found.0) }
+    ensures made { OnOk result (F.made folder.new ≡ name.now ∷ F.made folder.old) }
+    ensures opening { OnOk result (opening.new ≡ opening.old) }
 
-    ensures same { IsTrue (S.is_honest slot.old) → S.seen slot.new ≡ S.seen slot.old }
-    ensures same_temporary { IsTrue (S.is_honest slot.old)
-        → S.temporary slot.new ≡ S.temporary slot.old }
-    ensures crash { IsTrue (S.is_honest slot.old)
-        → LeavesNoMore (S.may_leave slot.old) (S.may_leave slot.new) }
-    ensures any_moment { IsTrue (S.is_honest slot.old)
-        → LeavesOnly S.moment S.left_since slot.old slot.new (S.may_leave slot.old) }
-    ensures honest { S.is_honest slot.new ≡ S.is_honest slot.old }
-    ensures cause { HasLoadCause (S.faults slot.old) (S.faults slot.new) result }
-    ensures look { IsErrOf result LoadRefused.Folder → IsLook (S.failed slot.new) }
-    ensures steady { KeepsSteady (S.is_steady slot.old) (S.is_steady slot.new)
-        (S.faults slot.old) (S.faults slot.new) }
+    ensures returned { (images : List ℕ → Option (List ℕ)) → (IsTrue (F.is_honest folder.old)
+        → images name.now ≡ F.images folder.old name.now) → IsLoadName name.now
+        → HandsBack (IsAsFound F.Cell.seen F.Cell.temporary
+        F.Cell.may_leave F.Cell.left_since F.Cell.is_honest F.Cell.is_steady
+        (F.is_honest folder.old) (F.is_steady folder.old))
+        images (F.made folder.old) opening.old.rings opening.old.left
+        → opening.old.last ≡ None → OnErr result (ReturnsAll (IsAsFound
+        F.Cell.seen F.Cell.temporary F.Cell.may_leave F.Cell.left_since
+        F.Cell.is_honest F.Cell.is_steady
+        (F.is_honest folder.old) (F.is_steady folder.old))
+        images (F.made folder.new) opening.new.rings opening.new.left opening.new.last) }
+    ensures one { MakesOneAtMost name.now (F.made folder.old) (F.made folder.new) }
+    ensures stays { IsTrue (F.is_honest folder.old)
+        → Stays F.images F.may_leave (F.made folder.new) folder.old folder.new }
+
+    ensures honest { F.is_honest folder.new ≡ F.is_honest folder.old }
+    ensures count { F.faults folder.new ≡ F.faults folder.old }
+    ensures steady { F.is_steady folder.new ≡ F.is_steady folder.old }
+    ensures cause { (images : List ℕ → Option (List ℕ)) → (IsTrue (F.is_honest folder.old)
+        → images name.now ≡ F.images folder.old name.now) → IsErrOf result LoadRefused.Folder
+        → HasFailedSlot (IsAsFound F.Cell.seen F.Cell.temporary
+        F.Cell.may_leave F.Cell.left_since F.Cell.is_honest F.Cell.is_steady
+        (F.is_honest folder.old) (F.is_steady folder.old))
+        images (F.made folder.new) F.Cell.faults F.Cell.failed
+        (F.is_steady folder.old) }
 {
-    match read_settled(alloc, slot, room)? {
-        Look::Whole(bytes) => Ok(bytes),
-        Look::Longer => Ok(None),
+    let mut slot = folder.slot(name)?;
+    match read_settled(alloc, &mut slot, most) {
+        Ok(look) => Ok((slot, look)),
+        Err(refused) => Err(opening.stop(slot, refused)),
     }
 }

@@ -1,3 +1,6 @@
+use crate::opening::LeftAlone;
+use crate::ring::Ring;
+use kr_outside::Slot;
 use std::alloc::{AllocError, AllocFailed};
 use thiserror::Error;
 
@@ -10,6 +13,19 @@ pub enum LoadRefused {
     /// No memory was left.
     #[error("out of memory")]
     OutOfMemory,
+}
+
+/// A folder that wasn't loaded: the cause, and each slot that was made of it.
+#[derive(Drop)]
+pub struct NotLoaded<S: Slot> {
+    /// The cause.
+    pub refused: LoadRefused,
+    /// The collections that were listed until then, in byte order of their files' names.
+    pub rings: Vec<Ring<S>>,
+    /// The keyring files that were looked at and left alone until then, in byte order of their names.
+    pub left_alone: Vec<LeftAlone<S>>,
+    /// The slot at which the load stopped, if it had made one that isn't among those.
+    pub last: Option<S>,
 }
 
 impl From<AllocError> for LoadRefused {

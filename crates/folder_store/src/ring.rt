@@ -67,6 +67,13 @@ impl<S: Slot> Ring<S> {
         }
     }
 
+    /// The slot. It takes no memory.
+    pub fn into_slot(self) -> S
+        ensures { result ≡ self.cell.slot }
+    {
+        self.cell.into_slot()
+    }
+
     /// The stem, the cell and the clear part. It takes no memory.
     pub fn into_parts(self) -> (Stem, FileCell<S>, Clear)
         ensures stem { result.0 ≡ self.stem }

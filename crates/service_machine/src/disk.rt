@@ -21,7 +21,7 @@ impl<F: Folder> Disk<F> {
     /// Loads a folder of which no slot was made yet (docs/KEYRING_FILES.md, "A folder").
     ///
     /// Refused with `Folder` if the folder or one of its slots failed, and with `OutOfMemory`; the
-    /// folder is dropped then.
+    /// folder and the slots that were made of it are dropped then.
     pub fn open(alloc: Global, folder: F) -> Result<Disk<F>, OpenRefused>
         requires fresh { F.made folder ≡ [] }
         ensures loaded { IfOk result (IsLoaded (IsAsFound F.Cell.seen F.Cell.temporary
@@ -39,8 +39,10 @@ impl<F: Folder> Disk<F> {
         let mut folder = folder;
         match load(alloc, &mut folder) {
             Ok(loaded) => Ok(Disk { folder, loaded }),
-            Err(LoadRefused::Folder) => Err(OpenRefused::Folder),
-            Err(LoadRefused::OutOfMemory) => Err(OpenRefused::OutOfMemory),
+            Err(not_loaded) => match not_loaded.refused {
+                LoadRefused::Folder => Err(OpenRefused::Folder),
+                LoadRefused::OutOfMemory => Err(OpenRefused::OutOfMemory),
+            },
         }
     }
 }

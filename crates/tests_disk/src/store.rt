@@ -4,7 +4,9 @@ ghost use Rattle.kr_memory_disk.specs.Files.{image_in};
 
 use crate::checks::{cell, numbers, same_text};
 use crate::words::{decimal, joined, text_of};
-use folder_store::{FoundAliases, LeftAlone, Limits, LoadRefused, Loaded, Ring, load, load_within};
+use folder_store::{
+    FoundAliases, LeftAlone, Limits, LoadRefused, Loaded, NotLoaded, Ring, load, load_within,
+};
 use kr_base::{Bytes, OutOfMemory, Text};
 use kr_memory_disk::{
     Files, MemoryFolder, MemorySlot, SlotCall, SlotPlan, SteadyFolder, SteadySlot,
@@ -153,9 +155,19 @@ a.b.keyring=k:A .x.keyring=k:X .keyring.keyring=k:K|\
 a.keyring=k:A b.keyring= c.keyring=k2:C|a:A:101 c:C:125 / a b c /
 ";
 
+// What was loaded, or why nothing was.
+fn loaded_or_cause<S: Slot>(
+    loaded: Result<Loaded<S>, NotLoaded<S>>,
+) -> Result<Loaded<S>, LoadRefused> {
+    match loaded {
+        Ok(loaded) => Ok(loaded),
+        Err(not_loaded) => Err(not_loaded.refused),
+    }
+}
+
 fn folder_told(alloc: Global, files: &str) -> Result<String, Fail> {
     let mut folder = folder_of(alloc, files, Vec::new(alloc))?;
-    let loaded = load(alloc, &mut folder)?;
+    let loaded = loaded_or_cause(load(alloc, &mut folder))?;
     told(alloc, &loaded)
 }
 
@@ -171,7 +183,7 @@ fn a_folder_is_listed_in_order(rt: HostRuntime) -> Result<(), Fail> {
 // The number of listed collections of a folder, and of used stems.
 fn counts_told(alloc: Global, files: &str) -> Result<String, Fail> {
     let mut folder = folder_of(alloc, files, Vec::new(alloc))?;
-    let loaded = load(alloc, &mut folder)?;
+    let loaded = loaded_or_cause(load(alloc, &mut folder))?;
     let listed = decimal(alloc, loaded.rings.len())?;
     let used = decimal(alloc, loaded.used.len())?;
     joined(alloc, &[listed.as_str(), " ", used.as_str()])
@@ -219,7 +231,7 @@ fn limits_of(row: &str) -> Option<Limits> {
 fn limited_told(alloc: Global, row: &str) -> Result<String, Fail> {
     let limits = limits_of(cell(row, '|', 0)).ok_or("limits")?;
     let mut folder = folder_of(alloc, cell(row, '|', 1), Vec::new(alloc))?;
-    let loaded = load_within(alloc, &mut folder, &limits)?;
+    let loaded = loaded_or_cause(load_within(alloc, &mut folder, &limits))?;
     told(alloc, &loaded)
 }
 
@@ -251,18 +263,18 @@ fn a_file_after_1024_collections_is_left_alone(rt: HostRuntime) -> Result<(), Fa
 }
 
 // The call of the folder that fails, or the slot and its call, in a folder with two keyring files; a
-// call that isn't made doesn't fail.
+// call that isn't made doesn't fail. With a fault, the number of slots that are returned.
 const FAULTS: &str = "\
-0|fault
-1|fault
+0|fault 0
+1|fault 0
 2|
-a.keyring 0|fault
-a.keyring 1|fault
-a.keyring 2|fault
+a.keyring 0|fault 1
+a.keyring 1|fault 1
+a.keyring 2|fault 1
 a.keyring 3|
-b.keyring 2|fault
-aliases 0|fault
-aliases 1|fault
+b.keyring 2|fault 2
+aliases 0|fault 3
+aliases 1|fault 3
 aliases 2|
 b 0|
 ";
@@ -289,19 +301,30 @@ fn failing_folder(alloc: Global, fault: &str) -> Result<MemoryFolder, Fail>
     Ok(folder)
 }
 
-fn fault_told(alloc: Global, fault: &str) -> Result<&'static str, Fail> {
+// The cause, and the number of slots that are returned.
+fn refusal_told(alloc: Global, refusal: &NotLoaded<MemorySlot>) -> Result<String, Fail> {
+    let others = refusal.rings.len().saturating_add(refusal.left_alone.len());
+    let last = if refusal.last.is_some() { 1 } else { 0 };
+    let slots = decimal(alloc, others.saturating_add(last))?;
+    match refusal.refused {
+        LoadRefused::Folder => joined(alloc, &["fault ", slots.as_str()]),
+        LoadRefused::OutOfMemory => joined(alloc, &["memory ", slots.as_str()]),
+    }
+}
+
+fn fault_told(alloc: Global, fault: &str) -> Result<String, Fail> {
     let mut folder = failing_folder(alloc, fault)?;
-    Ok(match load(alloc, &mut folder) {
-        Err(LoadRefused::Folder) => "fault",
-        _ => "",
-    })
+    match load(alloc, &mut folder) {
+        Ok(_) => Ok(String::new(alloc)),
+        Err(refusal) => refusal_told(alloc, &refusal),
+    }
 }
 
 #[test]
 fn each_call_that_fails_is_a_fault(rt: HostRuntime) -> Result<(), Fail> {
     for row in FAULTS.lines() {
         let found = fault_told(rt.alloc(), cell(row, '|', 0))?;
-        same_text(&rt, found, cell(row, '|', 1), row);
+        same_text(&rt, found.as_str(), cell(row, '|', 1), row);
     }
     Ok(())
 }
@@ -368,7 +391,7 @@ fn left_alone_calls(alloc: Global, files: Vec<LeftAlone<MemorySlot>>) -> Result<
 // that are listed, and of the aliases.
 fn all_calls(alloc: Global, files: &str) -> Result<String, Fail> {
     let mut folder = folder_of(alloc, files, Vec::new(alloc))?;
-    let loaded = load(alloc, &mut folder)?;
+    let loaded = loaded_or_cause(load(alloc, &mut folder))?;
     let left = left_alone_calls(alloc, loaded.left_alone)?;
     let listed = rings_calls(alloc, loaded.rings)?;
     let aliases = alias_calls(alloc, loaded.aliases)?;
@@ -396,7 +419,7 @@ fn long_aliases(alloc: Global, count: usize) -> Result<MemoryFolder, Fail>
 // The number of aliases in a file of this many bytes, and the calls that were made on its slot.
 fn aliases_told_of(alloc: Global, count: usize) -> Result<String, Fail> {
     let mut folder = long_aliases(alloc, count)?;
-    let loaded = load(alloc, &mut folder)?;
+    let loaded = loaded_or_cause(load(alloc, &mut folder))?;
     let given = decimal(alloc, loaded.aliases.pairs().len())?;
     let calls = alias_calls(alloc, loaded.aliases)?;
     joined(alloc, &[given.as_str(), " ", calls.as_str()])
@@ -470,7 +493,7 @@ fn late_told(alloc: Global) -> Result<String, Fail> {
         folder,
         is_synced: false,
     };
-    let loaded = load(alloc, &mut folder)?;
+    let loaded = loaded_or_cause(load(alloc, &mut folder))?;
     told(alloc, &loaded)
 }
 

@@ -1,76 +1,85 @@
-use Rattle.std.proofs.Common.{◌≡◌, IsTrue, IsErrOf, rules, refl, subst, sym, ◌∙◌}
-use Rattle.folder_store.specs.declared.refused.LoadRefused.TheVariants.{Folder}
+use Rattle.std.proofs.Common.{IsTrue, rules, inl, refl, subst, sym}
 use Rattle.folder_store.specs.Names.{aliases}
+use Rattle.kr_outside.specs.RenameDisk.{Image, Only}
+use Rattle.alias_text.specs.Pairs.{longest}
 use Rattle.folder_store.specs.Aliases.{AreFound}
 use Rattle.folder_store.specs.Ring.{IsAsFound}
+use Rattle.folder_store.specs.Walk.{Looks, StopsAt}
 use Rattle.folder_store.proofs.LoadLemmas.{found_same_aliases}
-use Rattle.folder_store.proofs.VisitLemmas.{known_alone, found_there, failed_slot}
+use Rattle.folder_store.proofs.VisitLemmas.{stops_at, stops_by, whatever}
 use Rattle.folder_store.proofs.loading.load_aliases.Goals as goal
+
+pub look_at-requires : goal.look_at-requires
+unfolding aliases
+look_at-requires g c = record { settled = c.requires.settled }
 
 pub found_by-requires : goal.found_by-requires
 unfolding aliases
-found_by-requires g c = record {
-  looked = λ honest. c.in_ok-look.ensures.read (before honest);
-  settled = λ honest.
-      let folder = is_folder (before honest) in
-      let settled = c.requires.settled folder in
-      known_alone _ (g.F.Cell.Slot.seen c.read_settled.new.slot) _ _ _ _ settled.1 (c.in_ok-slot.ensures.crash folder settled.0)
-      (c.in_ok-look.ensures.settled (before honest)) refl;
-} where
-  before : IsTrue (g.F.Cell.Slot.is_honest c.read_settled.new.slot) → IsTrue (g.F.Cell.Slot.is_honest c.in_ok-slot.slot)
-  before honest = subst (λ b. IsTrue b) c.in_ok-look.ensures.honest honest
-
-  is_folder : IsTrue (g.F.Cell.Slot.is_honest c.in_ok-slot.slot) → IsTrue (g.F.Folder.is_honest c.args.folder.now)
-  is_folder honest = subst (λ b. IsTrue b) c.in_ok-slot.ensures.honest_slot honest
+found_by-requires g c =
+    let here = c.in_ok-slot.ensures.found (g.F.Folder.images c.args.folder.now aliases) (λ _. refl) in
+    record {
+      looked = λ honest.
+          let is : IsTrue (g.F.Folder.is_honest c.args.folder.now) = subst (λ b. IsTrue b) here.as_honest honest in
+          subst (λ (i : Image). Looks longest i c.in_ok-slot.look) (sym (here.same is)) (c.in_ok-slot.ensures.looked is);
+      settled = λ honest.
+          let is : IsTrue (g.F.Folder.is_honest c.args.folder.now) = subst (λ b. IsTrue b) here.as_honest honest in
+          subst (λ (i : Image). Only i (g.F.Cell.Slot.may_leave c.in_ok-slot.slot)) (sym (here.same is)) (here.crash is);
+    }
 
 -- what was found of the slot's image was found of the folder's
-pub returns-clause-found : goal.returns-clause-found
+pub returns-in-Ok-clause-found : goal.returns-in-Ok-clause-found
 unfolding aliases
-returns-clause-found g c =
+returns-in-Ok-clause-found g c =
     let slot = g.F.Cell.Slot in
-    let now : slot.is_honest c.read_settled.new.slot ≡ g.F.Folder.is_honest c.args.folder.now = c.in_ok-look.ensures.honest ∙ c.in_ok-slot.ensures.honest_slot in
-    found_same_aliases (g.F.Folder.is_honest c.args.folder.now) (slot.seen c.read_settled.new.slot) (g.F.Folder.images c.args.folder.now aliases) c.in_ok-found.found
-    (λ honest. c.in_ok-look.ensures.same (subst (λ b. IsTrue b) (sym c.in_ok-slot.ensures.honest_slot) honest) ∙ c.in_ok-slot.ensures.seen honest (c.requires.settled honest).0)
-    (subst (λ b. AreFound b (slot.seen c.read_settled.new.slot) c.in_ok-found.found) now c.in_ok-found.ensures.found)
+    let here = c.in_ok-slot.ensures.found (g.F.Folder.images c.args.folder.now aliases) (λ _. refl) in
+    found_same_aliases (g.F.Folder.is_honest c.args.folder.now) (slot.seen c.in_ok-slot.slot) (g.F.Folder.images c.args.folder.now aliases) c.in-Ok.found
+    (λ honest. here.same honest)
+    (subst (λ b. AreFound b (slot.seen c.in_ok-slot.slot) c.in-Ok.found) here.as_honest c.in-Ok.ensures.found)
 
-pub returns-clause-made : goal.returns-clause-made
+pub returns-in-Ok-clause-slot : goal.returns-in-Ok-clause-slot
 unfolding aliases
-returns-clause-made g c = c.in_ok-slot.ensures.made
-
--- the file was settled and looked at, and nothing else was done
-pub returns-clause-slot : goal.returns-clause-slot
-unfolding aliases
-returns-clause-slot g c =
+returns-in-Ok-clause-slot g c =
     let folder = g.F.Folder in
     let slot = g.F.Cell.Slot in
     let old = c.args.folder.now in
-    let made = c.in_ok-slot.ensures in
-    let read = c.in_ok-look.ensures in
     subst (λ s. IsAsFound slot.seen slot.temporary slot.may_leave slot.left_since slot.is_honest slot.is_steady (folder.is_honest old) (folder.is_steady old) (folder.images old aliases) s)
-    (sym c.in_ok-found.ensures.slot)
-    (found_there slot.seen slot.temporary slot.may_leave slot.left_since slot.is_honest slot.is_steady slot.moment
-    (folder.is_honest old) (folder.is_steady old) (folder.images old aliases) (folder.images old aliases) (folder.may_leave old aliases) c.in_ok-slot.slot c.read_settled.new.slot
-    made.honest_slot made.steady_slot read.honest read.steady.same
-    (λ is. refl) (λ is. (c.requires.settled is).1)
-    (λ is. made.seen is (c.requires.settled is).0) (λ is. made.crash is (c.requires.settled is).0) (λ is. made.any_moment is (c.requires.settled is).0) made.temporary
-    read.same read.crash read.any_moment read.same_temporary)
+    (sym c.in-Ok.ensures.slot) (c.in_ok-slot.ensures.found (folder.images old aliases) (λ _. refl))
 
--- the slot that failed was only looked at
-pub returns-in_err-look-clause-cause : goal.returns-in_err-look-clause-cause
+-- the slot comes back from the aliases for which there was no memory
+pub returns-in-Err-clause-returned : goal.returns-in-Err-clause-returned
 unfolding aliases
-returns-in_err-look-clause-cause g c images same is =
+returns-in-Err-clause-returned g c images same before no_slot =
     let folder = g.F.Folder in
     let slot = g.F.Cell.Slot in
     let old = c.args.folder.now in
-    let made = c.in_ok-slot.ensures in
-    let read = c.read_settled.ensures in
     let found = IsAsFound slot.seen slot.temporary slot.may_leave slot.left_since slot.is_honest slot.is_steady (folder.is_honest old) (folder.is_steady old) in
-    let as_found = found_there slot.seen slot.temporary slot.may_leave slot.left_since slot.is_honest slot.is_steady slot.moment
-    (folder.is_honest old) (folder.is_steady old) (images aliases) (folder.images old aliases) (folder.may_leave old aliases) c.in_ok-slot.slot c.read_settled.new.slot
-    made.honest_slot made.steady_slot read.honest read.steady.same
-    same (λ is. (c.requires.settled is).1)
-    (λ is. made.seen is (c.requires.settled is).0) (λ is. made.crash is (c.requires.settled is).0) (λ is. made.any_moment is (c.requires.settled is).0) made.temporary
-    read.same read.crash read.any_moment read.same_temporary in
-    let failed : IsErrOf c.read_settled.result Folder = search rules in
-    failed_slot found images _ (folder.made old) slot.faults slot.failed slot.is_steady (folder.is_steady old) aliases c.in_ok-slot.slot c.read_settled.new.slot
-    made.made as_found made.fresh (read.cause.failed failed) (read.look failed) made.steady_slot read.steady
+    let opening = c.in_ok-slot.ensures.opening in
+    let as_found = subst (λ s. found (images aliases) s) (sym c.in-Err.ensures.returned) (c.in_ok-slot.ensures.found (images aliases) same) in
+    stops_at found images (folder.made old) _ aliases c.in-Err.failed.value c.args.opening.now c.stop.new.self c.in_ok-slot.ensures.made (inl refl) as_found before
+    (subst (λ o. StopsAt c.in-Err.failed.value o c.stop.new.self) opening (stops_by c.in-Err.failed.value c.look_at.new.opening c.stop.new.self c.stop.ensures.kept))
+
+-- the slot failed, or wasn't made
+pub returns-in_err-slot-clause-returned : goal.returns-in_err-slot-clause-returned
+unfolding aliases
+returns-in_err-slot-clause-returned g c images same before no_slot = whatever _ (c.in_err-slot.ensures.returned images same (inl refl) before no_slot)
+
+pub returns-in_err-slot-clause-cause : goal.returns-in_err-slot-clause-cause
+unfolding aliases
+returns-in_err-slot-clause-cause g c images same is = c.look_at.ensures.cause images same (search rules)
+
+-- one slot was made, if any
+pub returns-in_err-slot-clause-one : goal.returns-in_err-slot-clause-one
+unfolding aliases
+returns-in_err-slot-clause-one g c = c.in_err-slot.ensures.one
+
+pub returns-in-Ok-clause-made : goal.returns-in-Ok-clause-made
+unfolding aliases
+returns-in-Ok-clause-made g c = c.in_ok-slot.ensures.made
+
+pub returns-in-Ok-clause-one : goal.returns-in-Ok-clause-one
+unfolding aliases
+returns-in-Ok-clause-one g c = c.in_ok-slot.ensures.one
+
+pub returns-in-Err-clause-one : goal.returns-in-Err-clause-one
+unfolding aliases
+returns-in-Err-clause-one g c = c.in_ok-slot.ensures.one

@@ -1,120 +1,25 @@
-use Rattle.std.proofs.Common.{◌≡◌, ◌↔◌, ℕ, List, Contains, IsTrue, IsErrOf, inr, rules, refl, IsSome, sym, subst, ◌∙◌}
-use Rattle.std.specs.Cmp.Lexicographic.{slice_cmp}
-use Rattle.std.specs.List.Sorted.{IsStrictlySortedBy}
-use Rattle.std.specs.Ordering.{nat_cmp}
-use Rattle.folder_store.specs.declared.refused.LoadRefused.TheVariants.{Folder}
-use Rattle.folder_store.specs.Names.{aliases}
-use Rattle.folder_store.specs.Aliases.{AreFound, alias_slot}
-use Rattle.folder_store.specs.Ring.{IsAsFound, HandsBack, HasFailedSlot}
-use Rattle.folder_store.specs.Walk.{Walk, plain}
-use Rattle.folder_store.proofs.LoadLemmas.{aliases_alone, off_way, Loads-made}
-use Rattle.folder_store.proofs.VisitLemmas.{found_same}
+use Rattle.std.proofs.Common.{rules, sym, subst}
+use Rattle.folder_store.specs.Ring.{IsAsFound, ReturnsAll}
 use Rattle.folder_store.proofs.loading.load_within.Goals as goal
 
-pub load_aliases-requires : goal.load_aliases-requires
-load_aliases-requires g c = record {
-  settled = λ honest.
-      let folder = g.F.Folder in
-      let slot = g.F.Cell.Slot in
-      let one = c.settled_names.new.folder in
-      let found = IsAsFound slot.seen slot.temporary slot.may_leave slot.left_since slot.is_honest slot.is_steady (folder.is_honest one) (folder.is_steady one) in
-      aliases_alone c.args.limits.now found (folder.is_honest one) folder.images folder.may_leave folder.made
-      one c.walk.new.folder c.deref.result.now c.in_ok-opening.opening c.in_ok-opening.ensures.walked
-      (subst (λ b. IsTrue b) c.in_ok-opening.ensures.honest honest);
-}
-
-pub returns-clause-loaded : goal.returns-clause-loaded
-returns-clause-loaded g c =
+-- the slots that were kept are returned
+pub returns-in-Err-clause-returned : goal.returns-in-Err-clause-returned
+returns-in-Err-clause-returned g c =
     let folder = g.F.Folder in
     let slot = g.F.Cell.Slot in
     let zero = c.args.folder.now in
-    let one = c.settled_names.new.folder in
-    let two = c.walk.new.folder in
-    let names : c.deref.result.now ≡ c.in_ok-names.names.items = c.deref.ensures.value in
-    let honest_one : folder.is_honest one ≡ folder.is_honest zero = c.in_ok-names.ensures.honest in
-    let steady_one : folder.is_steady one ≡ folder.is_steady zero = c.in_ok-names.ensures.steady.same in
-    let honest_two : folder.is_honest two ≡ folder.is_honest zero = c.in_ok-opening.ensures.honest ∙ honest_one in
-    let steady_two : folder.is_steady two ≡ folder.is_steady zero = c.in_ok-opening.ensures.steady ∙ steady_one in
-    let found = IsAsFound slot.seen slot.temporary slot.may_leave slot.left_since slot.is_honest slot.is_steady in
-    let now = found (folder.is_honest zero) (folder.is_steady zero) in
-    let first : IsTrue (folder.is_honest zero) → (name : List ℕ) → folder.images one name ≡ folder.images zero name = λ is name. c.in_ok-names.ensures.same is name in
-    let opening = c.in_ok-opening.opening in
-    let walked = subst (λ b. Walk c.args.limits.now b folder.images folder.may_leave folder.made one two c.deref.result.now (plain opening)) honest_one c.in_ok-opening.ensures.walked in
-    let off = off_way c.args.limits.now now (folder.is_honest zero) folder.images folder.may_leave folder.made one two c.deref.result.now opening walked in
-    Loads-made c.args.limits.now now (folder.is_honest zero) folder.images folder.may_leave folder.made
-    zero one two c.load_aliases.new.folder c.deref.result.now opening _
-    c.into_parts-rings.ensures.same c.into_parts-rings.ensures.sorted c.into_parts-rings.ensures.used c.into_parts-rings.ensures.left
-    (subst (λ l. IsStrictlySortedBy (slice_cmp nat_cmp) l) (sym names) c.in_ok-names.ensures.sorted)
-    (λ is. subst (λ l. (name : List ℕ) → Contains l name ↔ IsSome (folder.images one name)) (sym names) (c.in_ok-names.ensures.listed is))
-    first
-    walked
-    (subst (λ b. HandsBack (found (folder.is_honest zero) b) (folder.images zero) (folder.made two) opening.rings opening.left) steady_one
-    (subst (λ b. HandsBack (found b (folder.is_steady one)) (folder.images zero) (folder.made two) opening.rings opening.left) honest_one
-    (c.in_ok-opening.ensures.handed (folder.images zero) (λ is name. sym (first (subst (λ b. IsTrue b) honest_one is) name)))))
-    (subst (λ b. AreFound b (folder.images two aliases) c.in_ok-aliases.aliases) honest_two c.in_ok-aliases.ensures.found)
-    (found_same slot.seen slot.temporary slot.may_leave slot.left_since slot.is_honest slot.is_steady (folder.is_honest zero) (folder.is_steady zero)
-    (folder.images two aliases) (folder.images zero aliases) (alias_slot c.in_ok-aliases.aliases)
-    (λ is. walked.same is aliases off ∙ first is aliases)
-    (subst (λ b. found (folder.is_honest zero) b (folder.images two aliases) (alias_slot c.in_ok-aliases.aliases)) steady_two
-    (subst (λ b. found b (folder.is_steady two) (folder.images two aliases) (alias_slot c.in_ok-aliases.aliases)) honest_two c.in_ok-aliases.ensures.slot)))
-    c.in_ok-aliases.ensures.made
-    (λ is. c.in_ok-aliases.ensures.stays (subst (λ b. IsTrue b) (sym honest_two) is))
+    let images = folder.images zero in
+    let made = folder.made c.load_into.new.folder in
+    let opening = c.load_into.new.opening in
+    let found = IsAsFound slot.seen slot.temporary slot.may_leave slot.left_since slot.is_honest slot.is_steady (folder.is_honest zero) (folder.is_steady zero) in
+    let refusal = c.into_refusal.result in
+    subst (λ r. ReturnsAll found images made r refusal.left_alone.items refusal.last) (sym c.into_refusal.ensures.rings)
+    (subst (λ l. ReturnsAll found images made opening.rings l refusal.last) (sym c.into_refusal.ensures.left)
+    (subst (λ s. ReturnsAll found images made opening.rings opening.left s) (sym c.into_refusal.ensures.last) c.in-Err.ensures.returned))
 
--- a slot failed while the names were gone through
-pub returns-in_err-opening-clause-cause : goal.returns-in_err-opening-clause-cause
-returns-in_err-opening-clause-cause g c is =
-    let folder = g.F.Folder in
-    let slot = g.F.Cell.Slot in
-    let zero = c.args.folder.now in
-    let one = c.settled_names.new.folder in
-    let two = c.walk.new.folder in
-    let honest_one : folder.is_honest one ≡ folder.is_honest zero = c.in_ok-names.ensures.honest in
-    let steady_one : folder.is_steady one ≡ folder.is_steady zero = c.in_ok-names.ensures.steady.same in
-    let found = IsAsFound slot.seen slot.temporary slot.may_leave slot.left_since slot.is_honest slot.is_steady in
-    let failed : IsErrOf c.walk.result Folder = search rules in
-    inr (subst (λ b. HasFailedSlot (found (folder.is_honest zero) b) (folder.images zero) (folder.made two) slot.faults slot.failed b) steady_one
-    (subst (λ b. HasFailedSlot (found b (folder.is_steady one)) (folder.images zero) (folder.made two) slot.faults slot.failed (folder.is_steady one)) honest_one
-    (c.walk.ensures.cause (folder.images zero) (λ honest name. sym (c.in_ok-names.ensures.same (subst (λ b. IsTrue b) honest_one honest) name)) failed)))
+-- with the cause
+pub returns-in-Err-clause-cause : goal.returns-in-Err-clause-cause
+returns-in-Err-clause-cause g c is = c.load_into.ensures.cause (search rules)
 
--- or the slot for the aliases failed
-pub returns-in_err-aliases-clause-cause : goal.returns-in_err-aliases-clause-cause
-returns-in_err-aliases-clause-cause g c is =
-    let folder = g.F.Folder in
-    let slot = g.F.Cell.Slot in
-    let zero = c.args.folder.now in
-    let one = c.settled_names.new.folder in
-    let two = c.walk.new.folder in
-    let three = c.load_aliases.new.folder in
-    let honest_one : folder.is_honest one ≡ folder.is_honest zero = c.in_ok-names.ensures.honest in
-    let honest_two : folder.is_honest two ≡ folder.is_honest zero = c.in_ok-opening.ensures.honest ∙ honest_one in
-    let steady_two : folder.is_steady two ≡ folder.is_steady zero = c.in_ok-opening.ensures.steady ∙ c.in_ok-names.ensures.steady.same in
-    let found = IsAsFound slot.seen slot.temporary slot.may_leave slot.left_since slot.is_honest slot.is_steady in
-    let opening = c.in_ok-opening.opening in
-    let walked = subst (λ b. Walk c.args.limits.now b folder.images folder.may_leave folder.made one two c.deref.result.now (plain opening)) honest_one c.in_ok-opening.ensures.walked in
-    let off = off_way c.args.limits.now (found (folder.is_honest zero) (folder.is_steady zero)) (folder.is_honest zero) folder.images folder.may_leave folder.made one two c.deref.result.now opening walked in
-    let failed : IsErrOf c.load_aliases.result Folder = search rules in
-    inr (subst (λ b. HasFailedSlot (found (folder.is_honest zero) b) (folder.images zero) (folder.made three) slot.faults slot.failed b) steady_two
-    (subst (λ b. HasFailedSlot (found b (folder.is_steady two)) (folder.images zero) (folder.made three) slot.faults slot.failed (folder.is_steady two)) honest_two
-    (c.load_aliases.ensures.cause (folder.images zero)
-    (λ honest. let was = subst (λ b. IsTrue b) honest_two honest in sym (walked.same was aliases off ∙ c.in_ok-names.ensures.same was aliases)) failed)))
-
--- no slot of a steady folder fails
-pub returns-in_err-opening-clause-never : goal.returns-in_err-opening-clause-never
-returns-in_err-opening-clause-never g c steady is =
-    let folder = g.F.Folder in
-    let zero = c.args.folder.now in
-    let one = c.settled_names.new.folder in
-    let honest_one : folder.is_honest one ≡ folder.is_honest zero = c.in_ok-names.ensures.honest in
-    let steady_one : folder.is_steady one ≡ folder.is_steady zero = c.in_ok-names.ensures.steady.same in
-    let failed : IsErrOf c.walk.result Folder = search rules in
-    (c.walk.ensures.cause (folder.images zero) (λ honest name. sym (c.in_ok-names.ensures.same (subst (λ b. IsTrue b) honest_one honest) name)) failed).unsteady
-    (subst (λ b. IsTrue b) (sym steady_one) steady)
-
-pub returns-in_err-aliases-clause-never : goal.returns-in_err-aliases-clause-never
-returns-in_err-aliases-clause-never g c steady is =
-    let folder = g.F.Folder in
-    let two = c.walk.new.folder in
-    let zero = c.args.folder.now in
-    let steady_two : folder.is_steady two ≡ folder.is_steady zero = c.in_ok-opening.ensures.steady ∙ c.in_ok-names.ensures.steady.same in
-    let failed : IsErrOf c.load_aliases.result Folder = search rules in
-    (c.load_aliases.ensures.cause (λ _. folder.images two aliases) (λ _. refl) failed).unsteady (subst (λ b. IsTrue b) (sym steady_two) steady)
+pub returns-in-Err-clause-never : goal.returns-in-Err-clause-never
+returns-in-Err-clause-never g c steady is = c.load_into.ensures.never steady (search rules)

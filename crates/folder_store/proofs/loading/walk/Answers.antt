@@ -3,9 +3,10 @@ use Rattle.std.proofs.lemmas.List.{take_all}
 use Rattle.std.proofs.Math.Seq.{take-suc}
 use Rattle.kr_outside.specs.RenameDisk.{Image, Only}
 use Rattle.folder_store.specs.declared.refused.LoadRefused.TheVariants.{Folder}
-use Rattle.folder_store.specs.Ring.{IsAsFound, HandsBack, HasFailedSlot, nothing}
+use Rattle.folder_store.specs.Ring.{IsAsFound, HandsBack, HasFailedSlot, ReturnsAll, nothing}
 use Rattle.folder_store.specs.Walk.{Walk, Visits, plain}
-use Rattle.folder_store.proofs.WalkLemmas.{Walk-none, Walk-more, not_before}
+use Rattle.folder_store.proofs.VisitLemmas.{whatever}
+use Rattle.folder_store.proofs.WalkLemmas.{Walk-none, Walk-more, not_before, Stays-none, Stays-trans, one_fewer}
 use Rattle.folder_store.proofs.loading.walk.Goals as goal
 
 pub visit-requires : goal.visit-requires
@@ -28,15 +29,17 @@ loop-name-init g c =
     let folder = g.F.Folder in
     let slot = g.F.Cell.Slot in (
       subst (λ o. Walk c.args.limits.now (folder.is_honest c.args.folder.now) folder.images folder.may_leave folder.made c.args.folder.now c.args.folder.now [] (plain o))
-          (sym c.new-opening.ensures)
+          (sym c.requires.empty)
           (Walk-none c.args.limits.now (folder.is_honest c.args.folder.now) folder.images folder.may_leave folder.made c.args.folder.now c.requires.fresh c.requires.settled),
       λ images same.
           let found = IsAsFound slot.seen slot.temporary slot.may_leave slot.left_since slot.is_honest slot.is_steady (folder.is_honest c.args.folder.now) (folder.is_steady c.args.folder.now) in
-          subst (λ m. HandsBack found images m c.new-opening.result.rings c.new-opening.result.left) (sym c.requires.fresh)
-          (subst (λ o. HandsBack found images [] o.rings o.left) (sym c.new-opening.ensures) nothing),
+          subst (λ m. HandsBack found images m c.args.opening.now.rings c.args.opening.now.left) (sym c.requires.fresh)
+          (subst (λ o. HandsBack found images [] o.rings o.left) (sym c.requires.empty) nothing),
       refl,
       refl,
       refl,
+      λ is. Stays-none folder.images folder.may_leave (folder.made c.args.folder.now) c.args.folder.now,
+      ap (λ o. o.last) c.requires.empty,
     )
 
 -- one more name
@@ -78,6 +81,10 @@ loop-name-preserved g c =
       c.in_ok-visit.ensures.honest ∙ as_honest,
       c.in_ok-visit.ensures.steady ∙ as_steady,
       c.in_ok-visit.ensures.count ∙ c.loop-name.invariant.4,
+      λ is. Stays-trans folder.images folder.may_leave (folder.made mid) (folder.made new) old mid new
+          (one_fewer name (folder.made mid) (folder.made new) c.in_ok-visit.ensures.made) (c.loop-name.invariant.5 is)
+          (c.in_ok-visit.ensures.stays (subst (λ b. IsTrue b) (sym as_honest) is)),
+      c.in_ok-visit.ensures.last ∙ c.loop-name.invariant.6,
     )
 
 pub returns-clause-walked : goal.returns-clause-walked
@@ -110,3 +117,41 @@ returns-in_err-visit-clause-cause g c images same is =
     subst (λ b. HasFailedSlot (found (folder.is_honest old) b) images (folder.made new) slot.faults slot.failed b) as_steady
     (subst (λ b. HasFailedSlot (found b (folder.is_steady mid)) images (folder.made new) slot.faults slot.failed (folder.is_steady mid)) as_honest
     (c.visit.ensures.cause images still failed))
+
+-- the load stops in this step
+pub returns-in_err-visit-clause-returned : goal.returns-in_err-visit-clause-returned
+returns-in_err-visit-clause-returned g c images same =
+    let folder = g.F.Folder in
+    let slot = g.F.Cell.Slot in
+    let names = c.args.names.now in
+    let index = c.loop-name.name-index in
+    let old = c.args.folder.now in
+    let mid = c.loop-name.folder in
+    let new = c.visit.new.folder in
+    let opening = c.visit.new.opening in
+    let name = c.as_str.result.now in
+    let here : get_or names index name ≡ name = subst (λ r. get_or names index r ≡ r) (sym c.as_str.ensures.value) (sym c.name-item.is) in
+    let as_honest = c.loop-name.invariant.2 in
+    let as_steady = c.loop-name.invariant.3 in
+    let found = IsAsFound slot.seen slot.temporary slot.may_leave slot.left_since slot.is_honest slot.is_steady in
+    let off = not_before names index name c.requires.sorted c.loop-name-test.true here in
+    let walk = c.loop-name.invariant.0 in
+    let still : IsTrue (folder.is_honest mid) → images name ≡ folder.images mid name =
+    λ honest. let was : IsTrue (folder.is_honest old) = subst (λ b. IsTrue b) as_honest honest in
+    same was name ∙ sym (walk.same was name (λ has. off (walk.slots name has).0)) in
+    whatever _ (subst (λ b. ReturnsAll (found (folder.is_honest old) b) images (folder.made new) opening.rings opening.left opening.last) as_steady
+    (subst (λ b. ReturnsAll (found b (folder.is_steady mid)) images (folder.made new) opening.rings opening.left opening.last) as_honest
+    (c.in_err-visit.ensures.returned images still
+    (subst (λ b. HandsBack (found b (folder.is_steady mid)) images (folder.made mid) c.loop-name.opening.rings c.loop-name.opening.left) (sym as_honest)
+    (subst (λ b. HandsBack (found (folder.is_honest old) b) images (folder.made mid) c.loop-name.opening.rings c.loop-name.opening.left) (sym as_steady) (c.loop-name.invariant.1 images same)))
+    c.loop-name.invariant.6)))
+
+pub returns-in_err-visit-clause-others : goal.returns-in_err-visit-clause-others
+returns-in_err-visit-clause-others g c is =
+    let folder = g.F.Folder in
+    let old = c.args.folder.now in
+    let mid = c.loop-name.folder in
+    let new = c.visit.new.folder in
+    Stays-trans folder.images folder.may_leave (folder.made mid) (folder.made new) old mid new
+    (one_fewer c.as_str.result.now (folder.made mid) (folder.made new) c.in_err-visit.ensures.made) (c.loop-name.invariant.5 is)
+    (c.in_err-visit.ensures.stays (subst (λ b. IsTrue b) (sym c.loop-name.invariant.2) is))

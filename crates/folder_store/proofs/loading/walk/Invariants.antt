@@ -1,4 +1,5 @@
-use Rattle.std.proofs.Common.{◌≡◌, ℕ, List, IsTrue, take}
+use Rattle.std.proofs.Common.{◌≡◌, ℕ, List, IsTrue, None, take}
+use Rattle.kr_outside.specs.Folder.{Stays}
 use Rattle.kr_outside.specs.RenameDisk.{Image}
 use Rattle.folder_store.specs.Ring.{IsAsFound, HandsBack}
 use Rattle.folder_store.specs.Walk.{Walk, plain}
@@ -15,3 +16,5 @@ invariant-loop-name g l =
     × (folder.is_honest l.folder ≡ folder.is_honest l.fn.folder)
     × (folder.is_steady l.folder ≡ folder.is_steady l.fn.folder)
     × (folder.faults l.folder ≡ folder.faults l.fn.folder)
+    × (IsTrue (folder.is_honest l.fn.folder) → Stays folder.images folder.may_leave (folder.made l.folder) l.fn.folder l.folder)
+    × (l.opening.last ≡ None)

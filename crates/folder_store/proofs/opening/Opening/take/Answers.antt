@@ -21,10 +21,10 @@ returns-then-not-fits-clause-taken g c name named =
     (λ fits. let wrong = c.if-not-fits.ensures.fits.1 (subst (λ t. Fits c.args.limits.now (rows_of c.args.self.now.rings) c.in-Ok.clear t) (sym text-2) fits) in cc))))
     c.leave_slot.ensures.left
 
-pub new-requires-in-Ok : goal.new-requires-in-Ok
-new-requires-in-Ok g c =
+pub new-requires : goal.new-requires
+new-requires g c =
     let text : c.deref.result.now ≡ c.args.image.items = c.deref.ensures.value in
-    let file : c.known-cell.result.file ≡ Known (Some c.args.image.items) = ap (λ cell. cell.file) c.known-cell.ensures ∙ ap (λ i. Known (Some i)) c.in_ok-image-in-Ok.ensures in
+    let file : c.known-cell.result.file ≡ Known (Some c.args.image.items) = ap (λ cell. cell.file) c.known-cell.ensures ∙ ap (λ i. Known (Some i)) c.in-Ok-used_and_image.ensures.image in
     subst (λ f. IsKnownFile (λ file. HasClear file c.in-Ok.clear) f) (sym file) (
       drop c.in-Ok.field-0-1 c.deref.result.now,
       subst (λ t. ClearText t c.in-Ok.clear (drop c.in-Ok.field-0-1 c.deref.result.now)) text c.in-Ok.ensures.found,
@@ -32,27 +32,27 @@ new-requires-in-Ok g c =
 
 pub list-requires-clause-items : goal.list-requires-clause-items
 list-requires-clause-items g c =
-    subst (λ r. items_in (rows_of c.args.self.now.rings) + length r.clear.items < 2 ^ 64) (sym c.new-in-Ok.ensures) (c.if-not-fits.ensures.items refl)
+    subst (λ r. items_in (rows_of c.args.self.now.rings) + length r.clear.items < 2 ^ 64) (sym c.new.ensures) (c.if-not-fits.ensures.items refl)
 
 pub list-requires-clause-bytes : goal.list-requires-clause-bytes
 list-requires-clause-bytes g c =
-    let file : c.new-in-Ok.result.cell.file ≡ Known (Some c.args.image.items) =
-    ap (λ r. r.cell.file) c.new-in-Ok.ensures ∙ ap (λ r. r.file) c.known-cell.ensures ∙ ap (λ i. Known (Some i)) c.in_ok-image-in-Ok.ensures in
+    let file : c.new.result.cell.file ≡ Known (Some c.args.image.items) =
+    ap (λ r. r.cell.file) c.new.ensures ∙ ap (λ r. r.file) c.known-cell.ensures ∙ ap (λ i. Known (Some i)) c.in-Ok-used_and_image.ensures.image in
     let text-2 : c.deref-in-Ok.result.now ≡ c.args.image.items = c.deref-in-Ok.ensures.value in
     subst (λ f. bytes_in (rows_of c.args.self.now.rings) + length (bytes_of f) < 2 ^ 64) (sym file)
     (subst (λ t. bytes_in (rows_of c.args.self.now.rings) + length t < 2 ^ 64) text-2 (c.if-not-fits.ensures.bytes refl))
 
-pub returns-in_ok-image-in-Ok-clause-taken : goal.returns-in_ok-image-in-Ok-clause-taken
-returns-in_ok-image-in-Ok-clause-taken g c name named =
+pub returns-in-Ok-used_and_image-clause-taken : goal.returns-in-Ok-used_and_image-clause-taken
+returns-in-Ok-used_and_image-clause-taken g c name named =
     let text : c.deref.result.now ≡ c.args.image.items = c.deref.ensures.value in
     let text-2 : c.deref-in-Ok.result.now ≡ c.args.image.items = c.deref-in-Ok.ensures.value in
-    let row = row_known c.new-in-Ok.result c.known-cell.result c.args.slot c.args.stem c.in_ok-image-in-Ok.image c.args.image.items c.in-Ok.clear c.new-in-Ok.ensures c.known-cell.ensures c.in_ok-image-in-Ok.ensures in
+    let row = row_known c.new.result c.known-cell.result c.args.slot c.args.stem c.in-Ok-used_and_image.image c.args.image.items c.in-Ok.clear c.new.ensures c.known-cell.ensures c.in-Ok-used_and_image.ensures.image in
     let fits : Fits c.args.limits.now (rows_of c.args.self.now.rings) c.in-Ok.clear c.args.image.items =
     subst (λ t. Fits c.args.limits.now (rows_of c.args.self.now.rings) c.in-Ok.clear t) text-2 (c.if-not-fits.ensures.fits.0 refl) in
     both c.list.result
     (λ rings used. subst (Takes c.args.limits.now name c.args.image.items (plain c.args.self.now))
-    (sym (plain_lists c.args.self.now c.list.new.self c.new-in-Ok.result c.args.stem c.args.image.items c.in-Ok.clear rings
-    (used ∙ ap (λ s. c.args.self.now.used ++ s ∷ []) c.in_ok-used-in-Ok.ensures) row))
+    (sym (plain_lists c.args.self.now c.list.new.self c.new.result c.args.stem c.args.image.items c.in-Ok.clear rings
+    (used ∙ ap (λ s. c.args.self.now.used ++ s ∷ []) c.in-Ok-used_and_image.ensures.used) row))
     (listed c.args.stem c.in-Ok.clear named (
       drop c.in-Ok.field-0-1 c.deref.result.now,
       subst (λ t. ClearText t c.in-Ok.clear (drop c.in-Ok.field-0-1 c.deref.result.now)) text c.in-Ok.ensures.found,
@@ -60,11 +60,11 @@ returns-in_ok-image-in-Ok-clause-taken g c name named =
     fits))
     c.list.ensures.rings c.list.ensures.used
 
-pub returns-in_ok-image-in-Ok-clause-kept : goal.returns-in_ok-image-in-Ok-clause-kept
-returns-in_ok-image-in-Ok-clause-kept g c =
-    let slot : c.new-in-Ok.result.cell.slot ≡ c.args.slot = ap (λ r. r.cell.slot) c.new-in-Ok.ensures ∙ ap (λ r. r.slot) c.known-cell.ensures in
+pub returns-in-Ok-used_and_image-clause-kept : goal.returns-in-Ok-used_and_image-clause-kept
+returns-in-Ok-used_and_image-clause-kept g c =
+    let slot : c.new.result.cell.slot ≡ c.args.slot = ap (λ r. r.cell.slot) c.new.ensures ∙ ap (λ r. r.slot) c.known-cell.ensures in
     on_ok_weaker c.list.result
-    (λ rings. in_ring c.new-in-Ok.result (ap (λ r. r.stem) c.new-in-Ok.ensures) slot rings c.list.ensures.left)
+    (λ rings. in_ring c.new.result (ap (λ r. r.stem) c.new.ensures) slot rings c.list.ensures.left)
     c.list.ensures.rings
 
 -- the slot of a file that is left alone is kept by itself

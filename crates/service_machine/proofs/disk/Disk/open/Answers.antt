@@ -10,11 +10,11 @@ returns-in-Ok-clause-loaded g c = record {
   steady = c.load.ensures.steady;
 }
 
-pub returns-in-Err-Folder-clause-cause : goal.returns-in-Err-Folder-clause-cause
-returns-in-Err-Folder-clause-cause g c is = record {
+pub returns-in-Folder-clause-cause : goal.returns-in-Folder-clause-cause
+returns-in-Folder-clause-cause g c is = record {
   left = c.load.new.folder;
   honest = c.load.ensures.honest;
   later = c.load.ensures.later;
   steady = c.load.ensures.steady;
-  cause = c.load.ensures.cause (search rules);
+  cause = c.in-Err.ensures.cause (search rules);
 }

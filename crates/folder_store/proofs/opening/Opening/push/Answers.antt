@@ -2,12 +2,12 @@ use Rattle.std.proofs.Common.{◌≡◌, ◌++◌, ◌∷◌, [], length, ap, �
 use Rattle.folder_store.specs.Opened.{items_in, bytes_in}
 use Rattle.folder_store.specs.Ring.{rows_of, bytes_of}
 use Rattle.folder_store.proofs.OpeningLemmas.{items_rows, bytes_rows}
-use Rattle.folder_store.proofs.opening.Opening.list.Goals as goal
+use Rattle.folder_store.proofs.opening.Opening.push.Goals as goal
 
 -- the sums over one more collection
-pub invariant_of-self-2 : goal.invariant_of-self-2
-invariant_of-self-2 g c =
-    let pushed : c.push-2.new.self.items ≡ c.self.inside.rings.items ++ c.args.ring ∷ [] = c.in_ok-push-2.ensures.items in
+pub invariant_of-self : goal.invariant_of-self
+invariant_of-self g c =
+    let pushed : c.push.new.self.items ≡ c.self.inside.rings.items ++ c.args.ring ∷ [] = c.in-Ok.ensures.items in
     let items = items_rows c.self.inside.rings.items c.args.ring in
     let bytes = bytes_rows c.self.inside.rings.items c.args.ring in
     let items_now = ap (λ l. items_in (rows_of l)) pushed in
