@@ -1,5 +1,5 @@
 -- What is sent is read again as the same output.
-use Rattle.std.proofs.Common.{◌≡◌, ℕ, ◌^◌, ◌<◌, ◌≤◌, true, IsTrue, List, [], Option, Some, None, IfSome, length, drop, codes, decimal, unwrap_or, refl, ap, ◌∙◌, sym, arith, length-append, if◌then◌else◌}
+use Rattle.std.proofs.Common.{◌≡◌, ℕ, ◌^◌, ◌<◌, ◌≤◌, true, IsTrue, List, [], ◌∷◌, Option, Some, None, IfSome, length, drop, codes, decimal, unwrap_or, refl, ap, ◌∙◌, sym, arith, length-append, if◌then◌else◌}
 use Rattle.std.specs.List.{All}
 use Rattle.std.specs.Str.{bytes_eq}
 use Rattle.std.specs.Str.Parse.{digits_value}
@@ -7,12 +7,13 @@ use Rattle.std.proofs.lemmas.Fmt.{decimal_is_IsNumeral, length-decimal-le}
 use Rattle.kr_names.proofs.TextLemmas.{IsPlain}
 use Rattle.dbus_types.specs.declared.endian.Endian.TheVariants.{Little}
 use Rattle.dbus_types.specs.declared.complete_type.BasicType.TheVariants as basics
-use Rattle.dbus_types.specs.Types.{is_signature}
+use Rattle.kr_base.specs.declared.ids.SessionId.{SessionId}
+use Rattle.dbus_types.specs.Types.{Ty, is_signature}
 use Rattle.dbus_types.specs.Values.{Val, Vals, tys_of}
 use Rattle.dbus_marshal.specs.Limits.{array_limit}
 use Rattle.dbus_marshal.specs.Wire.{number_bytes}
 use Rattle.dbus_marshal.specs.Spelling.{all_spelled, are_short}
-use Rattle.dbus_marshal.specs.Fitting.{HaveSpelling}
+use Rattle.dbus_marshal.specs.Fitting.{Fits, HaveSpelling}
 use Rattle.dbus_framing.specs.Names.{is_interface_name}
 use Rattle.dbus_framing.specs.Messages.{Parts, IsMessage}
 use Rattle.dbus_framing.specs.Headers.{has_needed}
@@ -24,12 +25,14 @@ use Rattle.secret_calls.specs.declared.out.ErrorName.{ErrorName}
 use Rattle.secret_calls.specs.declared.out.ErrorName.TheVariants as name
 use Rattle.secret_calls.specs.declared.out.Out.{Out}
 use Rattle.secret_calls.specs.declared.out.Out.TheVariants as out
+use Rattle.secret_calls.specs.declared.secret.ReturnedSecret.{ReturnedSecret}
+use Rattle.secret_calls.specs.declared.secret.ItemSecret.{ItemSecret}
 use Rattle.secret_calls.specs.declared.serial.Serial.{Serial}
-use Rattle.secret_calls.specs.Outs.{error_text, session_path, values_of, header_of, body_of, sent, FitsBody, HasSpelling, spelled}
 use Rattle.secret_calls.proofs.SerialLemmas.{one_serial}
-use Rattle.secret_calls.proofs.SizeLemmas.{body-short}
+use Rattle.secret_calls.specs.Outs.{error_text, session_path, no_object, path_values, secret_value, secret_values, values_of, header_of, body_of, sent, AreTyped, FitsBody, IsSecret, AreSecrets, spelled}
 use Rattle.call_wire.specs.Said.{said, IsSendable}
 use Rattle.call_wire.proofs.PlainLemmas.{plain_text, plain_literal, path_plain, path_is}
+use Rattle.call_wire.proofs.FitLemmas.{all_within, all_short, path_fits, paths_fit, fields_fit, secrets_fit}
 
 -- ---- bodies
 
@@ -42,24 +45,136 @@ record AreBody (values : Vals) : Type 0 where
 path_long : (n : ℕ) → n < 2 ^ 64 → length (session_path n) < 2 ^ 32
 path_long n fits = omega (arith, length-append (codes "/org/freedesktop/secrets/session/s") (decimal n), length-decimal-le 20 n (omega arith) (omega (arith, fits)) fits)
 
+no_object_fits : Fits 64 (Ty.basic basics.ObjectPath) no_object
+no_object_fits = path_fits 64 (codes "/") refl (omega arith)
+
 body_is : (body : Body) → FitsBody body → AreBody (values_of body)
 body_is body.Empty fits = record { listed = refl; spelled = tt; arrays = refl }
 body_is (body.Session session) fits = record {
   listed = refl;
-  spelled = ((refl, (refl, (plain_text [] (plain_literal [] refl), omega arith))), ((refl, ((plain_text (session_path session.0) (path_plain session.0 fits), path_long session.0 fits), path_is session.0 fits)), tt));
+  spelled = (
+    (refl, (refl, (plain_text [] (plain_literal [] refl), omega arith))),
+    ((refl, ((plain_text (session_path session.0) (path_plain session.0 fits.typed), path_long session.0 fits.typed), path_is session.0 fits.typed)), tt),
+  );
   arrays = refl;
 }
+body_is (body.Found unlocked locked) fits =
+    let few = all_within 67108864 (values_of (body.Found unlocked locked)) 0 fits.short in
+    record {
+      listed = refl;
+      spelled = ((refl, paths_fit 63 unlocked fits.typed.0 few.0, refl), ((refl, paths_fit 63 locked fits.typed.1 few.1.0, refl), tt));
+      arrays = all_short (values_of (body.Found unlocked locked)) 0 fits.short;
+    }
+body_is (body.Locked objects) fits =
+    let few = all_within 67108864 (values_of (body.Locked objects)) 0 fits.short in
+    record {
+      listed = refl;
+      spelled = ((refl, paths_fit 63 objects fits.typed few.0, refl), (no_object_fits, tt));
+      arrays = all_short (values_of (body.Locked objects)) 0 fits.short;
+    }
+body_is (body.Objects objects) fits =
+    let few = all_within 67108864 (values_of (body.Objects objects)) 0 fits.short in
+    record {
+      listed = refl;
+      spelled = ((refl, paths_fit 63 objects fits.typed few.0, refl), tt);
+      arrays = all_short (values_of (body.Objects objects)) 0 fits.short;
+    }
+body_is (body.Secret secret) fits =
+    let few = all_within 67108864 (values_of (body.Secret secret)) 0 fits.short in
+    record {
+      listed = refl;
+      spelled = (fields_fit 62 secret fits.typed few.0, tt);
+      arrays = all_short (values_of (body.Secret secret)) 0 fits.short;
+    }
+body_is (body.Secrets secrets) fits =
+    let few = all_within 67108864 (values_of (body.Secrets secrets)) 0 fits.short in
+    record {
+      listed = refl;
+      spelled = ((refl, secrets_fit secrets fits.typed few.0, refl), tt);
+      arrays = all_short (values_of (body.Secrets secrets)) 0 fits.short;
+    }
 
--- the body with these values
+-- ---- the body with these values
+
+-- the bytes of a text, and those of a byte array
+abbrev text_in : Val → List ℕ
+text_in (Val.text b text) = text
+text_in value = []
+
+abbrev bytes_in : Val → List ℕ
+bytes_in (Val.bytes bytes) = bytes
+bytes_in value = []
+
+abbrev texts_in : Vals → List (List ℕ)
+texts_in Vals.end = []
+texts_in (Vals.more value values) = text_in value ∷ texts_in values
+
+abbrev session_in : Val → SessionId
+session_in value = record { 0 = digits_value 10 (drop 34 (text_in value)) }
+
+-- the secret with these fields
+abbrev secret_of : Vals → ReturnedSecret
+secret_of (Vals.more path (Vals.more parameters (Vals.more held (Vals.more content rest)))) =
+    record { session = session_in path; value = bytes_in held; content = text_in content }
+secret_of values = record { session = record { 0 = 0 }; value = []; content = [] }
+
+abbrev secret_in : Val → ReturnedSecret
+secret_in (Val.struct fields) = secret_of fields
+secret_in value = secret_of Vals.end
+
+abbrev item_secret_in : Val → ItemSecret
+item_secret_in (Val.entry key held) = record { item = text_in key; secret = secret_in held }
+item_secret_in value = record { item = []; secret = secret_of Vals.end }
+
+abbrev secrets_in : Vals → List ItemSecret
+secrets_in Vals.end = []
+secrets_in (Vals.more value values) = item_secret_in value ∷ secrets_in values
+
+abbrev array_in : Ty → Vals → Body
+array_in (Ty.entry key t) elements = body.Secrets (secrets_in elements)
+array_in t elements = body.Objects (texts_in elements)
+
+abbrev one_in : Val → Body
+one_in (Val.array t elements) = array_in t elements
+one_in (Val.struct fields) = body.Secret (secret_of fields)
+one_in value = body.Empty
+
+abbrev two_in : Val → Val → Body
+two_in (Val.variant value) other = body.Session (session_in other)
+two_in (Val.array t elements) (Val.array u others) = body.Found (texts_in elements) (texts_in others)
+two_in (Val.array t elements) other = body.Locked (texts_in elements)
+two_in value other = body.Empty
+
 abbrev body_in : Vals → Body
-body_in (Vals.more value (Vals.more (Val.text basics.ObjectPath path) Vals.end)) = body.Session (record { 0 = digits_value 10 (drop 34 path) })
-body_in values = body.Empty
+body_in Vals.end = body.Empty
+body_in (Vals.more value Vals.end) = one_in value
+body_in (Vals.more value (Vals.more other values)) = two_in value other
 
-body_again : (body : Body) → FitsBody body → body_in (values_of body) ≡ body
-body_again body.Empty fits = refl
-body_again (body.Session session) fits = ap (λ n. body.Session (record { 0 = n })) ((decimal_is_IsNumeral session.0 fits).1)
+texts_again : (texts : List (List ℕ)) → texts_in (path_values texts) ≡ texts
+texts_again [] = refl
+texts_again (text ∷ texts) = ap (λ (more : List (List ℕ)). text ∷ more) (texts_again texts)
 
-one_body : (one other : Body) → FitsBody one → FitsBody other → values_of one ≡ values_of other → one ≡ other
+secret_again : (secret : ReturnedSecret) → IsSecret secret → secret_in (secret_value secret) ≡ secret
+secret_again secret is =
+    ap (λ (n : ℕ). record secret { session = record { 0 = n } }) ((decimal_is_IsNumeral secret.session.0 is.session).1)
+
+secrets_again : (secrets : List ItemSecret) → AreSecrets secrets → secrets_in (secret_values secrets) ≡ secrets
+secrets_again [] are = refl
+secrets_again (one ∷ secrets) are =
+    ap (λ (s : ReturnedSecret). record one { secret = s } ∷ secrets_in (secret_values secrets)) (secret_again one.secret are.1)
+    ∙ ap (λ (more : List ItemSecret). one ∷ more) (secrets_again secrets are.2)
+
+body_again : (body : Body) → AreTyped body → body_in (values_of body) ≡ body
+body_again body.Empty typed = refl
+body_again (body.Session session) typed = ap (λ n. body.Session (record { 0 = n })) ((decimal_is_IsNumeral session.0 typed).1)
+body_again (body.Found unlocked locked) typed =
+    ap (λ u. body.Found u (texts_in (path_values locked))) (texts_again unlocked) ∙ ap (body.Found unlocked) (texts_again locked)
+body_again (body.Locked objects) typed = ap body.Locked (texts_again objects)
+body_again (body.Objects objects) typed = ap body.Objects (texts_again objects)
+body_again (body.Secret secret) typed = ap body.Secret (secret_again secret typed)
+body_again (body.Secrets secrets) typed = ap body.Secrets (secrets_again secrets typed)
+
+one_body : (one other : Body) → AreTyped one → AreTyped other → values_of one ≡ values_of other → one ≡ other
 one_body one other fits fit same = sym (body_again one fits) ∙ ap body_in same ∙ body_again other fit
 
 -- ---- names of errors
@@ -72,7 +187,9 @@ which text =
     if bytes_eq text (error_text name.UnknownInterface) then name.UnknownInterface else
     if bytes_eq text (error_text name.UnknownMethod) then name.UnknownMethod else
     if bytes_eq text (error_text name.InvalidArgs) then name.InvalidArgs else
-    if bytes_eq text (error_text name.LimitsExceeded) then name.LimitsExceeded else name.NoSession
+    if bytes_eq text (error_text name.LimitsExceeded) then name.LimitsExceeded else
+    if bytes_eq text (error_text name.IsLocked) then name.IsLocked else
+    if bytes_eq text (error_text name.NoSession) then name.NoSession else name.NoSuchObject
 
 -- an error's name is a short text, an error name, and that of no other error
 record IsNamed (name : ErrorName) : Type 0 where
@@ -88,7 +205,9 @@ named name.UnknownInterface = record { plain = plain_literal (error_text name.Un
 named name.UnknownMethod = record { plain = plain_literal (error_text name.UnknownMethod) refl; short = omega arith; formed = refl; alone = refl }
 named name.InvalidArgs = record { plain = plain_literal (error_text name.InvalidArgs) refl; short = omega arith; formed = refl; alone = refl }
 named name.LimitsExceeded = record { plain = plain_literal (error_text name.LimitsExceeded) refl; short = omega arith; formed = refl; alone = refl }
+named name.IsLocked = record { plain = plain_literal (error_text name.IsLocked) refl; short = omega arith; formed = refl; alone = refl }
 named name.NoSession = record { plain = plain_literal (error_text name.NoSession) refl; short = omega arith; formed = refl; alone = refl }
+named name.NoSuchObject = record { plain = plain_literal (error_text name.NoSuchObject) refl; short = omega arith; formed = refl; alone = refl }
 
 is_name : (name : ErrorName) → IsName (error_text name)
 is_name name = ((plain_text (error_text name) (named name).plain, omega (arith, (named name).short)), (named name).formed)
@@ -103,13 +222,20 @@ fields_short : (out : Out) (serial : ℕ) → length (all_spelled Little (fields
 unfolding number_bytes
 fields_short (out.Return to body.Empty) serial = omega arith
 fields_short (out.Return to (body.Session session)) serial = omega arith
+fields_short (out.Return to (body.Found unlocked locked)) serial = omega arith
+fields_short (out.Return to (body.Locked objects)) serial = omega arith
+fields_short (out.Return to (body.Objects objects)) serial = omega arith
+fields_short (out.Return to (body.Secret secret)) serial = omega arith
+fields_short (out.Return to (body.Secrets secrets)) serial = omega arith
 fields_short (out.Error to name.NotSupported) serial = omega arith
 fields_short (out.Error to name.UnknownObject) serial = omega arith
 fields_short (out.Error to name.UnknownInterface) serial = omega arith
 fields_short (out.Error to name.UnknownMethod) serial = omega arith
 fields_short (out.Error to name.InvalidArgs) serial = omega arith
 fields_short (out.Error to name.LimitsExceeded) serial = omega arith
+fields_short (out.Error to name.IsLocked) serial = omega arith
 fields_short (out.Error to name.NoSession) serial = omega arith
+fields_short (out.Error to name.NoSuchObject) serial = omega arith
 
 -- the header of an output, of this type and with this error's name, if any
 has_header : (kind serial : ℕ) (to : Serial) (name : Option (List ℕ)) → 0 < kind → kind < 256 → IsSerial serial → IfSome name IsName
@@ -146,14 +272,14 @@ can_be_sent most serial out is =
       spelled = are.spelled;
       arrays = are.arrays;
       fields_short = fields_short out serial;
-      body_short = omega (arith, body-short (body_of out) is.has);
+      body_short = omega (arith, is.has.short);
     }
 
 pub sent_again : (most serial : ℕ) (out : Out) → IsSendable most out serial → IsMessage most (spelled out serial) (said out serial)
 sent_again most serial out is = sent_is_message most (sent out serial) (can_be_sent most serial out is) is.short
 
 -- two outputs that say the same are the same, with the same serial
-pub one_output : (serial again : ℕ) (one other : Out) → HasSpelling one → HasSpelling other → said one serial ≡ said other again → (one ≡ other) × (serial ≡ again)
+pub one_output : (serial again : ℕ) (one other : Out) → AreTyped (body_of one) → AreTyped (body_of other) → said one serial ≡ said other again → (one ≡ other) × (serial ≡ again)
 one_output serial again (out.Return to body) (out.Return too other) fits fit same = (
   ap (λ n. out.Return n body) (one_serial to too (ap (λ (p : Parts). unwrap_or p.reply_serial 0) same)) ∙ ap (λ b. out.Return too b) (one_body body other fits fit (ap (λ (p : Parts). p.body) same)),
   ap (λ (p : Parts). p.serial) same,

@@ -1,3 +1,5 @@
 mod FrontLemmas
 mod PlainLemmas
+mod ValueLemmas
+mod FitLemmas
 mod AgainLemmas

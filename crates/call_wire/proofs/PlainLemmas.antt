@@ -15,7 +15,7 @@ use Rattle.kr_names.proofs.TextLemmas.{IsPlain, IsText-plain}
 use Rattle.secret_calls.specs.Outs.{session_path}
 
 -- bytes of ASCII other than zero are a text
-false_unless : (b : Bool) → (b ≡ true → ⊥) → b ≡ false
+pub false_unless : (b : Bool) → (b ≡ true → ⊥) → b ≡ false
 false_unless true never = absurd (never refl)
 false_unless false never = refl
 

@@ -1,11 +1,122 @@
--- The call of a method without arguments.
-use Rattle.std.specs.Prelude.{Result, Err}
-use Rattle.dbus_types.specs.Values.{Vals}
+-- How the arguments of calls are read: what their values contain (D-Bus Specification, "Type System"), and what that means to the
+-- service (Secret Service API draft 0.2, "Attributes"). Each reading is None if a value isn't of the expected type.
+use Rattle.std.specs.Prelude.{ℕ, ◌&&◌, Bool, true, false, List, [], ◌∷◌, map, Option, Some, None, Result, Err, option_map, option_and_then, unwrap_or}
+use Rattle.kr_base.specs.declared.ids.SessionId.{SessionId}
+use Rattle.kr_base.specs.declared.attributes.AttrValue.{AttrValue}
+use Rattle.kr_base.specs.declared.attributes.AttrValue.TheVariants as value
+use Rattle.kr_base.specs.Attributes.{gathered}
+use Rattle.kr_names.specs.declared.object_name.ObjectName.{ObjectName}
+use Rattle.kr_names.specs.declared.object_name.ObjectName.TheVariants as name
+use Rattle.kr_names.specs.Naming.{name_of_path}
+use Rattle.dbus_types.specs.declared.complete_type.BasicType.{BasicType}
+use Rattle.dbus_types.specs.declared.complete_type.BasicType.TheVariants as basics
+use Rattle.dbus_types.specs.Types.{Ty}
+use Rattle.dbus_types.specs.Values.{Val, Vals}
+use Rattle.dbus_framing.specs.Headers.{where_is, path_in, string_in}
 use Rattle.secret_calls.specs.declared.call.Call.{Call}
 use Rattle.secret_calls.specs.declared.call.CallFault.{CallFault}
 use Rattle.secret_calls.specs.declared.call.CallFault.TheVariants as fault
+use Rattle.call_wire.specs.declared.values.ElementType.{ElementType}
+use Rattle.call_wire.specs.declared.values.ElementType.TheVariants as element
 
 -- the call of a method without arguments, if there is no value
 abbrev pub without_arguments : Result Call CallFault → Vals → Result Call CallFault
 without_arguments call Vals.end = call
 without_arguments call (Vals.more value values) = Err fault.InvalidArgs
+
+-- ---- what values contain
+
+-- the key and the value of an entry
+abbrev pub entry_in : Val → Option (Val × Val)
+entry_in (Val.entry key held) = Some (key, held)
+entry_in _ = None
+
+-- the type of elements of this kind: `o` or `{ss}`
+abbrev pub type_of_element : ElementType → Ty
+type_of_element element.Path = Ty.basic basics.ObjectPath
+type_of_element element.TextPair = Ty.entry basics.String (Ty.basic basics.String)
+
+-- whether a basic type is `s`
+abbrev pub is_string : BasicType → Bool
+is_string basics.String = true
+is_string other = false
+
+-- whether a type is `o`
+abbrev pub is_path_type : Ty → Bool
+is_path_type (Ty.basic basics.ObjectPath) = true
+is_path_type other = false
+
+-- whether a type is `s`
+abbrev pub is_text_type : Ty → Bool
+is_text_type (Ty.basic basic) = is_string basic
+is_text_type other = false
+
+-- whether a type is `{ss}`
+abbrev pub is_text_pair : Ty → Bool
+is_text_pair (Ty.entry key held) = is_string key && is_text_type held
+is_text_pair other = false
+
+-- whether a type is that of elements of this kind
+abbrev pub is_element : ElementType → Ty → Bool
+is_element element.Path t = is_path_type t
+is_element element.TextPair t = is_text_pair t
+
+-- the elements of an array, if they are of this kind
+abbrev pub elements_in : ElementType → Val → Option Vals
+elements_in wanted (Val.array t elements) = where_is (is_element wanted t) elements
+elements_in wanted _ = None
+
+-- what the values are read as, if each of them can be read
+abbrev pub all_in : {A : Type 0} → (Val → Option A) → Vals → Option (List A)
+all_in read Vals.end = Some []
+all_in read (Vals.more value values) = option_and_then (λ one. option_map (λ more. one ∷ more) (all_in read values)) (read value)
+
+-- ---- objects and sessions
+
+-- The object that a path names, whether or not it exists. A path of another form names nothing (docs/SERVICE.md, "Names and
+-- paths").
+abbrev pub named : List ℕ → ObjectName
+named path = unwrap_or (name_of_path path) name.Nothing
+
+-- the object that a value of type `o` names
+abbrev pub object_in : Val → Option ObjectName
+object_in value = option_map named (path_in value)
+
+-- the objects that an array of paths names, in order
+abbrev pub objects_in : Val → Option (List ObjectName)
+objects_in value = option_and_then (all_in object_in) (elements_in element.Path value)
+
+-- the session that a path names, if it names one
+abbrev pub session_of_name : Option ObjectName → Option SessionId
+session_of_name (Some (name.Session session)) = Some session
+session_of_name _ = None
+
+-- the session that has this path
+abbrev pub session_named : List ℕ → Option SessionId
+session_named path = session_of_name (name_of_path path)
+
+-- the session that a value of type `o` names; Some None if the path isn't a session's
+abbrev pub session_in : Val → Option (Option SessionId)
+session_in value = option_map session_named (path_in value)
+
+-- ---- attributes, `a{ss}`
+
+-- the texts of an entry `{ss}`
+abbrev pub texts_of_pair : Val × Val → Option (List ℕ × List ℕ)
+texts_of_pair pair = option_and_then (λ key. option_map (λ text. (key, text)) (string_in pair.1)) (string_in pair.0)
+
+-- the texts of a value `{ss}`
+abbrev pub text_pair_in : Val → Option (List ℕ × List ℕ)
+text_pair_in value = option_and_then texts_of_pair (entry_in value)
+
+-- the attributes given as pairs of texts; of two with one name the later counts
+abbrev pub attributes_of : List (List ℕ × List ℕ) → List (List ℕ × AttrValue)
+attributes_of pairs = gathered (map (λ p. (p.0, value.Text p.1)) pairs)
+
+-- the attributes given as entries `{ss}`
+abbrev pub attributes_among : Vals → Option (List (List ℕ × AttrValue))
+attributes_among elements = option_map attributes_of (all_in text_pair_in elements)
+
+-- the attributes in a value of type `a{ss}`
+abbrev pub attributes_in : Val → Option (List (List ℕ × AttrValue))
+attributes_in value = option_and_then attributes_among (elements_in element.TextPair value)

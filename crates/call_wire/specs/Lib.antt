@@ -1,6 +1,8 @@
 pub mod Arguments
 pub mod Peer
 pub mod Service
+pub mod Collection
+pub mod Item
 pub mod Session
 pub mod Members
 pub mod Fronts

@@ -13,6 +13,8 @@ use Rattle.call_wire.specs.declared.members.Interface.TheVariants as interface
 use Rattle.call_wire.specs.declared.members.Method.{Method}
 use Rattle.call_wire.specs.declared.members.Method.TheVariants as method
 use Rattle.call_wire.specs.declared.members.Row.{Row}
+use Rattle.call_wire.specs.Collection as collection
+use Rattle.call_wire.specs.Item as item
 use Rattle.call_wire.specs.Peer as peer
 use Rattle.call_wire.specs.Service as service
 use Rattle.call_wire.specs.Session as session
@@ -33,18 +35,28 @@ seen row = record { interface = row.interface; name = row.name.now; arguments = 
 unfoldable pub members : List Member
 members =
     record { interface = interface.Service; name = codes "OpenSession"; arguments = codes "sv"; method = method.OpenSession } ∷
+    record { interface = interface.Service; name = codes "SearchItems"; arguments = codes "a{ss}"; method = method.SearchItems } ∷
+    record { interface = interface.Service; name = codes "Lock"; arguments = codes "ao"; method = method.Lock } ∷
+    record { interface = interface.Service; name = codes "GetSecrets"; arguments = codes "aoo"; method = method.GetSecrets } ∷
+    record { interface = interface.Collection; name = codes "SearchItems"; arguments = codes "a{ss}"; method = method.SearchCollection } ∷
+    record { interface = interface.Item; name = codes "GetSecret"; arguments = codes "o"; method = method.GetSecret } ∷
     record { interface = interface.Session; name = codes "Close"; arguments = []; method = method.CloseSession } ∷
     record { interface = interface.Peer; name = codes "Ping"; arguments = []; method = method.Ping } ∷ []
 
 -- the name of an interface
 abbrev pub interface_name : Interface → List ℕ
 interface_name interface.Service = service.interface
+interface_name interface.Collection = collection.interface
+interface_name interface.Item = item.interface
 interface_name interface.Session = session.interface
 interface_name interface.Peer = peer.interface
 
 -- An object has the interface of its kind. Ping is answered on every path, so Peer is there even if there is no object.
 abbrev pub is_on : Interface → Option ObjectName → Bool
 is_on interface.Service (Some name.Service) = true
+is_on interface.Collection (Some (name.Collection stem)) = true
+is_on interface.Collection (Some (name.Alias alias)) = true
+is_on interface.Item (Some (name.Item stem item)) = true
 is_on interface.Session (Some (name.Session session)) = true
 is_on interface.Peer object = true
 is_on it object = false
@@ -74,5 +86,10 @@ member_in object interface name = find (is_called object interface name) members
 -- the call of a method on this object with these values, or the fault that they have
 abbrev pub call_with : Method → Option ObjectName → Vals → Result Call CallFault
 call_with method.OpenSession object values = service.open_session values
+call_with method.SearchItems object values = service.search_items values
+call_with method.Lock object values = service.lock values
+call_with method.GetSecrets object values = service.get_secrets values
+call_with method.SearchCollection object values = collection.search_items object values
+call_with method.GetSecret object values = item.get_secret object values
 call_with method.CloseSession object values = session.close object values
 call_with method.Ping object values = peer.ping values

@@ -1,11 +1,12 @@
 -- The interface of the service: Secret Service API draft 0.2, "org.freedesktop.Secret.Service".
 use Rattle.std.specs.Prelude.{ℕ, List, Option, Result, codes, ok_or, option_map, option_and_then}
 use Rattle.dbus_types.specs.Values.{Val, Vals}
-use Rattle.dbus_framing.specs.Headers.{string_in, held_in, two_of}
+use Rattle.dbus_framing.specs.Headers.{string_in, held_in, one_of, two_of}
 use Rattle.secret_calls.specs.declared.call.Call.{Call}
 use Rattle.secret_calls.specs.declared.call.Call.TheVariants as call
 use Rattle.secret_calls.specs.declared.call.CallFault.{CallFault}
 use Rattle.secret_calls.specs.declared.call.CallFault.TheVariants as fault
+use Rattle.call_wire.specs.Arguments.{attributes_in, objects_in, session_in}
 
 -- its name
 abbrev pub interface : List ℕ
@@ -18,3 +19,19 @@ algorithm_in arguments = option_and_then (λ input. string_in arguments.0) (held
 -- OpenSession
 abbrev pub open_session : Vals → Result Call CallFault
 open_session values = ok_or (option_map (λ algorithm. call.OpenSession algorithm) (option_and_then algorithm_in (two_of values))) fault.InvalidArgs
+
+-- SearchItems, with the attributes to search for
+abbrev pub search_items : Vals → Result Call CallFault
+search_items values = ok_or (option_map (λ wanted. call.SearchItems wanted) (option_and_then attributes_in (one_of values))) fault.InvalidArgs
+
+-- Lock, with the objects to lock
+abbrev pub lock : Vals → Result Call CallFault
+lock values = ok_or (option_map (λ objects. call.Lock objects) (option_and_then objects_in (one_of values))) fault.InvalidArgs
+
+-- GetSecrets with these two arguments: the items and the session
+abbrev pub secrets_wanted : Val × Val → Option Call
+secrets_wanted arguments = option_and_then (λ items. option_map (λ session. call.GetSecrets items session) (session_in arguments.1)) (objects_in arguments.0)
+
+-- GetSecrets
+abbrev pub get_secrets : Vals → Result Call CallFault
+get_secrets values = ok_or (option_and_then secrets_wanted (two_of values)) fault.InvalidArgs

@@ -2,9 +2,10 @@
 // values contain. Each reader returns None if a value doesn't have its type.
 ghost use Rattle.std.specs.Prelude.{◌≡◌, [], ◌∷◌, option_copied, option_map};
 ghost use Rattle.std.specs.Str.{bytes_eq};
-ghost use Rattle.dbus_types.specs.Types.{text_of, texts_of};
+ghost use Rattle.dbus_types.specs.declared.complete_type.BasicType.TheVariants as basics;
+ghost use Rattle.dbus_types.specs.Types.{Ty, text_of, texts_of};
 ghost use Rattle.dbus_types.specs.Views.{type_of, types_of};
-ghost use Rattle.dbus_types.specs.ValueViews.{value_of, values_of};
+ghost use Rattle.dbus_types.specs.ValueViews.{value_of, values_of, value_as};
 ghost use Rattle.dbus_framing.specs.Headers.{string_in, held_in, two_of};
 ghost use Rattle.call_wire.specs.Arguments.{without_arguments};
 ghost use Rattle.call_wire.specs.Fronts.{behind};
@@ -73,7 +74,12 @@ pub fn are_listed(types: &[CompleteType], text: &str) -> bool
 
 /// The text of a value of type `s`.
 pub fn string_in(value: &Value) -> Option<&Text>
-    ensures { option_copied result ≡ string_in (value_of value.now) }
+    ensures plain { option_copied result ≡ string_in (value_of value.now) }
+
+    // The same for a value and for a key in a dict.
+    ensures held { option_copied result ≡ string_in (value_as (Ty.basic basics.String) value.now) }
+    ensures key { (t : Ty) → option_copied result
+        ≡ string_in (value_as (Ty.entry basics.String t) value.now) }
 {
     match value {
         Value::String(text) => {

@@ -5,17 +5,22 @@ ghost use Rattle.std.specs.List.{filter, find, list_any};
 ghost use Rattle.dbus_types.specs.ValueViews.{values_of};
 ghost use Rattle.call_wire.specs.Members.{seen, members, interface_name, interfaces_of, is_on, says, means, is_called, member_in, call_with};
 
-use crate::{OutOfMemory, peer, service, session};
+use crate::{OutOfMemory, collection, item, peer, service, session};
 use dbus_types::Value;
 use kr_base::Text;
 use kr_names::ObjectName;
 use secret_calls::{Call, CallFault};
+use std::alloc::Global;
 
 /// An interface of which a member is implemented.
 #[derive(Clone, Copy, PartialEq, Eq)]
 pub enum Interface {
     /// `org.freedesktop.Secret.Service`.
     Service,
+    /// `org.freedesktop.Secret.Collection`.
+    Collection,
+    /// `org.freedesktop.Secret.Item`.
+    Item,
     /// `org.freedesktop.Secret.Session`.
     Session,
     /// `org.freedesktop.DBus.Peer`.
@@ -27,6 +32,16 @@ pub enum Interface {
 pub enum Method {
     /// `Service.OpenSession`.
     OpenSession,
+    /// `Service.SearchItems`.
+    SearchItems,
+    /// `Service.Lock`.
+    Lock,
+    /// `Service.GetSecrets`.
+    GetSecrets,
+    /// `Collection.SearchItems`.
+    SearchCollection,
+    /// `Item.GetSecret`.
+    GetSecret,
     /// `Session.Close`.
     CloseSession,
     /// `Peer.Ping`.
@@ -53,6 +68,36 @@ const MEMBERS: &[Row] = &[
         name: "OpenSession",
         arguments: "sv",
         method: Method::OpenSession,
+    },
+    Row {
+        interface: Interface::Service,
+        name: "SearchItems",
+        arguments: "a{ss}",
+        method: Method::SearchItems,
+    },
+    Row {
+        interface: Interface::Service,
+        name: "Lock",
+        arguments: "ao",
+        method: Method::Lock,
+    },
+    Row {
+        interface: Interface::Service,
+        name: "GetSecrets",
+        arguments: "aoo",
+        method: Method::GetSecrets,
+    },
+    Row {
+        interface: Interface::Collection,
+        name: "SearchItems",
+        arguments: "a{ss}",
+        method: Method::SearchCollection,
+    },
+    Row {
+        interface: Interface::Item,
+        name: "GetSecret",
+        arguments: "o",
+        method: Method::GetSecret,
     },
     Row {
         interface: Interface::Session,
@@ -82,6 +127,8 @@ impl Interface {
     {
         match self {
             Interface::Service => service::INTERFACE,
+            Interface::Collection => collection::INTERFACE,
+            Interface::Item => item::INTERFACE,
             Interface::Session => session::INTERFACE,
             Interface::Peer => peer::INTERFACE,
         }
@@ -93,6 +140,9 @@ impl Interface {
     {
         match (self, object) {
             (Interface::Service, Some(ObjectName::Service)) => true,
+            (Interface::Collection, Some(ObjectName::Collection(_))) => true,
+            (Interface::Collection, Some(ObjectName::Alias(_))) => true,
+            (Interface::Item, Some(ObjectName::Item(_, _))) => true,
             (Interface::Session, Some(ObjectName::Session(_))) => true,
             (Interface::Peer, _) => true,
             _ => false,
@@ -179,6 +229,7 @@ pub fn has_meant(object: &Option<ObjectName>, named: &Option<Text>) -> bool
 
 /// The call of a method on the object with these values, or the fault that they have.
 pub fn call_with(
+    alloc: Global,
     method: Method,
     object: &Option<ObjectName>,
     values: &[Value],
@@ -187,6 +238,11 @@ pub fn call_with(
 {
     match method {
         Method::OpenSession => service::open_session(values),
+        Method::SearchItems => service::search_items(alloc, values),
+        Method::Lock => service::lock(alloc, values),
+        Method::GetSecrets => service::get_secrets(alloc, values),
+        Method::SearchCollection => collection::search_items(alloc, object, values),
+        Method::GetSecret => item::get_secret(alloc, object, values),
         Method::CloseSession => Ok(session::close(object, values)),
         Method::Ping => Ok(peer::ping(values)),
     }

@@ -25,6 +25,7 @@ fn object_of(alloc: Global, path: &Option<Text>) -> Result<Option<ObjectName>, O
 
 // The call of the member, unless the body has other arguments.
 fn call_of_member(
+    alloc: Global,
     member: &Row,
     object: &Option<ObjectName>,
     message: &Message,
@@ -35,7 +36,7 @@ fn call_of_member(
     if !are_listed(message.signature.types(), member.arguments) {
         return Ok(Err(CallFault::InvalidArgs));
     }
-    call_with(member.method, object, message.body.as_slice())
+    call_with(alloc, member.method, object, message.body.as_slice())
 }
 
 // What a call lacks that means no member.
@@ -57,13 +58,14 @@ fn lack(object: &Option<ObjectName>, interface: &Option<Text>) -> CallFault
 
 // The call of the message on the object.
 fn call_of_object(
+    alloc: Global,
     object: &Option<ObjectName>,
     message: &Message,
 ) -> Result<Result<Call, CallFault>, OutOfMemory>
     ensures { IfOk result (λ call. call ≡ call_on object.now (parts_of message.now)) }
 {
     match member_called(object, &message.interface, &message.member) {
-        Some(member) => call_of_member(&member, object, message),
+        Some(member) => call_of_member(alloc, &member, object, message),
         None => Ok(Err(lack(object, &message.interface))),
     }
 }
@@ -88,7 +90,7 @@ pub fn call_of(alloc: Global, message: &Message) -> Result<Request, OutOfMemory>
     ensures { IfOk result (CallOf (parts_of message.now)) }
 {
     let object = object_of(alloc, &message.path)?;
-    let call = call_of_object(&object, message)?;
+    let call = call_of_object(alloc, &object, message)?;
     Ok(Request {
         serial: Serial {
             number: serial_of(message),

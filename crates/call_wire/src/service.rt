@@ -1,14 +1,20 @@
 // The interface of the service (Secret Service API, "org.freedesktop.Secret.Service").
 ghost use Rattle.std.specs.Prelude.{◌≡◌, IfOk, option_and_then, option_copied};
-ghost use Rattle.dbus_types.specs.ValueViews.{values_of};
-ghost use Rattle.dbus_framing.specs.Headers.{two_of};
-ghost use Rattle.call_wire.specs.Service.{algorithm_in, open_session};
+ghost use Rattle.dbus_types.specs.ValueViews.{value_of, values_of};
+ghost use Rattle.dbus_framing.specs.Headers.{one_of, two_of};
+ghost use Rattle.call_wire.specs.Arguments.{attributes_in, objects_in};
+ghost use Rattle.call_wire.specs.Service.{algorithm_in, open_session, search_items, lock, secrets_wanted, get_secrets};
 
 use crate::OutOfMemory;
 use crate::arguments::{held_in, string_in, two_in};
+use crate::meanings::{attributes_in, objects_in, session_in};
+use crate::values::one_in;
 use dbus_types::Value;
-use kr_base::Text;
+use kr_base::{Attributes, Text};
+use kr_items::Items;
+use kr_names::ObjectName;
 use secret_calls::{Call, CallFault};
+use std::alloc::Global;
 
 /// The name of the interface.
 pub const INTERFACE: &str = "org.freedesktop.Secret.Service";
@@ -30,6 +36,78 @@ pub fn open_session(values: &[Value]) -> Result<Result<Call, CallFault>, OutOfMe
             let algorithm = algorithm.copy()?;
             Ok(Ok(Call::OpenSession { algorithm }))
         }
+        None => Ok(Err(CallFault::InvalidArgs)),
+    }
+}
+
+/// The attributes in the only argument.
+pub fn wanted_in(alloc: Global, values: &[Value]) -> Result<Option<Attributes>, OutOfMemory>
+    ensures { IfOk result (λ wanted. wanted
+        ≡ option_and_then attributes_in (one_of (values_of values.now))) }
+{
+    match one_in(values) {
+        Some(wanted) => attributes_in(alloc, wanted),
+        None => Ok(None),
+    }
+}
+
+/// Reads a call of SearchItems.
+pub fn search_items(alloc: Global, values: &[Value]) -> Result<Result<Call, CallFault>, OutOfMemory>
+    ensures { IfOk result (λ call. call ≡ search_items (values_of values.now)) }
+{
+    match wanted_in(alloc, values)? {
+        Some(wanted) => Ok(Ok(Call::SearchItems { wanted })),
+        None => Ok(Err(CallFault::InvalidArgs)),
+    }
+}
+
+// The objects that the only argument names.
+fn locked_in(alloc: Global, values: &[Value]) -> Result<Option<Items<ObjectName>>, OutOfMemory>
+    ensures { IfOk result (λ objects. objects
+        ≡ option_and_then objects_in (one_of (values_of values.now))) }
+{
+    match one_in(values) {
+        Some(objects) => objects_in(alloc, objects),
+        None => Ok(None),
+    }
+}
+
+/// Reads a call of Lock.
+pub fn lock(alloc: Global, values: &[Value]) -> Result<Result<Call, CallFault>, OutOfMemory>
+    ensures { IfOk result (λ call. call ≡ lock (values_of values.now)) }
+{
+    match locked_in(alloc, values)? {
+        Some(objects) => Ok(Ok(Call::Lock { objects })),
+        None => Ok(Err(CallFault::InvalidArgs)),
+    }
+}
+
+fn secrets_wanted(
+    alloc: Global,
+    items: &Value,
+    session: &Value,
+) -> Result<Option<Call>, OutOfMemory>
+    ensures { IfOk result (λ call. call
+        ≡ secrets_wanted (value_of items.now, value_of session.now)) }
+{
+    let Some(items) = objects_in(alloc, items)? else {
+        return Ok(None);
+    };
+    match session_in(alloc, session)? {
+        Some(session) => Ok(Some(Call::GetSecrets { items, session })),
+        None => Ok(None),
+    }
+}
+
+/// Reads a call of GetSecrets.
+pub fn get_secrets(alloc: Global, values: &[Value]) -> Result<Result<Call, CallFault>, OutOfMemory>
+    ensures { IfOk result (λ call. call ≡ get_secrets (values_of values.now)) }
+{
+    let Some((items, session)) = two_in(values) else {
+        return Ok(Err(CallFault::InvalidArgs));
+    };
+    match secrets_wanted(alloc, items, session)? {
+        Some(call) => Ok(Ok(call)),
         None => Ok(Err(CallFault::InvalidArgs)),
     }
 }

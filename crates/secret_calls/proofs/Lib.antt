@@ -1,2 +1,4 @@
+pub mod PathLemmas
+pub mod SecretLemmas
 pub mod SerialLemmas
 pub mod SizeLemmas

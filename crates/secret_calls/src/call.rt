@@ -1,11 +1,14 @@
 ghost use Rattle.std.specs.Prelude.{◌≡◌};
 
 use crate::{ErrorName, Serial};
-use kr_base::{SessionId, Text};
+use kr_base::{Attributes, ItemId, SessionId, Stem, Text};
+use kr_items::Items;
+use kr_names::ObjectName;
 
-/// A call of the service, with its arguments. The object that a call is made on counts as an
-/// argument.
-#[derive(Debug, Drop)]
+/// A call of the service, with what its arguments mean. The object that a call is made on is an argument
+/// too, and need not exist. A list of objects has all paths in the order given, and `ObjectName::Nothing`
+/// for a path that isn't one of the service. A session is None if the path given isn't a session's.
+#[derive(Drop)]
 pub enum Call {
     /// `org.freedesktop.DBus.Peer.Ping`, on any object.
     Ping,
@@ -18,6 +21,39 @@ pub enum Call {
     CloseSession {
         /// The session that the call is made on.
         session: SessionId,
+    },
+    /// `Service.SearchItems`.
+    SearchItems {
+        /// The attributes to search for.
+        wanted: Attributes,
+    },
+    /// `Service.Lock`.
+    Lock {
+        /// The objects to lock.
+        objects: Items<ObjectName>,
+    },
+    /// `Service.GetSecrets`.
+    GetSecrets {
+        /// The items.
+        items: Items<ObjectName>,
+        /// The session to encode the secrets with.
+        session: Option<SessionId>,
+    },
+    /// `Collection.SearchItems`.
+    SearchCollection {
+        /// The collection, or an alias that names it.
+        collection: ObjectName,
+        /// The attributes to search for.
+        wanted: Attributes,
+    },
+    /// `Item.GetSecret`.
+    GetSecret {
+        /// The stem of the item's collection.
+        stem: Stem,
+        /// The item's number.
+        item: ItemId,
+        /// The session to encode the secret with.
+        session: Option<SessionId>,
     },
 }
 

@@ -7,14 +7,17 @@
 #![tactic(auto)]
 
 mod call;
+mod copies;
 mod out;
 mod returns;
+mod secret;
 mod serial;
 mod size;
 mod taken;
 
 pub use call::{Call, CallFault, Request};
 pub use out::{Body, ErrorName, Out};
+pub use secret::{ItemSecret, ReturnedSecret, secret_is_typed};
 pub use serial::Serial;
 pub use size::{body_size, size_of_out};
 pub use taken::{Refused, Taken};

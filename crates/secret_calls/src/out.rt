@@ -4,10 +4,14 @@ ghost use Rattle.dbus_sending.specs.HeaderViews.{seen};
 ghost use Rattle.secret_calls.specs.Outs.{values_of, header_of, spelled};
 
 use crate::Serial;
-use crate::returns::put_session;
+use crate::copies::{copied_secrets, copied_texts};
+use crate::returns::{put_found, put_locked, put_objects, put_secret, put_secrets, put_session};
+use crate::secret::{ItemSecret, ReturnedSecret};
 use dbus_marshal::{Put, PutValues};
 use dbus_sending::{Header, put_message};
-use kr_base::{OutOfMemory, SessionId};
+use kr_base::{OutOfMemory, SessionId, Text};
+use kr_items::Items;
+use std::alloc::Global;
 
 /// The name of an error, from the D-Bus Specification or the Secret Service API.
 #[derive(Clone, Copy, Debug, PartialEq, Eq)]
@@ -24,8 +28,12 @@ pub enum ErrorName {
     InvalidArgs,
     /// A limit of the service is reached.
     LimitsExceeded,
+    /// The collection is locked.
+    IsLocked,
     /// The caller has no such session.
     NoSession,
+    /// The object of a call doesn't exist.
+    NoSuchObject,
 }
 
 impl ErrorName {
@@ -42,28 +50,67 @@ impl ErrorName {
             ErrorName::UnknownMethod => "org.freedesktop.DBus.Error.UnknownMethod",
             ErrorName::InvalidArgs => "org.freedesktop.DBus.Error.InvalidArgs",
             ErrorName::LimitsExceeded => "org.freedesktop.DBus.Error.LimitsExceeded",
+            ErrorName::IsLocked => "org.freedesktop.Secret.Error.IsLocked",
             ErrorName::NoSession => "org.freedesktop.Secret.Error.NoSession",
+            ErrorName::NoSuchObject => "org.freedesktop.Secret.Error.NoSuchObject",
         }
     }
 }
 
-/// The values of a method return.
+/// The values of a method return, with one variant for each signature. Objects are returned as their
+/// paths. A prompt is always `/`, since none is needed.
 #[derive(PartialEq, Eq, Drop)]
 pub enum Body {
     /// No values.
     Empty,
-    /// Those of OpenSession: the output of `plain`, which is the empty text, and the session.
+    /// Of OpenSession, `vo`: the output of `plain`, which is the empty text, and the session.
     Session(SessionId),
+    /// Of Service.SearchItems, `aoao`.
+    Found {
+        /// The matching items in unlocked collections.
+        unlocked: Items<Text>,
+        /// The matching items in locked collections.
+        locked: Items<Text>,
+    },
+    /// Of Lock, `aoo`: the objects that were locked, and the prompt.
+    Locked(Items<Text>),
+    /// Of Collection.SearchItems, `ao`: the matching items.
+    Objects(Items<Text>),
+    /// Of GetSecret, `(oayays)`.
+    Secret(ReturnedSecret),
+    /// Of GetSecrets, `a{o(oayays)}`: items with their secrets.
+    Secrets(Items<ItemSecret>),
 }
 
 impl Body {
     /// A copy of the body.
-    pub fn copy(&self) -> Result<Body, OutOfMemory>
+    pub fn copy(&self, alloc: Global) -> Result<Body, OutOfMemory>
         ensures { IfOk result (λ copied. copied ≡ self.now) }
     {
         match self {
             Body::Empty => Ok(Body::Empty),
             Body::Session(session) => Ok(Body::Session(*session)),
+            Body::Found { unlocked, locked } => {
+                let unlocked = copied_texts(alloc, unlocked.as_slice())?;
+                let locked = copied_texts(alloc, locked.as_slice())?;
+                Ok(Body::Found { unlocked, locked })
+            }
+            Body::Locked(objects) => {
+                let objects = copied_texts(alloc, objects.as_slice())?;
+                Ok(Body::Locked(objects))
+            }
+            Body::Objects(objects) => {
+                let objects = copied_texts(alloc, objects.as_slice())?;
+                Ok(Body::Objects(objects))
+            }
+            Body::Secret(secret) => {
+                let secret = secret.copy()?;
+                Ok(Body::Secret(secret))
+            }
+            Body::Secrets(secrets) => {
+                let secrets = copied_secrets(alloc, secrets.as_slice())?;
+                Ok(Body::Secrets(secrets))
+            }
         }
     }
 }
@@ -79,6 +126,14 @@ impl Body {
         match self {
             Body::Empty => "",
             Body::Session(_) => "vo",
+            Body::Found {
+                unlocked: _,
+                locked: _,
+            } => "aoao",
+            Body::Locked(_) => "aoo",
+            Body::Objects(_) => "ao",
+            Body::Secret(_) => "(oayays)",
+            Body::Secrets(_) => "a{o(oayays)}",
         }
     }
 }
@@ -92,6 +147,13 @@ impl PutValues for Body {
         match self {
             Body::Empty => Ok(()),
             Body::Session(session) => put_session(out, *session),
+            Body::Found { unlocked, locked } => {
+                put_found(out, unlocked.as_slice(), locked.as_slice())
+            }
+            Body::Locked(objects) => put_locked(out, objects.as_slice()),
+            Body::Objects(objects) => put_objects(out, objects.as_slice()),
+            Body::Secret(secret) => put_secret(out, secret),
+            Body::Secrets(secrets) => put_secrets(out, secrets.as_slice()),
         }
     }
 }
@@ -125,12 +187,12 @@ pub enum Out {
 
 impl Out {
     /// A copy of the output.
-    pub fn copy(&self) -> Result<Out, OutOfMemory>
+    pub fn copy(&self, alloc: Global) -> Result<Out, OutOfMemory>
         ensures { IfOk result (λ copied. copied ≡ self.now) }
     {
         match self {
             Out::Return { to, body } => {
-                let body = body.copy()?;
+                let body = body.copy(alloc)?;
                 Ok(Out::Return { to: *to, body })
             }
             Out::Error { to, name } => Ok(Out::Error {

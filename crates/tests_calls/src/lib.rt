@@ -4,9 +4,15 @@
 #![tactic(auto)]
 
 #[cfg(test)]
+mod bodies;
+#[cfg(test)]
 mod checks;
 #[cfg(test)]
+mod members;
+#[cfg(test)]
 mod outputs;
+#[cfg(test)]
+mod told;
 #[cfg(test)]
 mod wire;
 #[cfg(test)]

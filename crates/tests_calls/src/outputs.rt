@@ -1,6 +1,7 @@
 use crate::checks::{holds, same_number, same_text};
 use kr_base::SessionId;
 use secret_calls::{Body, CallFault, ErrorName, Out, Serial, body_size, size_of_out};
+use std::alloc::{AllocGlobal, Global};
 use std::process::Abort;
 use std::test::Fail;
 
@@ -11,29 +12,29 @@ const LAST: Serial = Serial { number: u32::MAX };
 // Asserts the length of a reply with this session.
 fn session_has(rt: &impl Abort, number: u64, want: u64, at: &str) {
     let body = Body::Session(SessionId(number));
-    same_number(rt, body_size(&body) + 32, want, at);
+    same_number(rt, body_size(&body).saturating_add(32), want, at);
     same_number(rt, size_of_out(&Out::Return { to: FIRST, body }), want, at);
 }
 
-fn is_copied(out: &Out) -> Result<bool, Fail> {
-    Ok(out.copy()? == *out)
+fn is_copied(alloc: Global, out: &Out) -> Result<bool, Fail> {
+    Ok(out.copy(alloc)? == *out)
 }
 
 // Asserts the length of a reply with this error, and that its copy is the same.
-fn error_has(rt: &impl Abort, name: ErrorName, want: u64) -> Result<(), Fail> {
+fn error_has(rt: &(impl AllocGlobal + Abort), name: ErrorName, want: u64) -> Result<(), Fail> {
     let out = Out::Error { to: FIRST, name };
     same_number(rt, size_of_out(&out), want, name.as_str());
-    holds(rt, is_copied(&out)?, name.as_str());
+    holds(rt, is_copied(rt.alloc(), &out)?, name.as_str());
     Ok(())
 }
 
-fn empty_has(rt: &impl Abort, want: u64) -> Result<(), Fail> {
+fn empty_has(rt: &(impl AllocGlobal + Abort), want: u64) -> Result<(), Fail> {
     let pong = Out::Return {
         to: LAST,
         body: Body::Empty,
     };
     same_number(rt, size_of_out(&pong), want, "an empty reply");
-    holds(rt, is_copied(&pong)?, "an empty reply");
+    holds(rt, is_copied(rt.alloc(), &pong)?, "an empty reply");
     Ok(())
 }
 
@@ -50,7 +51,9 @@ fn sizes_are_those_of_messages(rt: HostRuntime) -> Result<(), Fail> {
     error_has(&rt, ErrorName::UnknownMethod, 80)?;
     error_has(&rt, ErrorName::InvalidArgs, 72)?;
     error_has(&rt, ErrorName::LimitsExceeded, 80)?;
+    error_has(&rt, ErrorName::IsLocked, 72)?;
     error_has(&rt, ErrorName::NoSession, 72)?;
+    error_has(&rt, ErrorName::NoSuchObject, 80)?;
     empty_has(&rt, 24)
 }
 

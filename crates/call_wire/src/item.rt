@@ -1,0 +1,60 @@
+// The interface of an item (Secret Service API, "org.freedesktop.Secret.Item").
+ghost use Rattle.std.specs.Prelude.{◌≡◌, IfOk, option_and_then};
+ghost use Rattle.dbus_types.specs.ValueViews.{values_of};
+ghost use Rattle.dbus_framing.specs.Headers.{one_of};
+ghost use Rattle.call_wire.specs.Arguments.{session_in};
+ghost use Rattle.call_wire.specs.Item.{item_of, get_secret};
+
+use crate::OutOfMemory;
+use crate::meanings::session_in;
+use crate::values::one_in;
+use dbus_types::Value;
+use kr_base::{ItemId, SessionId, Stem};
+use kr_names::ObjectName;
+use secret_calls::{Call, CallFault};
+use std::alloc::Global;
+
+/// The name of the interface.
+pub const INTERFACE: &str = "org.freedesktop.Secret.Item";
+
+// The item that the call is made on: the stem of its collection, and its number.
+fn item_of(object: &Option<ObjectName>) -> Result<Option<(Stem, ItemId)>, OutOfMemory>
+    ensures { IfOk result (λ it. it ≡ item_of object.now) }
+{
+    match object {
+        Some(ObjectName::Item(stem, item)) => Ok(Some((stem.copy()?, *item))),
+        _ => Ok(None),
+    }
+}
+
+// The session that the only argument names.
+fn one_session(alloc: Global, values: &[Value]) -> Result<Option<Option<SessionId>>, OutOfMemory>
+    ensures { IfOk result (λ session. session
+        ≡ option_and_then session_in (one_of (values_of values.now))) }
+{
+    match one_in(values) {
+        Some(session) => session_in(alloc, session),
+        None => Ok(None),
+    }
+}
+
+/// Reads a call of GetSecret.
+pub fn get_secret(
+    alloc: Global,
+    object: &Option<ObjectName>,
+    values: &[Value],
+) -> Result<Result<Call, CallFault>, OutOfMemory>
+    ensures { IfOk result (λ call. call ≡ get_secret object.now (values_of values.now)) }
+{
+    let Some((stem, item)) = item_of(object)? else {
+        return Ok(Err(CallFault::InvalidArgs));
+    };
+    match one_session(alloc, values)? {
+        Some(session) => Ok(Ok(Call::GetSecret {
+            stem,
+            item,
+            session,
+        })),
+        None => Ok(Err(CallFault::InvalidArgs)),
+    }
+}

@@ -1,0 +1,120 @@
+// What values mean to the service: objects, sessions and attributes (Secret Service API, "Attributes";
+// docs/SERVICE.md, "Names and paths"). Each reader returns None if a value isn't of the expected type.
+ghost use Rattle.std.specs.Prelude.{◌≡◌, IfOk, option_map};
+ghost use Rattle.dbus_types.specs.ValueViews.{value_of, value_as, each_as};
+ghost use Rattle.dbus_framing.specs.Headers.{path_in, string_in};
+ghost use Rattle.call_wire.specs.Arguments.{entry_in, type_of_element, elements_in, all_in, named, object_in, objects_in, session_named, session_in, text_pair_in, attributes_among, attributes_in};
+
+use crate::OutOfMemory;
+use crate::arguments::string_in;
+use crate::values::{ElementType, elements_in, entry_in, path_in};
+use dbus_types::{ObjectPath, Value};
+use kr_base::{Attributes, SessionId, Text};
+use kr_items::Items;
+use kr_names::{ObjectName, parse_path};
+use std::alloc::Global;
+
+// The object that a path names.
+fn named(alloc: Global, path: &ObjectPath) -> Result<ObjectName, OutOfMemory>
+    ensures { IfOk result (λ object. object ≡ named path.now) }
+{
+    match parse_path(alloc, path.as_str())? {
+        Some(object) => Ok(object),
+        None => Ok(ObjectName::Nothing),
+    }
+}
+
+// The objects that the paths in an array name.
+fn objects_among(alloc: Global, paths: &[Value]) -> Result<Option<Items<ObjectName>>, OutOfMemory>
+    ensures { IfOk result (λ objects. objects
+        ≡ all_in object_in (each_as (type_of_element (ElementType.Path)) paths.now)) }
+{
+    let mut objects = Vec::with_capacity(alloc, paths.len())?;
+    for path in paths {
+        match path_in(path) {
+            Some(path) => objects.push(named(alloc, path)?)?,
+            None => return Ok(None),
+        }
+    }
+    Ok(Some(Items::new(objects)))
+}
+
+/// The objects that an array of paths names, in order.
+pub fn objects_in(alloc: Global, value: &Value) -> Result<Option<Items<ObjectName>>, OutOfMemory>
+    ensures { IfOk result (λ objects. objects ≡ objects_in (value_of value.now)) }
+{
+    match elements_in(value, ElementType::Path) {
+        Some(paths) => objects_among(alloc, paths),
+        None => Ok(None),
+    }
+}
+
+// The session that a path names, or None if it isn't a session's.
+fn session_named(alloc: Global, path: &ObjectPath) -> Result<Option<SessionId>, OutOfMemory>
+    ensures { IfOk result (λ session. session ≡ session_named path.now) }
+{
+    match parse_path(alloc, path.as_str())? {
+        Some(ObjectName::Session(session)) => Ok(Some(session)),
+        _ => Ok(None),
+    }
+}
+
+/// The session that a path names, or `Some(None)` if the path isn't a session's.
+pub fn session_in(alloc: Global, value: &Value) -> Result<Option<Option<SessionId>>, OutOfMemory>
+    ensures { IfOk result (λ session. session ≡ session_in (value_of value.now)) }
+{
+    match path_in(value) {
+        Some(path) => Ok(Some(session_named(alloc, path)?)),
+        None => Ok(None),
+    }
+}
+
+// The two texts of an entry.
+fn text_pair_in(value: &Value) -> Option<(&Text, &Text)>
+    ensures { option_map (λ two. (two.0.now, two.1.now)) result
+        ≡ text_pair_in (value_as (type_of_element (ElementType.TextPair)) value.now) }
+{
+    let (key, held) = entry_in(value)?;
+    let key = string_in(key)?;
+    let text = string_in(held)?;
+    Some((key, text))
+}
+
+// The two texts of each entry.
+fn text_pairs_among(
+    alloc: Global,
+    entries: &[Value],
+) -> Result<Option<Vec<(Text, Text)>>, OutOfMemory>
+    ensures { IfOk result (λ pairs. option_map (λ them. them.items) pairs
+        ≡ all_in text_pair_in (each_as (type_of_element (ElementType.TextPair)) entries.now)) }
+{
+    let mut pairs = Vec::with_capacity(alloc, entries.len())?;
+    for entry in entries {
+        match text_pair_in(entry) {
+            Some((key, text)) => pairs.push((key.copy()?, text.copy()?))?,
+            None => return Ok(None),
+        }
+    }
+    Ok(Some(pairs))
+}
+
+// The attributes given as entries.
+fn attributes_among(alloc: Global, entries: &[Value]) -> Result<Option<Attributes>, OutOfMemory>
+    ensures { IfOk result (λ attributes. attributes
+        ≡ attributes_among (each_as (type_of_element (ElementType.TextPair)) entries.now)) }
+{
+    match text_pairs_among(alloc, entries)? {
+        Some(pairs) => Ok(Some(Attributes::from_pairs(alloc, pairs)?)),
+        None => Ok(None),
+    }
+}
+
+/// The attributes in a dict of texts. Of two with one name the later counts.
+pub fn attributes_in(alloc: Global, value: &Value) -> Result<Option<Attributes>, OutOfMemory>
+    ensures { IfOk result (λ attributes. attributes ≡ attributes_in (value_of value.now)) }
+{
+    match elements_in(value, ElementType::TextPair) {
+        Some(entries) => attributes_among(alloc, entries),
+        None => Ok(None),
+    }
+}

@@ -1,0 +1,197 @@
+// Requests as texts.
+
+use crate::words::{decimal, joined};
+use kr_base::{AttrValue, Attributes, ItemId, SessionId, Stem, Text};
+use kr_names::{ObjectName, path_of};
+use secret_calls::{Call, CallFault, Request};
+use std::alloc::Global;
+use std::test::Fail;
+
+// The path of a name.
+fn path_told(alloc: Global, name: &ObjectName) -> Result<Text, Fail> {
+    if !name.has_path() {
+        return Err("no path")?;
+    }
+    Ok(path_of(alloc, name)?)
+}
+
+fn with_path(alloc: Global, told: &str, name: &ObjectName) -> Result<String, Fail> {
+    let between = if told == "[" { "" } else { ", " };
+    let path = path_told(alloc, name)?;
+    joined(alloc, &[told, between, path.as_str()])
+}
+
+// The paths of names, in order.
+fn paths_told(alloc: Global, names: &[ObjectName]) -> Result<String, Fail> {
+    let mut told = String::from_str(alloc, "[")?;
+    for name in names {
+        told = with_path(alloc, told.as_str(), name)?;
+    }
+    joined(alloc, &[told.as_str(), "]"])
+}
+
+fn with_pair(alloc: Global, told: &str, name: &str, value: &str) -> Result<String, Fail> {
+    let between = if told == "{" { "" } else { ", " };
+    joined(alloc, &[told, between, name, "=", value])
+}
+
+// Attributes in order. Their values must be texts.
+fn attributes_told(alloc: Global, attributes: &Attributes) -> Result<String, Fail> {
+    let mut told = String::from_str(alloc, "{")?;
+    for (name, value) in attributes.as_slice() {
+        match value {
+            AttrValue::Text(text) => {
+                told = with_pair(alloc, told.as_str(), name.as_str(), text.as_str())?;
+            }
+            AttrValue::Number(_) => return Err("a number")?,
+        }
+    }
+    joined(alloc, &[told.as_str(), "}"])
+}
+
+fn session_told(alloc: Global, session: &Option<SessionId>) -> Result<String, Fail> {
+    match session {
+        Some(session) => decimal(alloc, session.0),
+        None => Ok(String::from_str(alloc, "none")?),
+    }
+}
+
+fn opening_told(alloc: Global, algorithm: &Text) -> Result<String, Fail> {
+    let algorithm = algorithm.as_str();
+    joined(
+        alloc,
+        &["Ok(OpenSession { algorithm: \"", algorithm, "\" })"],
+    )
+}
+
+fn closing_told(alloc: Global, session: SessionId) -> Result<String, Fail> {
+    let number = decimal(alloc, session.0)?;
+    joined(
+        alloc,
+        &[
+            "Ok(CloseSession { session: SessionId(",
+            number.as_str(),
+            ") })",
+        ],
+    )
+}
+
+fn search_told(alloc: Global, wanted: &Attributes) -> Result<String, Fail> {
+    let wanted = attributes_told(alloc, wanted)?;
+    joined(alloc, &["Ok(SearchItems ", wanted.as_str(), ")"])
+}
+
+fn lock_told(alloc: Global, objects: &[ObjectName]) -> Result<String, Fail> {
+    let objects = paths_told(alloc, objects)?;
+    joined(alloc, &["Ok(Lock ", objects.as_str(), ")"])
+}
+
+fn secrets_told(
+    alloc: Global,
+    items: &[ObjectName],
+    session: &Option<SessionId>,
+) -> Result<String, Fail> {
+    let items = paths_told(alloc, items)?;
+    let session = session_told(alloc, session)?;
+    joined(
+        alloc,
+        &[
+            "Ok(GetSecrets ",
+            items.as_str(),
+            " by ",
+            session.as_str(),
+            ")",
+        ],
+    )
+}
+
+fn collection_search_told(
+    alloc: Global,
+    collection: &ObjectName,
+    wanted: &Attributes,
+) -> Result<String, Fail> {
+    let collection = path_told(alloc, collection)?;
+    let wanted = attributes_told(alloc, wanted)?;
+    joined(
+        alloc,
+        &[
+            "Ok(SearchCollection ",
+            collection.as_str(),
+            " ",
+            wanted.as_str(),
+            ")",
+        ],
+    )
+}
+
+// A call on an item.
+fn item_call_told(
+    alloc: Global,
+    call: &str,
+    stem: &Stem,
+    item: ItemId,
+    rest: &str,
+) -> Result<String, Fail> {
+    let number = decimal(alloc, u64::from(item.0))?;
+    let front = joined(alloc, &["Ok(", call, " "])?;
+    let item = joined(alloc, &[stem.as_str(), " ", number.as_str()])?;
+    joined(alloc, &[front.as_str(), item.as_str(), rest])
+}
+
+fn reading_told(
+    alloc: Global,
+    stem: &Stem,
+    item: ItemId,
+    session: &Option<SessionId>,
+) -> Result<String, Fail> {
+    let session = session_told(alloc, session)?;
+    let rest = joined(alloc, &[" by ", session.as_str(), ")"])?;
+    item_call_told(alloc, "GetSecret", stem, item, rest.as_str())
+}
+
+fn fault_told(alloc: Global, fault: CallFault) -> Result<String, Fail> {
+    Ok(format!(in alloc; "Err({fault:?})")?)
+}
+
+fn good_call_told(alloc: Global, call: &Call) -> Result<String, Fail> {
+    match call {
+        Call::Ping => Ok(String::from_str(alloc, "Ok(Ping)")?),
+        Call::OpenSession { algorithm } => opening_told(alloc, algorithm),
+        Call::CloseSession { session } => closing_told(alloc, *session),
+        Call::SearchItems { wanted } => search_told(alloc, wanted),
+        Call::Lock { objects } => lock_told(alloc, objects.as_slice()),
+        Call::GetSecrets { items, session } => secrets_told(alloc, items.as_slice(), session),
+        Call::SearchCollection { collection, wanted } => {
+            collection_search_told(alloc, collection, wanted)
+        }
+        Call::GetSecret {
+            stem,
+            item,
+            session,
+        } => reading_told(alloc, stem, *item, session),
+    }
+}
+
+// The call, or its fault.
+fn call_told(alloc: Global, call: &Result<Call, CallFault>) -> Result<String, Fail> {
+    match call {
+        Ok(call) => good_call_told(alloc, call),
+        Err(fault) => fault_told(alloc, *fault),
+    }
+}
+
+fn wish_told(wants_reply: bool) -> &'static str {
+    if wants_reply { " true " } else { " false " }
+}
+
+/// A request as its serial, whether a reply is wanted, its length, and the call or its fault.
+pub fn request_told(alloc: Global, request: &Request) -> Result<String, Fail> {
+    let serial = decimal(alloc, u64::from(request.serial.number))?;
+    let wish = wish_told(request.wants_reply);
+    let length = decimal(alloc, u64::from(request.length))?;
+    let call = call_told(alloc, &request.call)?;
+    joined(
+        alloc,
+        &[serial.as_str(), wish, length.as_str(), " ", call.as_str()],
+    )
+}
