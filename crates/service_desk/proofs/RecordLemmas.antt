@@ -2,13 +2,13 @@
 use Rattle.std.proofs.Common.{◌≡◌, ◌+◌, IsTrue, List, [], ◌∷◌, ◌++◌, length, refl, ap, ◌∙◌, sym, subst, arith, length-append, append_assoc}
 use Rattle.std.specs.List.{AllByRecursion}
 use Rattle.std.proofs.lemmas.List.{map-append, length-map}
-use Rattle.service_machine.specs.declared.rows.Rows.{Rows}
+use Rattle.service_machine.specs.State.{State}
 use Rattle.service_machine.specs.declared.event.Event.{Event}
 use Rattle.service_machine.specs.declared.event.Output.{Output}
 use Rattle.service_machine.specs.Step.{step, output_of}
 use Rattle.service_machine.specs.Replay.{replay, Legal}
 use Rattle.service_machine.proofs.ReplayLemmas.{replay-append}
-use Rattle.service_machine.proofs.SoundLemmas.{each-append}
+use Rattle.service_machine.proofs.EachLemmas.{each-append}
 use Rattle.service_desk.specs.Places.{Told, Place, IsSame, Looks, Extends}
 use Rattle.service_desk.specs.Views.{View, with_others, with_own}
 use Rattle.service_desk.specs.Records.{Seen, Others, Own, event_of, events_of, IsOwn, AreAnswered, with_seen, Records, of_others, of_own}
@@ -16,7 +16,7 @@ use Rattle.service_desk.proofs.ViewLemmas.{with-no-others}
 
 -- ---- events that were seen, one list after the other
 
-pub answered-append : (state : Rows) (seen more : List Seen) → AreAnswered state seen → AreAnswered (replay state (events_of seen)) more → AreAnswered state (seen ++ more)
+pub answered-append : (state : State) (seen more : List Seen) → AreAnswered state seen → AreAnswered (replay state (events_of seen)) more → AreAnswered state (seen ++ more)
 answered-append state [] more is then = then
 answered-append state (Others event ∷ seen) more is then = (is.0, answered-append (step state event) seen more is.1 then)
 answered-append state (Own event answer ∷ seen) more is then = (is.0, is.1, answered-append (step state event) seen more is.2 then)
@@ -28,7 +28,7 @@ with_seen-append (Own event answer ∷ seen) more view = with_seen-append seen m
 
 -- ---- events of others
 
-others-answered : (state : Rows) (events : List Event) → Legal state events → AreAnswered state (of_others events)
+others-answered : (state : State) (events : List Event) → Legal state events → AreAnswered state (of_others events)
 others-answered state [] legal = tt
 others-answered state (event ∷ events) legal = (legal.0, others-answered (step state event) events legal.1)
 
@@ -43,15 +43,15 @@ others-view (event ∷ events) view =
 
 -- ---- events of its own
 
-pub own-append : (state : Rows) (events more : List Event) → of_own state (events ++ more) ≡ of_own state events ++ of_own (replay state events) more
+pub own-append : (state : State) (events more : List Event) → of_own state (events ++ more) ≡ of_own state events ++ of_own (replay state events) more
 own-append state [] more = refl
 own-append state (event ∷ events) more = ap (λ l. Own event (output_of state event) ∷ l) (own-append (step state event) events more)
 
-pub own-events : (state : Rows) (events : List Event) → events_of (of_own state events) ≡ events
+pub own-events : (state : State) (events : List Event) → events_of (of_own state events) ≡ events
 own-events state [] = refl
 own-events state (event ∷ events) = ap (λ l. event ∷ l) (own-events (step state event) events)
 
-pub own-length : (state : Rows) (events : List Event) → length (of_own state events) ≡ length events
+pub own-length : (state : State) (events : List Event) → length (of_own state events) ≡ length events
 own-length state [] = refl
 own-length state (event ∷ events) = omega (arith, own-length (step state event) events)
 
@@ -131,15 +131,15 @@ alone-extends old new event answer alone extends =
     subst (λ seen. Records old new seen) one (extends-records old new event answer extends)
 
 -- events of its own are legal
-pub own-legal : (state : Rows) (events : List Event) → AreAnswered state (of_own state events) → Legal state events
+pub own-legal : (state : State) (events : List Event) → AreAnswered state (of_own state events) → Legal state events
 own-legal state [] is = tt
 own-legal state (event ∷ events) is = (is.0, own-legal (step state event) events is.2)
 
-pub own-answered : (state : Rows) (events : List Event) → Legal state events → AreAnswered state (of_own state events)
+pub own-answered : (state : State) (events : List Event) → Legal state events → AreAnswered state (of_own state events)
 own-answered state [] legal = tt
 own-answered state (event ∷ events) legal = (legal.0, refl, own-answered (step state event) events legal.1)
 
-pub own-own : (state : Rows) (events : List Event) → AllByRecursion IsOwn (of_own state events)
+pub own-own : (state : State) (events : List Event) → AllByRecursion IsOwn (of_own state events)
 own-own state [] = tt
 own-own state (event ∷ events) = (tt, own-own (step state event) events)
 

@@ -1,7 +1,7 @@
 -- Views go on: after events of others, and after those of their own.
 use Rattle.std.proofs.Common.{◌≡◌, ℕ, ◌+◌, ◌≤◌, List, [], ◌∷◌, ◌++◌, length, refl, ap, ◌∙◌, sym, arith, length-append, append-nil}
 use Rattle.std.proofs.lemmas.List.{length_push}
-use Rattle.service_machine.specs.declared.rows.Rows.{Rows}
+use Rattle.service_machine.specs.State.{State}
 use Rattle.service_machine.specs.declared.event.Event.{Event}
 use Rattle.service_machine.specs.Step.{step, output_of, Fits}
 use Rattle.service_machine.specs.Replay.{replay, Legal, outputs}
@@ -19,13 +19,13 @@ places-push from below [] are = (are, omega arith)
 places-push from below (place ∷ places) are = (are.0, places-push (place + 1) below places are.1)
 
 -- a service's view that begins now
-pub view-now : (state : Rows) (count : ℕ) → (view : View) × IsView state count view
+pub view-now : (state : State) (count : ℕ) → (view : View) × IsView state count view
 view-now state count = (
   record { start = state; before = count; seen = []; own = [] },
   record { legal = tt; leads = refl; counted = omega arith; places = omega arith },
 )
 
-pub view-others : (state : Rows) (count : ℕ) (view : View) (events : List Event) → IsView state count view → Legal state events
+pub view-others : (state : State) (count : ℕ) (view : View) (events : List Event) → IsView state count view → Legal state events
     → IsView (replay state events) (count + length events) (with_others events view)
 view-others state count view events is legal = record {
   legal = Legal-append view.start view.seen events is.legal (rw (← is.leads) legal);
@@ -34,7 +34,7 @@ view-others state count view events is legal = record {
   places = places-below 0 (length view.seen) (length (view.seen ++ events)) view.own is.places (rw (length-append view.seen events) (omega arith));
 }
 
-pub view-own : (state : Rows) (count : ℕ) (view : View) (event : Event) → IsView state count view → Fits state event
+pub view-own : (state : State) (count : ℕ) (view : View) (event : Event) → IsView state count view → Fits state event
     → IsView (step state event) (count + 1) (with_own event view)
 view-own state count view event is fits = record {
   legal = Legal-append view.start view.seen (event ∷ []) is.legal (rw (← is.leads) fits, tt);
@@ -43,7 +43,7 @@ view-own state count view event is fits = record {
   places = rw (length_push view.seen event) (places-push 0 (length view.seen) view.own is.places);
 }
 
-pub answer-behind : (state : Rows) (count : ℕ) (view : View) (between : List Event) (event : Event) → IsView state count view
+pub answer-behind : (state : State) (count : ℕ) (view : View) (between : List Event) (event : Event) → IsView state count view
     → outputs view.start ((view.seen ++ between) ++ event ∷ []) ≡ outputs view.start (view.seen ++ between) ++ output_of (replay state between) event ∷ []
 answer-behind state count view between event is =
     outputs-append view.start (view.seen ++ between) (event ∷ [])

@@ -5,7 +5,7 @@ use Rattle.secret_calls.specs.declared.taken.Refused.{Refused}
 use Rattle.secret_calls.specs.declared.taken.Refused.TheVariants as refused
 use Rattle.secret_calls.specs.declared.taken.Taken.{Taken}
 use Rattle.secret_calls.specs.declared.taken.Taken.TheVariants as taken
-use Rattle.service_machine.specs.declared.rows.Rows.{Rows}
+use Rattle.service_machine.specs.State.{State}
 use Rattle.service_machine.specs.declared.event.Event.{Event}
 use Rattle.service_machine.specs.declared.event.Event.TheVariants as event
 use Rattle.service_machine.specs.declared.event.Output.TheVariants as output
@@ -15,7 +15,7 @@ use Rattle.service_machine.specs.Step.{IsMissing}
 use Rattle.service_desk.specs.Places.{Told, Place, Looks, Extends}
 
 -- the connection is there, and this is whether outputs wait, whether one was lost, and whether it is leaving
-abbrev pub IsToldOf : ConnId → Rows → Bool → Bool → Bool → Type 0
+abbrev pub IsToldOf : ConnId → State → Bool → Bool → Bool → Type 0
 IsToldOf conn state waits overrun leaving =
     desk_of conn state.connections.rows ≡ Some (record { waits = waits; overrun = overrun; leaving = leaving })
 

@@ -1,7 +1,7 @@
 -- Where a desk is in the service's history, and how one of its calls goes on from there.
 use Rattle.std.specs.Prelude.{◌≡◌, ℕ, ◌+◌, Bool, IsTrue, List, [], length}
 use Rattle.kr_base.specs.declared.ids.ConnId.{ConnId}
-use Rattle.service_machine.specs.declared.rows.Rows.{Rows}
+use Rattle.service_machine.specs.State.{State}
 use Rattle.service_machine.specs.declared.event.Event.{Event}
 use Rattle.service_machine.specs.declared.event.Output.{Output}
 use Rattle.service_machine.specs.Step.{step, output_of, Fits}
@@ -13,7 +13,7 @@ pub record Told : Type 0 where
   -- the connection that the desk belongs to
   pub conn : ConnId
   -- the service's state
-  pub state : Rows
+  pub state : State
   -- the number of events of the run up to that state
   pub count : ℕ
   -- no events enter the history except those of its own calls
@@ -55,7 +55,7 @@ pub record Extends (old new : Place) (event : Event) (answer : Output) : Type 0 
   pub between : List Event
   pub alone : IsTrue old.told.is_alone → between ≡ []
   pub legal : Legal old.told.state between
-  pub at : Rows
+  pub at : State
   pub reached : at ≡ replay old.told.state between
   pub fits : Fits at event
   pub answers : answer ≡ output_of at event

@@ -2,7 +2,7 @@
 use Rattle.std.specs.Prelude.{◌≡◌, ◌+◌, IsTrue, List, [], ◌∷◌, ◌++◌, length, map}
 use Rattle.std.specs.List.{AllByRecursion}
 use Rattle.secret_calls.specs.declared.out.Out.{Out}
-use Rattle.service_machine.specs.declared.rows.Rows.{Rows}
+use Rattle.service_machine.specs.State.{State}
 use Rattle.service_machine.specs.declared.event.Event.{Event}
 use Rattle.service_machine.specs.declared.event.Output.{Output}
 use Rattle.service_machine.specs.declared.event.Output.TheVariants as output
@@ -31,7 +31,7 @@ IsOwn (Others event) = ⊥
 IsOwn (Own event answer) = Unit {0}
 
 -- Each event fits the state that those before it lead to, and the answer to each own one is that of the step from there.
-abbrev pub AreAnswered : Rows → List Seen → Type 0
+abbrev pub AreAnswered : State → List Seen → Type 0
 AreAnswered state [] = Unit {0}
 AreAnswered state (Others event ∷ more) = Fits state event × AreAnswered (step state event) more
 AreAnswered state (Own event answer ∷ more) = Fits state event × (answer ≡ output_of state event) × AreAnswered (step state event) more
@@ -56,7 +56,7 @@ abbrev pub of_others : List Event → List Seen
 of_others events = map (λ event. Others event) events
 
 -- events of the desk's own, each with the answer of the step from the state that those before it lead to
-abbrev pub of_own : Rows → List Event → List Seen
+abbrev pub of_own : State → List Event → List Seen
 of_own state [] = []
 of_own state (event ∷ events) = Own event (output_of state event) ∷ of_own (step state event) events
 

@@ -1,13 +1,13 @@
 -- What a desk has seen of the service's history: from a start, the events since then, and which of them are its own.
 use Rattle.std.specs.Prelude.{◌≡◌, ℕ, ◌+◌, ◌≤◌, List, [], ◌∷◌, ◌++◌, length}
-use Rattle.service_machine.specs.declared.rows.Rows.{Rows}
+use Rattle.service_machine.specs.State.{State}
 use Rattle.service_machine.specs.declared.event.Event.{Event}
 use Rattle.service_machine.specs.Replay.{replay, Legal}
 
 -- a start, the number of events of the run before it, the events seen since then, and the places of the desk's own
 -- among them
 pub record View : Type 0 where
-  pub start : Rows
+  pub start : State
   pub before : ℕ
   pub seen : List Event
   pub own : List ℕ
@@ -20,7 +20,7 @@ ArePlaces from below (place ∷ places) = (from ≤ place) × ArePlaces (place +
 -- The view may be that of a desk on a service in this state, after this many events of the run: its events are legal
 -- from the start, lead to the state, and are as many as the run had since the start; and the desk's own places are
 -- among theirs.
-pub record IsView (state : Rows) (count : ℕ) (view : View) : Type 0 where
+pub record IsView (state : State) (count : ℕ) (view : View) : Type 0 where
   pub legal : Legal view.start view.seen
   pub leads : state ≡ replay view.start view.seen
   pub counted : count ≡ view.before + length view.seen

@@ -1,7 +1,7 @@
 // What the definitions of views and places say together. Each law is the contract of a function that
 // does nothing.
 ghost use Rattle.std.specs.Prelude.{◌≡◌, ◌+◌, ◌++◌, ◌∷◌, [], ℕ, List, length};
-ghost use Rattle.service_machine.specs.declared.rows.Rows.{Rows};
+ghost use Rattle.service_machine.specs.State.{State};
 ghost use Rattle.service_machine.specs.declared.event.Event.{Event};
 ghost use Rattle.service_machine.specs.Step.{step, output_of, Fits};
 ghost use Rattle.service_machine.specs.Replay.{replay, Legal, outputs};
@@ -14,10 +14,10 @@ use crate::Desk;
 
 /// A view stays a view after events of others, and after an event of its own.
 pub fn views_go_on()
-    ensures others { (state : Rows) (count : ℕ) (view : View) (events : List Event)
+    ensures others { (state : State) (count : ℕ) (view : View) (events : List Event)
         → IsView state count view → Legal state events
         → IsView (replay state events) (count + length events) (with_others events view) }
-    ensures own { (state : Rows) (count : ℕ) (view : View) (event : Event)
+    ensures own { (state : State) (count : ℕ) (view : View) (event : Event)
         → IsView state count view → Fits state event
         → IsView (step state event) (count + 1) (with_own event view) }
 {}
@@ -25,7 +25,7 @@ pub fn views_go_on()
 /// After an event of a desk's own, the answers to the events that it has seen are those to the events
 /// before it, followed by the answer of the step from the state to which those lead.
 pub fn an_answer_stands_at_its_place()
-    ensures { (state : Rows) (count : ℕ) (view : View) (between : List Event) (event : Event)
+    ensures { (state : State) (count : ℕ) (view : View) (between : List Event) (event : Event)
         → IsView state count view
         → outputs view.start (with_own event (with_others between view)).seen
         ≡ outputs view.start (with_others between view).seen

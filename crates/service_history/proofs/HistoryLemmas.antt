@@ -1,7 +1,7 @@
 -- One more event of a history, and a cut.
 use Rattle.std.proofs.Common.{◌+◌, ◌≤◌, [], ◌∷◌, ap, ◌∙◌, sym, arith}
 use Rattle.std.proofs.lemmas.List.{length_push}
-use Rattle.service_machine.specs.declared.rows.Rows.{Rows}
+use Rattle.service_machine.specs.State.{State}
 use Rattle.service_machine.specs.declared.event.Event.{Event}
 use Rattle.service_machine.specs.Step.{step, Fits}
 use Rattle.service_machine.specs.Sound.{IsSound}
@@ -18,7 +18,7 @@ pub history-sound : (history : History) → IsHistory history → IsSound histor
 history-sound history is = rw is.replayed (sound_replay history.window.base history.window.events is.sound is.legal)
 
 -- what sure events take behind an event
-pub room-behind : (state : Rows) (event : Event) → IsSound state → Fits state event → room (step state event).connections.rows ≤ 768
+pub room-behind : (state : State) (event : Event) → IsSound state → Fits state event → room (step state event).connections.rows ≤ 768
 room-behind state event sound fits =
     omega (arith, room-few (step state event).connections.rows, (sound_step state event sound fits).connections.few)
 

@@ -4,10 +4,12 @@ use Rattle.kr_base.specs.declared.ids.ConnId.{ConnId}
 use Rattle.service_machine.specs.declared.event.Event.{Event}
 use Rattle.service_machine.specs.declared.event.Event.TheVariants as event
 use Rattle.service_machine.specs.declared.rows.DeskRow.{DeskRow}
-use Rattle.service_machine.specs.declared.rows.Rows.{Rows}
+use Rattle.service_machine.specs.State.{State}
 use Rattle.service_machine.specs.Connections.{left, emptied, desk_of}
 use Rattle.service_machine.specs.Limits.{most_events}
-use Rattle.service_machine.specs.Step.{opened_rows, step, Fits}
+use Rattle.service_machine.specs.Opened.{IsOpened, contents_of}
+use Rattle.service_machine.specs.Sound.{AreSoundCollections}
+use Rattle.service_machine.specs.Step.{step, Fits}
 use Rattle.service_machine.proofs.FitLemmas.{has-told}
 use Rattle.service_machine.proofs.SoundLemmas.{sound_start}
 use Rattle.service_history.specs.Limits.{most_counted}
@@ -19,15 +21,16 @@ use Rattle.service_history.proofs.RoomLemmas.{room-changed_one, room-left_one, r
 use Rattle.service_history.proofs.HistoryLemmas.{history-sound, room-behind, history-push, history-cut}
 
 -- the service as it starts, in the window that begins there
-pub kept-first : (state : Rows) (held : Held) → state ≡ opened_rows → held.window ≡ begun 0 state → IsKept state held
-kept-first state held start begins = record {
+pub kept-first : (state : State) (held : Held) → IsOpened state → AreSoundCollections state.collections → held.window ≡ begun 0 state → IsKept state held
+kept-first state held start sound begins = record {
   history = subst (λ (w : Window). IsHistory (in_window state w)) (sym begins)
-      (subst (λ (s : Rows). IsHistory (in_window s (begun 0 s))) (sym start) record { sound = sound_start; legal = tt; replayed = refl; counted = omega arith });
-  fits = subst (λ (s : Rows). room s.connections.rows ≤ held.spare) (sym start) (omega arith);
+      (subst (λ (s : State). IsHistory (in_window s (begun 0 s))) (sym start)
+      record { sound = sound_start (contents_of state) sound; legal = tt; replayed = refl; counted = omega arith });
+  fits = subst (λ (s : State). room s.connections.rows ≤ held.spare) (sym start) (omega arith);
 }
 
 -- an event that is stored
-kept-push : (state : Rows) (old new : Held) (event : Event) → IsHistory (in_window state old.window) → Fits state event
+kept-push : (state : State) (old new : Held) (event : Event) → IsHistory (in_window state old.window) → Fits state event
     → total old.window + 1 + room (step state event).connections.rows ≤ most_counted → room (step state event).connections.rows + 1 ≤ old.spare
     → new.window ≡ stored event old.window → old.spare ≤ new.spare + 1 → IsKept (step state event) new
 kept-push state old new event history fits counted space is spare = record {
@@ -38,13 +41,13 @@ kept-push state old new event history fits counted space is spare = record {
 -- ---- events that are sure to come
 
 -- there is room for the event, and what is kept after it
-pub record IsSure (state : Rows) (old : Held) (event : Event) : Type 0 where
+pub record IsSure (state : State) (old : Held) (event : Event) : Type 0 where
   pub fits : Fits state event
   pub room : 0 < old.spare
   pub counted : total old.window < most_counted
   pub kept : (new : Held) → new.window ≡ stored event old.window → old.spare ≤ new.spare + 1 → IsKept (step state event) new
 
-sure : (state : Rows) (held : Held) (event : Event) → IsKept state held → Fits state event → room (step state event).connections.rows + 1 ≤ room state.connections.rows → IsSure state held event
+sure : (state : State) (held : Held) (event : Event) → IsKept state held → Fits state event → room (step state event).connections.rows + 1 ≤ room state.connections.rows → IsSure state held event
 sure state held event kept fits less = record {
   fits = fits;
   room = omega (arith, less, kept.fits);
@@ -53,19 +56,19 @@ sure state held event kept fits less = record {
 }
 
 -- a connection that is there and isn't leaving leaves
-pub sure-leave : (conn : ConnId) (desk : DeskRow) (state : Rows) (held : Held) → IsKept state held → Some desk ≡ desk_of conn state.connections.rows → desk.leaving ≡ false → IsSure state held (event.Leave conn)
+pub sure-leave : (conn : ConnId) (desk : DeskRow) (state : State) (held : Held) → IsKept state held → Some desk ≡ desk_of conn state.connections.rows → desk.leaving ≡ false → IsSure state held (event.Leave conn)
 sure-leave conn desk state held kept told stays =
     let fits : Fits state (event.Leave conn) = rw (← told) stays in
     sure state held (event.Leave conn) kept fits (room-changed_one (λ desk. desk.leaving ≡ false) conn left (λ row. omega arith) room-left_one state.connections.rows fits)
 
 -- one for which something waits takes it
-pub sure-take : (conn : ConnId) (desk : DeskRow) (state : Rows) (held : Held) → IsKept state held → Some desk ≡ desk_of conn state.connections.rows → desk.waits ≡ true → IsSure state held (event.Take conn)
+pub sure-take : (conn : ConnId) (desk : DeskRow) (state : State) (held : Held) → IsKept state held → Some desk ≡ desk_of conn state.connections.rows → desk.waits ≡ true → IsSure state held (event.Take conn)
 sure-take conn desk state held kept told some =
     let fits : Fits state (event.Take conn) = rw (← told) some in
     sure state held (event.Take conn) kept fits (room-changed_one (λ desk. desk.waits ≡ true) conn emptied (λ row. omega arith) room-emptied_one state.connections.rows fits)
 
 -- one that is there is gone
-pub sure-gone : (conn : ConnId) (desk : DeskRow) (state : Rows) (held : Held) → IsKept state held → Some desk ≡ desk_of conn state.connections.rows → IsSure state held (event.Gone conn)
+pub sure-gone : (conn : ConnId) (desk : DeskRow) (state : State) (held : Held) → IsKept state held → Some desk ≡ desk_of conn state.connections.rows → IsSure state held (event.Gone conn)
 sure-gone conn desk state held kept told =
     let fits = has-told conn state.connections.rows desk told in
     sure state held (event.Gone conn) kept fits (room-without_one conn state.connections.rows fits)
@@ -73,7 +76,7 @@ sure-gone conn desk state held kept told =
 -- ---- an event for which room was prepared
 
 -- what is kept after it, in this window or in the next
-pub kept-event : (state : Rows) (window : Window) (held : Held) (next : Option Held) (event : Event) (new : Held) → IsHistory (in_window state window) → held.window ≡ window
+pub kept-event : (state : State) (window : Window) (held : Held) (next : Option Held) (event : Event) (new : Held) → IsHistory (in_window state window) → held.window ≡ window
     → IsReady window state held.spare next → total window < most_events → Fits state event → new.window ≡ stored event (chosen held next).window → (chosen held next).spare ≤ new.spare + 1
     → IsKept (step state event) new
 kept-event state window held None event new history same ready left fits stores less =

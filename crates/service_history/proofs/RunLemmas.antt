@@ -1,5 +1,6 @@
 -- The windows of a service, one call after another, are those of a run.
 use Rattle.std.proofs.Common.{◌≡◌, ◌+◌, ◌<◌, ◌==◌, inl, inr, Bool, true, false, ◌||◌, ◌&&◌, not, nat_le, cond, List, [], ◌∷◌, length, Option, Some, None, refl, ap, ◌∙◌, sym, subst, arith, append-nil}
+use Rattle.std.specs.List.{list_any}
 use Rattle.std.proofs.lemmas.Bool.Decides.{nat_tests}
 use Rattle.kr_base.specs.declared.ids.ConnId.{ConnId}
 use Rattle.service_machine.specs.declared.rows.DeskRow.{DeskRow}
@@ -8,10 +9,11 @@ use Rattle.service_machine.specs.declared.event.Event.TheVariants as event
 use Rattle.service_machine.specs.declared.event.Incoming.{Incoming}
 use Rattle.service_machine.specs.declared.event.Output.{Output}
 use Rattle.service_machine.specs.Replay.{Legal, cost}
+use Rattle.service_machine.specs.State.{State}
 use Rattle.service_history.specs.History.{History, opened_history, cut_where_due, with_event, Stores, IsRecorded, taken_by, left_by, gone_by}
 use Rattle.service_history.specs.Limits.{most_stored, most_cost}
 use Rattle.service_history.specs.Runs.{GoesOn, Follows, AreCalls, windows_of}
-use Rattle.service_history.specs.Windows.{Window, is_due, first_window, next_window, Begins, AreInRow, AreWindows}
+use Rattle.service_history.specs.Windows.{Window, is_due, is_lock, first_window, next_window, Begins, AreInRow, AreWindows}
 
 -- ---- one call
 
@@ -26,7 +28,7 @@ choice window true x y p q = p
 choice window false x y p q = q
 
 -- a cut is due only where there are events
-cut-some : (events : List Event) → (nat_le most_stored (length events) || nat_le most_cost (cost events)) ≡ true → 0 < length events
+cut-some : (events : List Event) → (nat_le most_stored (length events) || (nat_le most_cost (cost events) || list_any is_lock events)) ≡ true → 0 < length events
 cut-some [] due = let no : ⊥ = cc in absurd no
 cut-some (event ∷ events) due = omega arith
 
@@ -88,5 +90,5 @@ row-from start old (new ∷ more) begins calls =
           (row-from (next_window old.window) new more (begins-on (next_window old.window) (next_window old.window) new.window (record { era = refl; base = refl; legal = tt }) ended.next legal) calls.2))
     ]
 
-pub calls_row : (histories : List History) → AreCalls opened_history histories → AreWindows (windows_of opened_history histories)
-calls_row histories calls = row-from first_window opened_history histories (record { era = refl; base = refl; legal = tt }) calls
+pub calls_row : (start : State) (histories : List History) → AreCalls (opened_history start) histories → AreWindows start (windows_of (opened_history start) histories)
+calls_row start histories calls = row-from (first_window start) (opened_history start) histories (record { era = refl; base = refl; legal = tt }) calls

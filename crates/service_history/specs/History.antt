@@ -3,8 +3,8 @@ use Rattle.std.specs.Prelude.{◌≡◌, ◌+◌, ◌≤◌, ◌&&◌, not, if�
 use Rattle.kr_base.specs.declared.ids.ConnId.{ConnId}
 use Rattle.secret_calls.specs.declared.taken.Taken.{Taken}
 use Rattle.secret_calls.specs.declared.taken.Taken.TheVariants as taken
-use Rattle.service_machine.specs.declared.disk.Disk.{Disk}
-use Rattle.service_machine.specs.declared.rows.Rows.{Rows}
+use Rattle.service_machine.specs.Disk.{DiskState}
+use Rattle.service_machine.specs.State.{State}
 use Rattle.service_machine.specs.declared.rows.DeskRow.{DeskRow}
 use Rattle.service_machine.specs.declared.event.Incoming.{Incoming}
 use Rattle.service_machine.specs.declared.event.Incoming.TheVariants as incoming
@@ -13,7 +13,7 @@ use Rattle.service_machine.specs.declared.event.Event.TheVariants as event
 use Rattle.service_machine.specs.declared.event.Output.{Output}
 use Rattle.service_machine.specs.Connections.{waiting_for, desk_of}
 use Rattle.service_machine.specs.Machine.{Records}
-use Rattle.service_machine.specs.Step.{opened_rows, step, output_of, Fits}
+use Rattle.service_machine.specs.Step.{step, output_of, Fits}
 use Rattle.service_machine.specs.Replay.{replay, Legal}
 use Rattle.service_machine.specs.Sound.{IsSound}
 use Rattle.service_history.specs.Limits.{most_counted}
@@ -22,17 +22,17 @@ use Rattle.service_history.specs.Windows.{Window, total, is_due, stored, first_w
 
 -- the state, and the window that led to it
 pub record History : Type 0 where
-  pub state : Rows
+  pub state : State
   pub window : Window
 
--- the service as contracts see it: its history, and beside it its folder with what was loaded from it
+-- the service as contracts see it: its history, and beside it its folder with the slots that were made of it
 pub record ServiceState (F S : Type 0) : Type 0 where
   pub history : History
-  pub disk : Disk F S
+  pub disk : DiskState F S
 
--- the history of the service as it starts
-abbrev pub opened_history : History
-opened_history = record { state = opened_rows; window = first_window }
+-- the history of a service as it starts in this state
+abbrev pub opened_history : State → History
+opened_history start = record { state = start; window = first_window start }
 
 -- What every service keeps: its base is sound, its events are legal from there and lead to its state, and its events
 -- are counted, those that are sure to come included.
@@ -82,7 +82,7 @@ IsAsked (incoming.Arrive arrival) = Unit {0}
 IsAsked _ = ⊥
 
 -- what a connection that takes is given, by its status
-abbrev pub given_for : ConnId → Rows → Option DeskRow → Taken
+abbrev pub given_for : ConnId → State → Option DeskRow → Taken
 given_for conn state None = taken.Missing
 given_for conn state (Some desk) =
     if desk.waits then taken.Outs (waiting_for conn state.connections.rows)

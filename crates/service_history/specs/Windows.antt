@@ -1,38 +1,52 @@
 -- A run's history in windows. A window is an era, the number of the run's events before it; a base, the state that
 -- these led to; and the events since then. A cut ends one window, and the next one follows.
-use Rattle.std.specs.Prelude.{◌≡◌, ℕ, ◌+◌, ◌<◌, Bool, ◌||◌, nat_le, List, [], ◌∷◌, ◌++◌, length}
-use Rattle.std.specs.List.{flat_map}
-use Rattle.service_machine.specs.declared.rows.Rows.{Rows}
+use Rattle.std.specs.Prelude.{◌≡◌, ℕ, ◌+◌, ◌<◌, Bool, true, false, ◌||◌, nat_le, List, [], ◌∷◌, ◌++◌, length, Result, Ok}
+use Rattle.std.specs.List.{flat_map, list_any}
+use Rattle.secret_calls.specs.declared.call.Call.{Call}
+use Rattle.secret_calls.specs.declared.call.Call.TheVariants as call
+use Rattle.secret_calls.specs.declared.call.CallFault.{CallFault}
+use Rattle.service_machine.specs.State.{State}
 use Rattle.service_machine.specs.declared.event.Event.{Event}
-use Rattle.service_machine.specs.Step.{opened_rows}
+use Rattle.service_machine.specs.declared.event.Event.TheVariants as event
 use Rattle.service_machine.specs.Replay.{replay, Legal, cost}
 use Rattle.service_history.specs.Limits.{most_stored, most_cost}
 
 -- a window
 pub record Window : Type 0 where
   pub era : ℕ
-  pub base : Rows
+  pub base : State
   pub events : List Event
 
 -- how many events the run has had
 abbrev pub total : Window → ℕ
 total window = window.era + length window.events
 
--- a cut is due: the events are many, or cost much
+-- whether a call is Lock (Secret Service API draft 0.2, interface Service)
+abbrev pub is_lock_call : Result Call CallFault → Bool
+is_lock_call (Ok (call.Lock objects)) = true
+is_lock_call _ = false
+
+-- whether an event is that a connection called Lock
+abbrev pub is_lock : Event → Bool
+is_lock (event.Arrive arrival) = is_lock_call arrival.request.call
+is_lock _ = false
+
+-- a cut is due: the events are many, or cost much, or one is a call of Lock, so that no event keeps a secret of a collection that
+-- was locked
 abbrev pub is_due : Window → Bool
-is_due window = nat_le most_stored (length window.events) || nat_le most_cost (cost window.events)
+is_due window = nat_le most_stored (length window.events) || (nat_le most_cost (cost window.events) || list_any is_lock window.events)
 
 -- the window with one more event
 abbrev pub stored : Event → Window → Window
 stored event window = record window { events = window.events ++ event ∷ [] }
 
 -- a window as it begins
-abbrev pub begun : ℕ → Rows → Window
+abbrev pub begun : ℕ → State → Window
 begun era base = record { era = era; base = base; events = [] }
 
--- the first window, as it begins
-abbrev pub first_window : Window
-first_window = begun 0 opened_rows
+-- the first window of a run from this state, as it begins
+abbrev pub first_window : State → Window
+first_window start = begun 0 start
 
 -- the window after one, as it begins
 abbrev pub next_window : Window → Window
@@ -51,9 +65,9 @@ AreInRow start [] = Unit {0}
 AreInRow start (window ∷ []) = Begins start window
 AreInRow start (window ∷ next ∷ windows) = Begins start window × (0 < length window.events) × AreInRow (next_window window) (next ∷ windows)
 
--- the windows of a run
-abbrev pub AreWindows : List Window → Type 0
-AreWindows windows = AreInRow first_window windows
+-- the windows of a run from this state
+abbrev pub AreWindows : State → List Window → Type 0
+AreWindows start windows = AreInRow (first_window start) windows
 
 -- the history of a run: the events of its windows, one behind the other
 abbrev pub history_of : List Window → List Event

@@ -4,7 +4,7 @@ ghost use Rattle.std.specs.Prelude.{◌≡◌, ◌++◌, ◌∷◌, [], List, le
 ghost use Rattle.service_machine.specs.declared.event.Event.{Event};
 ghost use Rattle.service_machine.specs.declared.event.Incoming.{Incoming};
 ghost use Rattle.service_machine.specs.declared.event.Output.{Output};
-ghost use Rattle.service_machine.specs.Step.{opened_rows};
+ghost use Rattle.service_machine.specs.State.{State};
 ghost use Rattle.service_machine.specs.Replay.{replay, Legal, outputs};
 ghost use Rattle.kr_base.specs.declared.ids.ConnId.{ConnId};
 ghost use Rattle.service_history.specs.History.{History, opened_history, IsHistory, Stores, IsRecorded, IsAppended, told, taken_by, left_by, gone_by};
@@ -14,12 +14,13 @@ ghost use Rattle.service_history.specs.Windows.{Window, first_window, AreWindows
 /// The windows of a run are one history: their events, one after the other, are legal from the start
 /// and lead to the base of the window after the last; and that window's era is their number.
 pub fn windows_are_one_history()
-    ensures legal { (windows : List Window) → AreWindows windows
-        → Legal opened_rows (history_of windows) }
-    ensures replay { (windows : List Window) → AreWindows windows
-        → replay opened_rows (history_of windows) ≡ (window_behind first_window windows).base }
-    ensures era { (windows : List Window) → AreWindows windows
-        → (window_behind first_window windows).era ≡ length (history_of windows) }
+    ensures legal { (start : State) (windows : List Window) → AreWindows start windows
+        → Legal start (history_of windows) }
+    ensures replay { (start : State) (windows : List Window) → AreWindows start windows
+        → replay start (history_of windows)
+        ≡ (window_behind (first_window start) windows).base }
+    ensures era { (start : State) (windows : List Window) → AreWindows start windows
+        → (window_behind (first_window start) windows).era ≡ length (history_of windows) }
 {}
 
 /// Each call of a service goes on in its window, or ends it and begins the next one: so the windows that
@@ -36,8 +37,9 @@ pub fn calls_yield_windows_in_a_row()
         → GoesOn old.window (left_by conn (told conn old) old).window }
     ensures gone { (old : History) (conn : ConnId)
         → GoesOn old.window (gone_by conn (told conn old) old).window }
-    ensures row { (histories : List History) → AreCalls opened_history histories
-        → AreWindows (windows_of opened_history histories) }
+    ensures row { (start : State) (histories : List History)
+        → AreCalls (opened_history start) histories
+        → AreWindows start (windows_of (opened_history start) histories) }
 {}
 
 /// What is answered to an event is the output at its place: the outputs of the stored events are those

@@ -1,6 +1,8 @@
 ghost use Rattle.std.specs.Prelude.{◌≡◌, ◌≢◌, [], IsTrue, IfOk, OnOk, OnErr, IsErrOf, Err};
 ghost use Rattle.folder_store.specs.Ring.{IsAsFound};
-ghost use Rattle.service_machine.specs.Disk.{IsLoaded, FailedToLoad};
+ghost use Rattle.collection_table.specs.Entries.{rows_of};
+ghost use Rattle.service_machine.specs.Disk.{IsLoaded, FailedToLoad, disk_state};
+ghost use Rattle.service_machine.specs.Opened.{IsOpened};
 ghost use Rattle.service_machine.specs.Limits.{IsSpent};
 ghost use Rattle.service_machine.specs.Machine.{IsOfNone, IsConnect};
 ghost use Rattle.service_machine.specs.Step.{IsMissing, IsCrowded};
@@ -51,11 +53,14 @@ impl<F: Folder> Service<F> {
     /// folder is dropped then.
     pub fn open(alloc: Global, folder: F) -> Result<Service<F>, OpenRefused>
         requires fresh { F.made folder ≡ [] }
-        ensures opened { IfOk result (λ service. service.history ≡ opened_history) }
+        ensures opened { IfOk result (λ service. IsOpened service.history.state) }
+        ensures begins { IfOk result (λ service.
+            service.history ≡ opened_history service.history.state) }
         ensures loaded { IfOk result (λ service. IsLoaded (IsAsFound F.Cell.seen F.Cell.temporary
             F.Cell.may_leave F.Cell.left_since F.Cell.is_honest F.Cell.is_steady
             (F.is_honest folder) (F.is_steady folder))
-            F.is_honest F.is_steady F.faults F.images F.may_leave F.made folder service.disk) }
+            F.is_honest F.is_steady F.faults F.images F.may_leave F.made
+            folder service.disk service.history.state) }
 
         // The folder is at fault only if it failed, and never if it is steady.
         ensures cause { IsErrOf result OpenRefused.Folder → FailedToLoad (IsAsFound F.Cell.seen
@@ -69,9 +74,11 @@ impl<F: Folder> Service<F> {
         Ok(Service { machine, window })
     }
 
-    /// The folder, and what was loaded from it. It takes no memory.
+    /// The folder, with its collections and aliases. It takes no memory.
     pub fn into_disk(self) -> Disk<F>
-        ensures { result ≡ self.disk }
+        ensures disk { disk_state result ≡ self.disk }
+        ensures collections { rows_of result.collections.entries
+            ≡ self.history.state.collections }
     {
         self.machine.into_disk()
     }

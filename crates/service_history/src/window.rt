@@ -3,11 +3,12 @@ ghost use Rattle.service_machine.specs.Rows.{rows_of};
 ghost use Rattle.service_machine.specs.Replay.{cost_of};
 ghost use Rattle.service_history.specs.Limits.{most_counted};
 ghost use Rattle.service_history.specs.Room.{enough};
-ghost use Rattle.service_history.specs.Windows.{begun, total, is_due, stored};
+ghost use Rattle.service_history.specs.Windows.{begun, total, is_due, is_lock, stored};
 ghost use Rattle.service_history.specs.Inside.{IsNext, IsReady, chosen};
 
 use kr_base::OutOfMemory;
 use kr_outside::Folder;
+use secret_calls::Call;
 use service_machine::{Event, Machine};
 use std::alloc::Global;
 use std::marker::Model;
@@ -32,6 +33,7 @@ pub struct Window<F: Folder> {
     base: Snapshot<Machine<F>>,
     events: Vec<Event>,
     cost: u64,
+    locks: bool,
 }
 
 impl<F: Folder> Model for Window<F> {
@@ -44,7 +46,7 @@ impl<F: Folder> Model for Window<F> {
 
     ghost view = { λ w. held_of w.era (rows_of w.base.value) w.events };
 
-    ghost invariant = { λ w. AreStored w.era w.events.items w.cost };
+    ghost invariant = { λ w. AreStored w.era w.events.items w.cost w.locks };
 }
 
 // What a stored event costs.
@@ -54,6 +56,16 @@ fn cost_of(event: &Event) -> u64
     match event {
         Event::Arrive(arrival) => 64 + arrival.request.length as u64,
         _ => 64,
+    }
+}
+
+// Whether a stored event is a call of Lock.
+fn is_lock(event: &Event) -> bool
+    ensures { result ≡ is_lock event.now }
+{
+    match event {
+        Event::Arrive(arrival) => matches!(&arrival.request.call, Ok(Call::Lock { objects: _ })),
+        _ => false,
     }
 }
 
@@ -68,6 +80,7 @@ impl<F: Folder> Window<F> {
             base: Snapshot::of(machine),
             events: Vec::new(alloc),
             cost: 0,
+            locks: false,
         }
     }
 
@@ -96,7 +109,7 @@ impl<F: Folder> Window<F> {
     fn is_due(&self) -> bool
         ensures { result ≡ is_due self.now.window }
     {
-        self.events.len() >= MOST_EVENTS || self.cost >= MOST_COST
+        self.events.len() >= MOST_EVENTS || self.cost >= MOST_COST || self.locks
     }
 
     // Makes room for an event, and for all that are sure to come after it.
@@ -118,6 +131,7 @@ impl<F: Folder> Window<F> {
             base: Snapshot::of(machine),
             events: Vec::with_capacity(self.alloc, ROOM)?,
             cost: 0,
+            locks: false,
         })
     }
 
@@ -145,6 +159,7 @@ impl<F: Folder> Window<F> {
         ensures spare { self.old.spare ≤ self.new.spare + 1 }
     {
         self.cost = self.cost.saturating_add(cost_of(&event));
+        self.locks = self.locks || is_lock(&event);
         self.events.push(event).unwrap();
     }
 

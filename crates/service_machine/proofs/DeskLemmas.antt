@@ -1,5 +1,5 @@
 -- Entries of a map in order, seen as rows: a look-up, a change of one, one more behind all, one less.
-use Rattle.std.proofs.Common.{◌≡◌, ℕ, ◌+◌, ◌<◌, ◌≤◌, ◌==◌, nat_le, length, Result, Ok, Err, OnOk, Bool, true, false, cond, List, [], ◌∷◌, ◌++◌, map, Option, Some, None, is_some, refl, ap, ◌∙◌, sym, arith, Less, Greater}
+use Rattle.std.proofs.Common.{◌≡◌, ℕ, ◌+◌, ◌<◌, ◌≤◌, ◌==◌, nat_le, length, min, Result, Ok, Err, OnOk, Bool, true, false, cond, List, [], ◌∷◌, ◌++◌, map, Option, Some, None, is_some, refl, ap, ◌∙◌, sym, arith, Less, Greater}
 use Rattle.std.specs.Ordering.{nat_cmp}
 use Rattle.std.specs.Option.{option_map}
 use Rattle.std.specs.List.{AllByRecursion, find}
@@ -227,7 +227,7 @@ OnOk-more (Err e) P Q more p = tt
 
 -- ---- one more output
 
-pub size_of-is : (out : Out) (n : ℕ) → n ≡ length (spelled out 1) → n ≡ size_of out
+pub size_of-is : (out : Out) (n : ℕ) → n ≡ min 18446744073709551615 (length (spelled out 1)) → n ≡ min 18446744073709551615 (size_of out)
 unfolding size_of
 size_of-is out n is = is
 

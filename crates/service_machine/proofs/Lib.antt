@@ -1,5 +1,13 @@
-mod DeskLemmas
+pub mod AliasLemmas
+pub mod CollectionLemmas
+pub mod DeskLemmas
+pub mod EachLemmas
 pub mod FitLemmas
+pub mod LoadedLemmas
+pub mod LockLemmas
+pub mod NotedLemmas
+pub mod ObjectLemmas
 pub mod ReplayLemmas
-pub mod SoundLemmas
 pub mod RunLemmas
+pub mod SmallLemmas
+pub mod SoundLemmas

@@ -1,20 +1,23 @@
 -- The machine as contracts see it, and an event that comes to it.
-use Rattle.std.specs.Prelude.{◌≡◌, false, true, IfSome}
-use Rattle.service_machine.specs.declared.rows.Rows.{Rows}
+use Rattle.std.specs.Prelude.{◌≡◌, ℕ, false, true, List, IfSome}
+use Rattle.collection_table.specs.Rows.{Rows}
 use Rattle.service_machine.specs.declared.event.Incoming.{Incoming}
 use Rattle.service_machine.specs.declared.event.Incoming.TheVariants as incoming
 use Rattle.service_machine.specs.declared.event.Event.{Event}
 use Rattle.service_machine.specs.declared.event.Event.TheVariants as event
 use Rattle.service_machine.specs.Connections.{desk_of}
 use Rattle.service_machine.specs.Desks.{Table}
+use Rattle.service_machine.specs.State.{State}
 use Rattle.service_machine.specs.Step.{IsMissing}
 use Rattle.session_table.specs.declared.row.Sessions.{Sessions}
 
 -- the rows that the tables have
-abbrev pub rows_from : Table → Sessions → Rows
-rows_from connections sessions = record {
+abbrev pub rows_from : Table → Sessions → Rows → List (List ℕ × List ℕ) → State
+rows_from connections sessions collections aliases = record {
   connections = record { rows = connections.rows; next = connections.next };
   sessions = sessions;
+  collections = collections;
+  aliases = aliases;
 }
 
 -- the event is the incoming one; a connection that joins gets a number
@@ -28,13 +31,13 @@ Records _ _ = ⊥
 
 -- A connection that leaves isn't leaving already, and something waits for one that takes; of one that isn't there
 -- nothing is said.
-abbrev pub IsDue : Rows → Incoming → Type 0
+abbrev pub IsDue : State → Incoming → Type 0
 IsDue state (incoming.Leave conn) = IfSome (desk_of conn state.connections.rows) (λ desk. desk.leaving ≡ false)
 IsDue state (incoming.Take conn) = IfSome (desk_of conn state.connections.rows) (λ desk. desk.waits ≡ true)
 IsDue state _ = Unit {0}
 
 -- whose connection isn't there
-abbrev pub IsOfNone : Rows → Incoming → Type 0
+abbrev pub IsOfNone : State → Incoming → Type 0
 IsOfNone state incoming.Connect = ⊥
 IsOfNone state (incoming.Arrive arrival) = IsMissing arrival.conn state
 IsOfNone state (incoming.Leave conn) = IsMissing conn state

@@ -1,8 +1,12 @@
 -- A row of the table of calls is a plan: what it may ask of the state, what it answers, and what it may change. A
 -- row sees nothing but its questions, and changes nothing but by these changes, so what holds of every question and
--- of every kind of change holds of all rows.
-use Rattle.std.specs.Prelude.{ℕ, Bool, List, []}
+-- of every kind of change holds of all rows. No question shows the value of a secret: a plan says whose is given.
+use Rattle.std.specs.Prelude.{ℕ, Bool, List, [], Option}
+use Rattle.kr_base.specs.declared.attributes.AttrValue.{AttrValue}
+use Rattle.kr_base.specs.declared.ids.ItemId.{ItemId}
 use Rattle.kr_base.specs.declared.ids.SessionId.{SessionId}
+use Rattle.kr_names.specs.declared.object_name.ObjectName.{ObjectName}
+use Rattle.collection_table.specs.declared.matches.Matches.{Matches}
 use Rattle.secret_calls.specs.declared.out.Body.{Body}
 use Rattle.secret_calls.specs.declared.out.ErrorName.{ErrorName}
 
@@ -15,9 +19,25 @@ pub record SessionQuestions : Type 0 where
   -- the number that the next session gets
   pub next : ℕ
 
+-- what a row may ask of the collections and of the aliases
+pub record CollectionQuestions : Type 0 where
+  -- the stem that an alias stands for, if there is a collection of that stem
+  pub alias : List ℕ → Option (List ℕ)
+  -- whether there is a collection of the stem
+  pub has : List ℕ → Bool
+  -- whether there is one, and it is unlocked
+  pub is_open : List ℕ → Bool
+  -- whether there is one, and it has the item, locked or not
+  pub has_item : List ℕ → ItemId → Bool
+  -- the items of one collection that match, by rising numbers
+  pub found_in : List ℕ → List (List ℕ × AttrValue) → List ItemId
+  -- the items of each collection that match, in byte order of the collections' stems
+  pub found : List (List ℕ × AttrValue) → List Matches
+
 -- what a row may ask: a record for each table
 pub record Questions : Type 0 where
   pub sessions : SessionQuestions
+  pub collections : CollectionQuestions
 
 -- what a row may change
 pub data Change : Type 0 where
@@ -25,11 +45,22 @@ pub data Change : Type 0 where
   Open_session : Change
   -- the caller's session ends
   Close_session : (session : SessionId) → Change
+  -- the collection of the stem is locked: its key and its items are dropped
+  Lock_collection : (stem : List ℕ) → Change
+
+-- whose secrets are given to a session
+pub data Gift : Type 0 where
+  -- the secret of one item
+  Secret_of : (session : SessionId) → (stem : List ℕ) → (item : ItemId) → Gift
+  -- those of several items, each with the path of its item
+  Secrets_of : (session : SessionId) → (items : List ObjectName) → Gift
 
 -- what a row answers
 pub data Answer : Type 0 where
   -- a return with these values
   Returns : (body : Body) → Answer
+  -- a return with secrets, as they are before the plan's changes
+  Gives : (gift : Gift) → Answer
   -- an error
   Refuses : (name : ErrorName) → Answer
 
@@ -45,3 +76,7 @@ refused name = Ends (Refuses name) []
 -- a return
 abbrev pub answered : Body → List Change → Plan
 answered body changes = Ends (Returns body) changes
+
+-- a return with secrets
+abbrev pub given : Gift → Plan
+given gift = Ends (Gives gift) []

@@ -1,23 +1,23 @@
 -- Lists of events: what they lead to from a state, whether each fits, what each answers, and what they cost.
 use Rattle.std.specs.Prelude.{ℕ, ◌+◌, List, [], ◌∷◌, sum_by}
-use Rattle.service_machine.specs.declared.rows.Rows.{Rows}
+use Rattle.service_machine.specs.State.{State}
 use Rattle.service_machine.specs.declared.event.Event.{Event}
 use Rattle.service_machine.specs.declared.event.Event.TheVariants as event
 use Rattle.service_machine.specs.declared.event.Output.{Output}
 use Rattle.service_machine.specs.Step.{step, output_of, Fits}
 
 -- the state after all the events
-abbrev pub replay : Rows → List Event → Rows
+abbrev pub replay : State → List Event → State
 replay state [] = state
 replay state (event ∷ events) = replay (step state event) events
 
 -- each event fits the state that those before it lead to
-abbrev pub Legal : Rows → List Event → Type 0
+abbrev pub Legal : State → List Event → Type 0
 Legal state [] = Unit {0}
 Legal state (event ∷ events) = Fits state event × Legal (step state event) events
 
 -- what each event answers
-abbrev pub outputs : Rows → List Event → List Output
+abbrev pub outputs : State → List Event → List Output
 outputs state [] = []
 outputs state (event ∷ events) = output_of state event ∷ outputs (step state event) events
 

@@ -1,13 +1,15 @@
--- The rows that a machine has, and its disk.
-use Rattle.service_machine.specs.declared.disk.Disk.{Disk}
+-- The state that a machine is in, and its disk.
+use Rattle.collection_table.specs.Entries.{rows_of as collections_of}
+use Rattle.folder_store.specs.Aliases.{pairs_in}
 use Rattle.service_machine.specs.declared.machine.Machine.{Machine}
-use Rattle.service_machine.specs.declared.rows.Rows.{Rows}
+use Rattle.service_machine.specs.Disk.{DiskState, disk_state}
 use Rattle.service_machine.specs.Machine.{rows_from}
+use Rattle.service_machine.specs.State.{State}
 
--- a machine's rows: those of its tables
-abbrev pub rows_of : {F S : Type 0} → Machine F S → Rows
-rows_of machine = rows_from machine.connections machine.sessions
+-- a machine's state: the rows of its tables
+abbrev pub rows_of : {F S : Type 0} → Machine F S → State
+rows_of machine = rows_from machine.connections machine.sessions (collections_of machine.disk.collections.entries) (pairs_in machine.disk.aliases)
 
--- a machine's folder, and what was loaded from it
-abbrev pub disk_of : {F S : Type 0} → Machine F S → Disk F S
-disk_of machine = machine.disk
+-- a machine's folder, with the slots that were made of it
+abbrev pub disk_of : {F S : Type 0} → Machine F S → DiskState F S
+disk_of machine = disk_state machine.disk

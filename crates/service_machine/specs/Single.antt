@@ -2,7 +2,7 @@
 use Rattle.std.specs.Prelude.{ℕ, Bool, nat_lt, if◌then◌else◌, List, [], ◌∷◌, ◌++◌, length, map}
 use Rattle.kr_base.specs.declared.ids.ConnId.{ConnId}
 use Rattle.secret_calls.specs.declared.call.Request.{Request}
-use Rattle.service_machine.specs.declared.rows.Rows.{Rows}
+use Rattle.service_machine.specs.State.{State}
 use Rattle.service_machine.specs.declared.event.Event.{Event}
 use Rattle.service_machine.specs.declared.event.Event.TheVariants as event
 use Rattle.service_machine.specs.Connections.{waiting_for}
@@ -24,22 +24,22 @@ abbrev pub arrival : ConnId → TimedRequest → Event
 arrival conn asked = event.Arrive (record { conn = conn; request = asked.request; now = asked.now; salt = asked.salt })
 
 -- whether something waits for the connection
-abbrev pub is_owed : ConnId → Rows → Bool
+abbrev pub is_owed : ConnId → State → Bool
 is_owed conn state = nat_lt 0 (length (waiting_for conn state.connections.rows))
 
 -- what waits for the connection is taken, where anything does
-abbrev pub taking : ConnId → Rows → List Event
+abbrev pub taking : ConnId → State → List Event
 taking conn state = if is_owed conn state then event.Take conn ∷ [] else []
 
 -- a request arrives, and then what waits is taken
-abbrev pub turn : ConnId → Rows → TimedRequest → List Event
+abbrev pub turn : ConnId → State → TimedRequest → List Event
 turn conn state asked = arrival conn asked ∷ taking conn (step state (arrival conn asked))
 
 -- requests one after the other
-abbrev pub turns : ConnId → Rows → List TimedRequest → List Event
+abbrev pub turns : ConnId → State → List TimedRequest → List Event
 turns conn state [] = []
 turns conn state (asked ∷ more) = turn conn state asked ++ turns conn (replay state (turn conn state asked)) more
 
 -- all events of the connection behind its Connect: its requests, and at last it is gone
-abbrev pub single : ConnId → Rows → List TimedRequest → List Event
+abbrev pub single : ConnId → State → List TimedRequest → List Event
 single conn state asked = turns conn state asked ++ event.Gone conn ∷ []

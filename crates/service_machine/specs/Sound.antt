@@ -1,15 +1,21 @@
 -- What every state has that a start leads to, and a state has to have from which lists of events may begin: a number
 -- in use was given, and is given to no other; a session's owner is there; the connections, the sessions of each and the bytes
--- that wait are within their limits, and each output that waits has a spelling. Laws over lists from any start take it as
--- their premise.
-use Rattle.std.specs.Prelude.{ℕ, ◌==◌, ◌<◌, ◌≤◌, IsTrue, List, [], ◌∷◌, length, filter}
+-- that wait are within their limits, and each output that waits has a spelling; the collections' stems rise, and what is
+-- known of a collection has its types. Laws over lists from any start take it as their premise.
+use Rattle.std.specs.Prelude.{ℕ, ◌==◌, ◌<◌, ◌≤◌, IsTrue, IfSome, List, [], ◌∷◌, length, filter}
 use Rattle.std.specs.List.{AllByRecursion}
+use Rattle.kr_base.specs.Attributes.{IsInOrder}
+use Rattle.kr_base.specs.Stem.{IsStem}
 use Rattle.kr_base.specs.declared.ids.ConnId.{ConnId}
+use Rattle.keyring_file.specs.Known.{IsKnownClearItem, IsKnownItem}
+use Rattle.keyring_seal.specs.Arranged.{Row}
+use Rattle.collection_store.specs.State.{Held}
+use Rattle.collection_table.specs.Rows as collections
 use Rattle.secret_calls.specs.Outs.{HasSpelling, most_waiting}
 use Rattle.session_table.specs.declared.row.SessionRow.{SessionRow}
 use Rattle.session_table.specs.declared.row.Sessions.{Sessions}
 use Rattle.session_table.specs.Sessions.{rows_of, most_sessions, last_session}
-use Rattle.service_machine.specs.declared.rows.Rows.{Rows}
+use Rattle.service_machine.specs.State.{State}
 use Rattle.service_machine.specs.declared.rows.ConnRow.{ConnRow}
 use Rattle.service_machine.specs.declared.rows.ConnRows.{ConnRows}
 use Rattle.service_machine.specs.Connections.{has, size_of, size_waiting, Sent}
@@ -69,7 +75,28 @@ pub record AreSoundSessions (connections : List ConnRow) (sessions : Sessions) :
   pub owned : AreOwned connections sessions.rows
   pub numbered : sessions.next ≤ last_session
 
+-- what an unlocked collection holds of an item has its types
+pub record IsSoundItem (row : Row) : Type 0 where
+  pub clear : IsKnownClearItem row.0
+  pub full : IsKnownItem row.1
+
+-- the same of all items that it holds
+abbrev pub AreSoundItems : Held → Type 0
+AreSoundItems held = AllByRecursion IsSoundItem held.rows
+
+-- what is known of a collection has its types: its stem is one, and the items are those of a file
+pub record IsSoundCollection (collection : List ℕ × collections.CollectionRow) : Type 0 where
+  pub stem : IsStem collection.0
+  pub shown : AllByRecursion IsKnownClearItem collection.1.clear.items
+  pub held : IfSome collection.1.held AreSoundItems
+
+-- sound collections, whose stems rise
+pub record AreSoundCollections (rows : collections.Rows) : Type 0 where
+  pub ordered : IsInOrder rows
+  pub each : AllByRecursion IsSoundCollection rows
+
 -- a sound state: each table is
-pub record IsSound (state : Rows) : Type 0 where
+pub record IsSound (state : State) : Type 0 where
   pub connections : AreSoundConnections state.connections
   pub sessions : AreSoundSessions state.connections.rows state.sessions
+  pub collections : AreSoundCollections state.collections

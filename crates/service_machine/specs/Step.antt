@@ -12,25 +12,24 @@ use Rattle.secret_calls.specs.declared.out.Out.{Out}
 use Rattle.secret_calls.specs.declared.out.Out.TheVariants as out
 use Rattle.secret_calls.specs.declared.serial.Serial.{Serial}
 use Rattle.secret_calls.specs.Calls.{error_of}
-use Rattle.session_table.specs.Sessions.{no_sessions, abandoned}
+use Rattle.session_table.specs.Sessions.{abandoned}
 use Rattle.service_machine.specs.declared.rows.ConnRow.{ConnRow}
-use Rattle.service_machine.specs.declared.rows.Rows.{Rows}
 use Rattle.service_machine.specs.declared.event.Event.{Event}
 use Rattle.service_machine.specs.declared.event.Event.TheVariants as event
 use Rattle.service_machine.specs.declared.event.Output.{Output}
 use Rattle.service_machine.specs.declared.event.Output.TheVariants as output
+use Rattle.service_machine.specs.CollectionCalls.{search_collection}
 use Rattle.service_machine.specs.Connections.{joined, has, changed, without, left, emptied, waiting_for, desk_of, Sent, delivered}
+use Rattle.service_machine.specs.ItemCalls.{get_secret}
 use Rattle.service_machine.specs.Limits.{most_connections, last_connection}
 use Rattle.service_machine.specs.Plan.{Questions, Plan, refused}
 use Rattle.service_machine.specs.Run.{Ran, ran}
-use Rattle.service_machine.specs.SessionCalls.{ping, open_session, close_session}
-
--- the service as it starts
-abbrev pub opened_rows : Rows
-opened_rows = record { connections = record { rows = []; next = 1 }; sessions = no_sessions }
+use Rattle.service_machine.specs.ServiceCalls.{open_session, search_items, lock, get_secrets}
+use Rattle.service_machine.specs.SessionCalls.{ping, close_session}
+use Rattle.service_machine.specs.State.{State}
 
 -- the state with other rows of connections
-abbrev pub with_rows : List ConnRow → Rows → Rows
+abbrev pub with_rows : List ConnRow → State → State
 with_rows rows state = record state { connections = record state.connections { rows = rows } }
 
 -- the table of calls: one row for each
@@ -38,6 +37,11 @@ abbrev pub row_of : Call → Questions → Plan
 row_of call.Ping asked = ping asked
 row_of (call.OpenSession algorithm) asked = open_session algorithm asked
 row_of (call.CloseSession session) asked = close_session session asked
+row_of (call.SearchItems wanted) asked = search_items wanted asked
+row_of (call.Lock objects) asked = lock objects asked
+row_of (call.GetSecrets items session) asked = get_secrets items session asked
+row_of (call.SearchCollection collection wanted) asked = search_collection collection wanted asked
+row_of (call.GetSecret stem item session) asked = get_secret stem item session asked
 
 -- a call's row; the fault of a message is answered first
 abbrev pub plan_of : Result Call CallFault → Questions → Plan
@@ -57,7 +61,7 @@ replies caller request answer =
     else []
 
 -- what a request leads to, in a state
-abbrev pub served : ConnId → Request → Rows → Ran
+abbrev pub served : ConnId → Request → State → Ran
 served caller request state = ran caller (plan_of request.call) state
 
 -- what a request puts out: its reply, and then what its changes send
@@ -65,7 +69,7 @@ abbrev pub put_out : ConnId → Request → Ran → List Sent
 put_out caller request ran = replies caller request ran.answer ++ ran.sends
 
 -- what an event puts out
-abbrev pub puts_out : Rows → Event → List Sent
+abbrev pub puts_out : State → Event → List Sent
 puts_out state (event.Connect conn) = []
 puts_out state (event.Arrive arrival) = put_out arrival.conn arrival.request (served arrival.conn arrival.request state)
 puts_out state (event.Leave conn) = []
@@ -73,15 +77,15 @@ puts_out state (event.Take conn) = []
 puts_out state (event.Gone conn) = []
 
 -- the state with outputs delivered
-abbrev pub with_delivered : List Sent → Rows → Rows
+abbrev pub with_delivered : List Sent → State → State
 with_delivered sent state = with_rows (delivered sent state.connections.rows) state
 
 -- the state after a request
-abbrev pub arrived : ConnId → Request → Rows → Rows
+abbrev pub arrived : ConnId → Request → State → State
 arrived conn request state = with_delivered (put_out conn request (served conn request state)) (served conn request state).state
 
 -- the state after an event
-abbrev pub step : Rows → Event → Rows
+abbrev pub step : State → Event → State
 step state (event.Connect conn) = record state { connections = joined conn state.connections }
 step state (event.Arrive arrival) = arrived arrival.conn arrival.request state
 step state (event.Leave conn) = with_rows (changed conn left state.connections.rows) state
@@ -89,7 +93,7 @@ step state (event.Take conn) = with_rows (changed conn emptied state.connections
 step state (event.Gone conn) = with_rows (without conn state.connections.rows) (record state { sessions = abandoned conn state.sessions })
 
 -- what an event answers
-abbrev pub output_of : Rows → Event → Output
+abbrev pub output_of : State → Event → Output
 output_of state (event.Connect conn) = output.Joined conn
 output_of state (event.Arrive arrival) = output.Arrived (record {})
 output_of state (event.Leave conn) = output.Left
@@ -97,19 +101,19 @@ output_of state (event.Take conn) = output.Taken (waiting_for conn state.connect
 output_of state (event.Gone conn) = output.Gone
 
 -- the connection isn't there
-abbrev pub IsMissing : ConnId → Rows → Type 0
+abbrev pub IsMissing : ConnId → State → Type 0
 IsMissing conn state = has conn state.connections.rows ≡ false
 
 -- no further connection can join: as many are there as may be, or no number is left
-abbrev pub IsCrowded : Rows → Type 0
+abbrev pub IsCrowded : State → Type 0
 IsCrowded state = (most_connections ≤ length state.connections.rows) ⊎ (last_connection ≤ state.connections.next)
 
 -- a further connection can join
-abbrev pub CanJoin : Rows → Type 0
+abbrev pub CanJoin : State → Type 0
 CanJoin state = (length state.connections.rows < most_connections) × (state.connections.next < last_connection)
 
 -- the event can happen in the state
-abbrev pub Fits : Rows → Event → Type 0
+abbrev pub Fits : State → Event → Type 0
 Fits state (event.Connect conn) = (conn.0 ≡ state.connections.next) × (length state.connections.rows < most_connections) × (state.connections.next < last_connection)
 Fits state (event.Arrive arrival) = IsTrue (has arrival.conn state.connections.rows)
 Fits state (event.Leave conn) = IsSomeAnd (desk_of conn state.connections.rows) (λ desk. desk.leaving ≡ false)

@@ -34,7 +34,7 @@ fn copies(alloc: Global, outs: &[Out]) -> Result<Vec<Out>, OutOfMemory>
 {
     let mut copied = Vec::with_capacity(alloc, outs.len())?;
     for out in outs {
-        copied.push(out.copy()?)?;
+        copied.push(out.copy(alloc)?)?;
     }
     Ok(copied)
 }

@@ -1,10 +1,16 @@
 // The folder of the service, and what was loaded from it.
-ghost use Rattle.std.specs.Prelude.{◌≡◌, [], IsTrue, IfOk, IsErrOf};
+ghost use Rattle.std.specs.Prelude.{◌≡◌, [], IsTrue, IfOk, IsErrOf, OnOk};
 ghost use Rattle.folder_store.specs.Ring.{IsAsFound};
-ghost use Rattle.service_machine.specs.Disk.{IsLoaded, FailedToLoad};
+ghost use Rattle.collection_table.specs.Entries.{rows_of};
+ghost use Rattle.folder_store.specs.Aliases.{pairs_in};
+ghost use Rattle.service_machine.specs.Disk.{IsLoaded, FailedToLoad, disk_state};
+ghost use Rattle.service_machine.specs.Opened.{opened_state};
+ghost use Rattle.service_machine.specs.Sound.{AreSoundCollections};
 
 use crate::OpenRefused;
-use folder_store::{LoadRefused, Loaded, load};
+use collection_table::CollectionTable;
+use folder_store::{FoundAliases, LeftAlone, LoadRefused, load};
+use kr_base::Stem;
 use kr_outside::Folder;
 use std::alloc::Global;
 
@@ -13,21 +19,34 @@ use std::alloc::Global;
 pub struct Disk<F: Folder> {
     /// The folder.
     pub folder: F,
-    /// What was loaded from it.
-    pub loaded: Loaded<F::Cell>,
+    /// The collections, each with the slot of its file.
+    pub collections: CollectionTable<F::Cell>,
+    /// The stems of all keyring files, including those that were left alone.
+    pub used: Vec<Stem>,
+    /// The keyring files that were left alone.
+    pub left_alone: Vec<LeftAlone<F::Cell>>,
+    /// The aliases.
+    pub aliases: FoundAliases<F::Cell>,
 }
 
 impl<F: Folder> Disk<F> {
-    /// Loads a folder of which no slot was made yet (docs/KEYRING_FILES.md, "A folder").
+    /// Loads a folder of which no slot was made yet (docs/KEYRING_FILES.md, "A folder"). All collections are
+    /// locked.
     ///
     /// Refused with `Folder` if the folder or one of its slots failed, and with `OutOfMemory`; the
     /// folder and the slots that were made of it are dropped then.
     pub fn open(alloc: Global, folder: F) -> Result<Disk<F>, OpenRefused>
         requires fresh { F.made folder ≡ [] }
-        ensures loaded { IfOk result (IsLoaded (IsAsFound F.Cell.seen F.Cell.temporary
+        ensures loaded { IfOk result (λ disk. IsLoaded (IsAsFound F.Cell.seen F.Cell.temporary
             F.Cell.may_leave F.Cell.left_since F.Cell.is_honest F.Cell.is_steady
             (F.is_honest folder) (F.is_steady folder))
-            F.is_honest F.is_steady F.faults F.images F.may_leave F.made folder) }
+            F.is_honest F.is_steady F.faults F.images F.may_leave F.made folder (disk_state disk)
+            (opened_state (record {
+              collections = rows_of disk.collections.entries;
+              aliases = pairs_in disk.aliases;
+            }))) }
+        ensures sound { IfOk result (λ disk.
+            AreSoundCollections (rows_of disk.collections.entries)) }
 
         // The folder is at fault only if it failed, and never if it is steady.
         ensures cause { IsErrOf result OpenRefused.Folder → FailedToLoad (IsAsFound F.Cell.seen
@@ -38,7 +57,16 @@ impl<F: Folder> Disk<F> {
     {
         let mut folder = folder;
         match load(alloc, &mut folder) {
-            Ok(loaded) => Ok(Disk { folder, loaded }),
+            Ok(loaded) => {
+                let collections = CollectionTable::loaded(alloc, loaded.rings)?;
+                Ok(Disk {
+                    folder,
+                    collections,
+                    used: loaded.used,
+                    left_alone: loaded.left_alone,
+                    aliases: loaded.aliases,
+                })
+            }
             Err(not_loaded) => match not_loaded.refused {
                 LoadRefused::Folder => Err(OpenRefused::Folder),
                 LoadRefused::OutOfMemory => Err(OpenRefused::OutOfMemory),

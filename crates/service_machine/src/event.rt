@@ -1,6 +1,7 @@
 ghost use Rattle.std.specs.Prelude.{◌≡◌};
 ghost use Rattle.service_machine.specs.declared.event.ApplyRefused.TheVariants as ApplyRefused;
 ghost use Rattle.service_machine.specs.declared.event.JoinRefused.TheVariants as JoinRefused;
+ghost use Rattle.service_machine.specs.declared.event.OpenRefused.TheVariants as OpenRefused;
 
 use kr_base::ConnId;
 use kr_items::Items;
@@ -107,6 +108,14 @@ pub enum JoinRefused {
     /// No memory was left.
     #[error("out of memory")]
     OutOfMemory,
+}
+
+impl From<AllocError> for OpenRefused {
+    ghost from_gives = { λ _ e. e ≡ OpenRefused.OutOfMemory };
+
+    fn from(_error: AllocError) -> Self {
+        OpenRefused::OutOfMemory
+    }
 }
 
 impl From<AllocError> for ApplyRefused {

@@ -2,19 +2,21 @@
 // function that does nothing.
 ghost use Rattle.std.specs.Prelude.{◌≡◌, ◌++◌, ◌∷◌, [], List};
 ghost use Rattle.std.specs.List.{AllByRecursion};
-ghost use Rattle.service_machine.specs.declared.rows.Rows.{Rows};
 ghost use Rattle.service_machine.specs.declared.event.Event.{Event};
-ghost use Rattle.service_machine.specs.Step.{opened_rows, step, puts_out, output_of, Fits};
+ghost use Rattle.service_machine.specs.Step.{step, puts_out, output_of, Fits};
 ghost use Rattle.service_machine.specs.Replay.{replay, Legal, outputs};
-ghost use Rattle.service_machine.specs.Sound.{CanWait, IsSound};
+ghost use Rattle.service_machine.specs.Sound.{AreSoundCollections, CanWait, IsSound};
+ghost use Rattle.service_machine.specs.Opened.{Contents, opened_state};
+ghost use Rattle.service_machine.specs.State.{State};
 
-/// The start is sound, and each event that fits keeps a sound state sound.
+/// A start with sound collections is sound, and each event that fits keeps a sound state sound.
 #[tactic(auto, using(crate::proofs::SoundLemmas::sound_start, crate::proofs::SoundLemmas::sound_step, crate::proofs::SoundLemmas::sound_replay))]
 pub fn steps_keep_the_rows_sound()
-    ensures start { IsSound opened_rows }
-    ensures step { (state : Rows) (event : Event) → IsSound state → Fits state event
+    ensures start { (contents : Contents) → AreSoundCollections contents.collections
+        → IsSound (opened_state contents) }
+    ensures step { (state : State) (event : Event) → IsSound state → Fits state event
         → IsSound (step state event) }
-    ensures replay { (state : Rows) (events : List Event) → IsSound state → Legal state events
+    ensures replay { (state : State) (events : List Event) → IsSound state → Legal state events
         → IsSound (replay state events) }
 {}
 
@@ -22,18 +24,18 @@ pub fn steps_keep_the_rows_sound()
 /// waits: so a reply is lost only where others wait before it.
 #[tactic(auto, using(crate::proofs::SoundLemmas::waits_step))]
 pub fn outputs_can_wait()
-    ensures { (state : Rows) (event : Event) → IsSound state → Fits state event
+    ensures { (state : State) (event : Event) → IsSound state → Fits state event
         → AllByRecursion CanWait (puts_out state event) }
 {}
 
 /// One list behind another leads on from where the first one led, is legal where both are, and answers
 /// what both answer.
 pub fn lists_of_events_go_on()
-    ensures replay { (state : Rows) (events more : List Event)
+    ensures replay { (state : State) (events more : List Event)
         → replay state (events ++ more) ≡ replay (replay state events) more }
-    ensures legal { (state : Rows) (events more : List Event) → Legal state events
+    ensures legal { (state : State) (events more : List Event) → Legal state events
         → Legal (replay state events) more → Legal state (events ++ more) }
-    ensures outputs { (state : Rows) (events more : List Event)
+    ensures outputs { (state : State) (events more : List Event)
         → outputs state (events ++ more) ≡ outputs state events
         ++ outputs (replay state events) more }
 {}

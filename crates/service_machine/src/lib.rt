@@ -8,14 +8,21 @@
 //! of connections and sessions.
 #![tactic(auto)]
 
+mod answer;
+mod collection;
 mod connections;
 mod desk;
 mod desks;
 mod disk;
 mod event;
+mod item;
 mod laws;
 mod machine;
+mod objects;
+mod paths;
 mod rows;
+mod service;
+mod session;
 
 pub use disk::Disk;
 pub use event::{

@@ -1,51 +1,50 @@
 ghost use Rattle.std.specs.Prelude.{◌≡◌, [], true, false, IsTrue, IfOk, OnOk, OnErr, IsErrOf};
+ghost use Rattle.collection_table.specs.Entries.{rows_of as collections_of};
 ghost use Rattle.folder_store.specs.Ring.{IsAsFound};
 ghost use Rattle.service_machine.specs.Connections.{has, waiting_for, desk_of};
-ghost use Rattle.service_machine.specs.Disk.{IsLoaded, FailedToLoad};
+ghost use Rattle.service_machine.specs.Disk.{IsLoaded, FailedToLoad, disk_state};
 ghost use Rattle.service_machine.specs.Machine.{Records, IsDue, IsOfNone, IsConnect, TakesMemory};
-ghost use Rattle.service_machine.specs.SessionCalls.{is_plain, open_session, close_session};
-ghost use Rattle.service_machine.specs.Run.{bounded, ran};
-ghost use Rattle.service_machine.specs.Step.{opened_rows, step, output_of, arrived, plan_of, message_of, IsMissing, IsCrowded, CanJoin, Fits};
+ghost use Rattle.service_machine.specs.Opened.{IsOpened};
+ghost use Rattle.service_machine.specs.Run.{ran};
+ghost use Rattle.service_machine.specs.Sound.{AreSoundCollections};
+ghost use Rattle.service_machine.specs.Step.{step, output_of, arrived, plan_of, message_of, IsMissing, IsCrowded, CanJoin, Fits};
 
+use crate::answer::{Answer, bounded};
 use crate::connections::Connections;
 use crate::{ApplyRefused, Arrived, DeskRow, Disk, Event, Incoming, OpenRefused, Output, Rows};
-use kr_base::{ConnId, OutOfMemory, SessionId, Text};
+use kr_base::{ConnId, OutOfMemory};
 use kr_items::Items;
 use kr_outside::Folder;
-use secret_calls::{Body, Call, CallFault, ErrorName, Out, Request, Serial, body_size};
-use session_table::{SessionRefused, SessionTable};
-use std::alloc::{AllocError, Global};
+use secret_calls::{Body, Call, CallFault, Out, Request, Serial};
+use session_table::SessionTable;
+use std::alloc::Global;
 
-/// The most bytes that the body of a return may have on a call that changes nothing.
-const MOST_BODY: u64 = 8_388_608;
-
-/// The service: its connections and sessions, what waits, and its folder with what was loaded from it.
+/// The service: its connections and sessions, what waits, and its folder with its collections and aliases.
 #[derive(Drop)]
 pub struct Machine<F: Folder> {
-    connections: Connections,
-    sessions: SessionTable,
-    disk: Disk<F>,
+    pub(crate) alloc: Global,
+    pub(crate) connections: Connections,
+    pub(crate) sessions: SessionTable,
+    pub(crate) disk: Disk<F>,
 }
-
-// The answer to a call: the values of a return, or the name of an error.
-type Answer = Result<Body, ErrorName>;
 
 impl<F: Folder> Machine<F> {
     ghost use Rattle.service_machine.specs.Rows.{rows_of, disk_of};
 
-    /// The service as it starts, over a folder of which no slot was made yet: the folder is loaded, and
-    /// nothing else is there.
+    /// The service as it starts, over a folder of which no slot was made yet: the folder is loaded, all of
+    /// its collections are locked, and nothing else is there.
     ///
     /// Refused with `Folder` if the folder or one of its slots failed, and with `OutOfMemory`; the
     /// folder is dropped then.
     pub fn open(alloc: Global, folder: F) -> Result<Machine<F>, OpenRefused>
         requires fresh { F.made folder ≡ [] }
-        ensures rows { IfOk result (λ machine. rows_of machine ≡ opened_rows) }
+        ensures opened { IfOk result (λ machine. IsOpened (rows_of machine)) }
+        ensures sound { IfOk result (λ machine. AreSoundCollections (rows_of machine).collections) }
         ensures loaded { IfOk result (λ machine. IsLoaded (IsAsFound F.Cell.seen F.Cell.temporary
             F.Cell.may_leave F.Cell.left_since F.Cell.is_honest F.Cell.is_steady
             (F.is_honest folder) (F.is_steady folder))
             F.is_honest F.is_steady F.faults F.images F.may_leave F.made
-            folder (disk_of machine)) }
+            folder (disk_of machine) (rows_of machine)) }
 
         // The folder is at fault only if it failed, and never if it is steady.
         ensures cause { IsErrOf result OpenRefused.Folder → FailedToLoad (IsAsFound F.Cell.seen
@@ -56,15 +55,18 @@ impl<F: Folder> Machine<F> {
     {
         let disk = Disk::open(alloc, folder)?;
         Ok(Machine {
+            alloc,
             connections: Connections::new(alloc),
             sessions: SessionTable::new(alloc),
             disk,
         })
     }
 
-    /// The folder, and what was loaded from it. It takes no memory.
+    /// The folder, with its collections and aliases. It takes no memory.
     pub fn into_disk(self) -> Disk<F>
-        ensures { result ≡ disk_of self }
+        ensures disk { disk_state result ≡ disk_of self }
+        ensures collections { collections_of result.collections.entries
+            ≡ (rows_of self).collections }
     {
         self.disk
     }
@@ -195,40 +197,21 @@ impl<F: Folder> Machine<F> {
             Ok(Call::Ping) => Ok(bounded(Ok(Body::Empty))),
             Ok(Call::OpenSession { algorithm }) => self.open_session(conn, algorithm),
             Ok(Call::CloseSession { session }) => Ok(self.close_session(conn, *session)),
-        }
-    }
-
-    // Performs the row of OpenSession.
-    fn open_session(&mut self, conn: ConnId, algorithm: &Text) -> Result<Answer, OutOfMemory>
-        ensures answer { IfOk result (λ answer.
-            answer ≡ (ran conn (open_session algorithm.now) (rows_of self.old)).answer) }
-        ensures state { OnOk result (rows_of self.new
-            ≡ (ran conn (open_session algorithm.now) (rows_of self.old)).state) }
-        ensures room { self.new.connections ≡ self.old.connections }
-        ensures disk { disk_of self.new ≡ disk_of self.old }
-        ensures unchanged { OnErr result (rows_of self.new ≡ rows_of self.old) }
-    {
-        if !is_plain(algorithm) {
-            return Ok(Err(ErrorName::NotSupported));
-        }
-        match self.sessions.open(conn) {
-            Ok(session) => Ok(Ok(Body::Session(session))),
-            Err(SessionRefused::OutOfMemory) => Err(AllocError),
-            Err(_) => Ok(Err(ErrorName::LimitsExceeded)),
-        }
-    }
-
-    // Performs the row of Close.
-    fn close_session(&mut self, conn: ConnId, session: SessionId) -> Answer
-        ensures answer { result ≡ (ran conn (close_session session) (rows_of self.old)).answer }
-        ensures state { rows_of self.new
-            ≡ (ran conn (close_session session) (rows_of self.old)).state }
-        ensures room { self.new.connections ≡ self.old.connections }
-        ensures disk { disk_of self.new ≡ disk_of self.old }
-    {
-        match self.sessions.close(session, conn) {
-            Ok(()) => Ok(Body::Empty),
-            Err(_) => Err(ErrorName::NoSession),
+            Ok(Call::SearchItems { wanted }) => self.search_items(conn, wanted),
+            Ok(Call::Lock { objects }) => self.lock(conn, objects.as_slice()),
+            Ok(Call::GetSecrets { items, session }) => {
+                self.get_secrets(conn, items.as_slice(), *session)
+            }
+            Ok(Call::SearchCollection { collection, wanted }) => {
+                self.search_collection(conn, collection, wanted)
+            }
+            Ok(
+                Call::GetSecret {
+                    stem,
+                    item,
+                    session,
+                },
+            ) => self.get_secret(conn, stem, *item, *session),
         }
     }
 
@@ -268,36 +251,16 @@ impl<F: Folder> Machine<F> {
         self.connections.desk(conn)
     }
 
-    /// A copy of the rows, as plain data, made in one pass over them.
+    /// A copy of the connections and the sessions, as plain data, made in one pass over them.
     pub fn rows(&self) -> Result<Rows, OutOfMemory>
-        ensures { IfOk result (λ rows. rows ≡ rows_of self.now) }
+        ensures connections { IfOk result (λ rows.
+            rows.connections ≡ (rows_of self.now).connections) }
+        ensures sessions { IfOk result (λ rows. rows.sessions ≡ (rows_of self.now).sessions) }
     {
         Ok(Rows {
             connections: self.connections.rows()?,
             sessions: self.sessions.rows()?,
         })
-    }
-}
-
-// Whether the algorithm needs no encryption.
-fn is_plain(algorithm: &Text) -> bool
-    ensures { result ≡ is_plain algorithm.now }
-{
-    algorithm.as_bytes() == b"plain".as_slice()
-}
-
-// The answer of a call that changes nothing, or LimitsExceeded if the return is too large.
-fn bounded(answer: Answer) -> Answer
-    ensures { result ≡ bounded answer }
-{
-    match answer {
-        Ok(body) => {
-            if body_size(&body) > MOST_BODY {
-                return Err(ErrorName::LimitsExceeded);
-            }
-            Ok(body)
-        }
-        Err(name) => Err(name),
     }
 }
 

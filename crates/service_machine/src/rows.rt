@@ -38,7 +38,7 @@ pub struct DeskRow {
     pub leaving: bool,
 }
 
-/// What the service is at a moment: the rows of each table, with no trace of how they are kept.
+/// The connections and the sessions of the service at a moment, with no trace of how they are kept.
 #[derive(Drop)]
 pub struct Rows {
     /// The connections.

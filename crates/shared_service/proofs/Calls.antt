@@ -3,7 +3,7 @@ use Rattle.std.proofs.Common.{◌≡◌, ℕ, ◌<◌, Bool, true, false, List, 
 use Rattle.std.proofs.lemmas.List.{length_push, append_assoc}
 use Rattle.kr_base.specs.declared.ids.ConnId.{ConnId}
 use Rattle.secret_calls.specs.declared.taken.Taken.{Taken}
-use Rattle.service_machine.specs.declared.rows.Rows.{Rows}
+use Rattle.service_machine.specs.State.{State}
 use Rattle.service_machine.specs.declared.rows.DeskRow.{DeskRow}
 use Rattle.service_machine.specs.declared.event.Event.{Event}
 use Rattle.service_machine.specs.declared.event.Event.TheVariants as event
@@ -77,14 +77,14 @@ module _ (conn : ConnId) (view : View) (between : List Event) (service : History
     reached = state-met;
     fits = fits;
     answers = refl;
-    state = replay-append view.start (view.seen ++ between) (event ∷ []) ∙ ap (λ (s : Rows). step s event) (replay-append view.start view.seen between ∙ sym state-met);
+    state = replay-append view.start (view.seen ++ between) (event ∷ []) ∙ ap (λ (s : State). step s event) (replay-append view.start view.seen between ∙ sym state-met);
     count = let long = length-append view.seen between in let push = length_push (view.seen ++ between) event in omega (arith, long, push);
     same = record { conn = refl; alone = refl; steady = refl; waiting = refl };
     views = λ other is. ap (λ (v : View). with_own event (with_others between v)) is;
   }
 
   -- what the view shows of the state if nothing was recorded
-  pub told-met : (P : Rows → Type 0) → P service.state → P (state_of met)
+  pub told-met : (P : State → Type 0) → P service.state → P (state_of met)
   told-met P is = subst P (state-stands view.start view.before (view.seen ++ between) service stands) is
 
   pub count-met : total service.window ≡ count_of met

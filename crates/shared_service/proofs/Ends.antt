@@ -2,7 +2,7 @@
 use Rattle.std.proofs.Common.{◌≡◌, ℕ, ◌+◌, ◌<◌, Bool, true, false, List, [], ◌∷◌, ◌++◌, length, Option, Some, None, Result, Ok, Err, IfOk, OnErr, refl, sym, ap, ◌∙◌, subst, arith, length-append}
 use Rattle.std.proofs.lemmas.List.{length_push}
 use Rattle.kr_base.specs.declared.ids.ConnId.{ConnId}
-use Rattle.service_machine.specs.declared.rows.Rows.{Rows}
+use Rattle.service_machine.specs.State.{State}
 use Rattle.service_machine.specs.declared.rows.DeskRow.{DeskRow}
 use Rattle.service_machine.specs.declared.event.Event.{Event}
 use Rattle.service_machine.specs.declared.event.Event.TheVariants as event
@@ -39,10 +39,10 @@ Went service None new = new ≡ service
 Went service (Some event) new =
     (total new.window ≡ total service.window + 1)
     × (newest new.window.events ≡ event ∷ [])
-    × ((start : Rows) (before : ℕ) (log : List Event) → Stands service start before log → Stands new start before (log ++ event ∷ []))
+    × ((start : State) (before : ℕ) (log : List Event) → Stands service start before log → Stands new start before (log ++ event ∷ []))
 
 -- the pass after it recorded the event, if any, and passed the turn on
-abbrev pub ended : Option Event → turn.View Rows Event → turn.View Rows Event
+abbrev pub ended : Option Event → turn.View State Event → turn.View State Event
 ended None pass = turn.outside pass
 ended (Some event) pass = turn.recorded event pass
 
@@ -67,35 +67,35 @@ gone_event conn (Some desk) = Some (event.Gone conn)
 total-with : (event : Event) (service : History) → total (with_event event service).window ≡ total service.window + 1
 total-with event service = rw (length_push service.window.events event) (omega arith)
 
-module _ (old pass : turn.View Rows Event) (between : List Event) (is : pass ≡ turn.inside between old) (idle : IsIdle old) (service : History)
-    (found : (start : Rows) → old.start ≡ Some start → Stands service start old.before pass.seen) where
-  abbrev begun : Rows
+module _ (old pass : turn.View State Event) (between : List Event) (is : pass ≡ turn.inside between old) (idle : IsIdle old) (service : History)
+    (found : (start : State) → old.start ≡ Some start → Stands service start old.before pass.seen) where
+  abbrev begun : State
   begun = idle.start.0
 
   -- the service as it was found
   pub found-is : Stands service begun old.before (old.seen ++ between)
-  found-is = subst (λ (p : turn.View Rows Event). Stands service begun old.before p.seen) is (found begun idle.start.1)
+  found-is = subst (λ (p : turn.View State Event). Stands service begun old.before p.seen) is (found begun idle.start.1)
 
   start-is : start_or old.start ≡ begun
   start-is = ap start_or idle.start.1
 
   -- the same in the view of the pass
   pub stands-view : Stands service (view_of old).start (view_of old).before ((view_of old).seen ++ between)
-  stands-view = subst (λ (s : Rows). Stands service s old.before (old.seen ++ between)) (sym start-is) found-is
+  stands-view = subst (λ (s : State). Stands service s old.before (old.seen ++ between)) (sym start-is) found-is
 
   few : pass.before + length pass.seen < 18446744073709551615
-  few = subst (λ (p : turn.View Rows Event). p.before + length p.seen < 18446744073709551615) (sym is)
+  few = subst (λ (p : turn.View State Event). p.before + length p.seen < 18446744073709551615) (sym is)
       (let all = total-stands begun old.before (old.seen ++ between) service found-is in let counted = found-is.kept.counted in omega (arith, all, counted))
 
   stands-for : (new : History) (more : List Event) → Stands new begun old.before ((old.seen ++ between) ++ more) → StandsFor new pass more
-  stands-for new more stands = subst (λ (p : turn.View Rows Event). StandsFor new p more) (sym is)
-      (λ start at. subst (λ (s : Rows). Stands new s old.before ((old.seen ++ between) ++ more)) (some-is begun start (sym idle.start.1 ∙ at)) stands)
+  stands-for new more stands = subst (λ (p : turn.View State Event). StandsFor new p more) (sym is)
+      (λ start at. subst (λ (s : State). Stands new s old.before ((old.seen ++ between) ++ more)) (some-is begun start (sym idle.start.1 ∙ at)) stands)
 
   pub end-some : (event : Option Event) (new : History) (count : ℕ) → Went service event new → count ≡ total service.window → IsEnd new count pass
   end-some None new count same counted = record {
     few = few;
-    none = λ _. subst (λ (p : turn.View Rows Event). (start : Rows) → p.start ≡ Some start → Stands new start p.before p.seen) (sym is)
-        (λ start at. subst (λ (z : History × Rows). Stands z.0 z.1 old.before (old.seen ++ between)) (λ i. (sym same i, some-is begun start (sym idle.start.1 ∙ at) i)) found-is);
+    none = λ _. subst (λ (p : turn.View State Event). (start : State) → p.start ≡ Some start → Stands new start p.before p.seen) (sym is)
+        (λ start at. subst (λ (z : History × State). Stands z.0 z.1 old.before (old.seen ++ between)) (λ i. (sym same i, some-is begun start (sym idle.start.1 ∙ at) i)) found-is);
     one = λ not. absurd (not (ap (λ (h : History). total h.window) same ∙ sym counted));
   }
   end-some (Some event) new count went counted = record {
@@ -105,7 +105,7 @@ module _ (old pass : turn.View Rows Event) (between : List Event) (is : pass ≡
   }
 
   -- the pass as it is then
-  pub ended-some : (event : Option Event) (new : History) (count : ℕ) (last : turn.View Rows Event) → Went service event new → count ≡ total service.window
+  pub ended-some : (event : Option Event) (new : History) (count : ℕ) (last : turn.View State Event) → Went service event new → count ≡ total service.window
       → (total new.window ≡ count → last ≡ turn.outside pass) → ((one : Event) → (total new.window ≡ count → ⊥) → newest new.window.events ≡ one ∷ [] → last ≡ turn.recorded one pass)
       → last ≡ ended event (turn.inside between old)
   ended-some None new count last same counted none one = none (ap (λ (h : History). total h.window) same ∙ sym counted) ∙ ap turn.outside is
@@ -125,7 +125,7 @@ module _ (old pass : turn.View Rows Event) (between : List Event) (is : pass ≡
     start = idle.start;
     outside = refl;
     legal = Rattle.service_machine.proofs.ReplayLemmas.Legal-append (start_or old.start) (old.seen ++ between) (event ∷ []) legal-found
-        (subst (λ (s : Rows). Fits s event) (state-stands (start_or old.start) old.before (old.seen ++ between) service stands-view) fits, tt);
+        (subst (λ (s : State). Fits s event) (state-stands (start_or old.start) old.before (old.seen ++ between) service stands-view) fits, tt);
     places = subst (λ (k : ℕ). ArePlaces 0 k (old.own ++ length (old.seen ++ between) ∷ [])) (sym (length_push (old.seen ++ between) event)) (places-push 0 (length (old.seen ++ between)) old.own places-found);
   }
 
@@ -138,13 +138,13 @@ module _ (old pass : turn.View Rows Event) (between : List Event) (is : pass ≡
   table-some (Some event) = refl
 
   -- the pass after the call: it is idle, of the same service, and its view has the event
-  pub done : (event : Option Event) (new : History) (count : ℕ) (last : turn.View Rows Event) → FitsSome service event → Went service event new → count ≡ total service.window
+  pub done : (event : Option Event) (new : History) (count : ℕ) (last : turn.View State Event) → FitsSome service event → Went service event new → count ≡ total service.window
       → (total new.window ≡ count → last ≡ turn.outside pass) → ((one : Event) → (total new.window ≡ count → ⊥) → newest new.window.events ≡ one ∷ [] → last ≡ turn.recorded one pass)
       → IsIdle last × (last.table ≡ old.table) × (view_of last ≡ viewed event (with_others between (view_of old)))
   done event new count last fits same counted none one =
       let is-last = ended-some event new count last same counted none one in (
         subst IsIdle (sym is-last) (idle-some event fits),
-        ap (λ (p : turn.View Rows Event). p.table) is-last ∙ table-some event,
+        ap (λ (p : turn.View State Event). p.table) is-last ∙ table-some event,
         ap view_of is-last ∙ view-some event,
       )
 
@@ -235,7 +235,7 @@ pub taken-fits : (conn : ConnId) (service : History) (desk : Option DeskRow) →
 taken-fits conn service None told = tt
 taken-fits conn service (Some desk) told = taken-fits-bool conn service desk.waits desk.overrun desk.leaving told
 
-after-bool : (conn : ConnId) (state : Rows) (view : View) (waits overrun leaving : Bool)
+after-bool : (conn : ConnId) (state : State) (view : View) (waits overrun leaving : Bool)
     → viewed (taken_event conn (Some (record { waits = waits; overrun = overrun; leaving = leaving }))) view
     ≡ after_take conn (given_for conn state (Some (record { waits = waits; overrun = overrun; leaving = leaving }))) view
 after-bool conn state view true overrun leaving = refl
@@ -245,19 +245,19 @@ after-bool conn state view false false true = refl
 after-bool conn state view false false false = refl
 
 -- the view has what the call recorded, given what it returned
-pub after-taken : (conn : ConnId) (state : Rows) (view : View) (desk : Option DeskRow) → viewed (taken_event conn desk) view ≡ after_take conn (given_for conn state desk) view
+pub after-taken : (conn : ConnId) (state : State) (view : View) (desk : Option DeskRow) → viewed (taken_event conn desk) view ≡ after_take conn (given_for conn state desk) view
 after-taken conn state view None = refl
 after-taken conn state view (Some desk) = after-bool conn state view desk.waits desk.overrun desk.leaving
 
 -- a pass that took over what another one knows is idle if both were
-pub met-idle : (old other met : turn.View Rows Event) → IsIdle old → IsIdle other → turn.IsMet old other met → IsIdle met
+pub met-idle : (old other met : turn.View State Event) → IsIdle old → IsIdle other → turn.IsMet old other met → IsIdle met
 met-idle old other met idle idle-other gathered =
     let same : start_or other.start ≡ start_or old.start = ap start_or (sym gathered.start) in
-    let seen : met.seen ≡ longer old.seen other.seen = ap (λ (p : turn.View Rows Event). p.seen) gathered.is in record {
-      start = (idle.start.0, ap (λ (p : turn.View Rows Event). p.start) gathered.is ∙ idle.start.1);
-      outside = ap (λ (p : turn.View Rows Event). p.has_turn) gathered.is ∙ idle.outside;
-      legal = subst (λ (p : turn.View Rows Event). Legal (start_or p.start) p.seen) (sym gathered.is)
-          (longer-is (Legal (start_or old.start)) old.seen other.seen idle.legal (subst (λ (s : Rows). Legal s other.seen) same idle-other.legal));
+    let seen : met.seen ≡ longer old.seen other.seen = ap (λ (p : turn.View State Event). p.seen) gathered.is in record {
+      start = (idle.start.0, ap (λ (p : turn.View State Event). p.start) gathered.is ∙ idle.start.1);
+      outside = ap (λ (p : turn.View State Event). p.has_turn) gathered.is ∙ idle.outside;
+      legal = subst (λ (p : turn.View State Event). Legal (start_or p.start) p.seen) (sym gathered.is)
+          (longer-is (Legal (start_or old.start)) old.seen other.seen idle.legal (subst (λ (s : State). Legal s other.seen) same idle-other.legal));
       places = same-places 0 (length met.seen) met.own gathered.places;
     }
   where

@@ -1,7 +1,7 @@
 -- The service is what the run's history leads to, and still is after one more event.
 use Rattle.std.proofs.Common.{◌≡◌, ℕ, zero, suc, ◌+◌, ◌-◌, ◌≤◌, Bool, true, false, List, [], ◌∷◌, ◌++◌, length, take, drop, refl, sym, ap, ◌∙◌, subst, arith, length-drop, take-append-drop}
 use Rattle.std.proofs.lemmas.List.{length_push}
-use Rattle.service_machine.specs.declared.rows.Rows.{Rows}
+use Rattle.service_machine.specs.State.{State}
 use Rattle.service_machine.specs.declared.event.Event.{Event}
 use Rattle.service_machine.specs.Step.{step, Fits}
 use Rattle.service_machine.specs.Replay.{replay, Legal}
@@ -45,11 +45,11 @@ newest-push (first ∷ []) event = refl
 newest-push (first ∷ next ∷ events) event = newest-push (next ∷ events) event
 
 -- the rest of a legal list is legal from the state that the beginning leads to
-pub Legal-behind : (state : Rows) (events more : List Event) → Legal state (events ++ more) → Legal (replay state events) more
+pub Legal-behind : (state : State) (events more : List Event) → Legal state (events ++ more) → Legal (replay state events) more
 Legal-behind state [] more legal = legal
 Legal-behind state (event ∷ events) more legal = Legal-behind (step state event) events more legal.1
 
-module _ (start : Rows) (before : ℕ) (log : List Event) where
+module _ (start : State) (before : ℕ) (log : List Event) where
   -- the service's state is what the whole history leads to
   pub state-stands : (service : History) → Stands service start before log → service.state ≡ replay start log
   state-stands service stands =
@@ -80,7 +80,7 @@ module _ (start : Rows) (before : ℕ) (log : List Event) where
   pub stands-with : (service : History) (event : Event) → Stands service start before log → Fits service.state event → IsHistory (with_event event service) → Stands (with_event event service) start before (log ++ event ∷ [])
   stands-with service event stands fits kept = record {
     kept = kept;
-    legal = Legal-append start log (event ∷ []) stands.legal (subst (λ (s : Rows). Fits s event) (state-stands service stands) fits, tt);
+    legal = Legal-append start log (event ∷ []) stands.legal (subst (λ (s : State). Fits s event) (state-stands service stands) fits, tt);
     cut = stands.cut;
     few = let long = length_push log event in omega (arith, long, stands.few);
     era = stands.era;

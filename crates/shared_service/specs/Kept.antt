@@ -3,7 +3,7 @@ use Rattle.std.specs.Prelude.{◌≡◌, ℕ, ◌+◌, List, [], ◌∷◌, leng
 use mathlib.Core.Path.{sym, subst}
 use mathlib.Core.HLevel.{×_prop, Unit-prop}
 use Rattle.std.proofs.Props.{props}
-use Rattle.service_machine.specs.declared.rows.Rows.{Rows}
+use Rattle.service_machine.specs.State.{State}
 use Rattle.service_machine.specs.declared.event.Event.{Event}
 use Rattle.service_machine.specs.declared.event.Event.TheVariants as event
 use Rattle.service_machine.specs.Step.{step, Fits}
@@ -11,14 +11,14 @@ use Rattle.service_machine.specs.Replay.{Legal}
 use Rattle.service_desk.specs.Views.{View, ArePlaces, IsView}
 use Rattle.shared_service.specs.Passes.{state_of, count_of}
 
-fits-prop : (state : Rows) (event : Event) → IsProp (Fits state event)
+fits-prop : (state : State) (event : Event) → IsProp (Fits state event)
 fits-prop state (event.Connect conn) = Prim.hlevel props
 fits-prop state (event.Arrive arrival) = Prim.hlevel props
 fits-prop state (event.Leave conn) = Prim.hlevel props
 fits-prop state (event.Take conn) = Prim.hlevel props
 fits-prop state (event.Gone conn) = Prim.hlevel props
 
-events-prop : (state : Rows) (events : List Event) → IsProp (Legal state events)
+events-prop : (state : State) (events : List Event) → IsProp (Legal state events)
 events-prop state [] = Unit-prop
 events-prop state (event ∷ events) = ×_prop (fits-prop state event) (events-prop (step state event) events)
 

@@ -2,9 +2,10 @@
 use Rattle.std.specs.Prelude.{◌≡◌, ℕ, ◌+◌, true, false, [], length, Option, Some, None}
 use Rattle.atomic_table.specs.Seated.{TableId}
 use Rattle.kr_base.specs.declared.ids.ConnId.{ConnId}
-use Rattle.service_machine.specs.declared.rows.Rows.{Rows}
+use Rattle.service_machine.specs.State.{State}
 use Rattle.service_machine.specs.declared.event.Event.{Event}
-use Rattle.service_machine.specs.Step.{opened_rows, IsCrowded}
+use Rattle.service_machine.specs.Step.{IsCrowded}
+use Rattle.service_machine.specs.Opened.{opened_state}
 use Rattle.service_machine.specs.Replay.{replay, Legal}
 use Rattle.service_history.specs.Windows.{Window}
 use Rattle.service_desk.specs.Views.{View, ArePlaces}
@@ -20,23 +21,23 @@ pub record Seen : Type 0 where
   pub table : TableId
   pub view : View
 
--- the start, if there is one
-abbrev pub start_or : Option Rows → Rows
-start_or None = opened_rows
+-- the start, if there is one; a service without anything stands for none
+abbrev pub start_or : Option State → State
+start_or None = opened_state (record { collections = []; aliases = [] })
 start_or (Some start) = start
 
 -- the view of a turn's pass
-abbrev pub view_of : turn.View Rows Event → View
+abbrev pub view_of : turn.View State Event → View
 view_of pass = record { start = start_or pass.start; before = pass.before; seen = pass.seen; own = pass.own }
 
 -- the same, with the service that it belongs to
-abbrev pub seen_of : turn.View Rows Event → Seen
+abbrev pub seen_of : turn.View State Event → Seen
 seen_of pass = record { table = pass.table; view = view_of pass }
 
 -- What is true of a pass between two calls: it doesn't have the turn, what it has seen is legal from its start, and its own places are
 -- among that.
-pub record IsIdle (pass : turn.View Rows Event) : Type 0 where
-  pub start : (start : Rows) × (pass.start ≡ Some start)
+pub record IsIdle (pass : turn.View State Event) : Type 0 where
+  pub start : (start : State) × (pass.start ≡ Some start)
   pub outside : pass.has_turn ≡ false
   pub legal : Legal (start_or pass.start) pass.seen
   pub places : ArePlaces 0 (length pass.seen) pass.own
@@ -50,7 +51,7 @@ abbrev pub noted : Seen → Seen
 noted pass = record pass { view = record pass.view { own = [] } }
 
 -- the state that the history leads to, as far as the view has seen it
-abbrev pub state_of : View → Rows
+abbrev pub state_of : View → State
 state_of view = replay view.start view.seen
 
 -- the number of events of the run up to there

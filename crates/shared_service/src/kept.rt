@@ -1,7 +1,25 @@
 use kr_outside::Folder;
 use service_history::Service;
-use service_machine::{Event, Rows};
+use service_machine::{Event, Machine};
 use shared_turn::Chronicle;
+use std::marker::Model;
+
+/// The state of a service at a moment. It exists for contracts alone, which see the state: no code makes
+/// one.
+#[derive(Drop)]
+pub struct Moment<F: Folder> {
+    machine: Machine<F>,
+}
+
+impl<F: Folder> Model for Moment<F> {
+    ghost use Rattle.service_machine.specs.State.{State};
+
+    ghost Value = { State };
+
+    ghost use Rattle.service_machine.specs.Rows.{rows_of};
+
+    ghost view = { λ m. rows_of m.machine };
+}
 
 /// The service that threads use by turns.
 #[derive(Drop)]
@@ -12,7 +30,7 @@ pub struct Kept<F: Folder> {
 impl<F: Folder> Chronicle for Kept<F> {
     ghost use Rattle.shared_service.specs.Standing.{Stands, newest};
 
-    type Start = Rows;
+    type Start = Moment<F>;
 
     type Event = Event;
 

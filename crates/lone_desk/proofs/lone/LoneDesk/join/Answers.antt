@@ -1,15 +1,18 @@
-use Rattle.std.proofs.Common.{◌≡◌, ◌∙◌, ap, Err}
+use Rattle.std.proofs.Common.{rules, ap, ◌∙◌}
+use Rattle.service_machine.specs.State.{State}
+use Rattle.service_machine.specs.Step.{step}
 use Rattle.service_machine.specs.declared.event.Event.TheVariants as event
-use Rattle.service_machine.specs.declared.event.JoinRefused.TheVariants as join
-use Rattle.lone_desk.proofs.DeskLemmas.{counts-stored}
+use Rattle.service_history.specs.History.{History}
+use Rattle.lone_desk.proofs.DeskLemmas.{counts-stored, state-cut}
 use Rattle.lone_desk.proofs.lone.LoneDesk.join.Goals as goal
 
--- the Connect was stored
+-- a cut changes no state
+pub returns-in-Ok-clause-joined : goal.returns-in-Ok-clause-joined
+returns-in-Ok-clause-joined g c =
+    ap (λ (h : History). h.state) c.in-Ok.ensures.stores.appends ∙ ap (λ (s : State). step s (event.Connect c.in-Ok.conn)) (state-cut c.args.service.history)
+
 pub returns-in-Ok-clause-count : goal.returns-in-Ok-clause-count
 returns-in-Ok-clause-count g c = counts-stored c.args.service.history c.join.new.self.history (event.Connect c.in-Ok.conn) c.in-Ok.ensures.stores
 
--- the service refused it
 pub returns-in-Err-clause-crowded : goal.returns-in-Err-clause-crowded
-returns-in-Err-clause-crowded g c is =
-    let same : c.in-Err.refused ≡ join.TooManyConnections = cc in
-    c.join.ensures.crowded (c.in-Err.is ∙ ap Err same)
+returns-in-Err-clause-crowded g c = λ is. c.in-Err.ensures.crowded (search rules)

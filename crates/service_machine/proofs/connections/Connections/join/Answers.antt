@@ -2,7 +2,7 @@ use Rattle.std.proofs.Common.{◌<◌, ◌∷◌, ◌++◌, [], arith, ap, map}
 use Rattle.std.proofs.lemmas.Option.{none-some}
 use Rattle.std.proofs.lemmas.List.{map-append}
 use Rattle.service_machine.specs.Desks.{row_of}
-use Rattle.service_machine.proofs.SoundLemmas.{each-append, each-weaker}
+use Rattle.service_machine.proofs.EachLemmas.{each-append, each-weaker}
 use Rattle.service_machine.proofs.connections.Connections.join.Goals as goal
 
 -- the new number is above all, and below the next

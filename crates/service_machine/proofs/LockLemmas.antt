@@ -1,0 +1,56 @@
+-- What the row of Lock leads to: the objects that are there are answered and their collections locked, or the return would be too
+-- large and nothing changes.
+use Rattle.std.proofs.Common.{◌≡◌, ℕ, Bool, true, false, cond, List, [], ◌∷◌, filter, map, Ok, Err, sym, ap, refl, ◌∙◌}
+use Rattle.std.specs.List.{filter_map}
+use Rattle.kr_base.specs.declared.ids.ConnId.{ConnId}
+use Rattle.kr_names.specs.declared.object_name.ObjectName.{ObjectName}
+use Rattle.secret_calls.specs.declared.out.Body.{Body}
+use Rattle.secret_calls.specs.declared.out.Body.TheVariants as body
+use Rattle.secret_calls.specs.declared.out.ErrorName.TheVariants as name
+use Rattle.service_machine.specs.Objects.{collection_around, is_there, once, paths_of}
+use Rattle.service_machine.specs.Plan.{Change, Lock_collection, answered, refused}
+use Rattle.service_machine.specs.Run.{Ran, asked, asked_collections, limited, performed_all, ran, run}
+use Rattle.service_machine.specs.ServiceCalls.{is_small, lock, locks}
+use Rattle.service_machine.specs.State.{State}
+use Rattle.service_machine.proofs.RunLemmas.{state-limited}
+
+-- a return that isn't too large is answered, whether or not anything changes
+small-answer : (caller : ConnId) (body : Body) (changes : List Change) (state : State) → is_small body ≡ true
+    → (limited (answered body changes) (run caller (answered body changes) state)).answer ≡ Ok body
+small-answer caller body [] state small = ap (λ b. cond b (Ok body) (Err name.LimitsExceeded)) small
+small-answer caller body (change ∷ changes) state small = refl
+
+module _ (caller : ConnId) (objects : List ObjectName) (state : State) where
+  -- the paths that are answered, and the plan by whether they are few enough
+  abbrev answers : List (List ℕ)
+  answers = paths_of (once (filter (is_there (asked_collections state)) objects))
+
+  abbrev led : Bool → Ran
+  led small =
+      limited (cond small (answered (body.Locked answers) (locks objects (asked caller state))) (refused name.LimitsExceeded))
+      (run caller (cond small (answered (body.Locked answers) (locks objects (asked caller state))) (refused name.LimitsExceeded)) state)
+
+  -- paths that were put into a list, and the list into a body
+  module _ (listed paths : List (List ℕ)) (same : listed ≡ paths) (are : paths ≡ answers) where
+    as-answered : (b : Bool) → is_small (body.Locked listed) ≡ b → is_small (body.Locked answers) ≡ b
+    as-answered b is = ap (λ p. is_small (body.Locked p)) (sym (same ∙ are)) ∙ is
+
+    pub lock-answer : is_small (body.Locked listed) ≡ true → Ok (body.Locked listed) ≡ (ran caller (lock objects) state).answer
+    lock-answer small =
+        let fits = as-answered true small in
+        ap (λ p. Ok (body.Locked p)) (same ∙ are)
+        ∙ sym (ap (λ b. (led b).answer) fits ∙ small-answer caller (body.Locked answers) (locks objects (asked caller state)) state fits)
+
+    -- the state in which the collections of these stems are locked
+    pub lock-state : (after : State) (lent stems : List (List ℕ)) → is_small (body.Locked listed) ≡ true → after ≡ performed_all caller (map Lock_collection lent) state
+        → lent ≡ stems → stems ≡ filter_map (collection_around (asked_collections state)) objects → after ≡ (ran caller (lock objects) state).state
+    lock-state after lent stems small locked as_lent around =
+        let plan = answered (body.Locked answers) (locks objects (asked caller state)) in
+        locked ∙ ap (λ these. performed_all caller (map Lock_collection these) state) (as_lent ∙ around)
+        ∙ sym (ap (λ b. (led b).state) (as-answered true small) ∙ state-limited plan (run caller plan state))
+
+    pub large-answer : is_small (body.Locked listed) ≡ false → Err name.LimitsExceeded ≡ (ran caller (lock objects) state).answer
+    large-answer large = sym (ap (λ b. (led b).answer) (as-answered false large))
+
+    pub large-state : is_small (body.Locked listed) ≡ false → state ≡ (ran caller (lock objects) state).state
+    large-state large = sym (ap (λ b. (led b).state) (as-answered false large))

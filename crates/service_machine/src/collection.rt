@@ -1,0 +1,76 @@
+// The calls of the interface Collection.
+ghost use Rattle.std.specs.Prelude.{◌≡◌, IfOk, map};
+ghost use Rattle.kr_base.specs.declared.ids.ConnId.{ConnId};
+ghost use Rattle.service_machine.specs.CollectionCalls.{search_collection};
+ghost use Rattle.service_machine.specs.Connections.{Sent};
+ghost use Rattle.service_machine.specs.Plan.{Lock_collection};
+ghost use Rattle.service_machine.specs.Rows.{rows_of, disk_of};
+ghost use Rattle.service_machine.specs.Run.{found_in, performed, performed_all, ran};
+
+use crate::Machine;
+use crate::answer::{Answer, bounded};
+use crate::paths::item_paths;
+use kr_base::{Attributes, ConnId, ItemId, OutOfMemory, Stem};
+use kr_items::Items;
+use kr_names::ObjectName;
+use kr_outside::Folder;
+use secret_calls::{Body, ErrorName};
+
+impl<F: Folder> Machine<F> {
+    // The items of one collection that match.
+    fn found_in(&self, stem: &Stem, wanted: &Attributes) -> Result<Vec<ItemId>, OutOfMemory>
+        ensures { IfOk result (λ ids.
+            ids.items ≡ found_in stem.now wanted.now (rows_of self.now)) }
+    {
+        let Some(collection) = self.disk.collections.get(stem) else {
+            return Ok(Vec::new(self.alloc));
+        };
+        let ids = collection.search(wanted)?;
+        Ok(ids)
+    }
+
+    /// Performs the row of SearchItems.
+    pub(crate) fn search_collection(
+        &self,
+        conn: ConnId,
+        collection: &ObjectName,
+        wanted: &Attributes,
+    ) -> Result<Answer, OutOfMemory>
+        ensures answer { IfOk result (λ answer. answer
+            ≡ (ran conn (search_collection collection.now wanted.now)
+            (rows_of self.now)).answer) }
+        ensures state { rows_of self.now
+            ≡ (ran conn (search_collection collection.now wanted.now) (rows_of self.now)).state }
+    {
+        let _ = conn;
+        let Some(stem) = self.collection_named(collection) else {
+            return Ok(Err(ErrorName::NoSuchObject));
+        };
+        let ids = self.found_in(stem, wanted)?;
+        let paths = item_paths(self.alloc, stem, &ids)?;
+        Ok(bounded(Ok(Body::Objects(Items::new(paths)))))
+    }
+
+    // Locks a collection. It takes no memory.
+    fn lock_one(&mut self, conn: ConnId, stem: &Stem)
+        ensures rows { rows_of self.new
+            ≡ performed conn (Lock_collection stem.now) (rows_of self.old) }
+        ensures room { self.new.connections ≡ self.old.connections }
+        ensures disk { disk_of self.new ≡ disk_of self.old }
+    {
+        let _ = conn;
+        self.disk.collections.lock(stem);
+    }
+
+    /// Locks these collections. It takes no memory.
+    pub(crate) fn lock_all(&mut self, conn: ConnId, stems: &[Stem])
+        ensures rows { rows_of self.new
+            ≡ performed_all conn (map Lock_collection stems.now) (rows_of self.old) }
+        ensures room { self.new.connections ≡ self.old.connections }
+        ensures disk { disk_of self.new ≡ disk_of self.old }
+    {
+        for stem in stems {
+            self.lock_one(conn, stem);
+        }
+    }
+}
