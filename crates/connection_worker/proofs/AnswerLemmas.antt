@@ -4,13 +4,13 @@ use Rattle.std.proofs.lemmas.Bool.{le-leb, lt-ltb}
 use Rattle.kr_base.specs.declared.ids.ConnId.{ConnId}
 use Rattle.secret_calls.specs.declared.out.Out.{Out}
 use Rattle.secret_calls.specs.Outs.{most_waiting}
-use Rattle.service_machine.specs.declared.rows.Rows.{Rows}
+use Rattle.service_machine.specs.State.{State}
 use Rattle.service_machine.specs.declared.rows.ConnRow.{ConnRow}
 use Rattle.service_machine.specs.Connections.{size_of, changed, emptied, delivered}
 use Rattle.service_machine.specs.declared.rows.ConnRows.{ConnRows}
 use Rattle.service_machine.specs.Step.{message_of, replies, served, step}
 use Rattle.service_machine.proofs.RunLemmas.{connections-served, put_out-served}
-use Rattle.service_machine.proofs.SoundLemmas.{reply-waits}
+use Rattle.service_machine.proofs.SmallLemmas.{reply-small}
 use Rattle.service_machine.specs.declared.event.Event.TheVariants as event
 use Rattle.service_machine.specs.Replay.{replay}
 use Rattle.service_desk.specs.Places.{Told, Place}
@@ -45,14 +45,14 @@ pub owed-all : (told : Told) (outs : List Out) → IsOwed told outs → IsOwed t
 owed-all told outs is = rw (owed-is told outs is) is
 
 -- what waits after a request is its reply
-pub arrived-rows : (conn : ConnId) (state : Rows) (a : TimedRequest) (taken : ℕ) → state.connections.rows ≡ row_with conn [] taken ∷ []
+pub arrived-rows : (conn : ConnId) (state : State) (a : TimedRequest) (taken : ℕ) → state.connections.rows ≡ row_with conn [] taken ∷ []
     → (step state (arrival conn a)).connections.rows ≡ row_with conn (waiting_behind a.request.wants_reply (message_of a.request.serial (served conn a.request state).answer)) taken ∷ []
 arrived-rows conn state a taken only =
     let request = a.request in
     let ran = served conn request state in
     ap (λ sent. delivered sent ran.state.connections.rows) (put_out-served conn request state)
     ∙ ap (λ (r : List ConnRow). delivered (replies conn request ran.answer) r) (ap (λ (c : ConnRows). c.rows) (connections-served conn request state) ∙ only)
-    ∙ delivered-reply request.wants_reply conn (message_of request.serial ran.answer) taken (reply-waits conn request state).small
+    ∙ delivered-reply request.wants_reply conn (message_of request.serial ran.answer) taken (reply-small conn request state)
 
 -- after a request no output is lost
 pub arrived-owed : (told new : Told) (a : TimedRequest) → IsOwed told [] → new.conn ≡ told.conn → new.state ≡ step told.state (arrival told.conn a) → IsOwed new (owed new)
@@ -60,7 +60,7 @@ arrived-owed told new a is conn state =
     let request = a.request in
     let out = message_of request.serial (served told.conn request told.state).answer in
     let behind : new.state.connections.rows ≡ row_with told.conn (waiting_behind request.wants_reply out) is.taken ∷ [] =
-    ap (λ (s : Rows). s.connections.rows) state ∙ arrived-rows told.conn told.state a is.taken is.only in
+    ap (λ (s : State). s.connections.rows) state ∙ arrived-rows told.conn told.state a is.taken is.only in
     owed-all new (waiting_behind request.wants_reply out) (record {
       taken = is.taken;
       only = behind ∙ ap (λ c. row_with c (waiting_behind request.wants_reply out) is.taken ∷ []) (sym conn);
@@ -72,14 +72,14 @@ given-idle-by mid new [] is so =
     let conn = mid.told.conn in
     let none : taking conn mid.told.state ≡ [] = rw is.only (rw (same conn.0) refl) in
     let state : new.told.state ≡ mid.told.state = own-state mid new (taking conn mid.told.state) so ∙ ap (replay mid.told.state) none in
-    record { taken = is.taken; only = ap (λ (s : Rows). s.connections.rows) state ∙ is.only ∙ ap (λ c. row_with c [] is.taken ∷ []) (sym so.same.conn) }
+    record { taken = is.taken; only = ap (λ (s : State). s.connections.rows) state ∙ is.only ∙ ap (λ c. row_with c [] is.taken ∷ []) (sym so.same.conn) }
 given-idle-by mid new (out ∷ outs) is so =
     let conn = mid.told.conn in
     let some : taking conn mid.told.state ≡ event.Take conn ∷ [] =
     rw is.only (rw (same conn.0) (ap (λ b. cond b (event.Take conn ∷ []) []) (lt-ltb 0 (length (out ∷ outs)) (omega arith)))) in
     let state : new.told.state ≡ step mid.told.state (event.Take conn) = own-state mid new (taking conn mid.told.state) so ∙ ap (replay mid.told.state) some in
     let rows : new.told.state.connections.rows ≡ changed conn emptied (row_with conn (out ∷ outs) is.taken ∷ []) =
-    ap (λ (s : Rows). s.connections.rows) state ∙ ap (changed conn emptied) is.only in
+    ap (λ (s : State). s.connections.rows) state ∙ ap (changed conn emptied) is.only in
     let row : changed conn emptied (row_with conn (out ∷ outs) is.taken ∷ []) ≡ row_with conn [] (min (is.taken + length (out ∷ outs)) 18446744073709551615) ∷ [] =
     rw (same conn.0) refl in
     record {

@@ -1,7 +1,7 @@
 -- One method call, from its message to what is written for it.
 use Rattle.std.proofs.Common.{◌≡◌, ℕ, List, [], ◌∷◌, Result, Ok, Err, refl, sym, ◌∙◌, ap, arith}
 use Rattle.secret_calls.specs.declared.call.Request.{Request}
-use Rattle.service_machine.specs.declared.rows.Rows.{Rows}
+use Rattle.service_machine.specs.State.{State}
 use Rattle.service_machine.specs.Connections.{waiting_for}
 use Rattle.service_desk.specs.Places.{Told, Place}
 use Rattle.dbus_framing.specs.Messages.{Parts}
@@ -29,7 +29,7 @@ unread parts w serials o idle = ([], record { early = tt; refused = []; few = om
 idle-still : (old new : Told) → new.conn ≡ old.conn → new.state ≡ old.state → IsOwed old [] → IsOwed new []
 idle-still old new conn state idle = record {
   taken = idle.taken;
-  only = ap (λ (s : Rows). s.connections.rows) state ∙ idle.only ∙ ap (λ c. row_with c [] idle.taken ∷ []) (sym conn);
+  only = ap (λ (s : State). s.connections.rows) state ∙ idle.only ∙ ap (λ c. row_with c [] idle.taken ∷ []) (sym conn);
 }
 
 -- the request wasn't recorded
@@ -66,7 +66,7 @@ unasked parts request old new serials o _ call idle asks = absurd asks
 given-owed : (old mid : World) (a : TimedRequest) → HasArrived old mid a → given_by old.told.conn old.told.state (turns old.told.conn old.told.state (a ∷ [])) ≡ owed mid.told
 given-owed old mid a so =
     given-turn old.told.conn old.told.state a
-    ∙ ap (λ (s : Rows). waiting_for old.told.conn s.connections.rows) (sym so.calls.state) ∙ ap (λ c. waiting_for c mid.told.state.connections.rows) (sym so.calls.same.conn)
+    ∙ ap (λ (s : State). waiting_for old.told.conn s.connections.rows) (sym so.calls.state) ∙ ap (λ c. waiting_for c mid.told.state.connections.rows) (sym so.calls.same.conn)
 
 -- what waited for it was taken, and written or not
 pub answers : (parts : Parts) (request : Request) (old mid : World) (new : Place) (serials behind : ℕ) (from to : Output) (result : Result Unit End) → CallOf parts request

@@ -4,7 +4,7 @@ use Rattle.std.proofs.lemmas.Bool.{lt-ltb}
 use Rattle.std.proofs.lemmas.List.{map-append}
 use Rattle.kr_base.specs.declared.ids.ConnId.{ConnId}
 use Rattle.secret_calls.specs.declared.out.Out.{Out}
-use Rattle.service_machine.specs.declared.rows.Rows.{Rows}
+use Rattle.service_machine.specs.State.{State}
 use Rattle.service_machine.specs.declared.event.Event.{Event}
 use Rattle.service_machine.specs.Connections.{waiting_for}
 use Rattle.service_machine.specs.Step.{step}
@@ -19,7 +19,7 @@ use Rattle.connection_worker.specs.Serving.{World, place_of, GivesMoments, Gives
 use Rattle.connection_worker.specs.Written.{given, given_by}
 use Rattle.connection_worker.proofs.ServingLemmas.{same}
 
-pub turns-append : (conn : ConnId) (state : Rows) (one more : List TimedRequest) → turns conn state (one ++ more) ≡ turns conn state one ++ turns conn (replay state (turns conn state one)) more
+pub turns-append : (conn : ConnId) (state : State) (one more : List TimedRequest) → turns conn state (one ++ more) ≡ turns conn state one ++ turns conn (replay state (turns conn state one)) more
 turns-append conn state [] more = refl
 turns-append conn state (asked ∷ one) more =
     let now = turn conn state asked in
@@ -27,7 +27,7 @@ turns-append conn state (asked ∷ one) more =
     ap (λ l. now ++ l) (turns-append conn next one more) ∙ sym (append_assoc now (turns conn next one) (turns conn (replay next (turns conn next one)) more))
     ∙ ap (λ s. (now ++ turns conn next one) ++ turns conn s more) (sym (replay-append state now (turns conn next one)))
 
-pub given_by-append : (conn : ConnId) (state : Rows) (events more : List Event) → given_by conn state (events ++ more) ≡ given_by conn state events ++ given_by conn (replay state events) more
+pub given_by-append : (conn : ConnId) (state : State) (events more : List Event) → given_by conn state (events ++ more) ≡ given_by conn state events ++ given_by conn (replay state events) more
 given_by-append conn state [] more = refl
 given_by-append conn state (event ∷ events) more =
     ap (λ l. given conn state event ++ l) (given_by-append conn (step state event) events more)
@@ -93,7 +93,7 @@ pub recorded-refused : (old new : World) (a : TimedRequest) → HasAsked old new
 recorded-refused old new a p = record { calls = p.calls; moments = (new.coming, p.moment, refl); salts = (p.salt, p.salting) }
 
 -- what one request gives is what waits after it
-pub given-turn : (conn : ConnId) (state : Rows) (a : TimedRequest) → given_by conn state (turns conn state (a ∷ [])) ≡ waiting_for conn (step state (arrival conn a)).connections.rows
+pub given-turn : (conn : ConnId) (state : State) (a : TimedRequest) → given_by conn state (turns conn state (a ∷ [])) ≡ waiting_for conn (step state (arrival conn a)).connections.rows
 given-turn conn state a =
     let behind = step state (arrival conn a) in
     let waiting = waiting_for conn behind.connections.rows in

@@ -5,7 +5,7 @@ use Rattle.dbus_auth.specs.Handshake as shaking
 use Rattle.dbus_auth.specs.Conversation.{continued}
 use Rattle.dbus_auth.proofs.HandshakeLemmas.{handshake-nothing, handshake-append}
 use Rattle.dbus_framing.specs.Framers.{Framing}
-use Rattle.service_machine.specs.declared.rows.Rows.{Rows}
+use Rattle.service_machine.specs.State.{State}
 use Rattle.service_machine.specs.declared.event.Event.TheVariants as event
 use Rattle.service_machine.specs.declared.event.Output.TheVariants as output
 use Rattle.service_machine.specs.Connections.{has}
@@ -37,7 +37,7 @@ goes-alone old new alone idle (inl gone) = alone-extends old new (event.Gone old
 goes-alone old new alone idle (inr (looks, missing)) =
     let state : new.told.state ≡ old.told.state = (alone-looks old new alone looks).state in
     let there : has new.told.conn new.told.state.connections.rows ≡ true =
-    ap (λ c. has c new.told.state.connections.rows) looks.same.conn ∙ ap (λ (s : Rows). has old.told.conn s.connections.rows) state ∙ only-there old.told [] idle in
+    ap (λ c. has c new.told.state.connections.rows) looks.same.conn ∙ ap (λ (s : State). has old.told.conn s.connections.rows) state ∙ only-there old.told [] idle in
     let e : true ≡ false = sym there ∙ missing in cc
 
 -- nothing waits for a connection that has just joined, and it has taken nothing

@@ -1,7 +1,7 @@
 -- What events give to the connection is what its takes returned.
 use Rattle.std.proofs.Common.{◌≡◌, Bool, true, false, cond, List, [], ◌∷◌, ◌++◌, refl, sym, ◌∙◌, ap, append_assoc}
 use Rattle.kr_base.specs.declared.ids.ConnId.{ConnId}
-use Rattle.service_machine.specs.declared.rows.Rows.{Rows}
+use Rattle.service_machine.specs.State.{State}
 use Rattle.service_machine.specs.declared.event.Event.{Event}
 use Rattle.service_machine.specs.declared.event.Event.TheVariants as event
 use Rattle.service_machine.specs.Step.{step}
@@ -20,25 +20,25 @@ given-append (records.Own event answer ∷ seen) more =
     ap (λ outs. records.outs_in answer ++ outs) (given-append seen more) ∙ sym (append_assoc (records.outs_in answer) (records.given seen) (records.given more))
 
 -- what waits is taken, and nothing is taken if nothing waits
-taken-owed : (conn : ConnId) (state : Rows) → given_by conn state (taking conn state) ≡ records.given (records.of_own state (taking conn state))
+taken-owed : (conn : ConnId) (state : State) → given_by conn state (taking conn state) ≡ records.given (records.of_own state (taking conn state))
 taken-owed conn state =
     let pass : (b : Bool) → given_by conn state (cond b (event.Take conn ∷ []) []) ≡ records.given (records.of_own state (cond b (event.Take conn ∷ []) [])) =
     elim [ true ↦ rw (same conn.0) refl | false ↦ refl ] in
     pass (is_owed conn state)
 
 -- events one after the other
-taken-behind : (conn : ConnId) (state : Rows) (events more : List Event) → given_by conn state events ≡ records.given (records.of_own state events)
+taken-behind : (conn : ConnId) (state : State) (events more : List Event) → given_by conn state events ≡ records.given (records.of_own state events)
     → given_by conn (replay state events) more ≡ records.given (records.of_own (replay state events) more)
     → given_by conn state (events ++ more) ≡ records.given (records.of_own state (events ++ more))
 taken-behind conn state events more one two =
     given_by-append conn state events more ∙ (λ i. one i ++ two i) ∙ sym (given-append (records.of_own state events) (records.of_own (replay state events) more))
     ∙ ap (λ seen. records.given seen) (sym (own-append state events more))
 
-taken-turns : (conn : ConnId) (state : Rows) (asked : List TimedRequest) → given_by conn state (turns conn state asked) ≡ records.given (records.of_own state (turns conn state asked))
+taken-turns : (conn : ConnId) (state : State) (asked : List TimedRequest) → given_by conn state (turns conn state asked) ≡ records.given (records.of_own state (turns conn state asked))
 taken-turns conn state [] = refl
 taken-turns conn state (a ∷ more) =
     let next = replay state (turn conn state a) in
     taken-behind conn state (turn conn state a) (turns conn next more) (taken-owed conn (step state (arrival conn a))) (taken-turns conn next more)
 
-pub taken-single : (conn : ConnId) (state : Rows) (asked : List TimedRequest) → given_by conn state (single conn state asked) ≡ records.given (records.of_own state (single conn state asked))
+pub taken-single : (conn : ConnId) (state : State) (asked : List TimedRequest) → given_by conn state (single conn state asked) ≡ records.given (records.of_own state (single conn state asked))
 taken-single conn state asked = taken-behind conn state (turns conn state asked) (event.Gone conn ∷ []) (taken-turns conn state asked) refl

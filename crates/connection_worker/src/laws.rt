@@ -1,7 +1,7 @@
 // Laws of the definitions of one thread. Each law is the contract of a function that does nothing.
 ghost use Rattle.std.specs.Prelude.{◌≡◌, List, []};
 ghost use Rattle.kr_base.specs.declared.ids.ConnId.{ConnId};
-ghost use Rattle.service_machine.specs.declared.rows.Rows.{Rows};
+ghost use Rattle.service_machine.specs.State.{State};
 ghost use Rattle.service_desk.specs.Places.{Told};
 ghost use Rattle.service_desk.specs.Records as records;
 ghost use Rattle.connection_worker.specs.Replies.{replies_to};
@@ -21,7 +21,7 @@ pub fn each_request_is_answered_at_once()
 /// What the events give to the only connection is what the calls of its desk returned: the outputs
 /// of its takes, in order.
 pub fn what_is_given_was_taken()
-    ensures { (conn : ConnId) (state : Rows) (asked : List TimedRequest)
+    ensures { (conn : ConnId) (state : State) (asked : List TimedRequest)
         → given_by conn state (single conn state asked)
         ≡ records.given (records.of_own state (single conn state asked)) }
 {}

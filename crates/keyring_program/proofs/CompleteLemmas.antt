@@ -28,6 +28,7 @@ use Rattle.keyring_program.specs.declared.status.Status.TheVariants as status
 use Rattle.keyring_program.specs.Status.{status_of}
 use Rattle.service_machine.specs.declared.event.Event.TheVariants as event
 use Rattle.service_machine.specs.Limits.{most_events}
+use Rattle.service_machine.specs.Opened.{Contents}
 
 -- ---- streams
 
@@ -129,14 +130,14 @@ first-more behind left asked first = record {
   are = first.are;
 }
 
-until-of : (asked : List TimedRequest) → length (events_of asked) ≡ length (events_until asked) + 1
-until-of asked = length-append (events_until asked) (event.Gone the_connection ∷ [])
+until-of : (contents : Contents) (asked : List TimedRequest) → length (events_of contents asked) ≡ length (events_until contents asked) + 1
+until-of contents asked = length-append (events_until contents asked) (event.Gone the_connection ∷ [])
 
 -- ---- the whole
 
-pub complete : (uid : ℕ) (seed bytes : List ℕ) (coming : Option (ℕ → ℕ)) (from to : Input) (sink behind : Output) (how : Status) → Serves uid seed coming from to sink behind how
+pub complete : (uid : ℕ) (seed bytes : List ℕ) (coming : Option (ℕ → ℕ)) (from to : Input) (sink behind : Output) (contents : Contents) (how : Status) → Serves uid seed coming from to sink behind contents how
     → IsWholeInput uid seed bytes → from.left ≡ Some bytes → StandsStill from.faults to.faults → StandsStill sink.faults behind.faults → (how ≡ status.Done) ⊎ (how ≡ status.Memory)
-complete uid seed bytes coming from to sink behind how so whole told input output = subst (λ s. (s ≡ status.Done) ⊎ (s ≡ status.Memory)) (sym so.status_is) (by_cause so.how so.cause)
+complete uid seed bytes coming from to sink behind contents how so whole told input output = subst (λ s. (s ≡ status.Done) ⊎ (s ≡ status.Memory)) (sym so.status_is) (by_cause so.how so.cause)
   where
     front : (left : List ℕ) × (bytes ≡ so.read ++ left) × (to.left ≡ Some left)
     front = front-of from.left to.left so.read bytes told so.took.consumed
@@ -153,13 +154,13 @@ complete uid seed bytes coming from to sink behind how so whole told input outpu
     stream : (rest : List ℕ) → (handshake_run uid seed so.read).end ≡ opened rest → Stream most_bytes (rest ++ left) whole.messages []
     stream rest is = subst (λ l. Stream most_bytes l whole.messages []) (joined rest is) whole.stream
 
-    few : (asked : List TimedRequest) → FirstServed (handshake_run uid seed so.read) asked → most_events ≤ length (events_until asked) → ⊥
-    few asked (inl none) many = let one : length (events_until asked) ≡ 1 = ap (λ l. length (events_until l)) none in omega (arith, one, many)
+    few : (asked : List TimedRequest) → FirstServed (handshake_run uid seed so.read) asked → most_events ≤ length (events_until contents asked) → ⊥
+    few asked (inl none) many = let one : length (events_until contents asked) ≡ 1 = ap (λ l. length (events_until contents l)) none in omega (arith, one, many)
     few asked (inr first) many =
         let all = subst (λ l. FirstRequests most_bytes l (requests_of asked)) (sym (joined first.0 first.1)) (first-more first.0 left asked first.2) in
-        omega (arith, whole.few asked all, until-of asked, many)
+        omega (arith, whole.few contents asked all, until-of contents asked, many)
 
-    by_cause : (how : ending.End) → HasCause how (handshake_run uid seed so.read) so.asked (length (events_until so.asked)) from to sink behind → (status_of how ≡ status.Done) ⊎ (status_of how ≡ status.Memory)
+    by_cause : (how : ending.End) → HasCause how (handshake_run uid seed so.read) so.asked (length (events_until contents so.asked)) from to sink behind → (status_of how ≡ status.Done) ⊎ (status_of how ≡ status.Memory)
     by_cause end.Done cause = inl refl
     by_cause (end.Violation which) cause =
         let all : AllServed (handshake_run uid seed so.read) so.asked cause.0.0 = cause.0.1 in
@@ -185,5 +186,5 @@ no-usage end.OtherEnded is = cc
 no-usage end.Overrun is = cc
 
 -- so no run with valid arguments ends with Usage
-pub never-usage : (uid : ℕ) (seed : List ℕ) (coming : Option (ℕ → ℕ)) (from to : Input) (sink behind : Output) (how : Status) → Serves uid seed coming from to sink behind how → how ≡ status.Usage → ⊥
-never-usage uid seed coming from to sink behind how so is = no-usage so.how (sym so.status_is ∙ is)
+pub never-usage : (uid : ℕ) (seed : List ℕ) (coming : Option (ℕ → ℕ)) (from to : Input) (sink behind : Output) (contents : Contents) (how : Status) → Serves uid seed coming from to sink behind contents how → how ≡ status.Usage → ⊥
+never-usage uid seed coming from to sink behind contents how so is = no-usage so.how (sym so.status_is ∙ is)

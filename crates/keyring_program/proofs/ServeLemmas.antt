@@ -6,10 +6,11 @@ use Rattle.rand_chacha.specs.ChaCha.{key_of}
 use Rattle.kr_base.specs.declared.ids.ConnId.{ConnId}
 use Rattle.kr_outside.proofs.FaultLemmas.{KeepsSteady-none}
 use Rattle.dbus_auth.specs.Handshake.{Run}
-use Rattle.service_machine.specs.declared.rows.Rows.{Rows}
+use Rattle.service_machine.specs.State.{State}
 use Rattle.service_machine.specs.declared.event.Event.TheVariants as event
 use Rattle.service_machine.specs.Connections.{has, new_row}
-use Rattle.service_machine.specs.Step.{opened_rows, Fits}
+use Rattle.service_machine.specs.Step.{Fits}
+use Rattle.service_machine.specs.Opened.{Contents, opened_state}
 use Rattle.service_machine.specs.Replay.{Legal}
 use Rattle.service_desk.specs.Places.{Told}
 use Rattle.service_desk.proofs.RecordLemmas.{own-legal}
@@ -31,20 +32,20 @@ use Rattle.keyring_program.proofs.GivingLemmas.{have-moments, have-salts}
 -- ---- the start
 
 -- the first connection fits the service as it starts
-joins : Fits opened_rows (event.Connect the_connection)
-joins = (refl, omega arith, omega arith)
+joins : (contents : Contents) → Fits (opened_state contents) (event.Connect the_connection)
+joins contents = (refl, omega arith, omega arith)
 
 -- and is there
-there : has the_connection joined.connections.rows ≡ true
-there = refl
+there : (contents : Contents) → has the_connection (joined contents).connections.rows ≡ true
+there contents = refl
 
 -- the number of the connection that joined
-pub first-connection : (conn : ConnId) → Fits opened_rows (event.Connect conn) → conn ≡ the_connection
-first-connection conn fits = λ i. record { 0 = fits.0 i }
+pub first-connection : (contents : Contents) (conn : ConnId) → Fits (opened_state contents) (event.Connect conn) → conn ≡ the_connection
+first-connection contents conn fits = λ i. record { 0 = fits.0 i }
 
 -- it has just joined
-pub just-joined : (told : Told) → told.conn ≡ the_connection → told.state ≡ joined → HasJoined told
-just-joined told conn state = ap (λ (s : Rows). s.connections.rows) state ∙ ap (λ c. new_row c ∷ []) (sym conn)
+pub just-joined : (contents : Contents) (told : Told) → told.conn ≡ the_connection → told.state ≡ joined contents → HasJoined told
+just-joined contents told conn state = ap (λ (s : State). s.connections.rows) state ∙ ap (λ c. new_row c ∷ []) (sym conn)
 
 -- ---- the end
 
@@ -64,24 +65,24 @@ only-end end.Memory run asked count from to sink behind cause = tt
 -- ---- the whole
 
 -- what is true of a connection and a state is true of these
-at-start : (conn : ConnId) (state : Rows) → conn ≡ the_connection → state ≡ joined → (P : ConnId → Rows → Type 0) → P conn state → P the_connection joined
-at-start conn state c s P p = subst (λ r. P the_connection r) s (subst (λ d. P d state) c p)
+at-start : (contents : Contents) (conn : ConnId) (state : State) → conn ≡ the_connection → state ≡ joined contents → (P : ConnId → State → Type 0) → P conn state → P the_connection (joined contents)
+at-start contents conn state c s P p = subst (λ r. P the_connection r) s (subst (λ d. P d state) c p)
 
-pub serves : (uid : ℕ) (seed : List ℕ) (from to : Input) (sink behind : Output) (old new : World) (how : End)
-    → old.told.conn ≡ the_connection → old.told.state ≡ joined → old.told.count ≡ 1 → old.salting ≡ record { key = key_of seed; stream = the_connection.0; place = 0 }
-    → IsServed uid (guid seed) from to sink behind old new how → Serves uid seed old.coming from to sink behind (status_of how)
-serves uid seed from to sink behind old new how conn state count salting so =
+pub serves : (contents : Contents) (uid : ℕ) (seed : List ℕ) (from to : Input) (sink behind : Output) (old new : World) (how : End)
+    → old.told.conn ≡ the_connection → old.told.state ≡ joined contents → old.told.count ≡ 1 → old.salting ≡ record { key = key_of seed; stream = the_connection.0; place = 0 }
+    → IsServed uid (guid seed) from to sink behind old new how → Serves uid seed old.coming from to sink behind contents (status_of how)
+serves contents uid seed from to sink behind old new how conn state count salting so =
     let run = handshake_run uid seed so.read in
-    let text : concat run.answers ++ written old.told.conn old.told.state (single old.told.conn old.told.state so.asked) ≡ text_of run so.asked =
+    let text : concat run.answers ++ written old.told.conn old.told.state (single old.told.conn old.told.state so.asked) ≡ text_of contents run so.asked =
     λ i. concat run.answers ++ written (conn i) (state i) (single (conn i) (state i) so.asked) in
-    let counted : old.told.count + length (turns old.told.conn old.told.state so.asked) ≡ length (events_until so.asked) =
-    let same : length (turns old.told.conn old.told.state so.asked) ≡ length (turns the_connection joined so.asked) = λ i. length (turns (conn i) (state i) so.asked) in
+    let counted : old.told.count + length (turns old.told.conn old.told.state so.asked) ≡ length (events_until contents so.asked) =
+    let same : length (turns old.told.conn old.told.state so.asked) ≡ length (turns the_connection (joined contents) so.asked) = λ i. length (turns (conn i) (state i) so.asked) in
     omega (arith, count, same) in
     record {
       read = so.read;
       took = so.took;
       asked = so.asked;
-      legal = (joins, at-start old.told.conn old.told.state conn state (λ c s. Legal s (single c s so.asked)) (own-legal old.told.state (single old.told.conn old.told.state so.asked) so.recorded.answered));
+      legal = (joins contents, at-start contents old.told.conn old.told.state conn state (λ c s. Legal s (single c s so.asked)) (own-legal old.told.state (single old.told.conn old.told.state so.asked) so.recorded.answered));
       moments = have-moments old.coming new.coming so.asked so.refused so.moments;
       salts = have-salts seed new.salting so.asked so.refused (subst (λ s. GivesSalts s (map (λ (a : TimedRequest). a.salt) (so.asked ++ so.refused)) new.salting) salting so.salts);
       how = how;
@@ -91,14 +92,14 @@ serves uid seed from to sink behind old new how conn state count salting so =
     }
 
 -- there was no memory before the first byte
-pub serves-none : (uid : ℕ) (seed : List ℕ) (coming : Option (ℕ → ℕ)) (from : Input) (sink : Output) → Serves uid seed coming from from sink sink status.Memory
-serves-none uid seed coming from sink =
-    let text = text_of (handshake_run uid seed []) [] in
+pub serves-none : (contents : Contents) (uid : ℕ) (seed : List ℕ) (coming : Option (ℕ → ℕ)) (from : Input) (sink : Output) → Serves uid seed coming from from sink sink contents status.Memory
+serves-none contents uid seed coming from sink =
+    let text = text_of contents (handshake_run uid seed []) [] in
     record {
       read = [];
       took = record { consumed = Consumes-nil from.left; later = omega arith; steady = KeepsSteady-none from.is_steady from.faults };
       asked = [];
-      legal = (joins, (there, tt));
+      legal = (joins contents, (there contents, tt));
       moments = none-given coming;
       salts = tt;
       how = end.Memory;

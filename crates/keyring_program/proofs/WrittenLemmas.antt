@@ -8,11 +8,12 @@ use Rattle.dbus_framing.specs.Messages.{Parts}
 use Rattle.dbus_framing.specs.Streams.{Stream}
 use Rattle.dbus_framing.proofs.Cuts.{one_stream}
 use Rattle.call_wire.specs.CallOf.{CallOf}
-use Rattle.service_machine.specs.declared.rows.Rows.{Rows}
+use Rattle.service_machine.specs.State.{State}
 use Rattle.service_machine.specs.declared.event.Event.{Event}
 use Rattle.service_machine.specs.declared.event.Event.TheVariants as event
+use Rattle.service_machine.specs.Opened.{Contents, opened_state}
 use Rattle.service_machine.specs.Run.{ran}
-use Rattle.service_machine.specs.Step.{opened_rows, plan_of, message_of, with_delivered, step}
+use Rattle.service_machine.specs.Step.{plan_of, message_of, with_delivered, step}
 use Rattle.service_machine.specs.Replay.{replay}
 use Rattle.connection_worker.specs.Arrivals.{calls_in, AreRequests}
 use Rattle.connection_worker.specs.Handshakes.{most_bytes}
@@ -53,22 +54,22 @@ alike-of same (parts ∷ calls) (a ∷ one) (b ∷ other) p q = (
 )
 
 -- they lead to one state
-step-alike : (state : Rows) (a b : TimedRequest) → Alike a b → step state (arrival the_connection a) ≡ step state (arrival the_connection b)
+step-alike : (state : State) (a b : TimedRequest) → Alike a b → step state (arrival the_connection a) ≡ step state (arrival the_connection b)
 step-alike state a b p = λ i.
     let after = ran the_connection (plan_of (p.call i)) state in
     with_delivered ((if p.wants_reply i then record { to = the_connection; out = message_of (p.serial i) after.answer } ∷ [] else []) ++ after.sends) after.state
 
-given_by-append : (state : Rows) (events more : List Event) → given_by the_connection state (events ++ more) ≡ given_by the_connection state events ++ given_by the_connection (replay state events) more
+given_by-append : (state : State) (events more : List Event) → given_by the_connection state (events ++ more) ≡ given_by the_connection state events ++ given_by the_connection (replay state events) more
 given_by-append state [] more = refl
 given_by-append state (event ∷ events) more =
     ap (λ l. given the_connection state event ++ l) (given_by-append (step state event) events more)
     ∙ sym (append_assoc (given the_connection state event) (given_by the_connection (step state event) events) (given_by the_connection (replay (step state event) events) more))
 
 -- what is given after a request, and then for further ones
-abbrev behind : Rows → List TimedRequest → List Event
+abbrev behind : State → List TimedRequest → List Event
 behind state more = taking the_connection state ++ turns the_connection (replay state (taking the_connection state)) more
 
-given-alike : (one other : List TimedRequest) (state : Rows) → AreAlike one other → given_by the_connection state (turns the_connection state one) ≡ given_by the_connection state (turns the_connection state other)
+given-alike : (one other : List TimedRequest) (state : State) → AreAlike one other → given_by the_connection state (turns the_connection state one) ≡ given_by the_connection state (turns the_connection state other)
 given-alike [] [] state p = refl
 given-alike [] (b ∷ other) state p = absurd p
 given-alike (a ∷ one) [] state p = absurd p
@@ -82,15 +83,16 @@ given-alike (a ∷ one) (b ∷ other) state p =
     ∙ ap (λ s. given_by the_connection s (behind s other)) (step-alike state a b p.0)
 
 -- that the connection is gone gives nothing
-given-all : (asked : List TimedRequest) → given_by the_connection opened_rows (events_of asked) ≡ given_by the_connection joined (turns the_connection joined asked)
-given-all asked =
-    given_by-append joined (turns the_connection joined asked) (event.Gone the_connection ∷ []) ∙ append-nil (given_by the_connection joined (turns the_connection joined asked))
+given-all : (contents : Contents) (asked : List TimedRequest) → given_by the_connection (opened_state contents) (events_of contents asked) ≡ given_by the_connection (joined contents) (turns the_connection (joined contents) asked)
+given-all contents asked =
+    let state = joined contents in
+    given_by-append state (turns the_connection state asked) (event.Gone the_connection ∷ []) ∙ append-nil (given_by the_connection state (turns the_connection state asked))
 
-pub one-text : OneCall → (run : Run) (one other : List TimedRequest) (rest left : List ℕ) → AllServed run one rest → AllServed run other left → text_of run one ≡ text_of run other
-one-text same run one other rest left p q =
+pub one-text : OneCall → (contents : Contents) (run : Run) (one other : List TimedRequest) (rest left : List ℕ) → AllServed run one rest → AllServed run other left → text_of contents run one ≡ text_of contents run other
+one-text same contents run one other rest left p q =
     let bytes : p.behind ≡ q.behind = let e = sym p.opened ∙ q.opened in cc in
     let stream = subst (λ l. Stream most_bytes l p.all.messages rest) bytes p.all.stream in
     let messages = (one_stream most_bytes q.behind rest left p.all.messages q.all.messages stream q.all.stream).0 in
     let are = subst (λ l. AreRequests (calls_in l) (requests_of one)) messages p.all.are in
     let alike = alike-of same (calls_in q.all.messages) one other are q.all.are in
-    ap (λ outs. concat run.answers ++ spelled_behind 0 outs) (given-all one ∙ given-alike one other joined alike ∙ sym (given-all other))
+    ap (λ outs. concat run.answers ++ spelled_behind 0 outs) (given-all contents one ∙ given-alike one other (joined contents) alike ∙ sym (given-all contents other))

@@ -1,12 +1,14 @@
--- The history of a run over the standard streams: the service begins with it, and its connection is the first and only one.
+-- The history of a run over the standard streams: the service begins with it, and its connection is the first and only one. It begins
+-- with what the folder has.
 use Rattle.std.specs.Prelude.{◌≡◌, ℕ, ◌+◌, List, [], ◌∷◌, ◌++◌, Option, Some, None, map}
 use Rattle.std.specs.List.{concat}
 use Rattle.kr_base.specs.declared.ids.ConnId.{ConnId}
 use Rattle.dbus_auth.specs.Handshake.{Run}
-use Rattle.service_machine.specs.declared.rows.Rows.{Rows}
 use Rattle.service_machine.specs.declared.event.Event.{Event}
 use Rattle.service_machine.specs.declared.event.Event.TheVariants as event
-use Rattle.service_machine.specs.Step.{opened_rows, step}
+use Rattle.service_machine.specs.Opened.{Contents, opened_state}
+use Rattle.service_machine.specs.State.{State}
+use Rattle.service_machine.specs.Step.{step}
 use Rattle.connection_worker.specs.Salts.{salt_of}
 use Rattle.service_machine.specs.Single.{TimedRequest, turns}
 use Rattle.connection_worker.specs.Written.{written}
@@ -16,20 +18,20 @@ abbrev pub the_connection : ConnId
 the_connection = record { 0 = 1 }
 
 -- the service after the connection joined
-abbrev pub joined : Rows
-joined = step opened_rows (event.Connect the_connection)
+abbrev pub joined : Contents → State
+joined contents = step (opened_state contents) (event.Connect the_connection)
 
 -- The events of these requests: the connection joins, then each request arrives and what waits is taken.
-abbrev pub events_until : List TimedRequest → List Event
-events_until asked = event.Connect the_connection ∷ turns the_connection joined asked
+abbrev pub events_until : Contents → List TimedRequest → List Event
+events_until contents asked = event.Connect the_connection ∷ turns the_connection (joined contents) asked
 
 -- all events of a run: at last the connection is gone
-abbrev pub events_of : List TimedRequest → List Event
-events_of asked = events_until asked ++ event.Gone the_connection ∷ []
+abbrev pub events_of : Contents → List TimedRequest → List Event
+events_of contents asked = events_until contents asked ++ event.Gone the_connection ∷ []
 
 -- the output of the run of a handshake and of these requests
-abbrev pub text_of : Run → List TimedRequest → List ℕ
-text_of run asked = concat run.answers ++ written the_connection opened_rows (events_of asked)
+abbrev pub text_of : Contents → Run → List TimedRequest → List ℕ
+text_of contents run asked = concat run.answers ++ written the_connection (opened_state contents) (events_of contents asked)
 
 -- the values of a function, from this argument on
 abbrev pub AreGivenFrom : {V : Type 0} → ℕ → (ℕ → V) → List V → Type 0

@@ -1,11 +1,13 @@
 -- The folder of a run.
-use Rattle.std.specs.Prelude.{ℕ, List}
+use Rattle.std.specs.Prelude.{◌≡◌, ℕ, List}
 use Rattle.kr_outside.specs.RenameDisk.{Image}
 use Rattle.folder_store.specs.Aliases.{pairs_in}
+use Rattle.folder_store.specs.declared.loading.Loaded.{Loaded}
 use Rattle.folder_store.specs.Limits.{the_limits}
 use Rattle.folder_store.specs.Loads.{opening_of}
 use Rattle.folder_store.specs.Opened.{Opening, Opened}
-use Rattle.service_machine.specs.declared.disk.Disk.{Disk}
+use Rattle.service_machine.specs.Disk.{contents_from}
+use Rattle.service_machine.specs.Opened.{Contents}
 use Rattle.keyring_program.specs.declared.status.Status.{Status}
 use Rattle.keyring_program.specs.declared.status.Status.TheVariants as status
 
@@ -15,9 +17,11 @@ pub record IsOpened (images : List ℕ → Image) : Type 0 where
   pub pairs : List (List ℕ × List ℕ)
   pub opened : Opened the_limits images opening pairs
 
--- what was loaded is that
-abbrev pub HasOpened : {F S : Type 0} → (List ℕ → Image) → Disk F S → Type 0
-HasOpened images disk = Opened the_limits images (opening_of disk.loaded) (pairs_in disk.loaded.aliases)
+-- a service starts with what was loaded, which is that
+pub record HasOpened {S : Type 0} (images : List ℕ → Image) (contents : Contents) : Type 0 where
+  pub loaded : Loaded S
+  pub opened : Opened the_limits images (opening_of loaded) (pairs_in loaded.aliases)
+  pub starts : contents ≡ contents_from loaded
 
 -- a run that ended with this status had its folder open
 abbrev pub HadFolder : Status → Type 0

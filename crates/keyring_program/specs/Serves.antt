@@ -1,7 +1,7 @@
 -- One run over the standard streams: what was read, recorded and written, and why it ended.
 use Rattle.std.specs.Prelude.{◌≡◌, ℕ, List, Option, length}
 use Rattle.dbus_auth.specs.Handshake.{Run, handshake}
-use Rattle.service_machine.specs.Step.{opened_rows}
+use Rattle.service_machine.specs.Opened.{Contents, opened_state}
 use Rattle.service_machine.specs.Replay.{Legal}
 use Rattle.connection_worker.specs.declared.ending.End.{End}
 use Rattle.connection_worker.specs.Causes.{HasCause, HasWritten}
@@ -16,18 +16,19 @@ use Rattle.keyring_program.specs.declared.status.Status.{Status}
 abbrev pub handshake_run : ℕ → List ℕ → List ℕ → Run
 handshake_run uid seed read = handshake uid (guid seed) read
 
--- The run of the user's client under this seed, with a clock that returns these moments: these bytes were read, and
--- these requests in them recorded, each with a moment and a salt; their events are legal from the service's start, and
+-- The run of the user's client under this seed, with a clock that returns these moments, over a service that starts with these
+-- collections and aliases: these bytes were read, and these requests in them recorded, each with a moment and a salt; their events
+-- are legal from the service's start, and
 -- their outputs were written after the handshake's answers. The connection's end has its cause, and the status is that
 -- of the end.
-pub record Serves (uid : ℕ) (seed : List ℕ) (coming : Option (ℕ → ℕ)) (from to : Input) (sink after : Output) (status : Status) : Type 0 where
+pub record Serves (uid : ℕ) (seed : List ℕ) (coming : Option (ℕ → ℕ)) (from to : Input) (sink after : Output) (contents : Contents) (status : Status) : Type 0 where
   pub read : List ℕ
   pub took : Took from to read
   pub asked : List TimedRequest
-  pub legal : Legal opened_rows (events_of asked)
+  pub legal : Legal (opened_state contents) (events_of contents asked)
   pub moments : HaveMoments coming asked
   pub salts : HaveSalts seed asked
   pub how : End
   pub status_is : status ≡ status_of how
-  pub cause : HasCause how (handshake_run uid seed read) asked (length (events_until asked)) from to sink after
-  pub wrote : HasWritten how sink after (text_of (handshake_run uid seed read) asked)
+  pub cause : HasCause how (handshake_run uid seed read) asked (length (events_until contents asked)) from to sink after
+  pub wrote : HasWritten how sink after (text_of contents (handshake_run uid seed read) asked)

@@ -2,6 +2,7 @@
 ghost use Rattle.std.specs.Prelude.{◌≡◌};
 ghost use Rattle.connection_worker.specs.Streams.{input_of, output_of};
 ghost use Rattle.service_history.specs.History.{opened_history};
+ghost use Rattle.service_machine.specs.Opened.{IsOpened, contents_of};
 ghost use Rattle.keyring_program.specs.Serves.{Serves};
 
 use crate::server_number::guid_of;
@@ -27,12 +28,14 @@ pub fn serve_client<R: AllocGlobal + Wait, I: Source, O: Sink, C: Clock, F: Fold
     clock: &mut C,
     service: Service<F>,
 ) -> Status
-    requires { service.history ≡ opened_history }
+    requires starts { IsOpened service.history.state }
+    requires history { service.history ≡ opened_history service.history.state }
     ensures { Serves uid seed (C.coming clock.old)
         (input_of I.left I.faults I.is_steady input.old)
         (input_of I.left I.faults I.is_steady input.new)
         (output_of O.written O.faults O.is_steady output.old)
-        (output_of O.written O.faults O.is_steady output.new) result }
+        (output_of O.written O.faults O.is_steady output.new)
+        (contents_of service.history.state) result }
 {
     let mut desk = match LoneDesk::join(service) {
         Ok(desk) => desk,

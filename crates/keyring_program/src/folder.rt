@@ -4,6 +4,7 @@ ghost use Rattle.kr_outside.specs.Faults.{KeepsSteady, Rose};
 ghost use Rattle.kr_outside.specs.Host.{GivesOne, GivesOneAtMost};
 ghost use Rattle.kr_outside.specs.RenameDisk.{Image};
 ghost use Rattle.service_history.specs.History.{opened_history};
+ghost use Rattle.service_machine.specs.Opened.{IsOpened, contents_of};
 ghost use Rattle.keyring_program.specs.Folder.{HasOpened};
 
 use kr_outside::{Host, OutsideRefused};
@@ -20,10 +21,13 @@ pub fn open_service<H: Host>(
     host: &mut H,
     path: &str,
 ) -> Result<Service<H::Dir>, OpenRefused>
-    ensures history { IfOk result (λ service. service.history ≡ opened_history) }
+    ensures starts { IfOk result (λ service. IsOpened service.history.state) }
+    ensures history { IfOk result (λ service.
+        service.history ≡ opened_history service.history.state) }
     ensures opened { (images : List ℕ → Image) → IsTrue (H.is_honest host.old)
         → H.told host.old path.now ≡ Some images
-        → IfOk result (λ service. HasOpened images service.disk) }
+        → IfOk result (λ service. HasOpened {S = H.Dir.Cell} images
+            (contents_of service.history.state)) }
 
     ensures cause { IsErrOf result OpenRefused.Folder
         → Rose (H.faults host.old) (H.faults host.new) ⊎ ¬ (IsTrue (H.is_steady host.old)) }

@@ -8,19 +8,22 @@ ghost use Rattle.connection_worker.specs.Replies.{replies_to};
 ghost use Rattle.service_machine.specs.Single.{TimedRequest};
 ghost use Rattle.connection_worker.specs.Written.{spelled_behind};
 ghost use Rattle.keyring_program.specs.Events.{the_connection, joined, text_of};
+ghost use Rattle.service_machine.specs.Opened.{Contents};
 ghost use Rattle.keyring_program.specs.Serves.{handshake_run};
 
 use call_wire::a_message_is_one_request;
 use connection_worker::each_request_is_answered_at_once;
 
-/// What is written for the calls that were read is determined by the bytes that were read, the user
-/// and the seed: runs over the same bytes that recorded each call in them write the same, whatever
-/// their moments were.
+/// What is written for the calls that were read is determined by the bytes that were read, the user,
+/// the seed and what the service starts with: runs over the same bytes that recorded each call in them
+/// write the same, whatever their moments were.
 pub fn what_is_written_is_one()
-    ensures { (uid : ℕ) (seed read rest left : List ℕ) (one other : List TimedRequest)
+    ensures { (contents : Contents) (uid : ℕ) (seed read rest left : List ℕ)
+        (one other : List TimedRequest)
         → AllServed (handshake_run uid seed read) one rest
         → AllServed (handshake_run uid seed read) other left
-        → text_of (handshake_run uid seed read) one ≡ text_of (handshake_run uid seed read) other }
+        → text_of contents (handshake_run uid seed read) one
+        ≡ text_of contents (handshake_run uid seed read) other }
 {
     a_message_is_one_request();
 }
@@ -28,8 +31,9 @@ pub fn what_is_written_is_one()
 /// What is written after the handshake's answers is the reply to each request that wants one, in the
 /// order of the requests, with serials from 1 on, and nothing else.
 pub fn each_request_has_its_reply()
-    ensures { (run : Run) (asked : List TimedRequest) → text_of run asked
-        ≡ concat run.answers ++ spelled_behind 0 (replies_to the_connection joined asked) }
+    ensures { (contents : Contents) (run : Run) (asked : List TimedRequest)
+        → text_of contents run asked ≡ concat run.answers
+        ++ spelled_behind 0 (replies_to the_connection (joined contents) asked) }
 {
     each_request_is_answered_at_once();
 }

@@ -5,7 +5,8 @@ ghost use Rattle.kr_outside.specs.Host.{GivesOne, GivesOneAtMost};
 ghost use Rattle.kr_outside.specs.RenameDisk.{Image};
 ghost use Rattle.connection_worker.specs.Streams.{input_of, output_of};
 ghost use Rattle.keyring_program.specs.Command.{IsStdio, IsStdioIn, IsNoCommand};
-ghost use Rattle.keyring_program.specs.Folder.{IsOpened, HadFolder};
+ghost use Rattle.keyring_program.specs.Folder.{IsOpened, HadFolder, HasOpened};
+ghost use Rattle.service_machine.specs.Opened.{Contents};
 ghost use Rattle.keyring_program.specs.Serves.{Serves};
 ghost use Rattle.keyring_program.specs.WholeInput.{IsWholeInput};
 
@@ -64,13 +65,18 @@ pub fn run<R: AllocGlobal + Wait, I: Source, O: Sink, H: Host>(
     ensures host_steady { KeepsSteady (H.is_steady host.old) (H.is_steady host.new)
         (H.faults host.old) (H.faults host.new) }
 
-    // What was read, recorded and written, and why the run ended as it did.
+    // What was read, recorded and written, and why the run ended as it did; the service starts with what the
+    // folder has.
     ensures served { (uid : ℕ) → IsStdio words.now uid → (result ≡ Status.FolderFault)
-        ⊎ Serves uid seed (H.coming host.old)
+        ⊎ ((contents : Contents)
+        × (HadFolder result → (folder : List ℕ) (images : List ℕ → Image)
+        → IsStdioIn words.now folder uid → IsTrue (H.is_honest host.old)
+        → H.told host.old folder ≡ Some images → HasOpened {S = H.Dir.Cell} images contents)
+        × Serves uid seed (H.coming host.old)
         (input_of I.left I.faults I.is_steady input.old)
         (input_of I.left I.faults I.is_steady input.new)
         (output_of O.written O.faults O.is_steady output.old)
-        (output_of O.written O.faults O.is_steady output.new) result }
+        (output_of O.written O.faults O.is_steady output.new) contents result) }
 
     // Over a host that never fails and streams that didn't, an open handshake and a stream of messages
     // after it are answered to their end.

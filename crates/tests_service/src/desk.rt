@@ -1,5 +1,5 @@
 use crate::checks::{cell, holds, number, same_number, same_text};
-use crate::folders::{Service, service_over_nothing};
+use crate::folders::{Service, lent, over, service_over_nothing};
 use crate::words::call_of;
 use lone_desk::LoneDesk;
 use secret_calls::{Body, Call, CallFault, Out, Refused, Request, Serial, Taken};
@@ -118,20 +118,29 @@ fn does<D: ReadDesk + WriteDesk>(
     }
 }
 
-fn stored(service: &Service) -> u64 {
-    service.events().len() as u64
+fn talks<D: ReadDesk + WriteDesk>(
+    rt: &impl Abort,
+    alloc: Global,
+    desk: &mut D,
+) -> Result<(), Fail> {
+    same_number(rt, desk.conn().0, 1, "its number");
+    for row in CONVERSATION.lines() {
+        let told = does(alloc, desk, row)?;
+        same_text(rt, told, cell(row, 4), row);
+    }
+    Ok(())
+}
+
+fn stores_7(rt: &impl Abort, service: &Service) -> Result<(), Fail> {
+    same_number(rt, service.events().len() as u64, 7, "the events");
+    Ok(())
 }
 
 #[test]
 fn a_desk_is_asked_and_takes_until_it_is_closed(rt: HostRuntime) -> Result<(), Fail> {
-    let mut desk = LoneDesk::join(service_over_nothing(rt.alloc())?)?;
-    same_number(&rt, desk.conn().0, 1, "its number");
-    for row in CONVERSATION.lines() {
-        let told = does(rt.alloc(), &mut desk, row)?;
-        same_text(&rt, told, cell(row, 4), row);
-    }
-    same_number(&rt, stored(&desk.into_service()), 7, "the events");
-    Ok(())
+    let desk = LoneDesk::join(service_over_nothing(rt.alloc())?)?;
+    let desk = lent(desk, |desk| talks(&rt, rt.alloc(), desk))?;
+    over(desk.into_service(), |service| stores_7(&rt, service))
 }
 
 fn joined(rt: &impl Abort, service: Service, number: u64) -> Result<Service, Fail> {

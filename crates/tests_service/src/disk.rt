@@ -2,7 +2,7 @@
 ghost use Rattle.std.specs.Prelude.{◌≡◌, [], IfOk};
 
 use crate::checks::{cell, number, same_number, same_text};
-use crate::folders::Service;
+use crate::folders::{Service, lent, over};
 use kr_base::{Bytes, ConnId, Text};
 use kr_memory_disk::MemoryFolder;
 use service_machine::{Disk, OpenRefused};
@@ -38,12 +38,27 @@ const OPENINGS: &str = "\
 2|open
 ";
 
+fn is_opened(
+    rt: &impl Abort,
+    opened: &Result<Service, OpenRefused>,
+    row: &str,
+) -> Result<(), Fail> {
+    same_text(rt, opened_told(opened), cell(row, 1), row);
+    Ok(())
+}
+
+fn opens(rt: &impl Abort, alloc: Global, row: &str) -> Result<(), Fail> {
+    let folder = folder(alloc, number(cell(row, 0))?)?;
+    over(
+        Service::open(alloc, folder),
+        |opened| is_opened(rt, opened, row),
+    )
+}
+
 #[test]
 fn a_service_opens_unless_its_folder_fails(rt: HostRuntime) -> Result<(), Fail> {
     for row in OPENINGS.lines() {
-        let folder = folder(rt.alloc(), number(cell(row, 0))?)?;
-        let opened = Service::open(rt.alloc(), folder);
-        same_text(&rt, opened_told(&opened), cell(row, 1), row);
+        opens(&rt, rt.alloc(), row)?;
     }
     Ok(())
 }
@@ -55,17 +70,17 @@ fn is_used(service: &mut Service) -> Result<(), Fail> {
     Ok(())
 }
 
-fn has_loaded(rt: &impl Abort, disk: &Disk<MemoryFolder>) {
-    same_number(rt, disk.loaded.rings.len() as u64, 0, "the collections");
-    same_number(rt, disk.loaded.used.len() as u64, 1, "the stems in use");
-    let left_alone = disk.loaded.left_alone.len() as u64;
+fn has_loaded(rt: &impl Abort, disk: &Disk<MemoryFolder>) -> Result<(), Fail> {
+    same_number(rt, disk.collections.len() as u64, 0, "the collections");
+    same_number(rt, disk.used.len() as u64, 1, "the stems in use");
+    let left_alone = disk.left_alone.len() as u64;
     same_number(rt, left_alone, 1, "the files that were left alone");
+    Ok(())
 }
 
 #[test]
 fn a_service_returns_its_folder_and_what_it_loaded(rt: HostRuntime) -> Result<(), Fail> {
-    let mut service = Service::open(rt.alloc(), folder(rt.alloc(), 9)?)?;
-    is_used(&mut service)?;
-    has_loaded(&rt, &service.into_disk());
-    Ok(())
+    let service = Service::open(rt.alloc(), folder(rt.alloc(), 9)?)?;
+    let service = lent(service, |service| is_used(service))?;
+    over(service.into_disk(), |disk| has_loaded(&rt, disk))
 }

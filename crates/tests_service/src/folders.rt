@@ -1,6 +1,7 @@
 // Services over folders in memory, and what lends them to a test.
 ghost use Rattle.std.specs.Prelude.{◌≡◌, []};
 
+use crate::login::login_folder;
 use kr_memory_disk::MemoryFolder;
 use std::alloc::Global;
 use std::test::Fail;
@@ -22,6 +23,16 @@ pub fn machine_over_nothing(alloc: Global) -> Result<Machine, Fail> {
     Ok(Machine::open(alloc, no_files(alloc))?)
 }
 
+/// A machine over a folder with one collection.
+pub fn machine_over_login(alloc: Global) -> Result<Machine, Fail> {
+    Ok(Machine::open(alloc, login_folder(alloc)?)?)
+}
+
+/// A service over a folder with one collection.
+pub fn service_over_login(alloc: Global) -> Result<Service, Fail> {
+    Ok(Service::open(alloc, login_folder(alloc)?)?)
+}
+
 /// A service over a folder without files.
 pub fn service_over_nothing(alloc: Global) -> Result<Service, Fail> {
     Ok(Service::open(alloc, no_files(alloc))?)
@@ -34,4 +45,13 @@ pub fn over<T: Drop, L: FnOnce(&mut T) -> Result<(), Fail>>(value: T, test: L) -
 {
     let mut value = value;
     test(&mut value)
+}
+
+/// Lends a value to a test, and returns it if the test succeeded; otherwise drops it.
+pub fn lent<T: Drop, L: FnOnce(&mut T) -> Result<(), Fail>>(value: T, test: L) -> Result<T, Fail>
+    requires { L.IsAlwaysCallable test }
+{
+    let mut value = value;
+    test(&mut value)?;
+    Ok(value)
 }

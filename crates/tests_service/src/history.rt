@@ -71,18 +71,27 @@ fn asks_much(
     Ok(())
 }
 
+// Asserts the era, and how many events are stored.
+fn is_at(rt: &impl Abort, service: &Service, era: u64, events: u64) {
+    same_number(rt, service.era(), era, "the era");
+    same_number(rt, stored(service), events, "the events after the cut");
+}
+
+fn asks_513_times(rt: &impl Abort, alloc: Global, service: &mut Service) -> Result<(), Fail> {
+    join(service)?;
+    for number in 1..514u64 {
+        asks_much(rt, alloc, service, number)?;
+    }
+    is_at(rt, service, 513, 1);
+    gone(service);
+    is_at(rt, service, 513, 2);
+    Ok(())
+}
+
 #[test]
 fn a_cut_is_made_once_the_events_cost_much(rt: HostRuntime) -> Result<(), Fail> {
-    let mut service = service_over_nothing(rt.alloc())?;
-    join(&mut service)?;
-    for number in 1..514u64 {
-        asks_much(&rt, rt.alloc(), &mut service, number)?;
-    }
-    same_number(&rt, stored(&service), 1, "the events after the cut");
-    gone(&mut service);
-    same_number(&rt, service.era(), 513, "the era");
-    same_number(&rt, stored(&service), 2, "the events with the last");
-    Ok(())
+    let service = service_over_nothing(rt.alloc())?;
+    over(service, |service| asks_513_times(&rt, rt.alloc(), service))
 }
 
 // The answer to the call of a row.
@@ -108,18 +117,35 @@ const FULL: &str = "\
 1|open|plain|session 65
 ";
 
-#[test]
-fn a_65th_session_is_refused(rt: HostRuntime) -> Result<(), Fail> {
-    let mut service = service_over_nothing(rt.alloc())?;
-    join(&mut service)?;
+fn is_answered(
+    rt: &impl Abort,
+    alloc: Global,
+    service: &mut Service,
+    row: &str,
+) -> Result<(), Fail> {
+    let found = answer(alloc, service, row)?;
+    same_text(rt, found.as_str(), cell(row, 3), row);
+    Ok(())
+}
+
+fn opens_65_sessions(rt: &impl Abort, alloc: Global, service: &mut Service) -> Result<(), Fail> {
+    join(service)?;
     for number in 1..65u64 {
-        opens(&rt, rt.alloc(), &mut service, number)?;
+        opens(rt, alloc, service, number)?;
     }
     for row in FULL.lines() {
-        let found = answer(rt.alloc(), &mut service, row)?;
-        same_text(&rt, found.as_str(), cell(row, 3), row);
+        is_answered(rt, alloc, service, row)?;
     }
     Ok(())
+}
+
+#[test]
+fn a_65th_session_is_refused(rt: HostRuntime) -> Result<(), Fail> {
+    let service = service_over_nothing(rt.alloc())?;
+    over(
+        service,
+        |service| opens_65_sessions(&rt, rt.alloc(), service),
+    )
 }
 
 fn taken_told(taken: Taken) -> &'static str {

@@ -14,7 +14,11 @@ mod folders;
 #[cfg(test)]
 mod history;
 #[cfg(test)]
+mod login;
+#[cfg(test)]
 mod machine;
+#[cfg(test)]
+mod members;
 #[cfg(test)]
 mod threads;
 #[cfg(test)]

@@ -1,5 +1,5 @@
 use crate::checks::{cell, holds, number, same_number, same_text};
-use crate::folders::{Machine, machine_over_nothing};
+use crate::folders::{Machine, machine_over_nothing, over};
 use crate::words::{call_of, last_told};
 use kr_base::ConnId;
 use kr_items::Items;
@@ -28,8 +28,8 @@ const CONVERSATION: &str = "\
 2|close|3|NoSession
 ";
 
-// Lets a connection join, and returns its number.
-fn join(machine: &mut Machine) -> Result<u64, ApplyRefused> {
+/// Lets a connection join, and returns its number.
+pub fn join(machine: &mut Machine) -> Result<u64, ApplyRefused> {
     let (output, _) = machine.apply(Incoming::Connect)?;
     match output {
         Output::Joined(conn) => Ok(conn.0),
@@ -76,7 +76,8 @@ fn taken(machine: &mut Machine, conn: ConnId) -> Option<Items<Out>> {
     }
 }
 
-fn does(
+/// Does what a row says.
+pub fn does(
     alloc: Global,
     machine: &mut Machine,
     conn: ConnId,
@@ -88,8 +89,8 @@ fn does(
     }
 }
 
-// Takes everything that waits, and returns the last of it in words.
-fn answer(alloc: Global, machine: &mut Machine, conn: ConnId) -> Result<String, Fail> {
+/// Takes everything that waits, and returns the last of it in words.
+pub fn answer(alloc: Global, machine: &mut Machine, conn: ConnId) -> Result<String, Fail> {
     match taken(machine, conn) {
         Some(outs) => last_told(alloc, outs.as_slice()),
         None => Ok(String::from_str(alloc, "nothing")?),
@@ -125,16 +126,20 @@ fn are_left(rt: &impl Abort, rows: &Rows) {
     same_number(rt, rows.sessions.next, 4, "the next session");
 }
 
+fn talk(rt: &impl Abort, alloc: Global, machine: &mut Machine) -> Result<(), Fail> {
+    join(machine)?;
+    join(machine)?;
+    for row in CONVERSATION.lines() {
+        is_answered(rt, alloc, machine, row)?;
+    }
+    are_left(rt, &machine.rows()?);
+    Ok(())
+}
+
 #[test]
 fn two_connections_talk(rt: HostRuntime) -> Result<(), Fail> {
-    let mut machine = machine_over_nothing(rt.alloc())?;
-    join(&mut machine)?;
-    join(&mut machine)?;
-    for row in CONVERSATION.lines() {
-        is_answered(&rt, rt.alloc(), &mut machine, row)?;
-    }
-    are_left(&rt, &machine.rows()?);
-    Ok(())
+    let machine = machine_over_nothing(rt.alloc())?;
+    over(machine, |machine| talk(&rt, rt.alloc(), machine))
 }
 
 fn is_overrun(machine: &Machine, conn: ConnId) -> Result<bool, Fail> {
@@ -157,37 +162,45 @@ fn count_taken(machine: &mut Machine, conn: ConnId) -> Result<u64, Fail> {
     Ok(taken(machine, conn).ok_or("outs")?.len() as u64)
 }
 
-#[test]
-fn a_connection_that_takes_nothing_is_overrun(rt: HostRuntime) -> Result<(), Fail> {
-    let mut machine = machine_over_nothing(rt.alloc())?;
-    let conn = ConnId(join(&mut machine)?);
+// Asserts that a connection was overrun, and takes what waits.
+fn was_overrun(rt: &impl Abort, machine: &mut Machine, conn: ConnId) -> Result<(), Fail> {
+    holds(rt, is_overrun(machine, conn)?, "it is overrun");
+    holds(rt, waits(machine, conn)?, "outputs wait");
+    same_number(rt, count_taken(machine, conn)?, 371_370, "the outputs");
+    Ok(())
+}
+
+fn takes_nothing(rt: &impl Abort, machine: &mut Machine) -> Result<(), Fail> {
+    let conn = ConnId(join(machine)?);
     // 371,370 returns of 24 bytes are 8,912,880 bytes, and the next one would exceed 8,912,896.
     for _ in 0..371_371u32 {
-        ping(&rt, &mut machine, conn)?;
+        ping(rt, machine, conn)?;
     }
-    holds(&rt, is_overrun(&machine, conn)?, "it is overrun");
-    holds(&rt, waits(&machine, conn)?, "outputs wait");
-    same_number(
-        &rt,
-        count_taken(&mut machine, conn)?,
-        371_370,
-        "the outputs",
-    );
-    Ok(())
+    was_overrun(rt, machine, conn)
+}
+
+#[test]
+fn a_connection_that_takes_nothing_is_overrun(rt: HostRuntime) -> Result<(), Fail> {
+    let machine = machine_over_nothing(rt.alloc())?;
+    over(machine, |machine| takes_nothing(&rt, machine))
 }
 
 fn is_crowded(machine: &mut Machine) -> bool {
     matches!(join(machine), Err(ApplyRefused::TooManyConnections))
 }
 
+fn join_257_times(rt: &impl Abort, machine: &mut Machine) -> Result<(), Fail> {
+    for _ in 0..256u32 {
+        join(machine)?;
+    }
+    holds(rt, is_crowded(machine), "a 257th");
+    gone(machine, ConnId(9))?;
+    same_number(rt, join(machine)?, 257, "one after it");
+    Ok(())
+}
+
 #[test]
 fn a_257th_connection_is_refused(rt: HostRuntime) -> Result<(), Fail> {
-    let mut machine = machine_over_nothing(rt.alloc())?;
-    for _ in 0..256u32 {
-        join(&mut machine)?;
-    }
-    holds(&rt, is_crowded(&mut machine), "a 257th");
-    gone(&mut machine, ConnId(9))?;
-    same_number(&rt, join(&mut machine)?, 257, "one after it");
-    Ok(())
+    let machine = machine_over_nothing(rt.alloc())?;
+    over(machine, |machine| join_257_times(&rt, machine))
 }

@@ -5,7 +5,7 @@ ghost use Rattle.std.specs.Prelude.{◌≡◌, IfOk};
 ghost use Rattle.std.specs.Arc.{arc_value};
 
 use crate::checks::{holds, same_number};
-use crate::folders::{Service, service_over_nothing};
+use crate::folders::{Service, over, service_over_nothing};
 use kr_base::ConnId;
 use kr_memory_disk::MemoryFolder;
 use secret_calls::{Call, Request, Serial, Taken};
@@ -133,21 +133,25 @@ fn served<R: Wait + Threads + Copy + Drop + Send + Sync>(
     Ok(service.close(&rt, pass))
 }
 
-#[test]
-fn what_eight_threads_recorded_is_in_one_history(rt: HostRuntime) -> Result<(), Fail> {
-    let service = served(rt, rt.alloc())?;
-    let all = THREADS as u64 * (REQUESTS as u64 + 2);
-    same_number(&rt, service.events().len() as u64, all, "the events");
+// Asserts how many events are stored.
+fn stores(rt: &impl Abort, service: &Service, events: u64) -> Result<(), Fail> {
+    same_number(rt, service.events().len() as u64, events, "the events");
+    Ok(())
+}
+
+// Asserts that the events are those of all threads.
+fn stores_all(rt: &impl Abort, service: &Service) -> Result<(), Fail> {
+    stores(rt, service, THREADS as u64 * (REQUESTS as u64 + 2))?;
     for number in 1..THREADS as u64 + 1 {
-        let found = requests_of(service.events(), ConnId(number));
-        same_number(
-            &rt,
-            found as u64,
-            REQUESTS as u64,
-            "the requests of a thread",
-        );
+        let found = requests_of(service.events(), ConnId(number)) as u64;
+        same_number(rt, found, REQUESTS as u64, "the requests of a thread");
     }
     Ok(())
+}
+
+#[test]
+fn what_eight_threads_recorded_is_in_one_history(rt: HostRuntime) -> Result<(), Fail> {
+    over(served(rt, rt.alloc())?, |service| stores_all(&rt, service))
 }
 
 // Takes what waits, and returns whether there were outputs.
@@ -188,11 +192,5 @@ fn passes_are_noted_and_gathered(rt: HostRuntime) -> Result<(), Fail> {
     service.gather(&mut pass, other);
     let mut desk = SharedDesk::new(rt, Arc::try_clone(&service)?, reader, conn);
     holds(&rt, ends(&mut desk), "closed, and then missing");
-    same_number(
-        &rt,
-        service.close(&rt, pass).events().len() as u64,
-        3,
-        "the events",
-    );
-    Ok(())
+    over(service.close(&rt, pass), |service| stores(&rt, service, 3))
 }

@@ -1,7 +1,9 @@
 // Calls from words, and outputs in words.
 
 use crate::checks::{cell, number};
-use kr_base::{SessionId, Text};
+use kr_base::{Attributes, ItemId, SessionId, Stem, Text};
+use kr_items::Items;
+use kr_names::{ObjectName, parse_path};
 use secret_calls::{Body, Call, CallFault, ErrorName, Out};
 use std::alloc::Global;
 use std::test::Fail;
@@ -16,12 +18,92 @@ fn closing(session: &str) -> Result<Call, Fail> {
     Ok(Call::CloseSession { session })
 }
 
+fn text(alloc: Global, text: &str) -> Result<Text, Fail> {
+    Ok(Text::from_str(alloc, text)?.ok_or("a zero byte")?)
+}
+
+// The parts of a text before and after its first `mark`.
+fn halves<'a>(words: &'a str, mark: char) -> Result<(&'a str, &'a str), Fail> {
+    Ok(words.split_once(mark).ok_or("two parts")?)
+}
+
+// The attribute NAME=VALUE.
+fn attribute(alloc: Global, words: &str) -> Result<Attributes, Fail> {
+    let (name, value) = halves(words, '=')?;
+    let mut pairs = Vec::new(alloc);
+    pairs.push((text(alloc, name)?, text(alloc, value)?))?;
+    Ok(Attributes::from_pairs(alloc, pairs)?)
+}
+
+// The object with the path that continues `/org/freedesktop/secrets/` like this.
+fn object(alloc: Global, below: &str) -> Result<ObjectName, Fail> {
+    let path = format!(in alloc; "/org/freedesktop/secrets/{below}")?;
+    Ok(parse_path(alloc, path.as_str())?.unwrap_or(ObjectName::Nothing))
+}
+
+fn objects(alloc: Global, words: &str) -> Result<Items<ObjectName>, Fail> {
+    let mut objects = Vec::new(alloc);
+    for below in words.split(' ') {
+        objects.push(object(alloc, below)?)?;
+    }
+    Ok(Items::new(objects))
+}
+
+// The session with a number; None for `-`.
+fn session(words: &str) -> Result<Option<SessionId>, Fail> {
+    if words == "-" {
+        return Ok(None);
+    }
+    Ok(Some(SessionId(number(words)?)))
+}
+
+fn searching(alloc: Global, words: &str) -> Result<Call, Fail> {
+    let wanted = attribute(alloc, words)?;
+    Ok(Call::SearchItems { wanted })
+}
+
+fn finding(alloc: Global, words: &str) -> Result<Call, Fail> {
+    let (path, pair) = halves(words, '?')?;
+    let collection = object(alloc, path)?;
+    let wanted = attribute(alloc, pair)?;
+    Ok(Call::SearchCollection { collection, wanted })
+}
+
+fn locking(alloc: Global, words: &str) -> Result<Call, Fail> {
+    let objects = objects(alloc, words)?;
+    Ok(Call::Lock { objects })
+}
+
+fn getting(alloc: Global, words: &str) -> Result<Call, Fail> {
+    let (item, given) = halves(words, ';')?;
+    let stem = Stem::new(alloc, "login")?.ok_or("a stem")?;
+    let item = ItemId(item.parse::<u32>().ok().ok_or("a number")?);
+    let session = session(given)?;
+    Ok(Call::GetSecret {
+        stem,
+        item,
+        session,
+    })
+}
+
+fn getting_all(alloc: Global, words: &str) -> Result<Call, Fail> {
+    let (paths, given) = halves(words, ';')?;
+    let items = objects(alloc, paths)?;
+    let session = session(given)?;
+    Ok(Call::GetSecrets { items, session })
+}
+
 /// The call of a row: its second cell says what it does, and its third with what.
 pub fn call_of(alloc: Global, row: &str) -> Result<Result<Call, CallFault>, Fail> {
     match cell(row, 1) {
         "open" => Ok(Ok(opening(alloc, cell(row, 2))?)),
         "close" => Ok(Ok(closing(cell(row, 2))?)),
         "unknown" => Ok(Err(CallFault::UnknownMethod)),
+        "search" => Ok(Ok(searching(alloc, cell(row, 2))?)),
+        "find" => Ok(Ok(finding(alloc, cell(row, 2))?)),
+        "lock" => Ok(Ok(locking(alloc, cell(row, 2))?)),
+        "secret" => Ok(Ok(getting(alloc, cell(row, 2))?)),
+        "secrets" => Ok(Ok(getting_all(alloc, cell(row, 2))?)),
         _ => Ok(Ok(Call::Ping)),
     }
 }
@@ -38,10 +120,43 @@ pub fn session_told(alloc: Global, session: u64) -> Result<String, Fail> {
     Ok(told)
 }
 
+// Paths, each after a space and without what all of them begin with.
+fn add_paths(told: &mut String, paths: &[Text]) -> Result<(), Fail> {
+    for path in paths {
+        told.push_str(" ")?;
+        told.push_str(
+            path.as_str()
+                .strip_prefix("/org/freedesktop/secrets/")
+                .ok_or("a path")?,
+        )?;
+    }
+    Ok(())
+}
+
+fn paths_told(alloc: Global, what: &str, paths: &[Text]) -> Result<String, Fail> {
+    let mut told = String::from_str(alloc, what)?;
+    add_paths(&mut told, paths)?;
+    Ok(told)
+}
+
+fn found_told(alloc: Global, unlocked: &[Text], locked: &[Text]) -> Result<String, Fail> {
+    let mut told = paths_told(alloc, "unlocked", unlocked)?;
+    told.push_str(", locked")?;
+    add_paths(&mut told, locked)?;
+    Ok(told)
+}
+
 fn body_told(alloc: Global, body: &Body) -> Result<String, Fail> {
     match body {
         Body::Empty => Ok(String::from_str(alloc, "done")?),
         Body::Session(session) => session_told(alloc, session.0),
+        Body::Found { unlocked, locked } => {
+            found_told(alloc, unlocked.as_slice(), locked.as_slice())
+        }
+        Body::Locked(objects) => paths_told(alloc, "locked", objects.as_slice()),
+        Body::Objects(objects) => paths_told(alloc, "found", objects.as_slice()),
+        Body::Secret(_) => Ok(String::from_str(alloc, "a secret")?),
+        Body::Secrets(secrets) => decimal(alloc, secrets.len() as u64),
     }
 }
 
@@ -51,6 +166,8 @@ fn error_told(name: ErrorName) -> &'static str {
         ErrorName::UnknownMethod => "UnknownMethod",
         ErrorName::LimitsExceeded => "LimitsExceeded",
         ErrorName::NoSession => "NoSession",
+        ErrorName::IsLocked => "IsLocked",
+        ErrorName::NoSuchObject => "NoSuchObject",
         _ => "another error",
     }
 }

@@ -2,9 +2,10 @@ use Rattle.std.proofs.Common.{◌≡◌, ℕ, ◌+◌, ◌∙◌, ap, subst}
 use Rattle.rand_chacha.specs.ChaCha.{key_of}
 use Rattle.kr_base.specs.declared.ids.ConnId.{ConnId}
 use Rattle.dbus_auth.specs.Exchange.{Exchange}
-use Rattle.service_machine.specs.declared.rows.Rows.{Rows}
+use Rattle.service_machine.specs.State.{State}
 use Rattle.service_machine.specs.declared.event.Event.TheVariants as event
-use Rattle.service_machine.specs.Step.{opened_rows, step, Fits}
+use Rattle.service_machine.specs.Opened.{Contents, contents_of, opened_state}
+use Rattle.service_machine.specs.Step.{step, Fits}
 use Rattle.service_history.specs.History.{History}
 use Rattle.service_history.specs.Windows.{total}
 use Rattle.lone_desk.specs.Lone.{told, has_seen}
@@ -27,11 +28,12 @@ returns g c =
     let behind = output_of g.O.Sink.written g.O.Sink.faults g.O.Sink.is_steady c.one_thread-end.new.output in
     let old = world told has_seen g.C.Clock.coming desk c.args.clock.now c.new-salts.result in
     let new = world told has_seen g.C.Clock.coming c.one_thread-end.new.desk c.one_thread-end.new.clock c.one_thread-end.new.salts in
-    let fits : Fits opened_rows (event.Connect desk.conn) = subst (λ (s : Rows). Fits s (event.Connect desk.conn)) (ap (λ (h : History). h.state) c.requires) c.in-Ok.ensures.fits in
-    let conn = first-connection desk.conn fits in
-    let state : desk.service.history.state ≡ joined =
-    c.in-Ok.ensures.joined ∙ ap (λ (h : History). step h.state (event.Connect desk.conn)) c.requires ∙ ap (λ d. step opened_rows (event.Connect d)) conn in
-    let count : total desk.service.history.window ≡ 1 = c.in-Ok.ensures.count ∙ ap (λ (h : History). total h.window + 1) c.requires in
+    let contents : Contents = contents_of c.args.service.history.state in
+    let fits : Fits (opened_state contents) (event.Connect desk.conn) = subst (λ (s : State). Fits s (event.Connect desk.conn)) c.requires.starts c.in-Ok.ensures.fits in
+    let conn = first-connection contents desk.conn fits in
+    let state : desk.service.history.state ≡ joined contents =
+    c.in-Ok.ensures.joined ∙ ap (λ (s : State). step s (event.Connect desk.conn)) c.requires.starts ∙ ap (λ d. step (opened_state contents) (event.Connect d)) conn in
+    let count : total desk.service.history.window ≡ 1 = c.in-Ok.ensures.count ∙ ap (λ (h : History). total h.window + 1) c.requires.history in
     let number : c.conn.result.0 ≡ the_connection.0 = ap (λ (d : ConnId). d.0) (c.conn.ensures ∙ conn) in
     let start : ℕ → Salting = λ stream. record { key = key_of c.args.seed; stream = stream; place = 0 } in
     let salting = c.new-salts.ensures ∙ ap start number in
@@ -39,10 +41,10 @@ returns g c =
     let name = ap (λ (e : Exchange). e.guid) c.new-auth.ensures ∙ c.guid_of.ensures in
     let served = subst (λ u. IsServed u (guid c.args.seed) from to sink behind old new c.one_thread-end.result) uid
     (subst (λ n. IsServed c.new-auth.result.uid n from to sink behind old new c.one_thread-end.result) name c.one_thread-end.ensures) in
-    rw c.of_end.ensures (serves c.args.uid c.args.seed from to sink behind old new c.one_thread-end.result conn state count salting served)
+    rw c.of_end.ensures (serves contents c.args.uid c.args.seed from to sink behind old new c.one_thread-end.result conn state count salting served)
 
 -- there was no memory for the joining
 pub returns-in-Err-OutOfMemory : goal.returns-in-Err-OutOfMemory
 returns-in-Err-OutOfMemory g c =
-    serves-none c.args.uid c.args.seed (g.C.Clock.coming c.args.clock.now) (input_of g.I.Source.left g.I.Source.faults g.I.Source.is_steady c.args.input.now)
+    serves-none (contents_of c.args.service.history.state) c.args.uid c.args.seed (g.C.Clock.coming c.args.clock.now) (input_of g.I.Source.left g.I.Source.faults g.I.Source.is_steady c.args.input.now)
     (output_of g.O.Sink.written g.O.Sink.faults g.O.Sink.is_steady c.args.output.now)

@@ -1,13 +1,17 @@
-use Rattle.std.proofs.Common.{◌∙◌, inr}
+use Rattle.std.proofs.Common.{◌∙◌, ap, inr}
 use Rattle.std.proofs.lemmas.Result.{IfOk-weaker}
+use Rattle.service_machine.specs.Opened.{contents_of}
 use Rattle.keyring_program.proofs.FolderLemmas.{has-opened}
 use Rattle.keyring_program.proofs.folder.open_service.Goals as goal
 
 -- what was loaded is what a start makes of the images
 pub returns-in-Ok-clause-opened : goal.returns-in-Ok-clause-opened
 returns-in-Ok-clause-opened g c images honest told =
-    IfOk-weaker c.open.result _ _ (λ service loaded. has-opened (g.H.Host.told c.args.host.now c.args.path.now) images _ _ _ told c.in-Ok.ensures.told
-    (loaded.loads.opened (c.in-Ok.ensures.honest_folder ∙ honest))) c.open.ensures.loaded
+    IfOk-weaker c.open.result _ _ (λ service is. record {
+      loaded = is.loaded;
+      opened = has-opened (g.H.Host.told c.args.host.now c.args.path.now) images _ _ _ told c.in-Ok.ensures.told (is.loads.opened (c.in-Ok.ensures.honest_folder ∙ honest));
+      starts = ap contents_of is.starts;
+    }) c.open.ensures.loaded
 
 -- a steady host's folder is steady, and never at fault
 pub returns-in-Ok-clause-cause : goal.returns-in-Ok-clause-cause

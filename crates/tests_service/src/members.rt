@@ -1,0 +1,113 @@
+// The members that store nothing, over a folder with one collection, which is locked.
+
+use crate::checks::{cell, holds, number, same_number, same_text};
+use crate::folders::{Machine, Service, machine_over_login, over, service_over_login};
+use crate::machine::{answer, does, join};
+use crate::words::call_of;
+use kr_base::ConnId;
+use secret_calls::{Request, Serial};
+use service_machine::Arrival;
+use std::alloc::Global;
+use std::process::Abort;
+use std::test::Fail;
+
+// In a row, a connection and what it does: it opens a session, searches all items or those of one
+// object, locks objects, or gets a secret or several for a session; and what it gets. Paths continue
+// `/org/freedesktop/secrets/`.
+const CONVERSATION: &str = "\
+1|open|plain|session 1
+2|open|plain|session 2
+1|search|service=mail|unlocked, locked collection/login/1
+1|search|service=none|unlocked, locked
+1|find|collection/login?service=empty|found collection/login/2
+1|find|aliases/default?service=empty|found collection/login/2
+1|find|collection/login?service=none|found
+1|find|aliases/other?service=empty|NoSuchObject
+1|find|collection/other?service=empty|NoSuchObject
+1|secret|1;1|IsLocked
+1|secret|1;2|NoSession
+1|secret|1;-|NoSession
+1|secret|9;1|NoSuchObject
+1|secret|9;2|NoSuchObject
+1|secrets|collection/login/1 collection/login/3;1|0
+1|secrets|collection/login/1;2|NoSession
+1|secrets|collection/login/1;-|NoSession
+1|lock|collection/login/3 collection/login collection/login/3|locked collection/login/3 collection/login
+1|lock|aliases/default aliases/other collection/other/1|locked aliases/default
+1|lock|session/s1|locked
+1|search|service=empty|unlocked, locked collection/login/2
+";
+
+fn is_answered(
+    rt: &impl Abort,
+    alloc: Global,
+    machine: &mut Machine,
+    row: &str,
+) -> Result<(), Fail> {
+    let conn = ConnId(number(cell(row, 0))?);
+    let done = does(alloc, machine, conn, row)?;
+    holds(rt, done.is_ok(), row);
+    let answer = answer(alloc, machine, conn)?;
+    same_text(rt, answer.as_str(), cell(row, 3), row);
+    Ok(())
+}
+
+fn talk(rt: &impl Abort, alloc: Global, machine: &mut Machine) -> Result<(), Fail> {
+    join(machine)?;
+    join(machine)?;
+    for row in CONVERSATION.lines() {
+        is_answered(rt, alloc, machine, row)?;
+    }
+    Ok(())
+}
+
+#[test]
+fn each_member_finds_what_is_there(rt: HostRuntime) -> Result<(), Fail> {
+    let machine = machine_over_login(rt.alloc())?;
+    over(machine, |machine| talk(&rt, rt.alloc(), machine))
+}
+
+// What a connection asks, and the era of the service after that: a cut comes before the event that
+// follows a call of Lock.
+const CUTS: &str = "\
+1|ping||0
+1|lock|collection/login|0
+1|ping||3
+1|ping||3
+";
+
+fn arrival(alloc: Global, row: &str) -> Result<Arrival, Fail> {
+    let request = Request {
+        serial: Serial { number: 7 },
+        wants_reply: true,
+        length: 128,
+        call: call_of(alloc, row)?,
+    };
+    Ok(Arrival {
+        conn: ConnId(1),
+        request,
+        now: 0,
+        salt: [0; 8],
+    })
+}
+
+fn is_cut(rt: &impl Abort, alloc: Global, service: &mut Service, row: &str) -> Result<(), Fail> {
+    let arrived = service.arrive(arrival(alloc, row)?).is_ok();
+    holds(rt, arrived, row);
+    same_number(rt, service.era(), number(cell(row, 3))?, row);
+    Ok(())
+}
+
+fn asks(rt: &impl Abort, alloc: Global, service: &mut Service) -> Result<(), Fail> {
+    service.join()?;
+    for row in CUTS.lines() {
+        is_cut(rt, alloc, service, row)?;
+    }
+    Ok(())
+}
+
+#[test]
+fn a_cut_follows_a_lock(rt: HostRuntime) -> Result<(), Fail> {
+    let service = service_over_login(rt.alloc())?;
+    over(service, |service| asks(&rt, rt.alloc(), service))
+}
