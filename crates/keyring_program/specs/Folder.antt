@@ -18,7 +18,7 @@ pub record IsOpened (images : List ℕ → Image) : Type 0 where
   pub opened : Opened the_limits images opening pairs
 
 -- a service starts with what was loaded, which is that
-pub record HasOpened {S : Type 0} (images : List ℕ → Image) (contents : Contents) : Type 0 where
+pub record HasOpened (S : Type 0) (images : List ℕ → Image) (contents : Contents) : Type 0 where
   pub loaded : Loaded S
   pub opened : Opened the_limits images (opening_of loaded) (pairs_in loaded.aliases)
   pub starts : contents ≡ contents_from loaded

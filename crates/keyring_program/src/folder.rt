@@ -26,8 +26,8 @@ pub fn open_service<H: Host>(
         service.history ≡ opened_history service.history.state) }
     ensures opened { (images : List ℕ → Image) → IsTrue (H.is_honest host.old)
         → H.told host.old path.now ≡ Some images
-        → IfOk result (λ service. HasOpened {S = H.Dir.Cell} images
-            (contents_of service.history.state)) }
+        → IfOk result (λ service. HasOpened H.Dir.Cell images
+        (contents_of service.history.state)) }
 
     ensures cause { IsErrOf result OpenRefused.Folder
         → Rose (H.faults host.old) (H.faults host.new) ⊎ ¬ (IsTrue (H.is_steady host.old)) }

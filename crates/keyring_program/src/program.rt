@@ -71,7 +71,7 @@ pub fn run<R: AllocGlobal + Wait, I: Source, O: Sink, H: Host>(
         ⊎ ((contents : Contents)
         × (HadFolder result → (folder : List ℕ) (images : List ℕ → Image)
         → IsStdioIn words.now folder uid → IsTrue (H.is_honest host.old)
-        → H.told host.old folder ≡ Some images → HasOpened {S = H.Dir.Cell} images contents)
+        → H.told host.old folder ≡ Some images → HasOpened H.Dir.Cell images contents)
         × Serves uid seed (H.coming host.old)
         (input_of I.left I.faults I.is_steady input.old)
         (input_of I.left I.faults I.is_steady input.new)

@@ -34,10 +34,12 @@ returns-in-Ok-clause-opened g c folder uid images words honest told had =
 
 pub returns-in-Ok-clause-served : goal.returns-in-Ok-clause-served
 returns-in-Ok-clause-served g c uid words =
-    inr (contents_of c.in-Ok.service.history.state,
-    λ had folder images here honest told.
-        (c.in-Ok.ensures.opened images honest (rw (one_folder c.args.words.now c.in-Some.folder.now folder c.in-Some.uid uid c.in-Some.ensures here) told)),
-    rw (one_user c.args.words.now uid c.in-Some.uid words c.in-Some.ensures.is, sym (c.clock-clock.ensures.told ∙ c.open_service.ensures.coming)) c.serve_client.ensures)
+    inr (
+      contents_of c.in-Ok.service.history.state,
+      λ had folder images here honest told.
+          (c.in-Ok.ensures.opened images honest (rw (one_folder c.args.words.now c.in-Some.folder.now folder c.in-Some.uid uid c.in-Some.ensures here) told)),
+      rw (one_user c.args.words.now uid c.in-Some.uid words c.in-Some.ensures.is, sym (c.clock-clock.ensures.told ∙ c.open_service.ensures.coming)) c.serve_client.ensures,
+    )
 
 pub returns-in-Ok-clause-complete : goal.returns-in-Ok-clause-complete
 returns-in-Ok-clause-complete g c uid bytes words whole told steady input output =
@@ -55,5 +57,9 @@ returns-in-Err-OutOfMemory-clause-usage g c =
 
 pub returns-in-Err-OutOfMemory-clause-served : goal.returns-in-Err-OutOfMemory-clause-served
 returns-in-Err-OutOfMemory-clause-served g c uid words =
-    inr (nothing, λ had. absurd had, serves-none nothing uid c.args.seed (g.H.Host.coming c.args.host.now)
-    (input_of g.I.Source.left g.I.Source.faults g.I.Source.is_steady c.args.input.now) (output_of g.O.Sink.written g.O.Sink.faults g.O.Sink.is_steady c.args.output.now))
+    inr (
+      nothing,
+      λ had. absurd had,
+      serves-none nothing uid c.args.seed (g.H.Host.coming c.args.host.now)
+          (input_of g.I.Source.left g.I.Source.faults g.I.Source.is_steady c.args.input.now) (output_of g.O.Sink.written g.O.Sink.faults g.O.Sink.is_steady c.args.output.now),
+    )
