@@ -53,8 +53,8 @@ fn is_answered(
 }
 
 fn talk(rt: &impl Abort, alloc: Global, machine: &mut Machine) -> Result<(), Fail> {
-    join(machine)?;
-    join(machine)?;
+    same_number(rt, join(machine)?, 1, "the first connection");
+    same_number(rt, join(machine)?, 2, "the second connection");
     for row in CONVERSATION.lines() {
         is_answered(rt, alloc, machine, row)?;
     }
