@@ -3,7 +3,7 @@
 //! machine owns the folder of the service and what was loaded from it when it opened. Callers may rely
 //! on these: an event that is answered is the incoming one, fits the rows before it, and gives the
 //! step's rows and output; an event that is refused changes nothing, and each refusal has its cause;
-//! leaving, taking and going take no memory; no event changes the folder or anything loaded from it.
+//! leaving, taking and going take no memory; no event touches the folder or a slot that was made of it.
 //! The time of an event grows with what it changes and puts out, and with the logarithm of the number
 //! of connections and sessions.
 #![tactic(auto)]
