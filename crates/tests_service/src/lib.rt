@@ -1,6 +1,6 @@
-//! The tests of the service, through the public items of its crates: the machine, its history, the
-//! desk over a service of one thread, and one service for many threads. They are in a crate of
-//! their own so that no crate is proved again for its tests.
+//! The tests of the service, through the public items of its crates: the machine, its history, and the
+//! desk over a service of one thread. They are in a crate of their own so that no crate is proved again
+//! for its tests.
 #![tactic(auto)]
 
 #[cfg(test)]
@@ -19,7 +19,5 @@ mod login;
 mod machine;
 #[cfg(test)]
 mod members;
-#[cfg(test)]
-mod threads;
 #[cfg(test)]
 mod words;
