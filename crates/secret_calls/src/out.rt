@@ -72,7 +72,7 @@ pub enum Body {
         /// The matching items in locked collections.
         locked: Items<Text>,
     },
-    /// Of Lock, `aoo`: the objects that were locked, and the prompt.
+    /// Of Lock, `aoo`: the given objects that exist, whose collections are locked, and the prompt.
     Locked(Items<Text>),
     /// Of Collection.SearchItems, `ao`: the matching items.
     Objects(Items<Text>),
