@@ -53,14 +53,25 @@ def laid_out(folder, lines):
         name = line.partition(":")[0]
         left_out = shutil.ignore_patterns("out", "must-fail", "wrong-bodies")
         shutil.copytree(ROOT / "crates" / name, folder / "crates" / name, ignore=left_out)
+        kept = ROOT / "crates" / name / "out/rlib"
+        if kept.is_dir():
+            shutil.copytree(kept, folder / "crates" / name / "out/rlib")
     (folder / "crates.txt").write_text("\n".join(lines) + "\n")
     shutil.copy2(ROOT / "HANDLES", folder / "HANDLES")
     run(["git", "init", "-q", folder])
 
 
+def built(own):
+    """The program of a crate, proved and built by `rt run`, which also runs it; how that run ends doesn't matter."""
+    ran = subprocess.run(["rt", "run"], cwd=own, stdin=subprocess.DEVNULL, capture_output=True, text=True)
+    if not (own / "out" / own.name).is_file():
+        sys.exit(f"scripts/bench: rt run built no {own.name}: {(ran.stdout + ran.stderr)[-800:]}")
+    return own / "out" / own.name
+
+
 def rattle_program(folder, name, text, lines, more="", proofs=None):
-    """The built program, in a scratch repository over these crates. It takes over what the gate proved of them on this machine.
-    `proofs` has the program's own proof files, by their paths."""
+    """The built program, in a scratch repository over these crates. It takes over the libraries that `rt check` or `rt run`
+    built here. `proofs` has the program's own proof files, by their paths."""
     laid_out(folder, lines)
     own = folder / "crates" / name
     for path, file in {"src/main.rt": text, **{f"proofs/{it}": proof for it, proof in (proofs or {}).items()}}.items():
@@ -69,15 +80,13 @@ def rattle_program(folder, name, text, lines, more="", proofs=None):
     with open(folder / "crates.txt", "a") as listed:
         listed.write(f"{name}: " + " ".join(line.partition(":")[0] for line in lines) + more + "\n")
     run(["rt", "fmt"], cwd=own)
-    run(["rt", "ci"], cwd=folder)
-    return own / "out" / name
+    return built(own)
 
 
 def keyringd(folder):
-    """The program of this repository, built in a scratch repository. It takes over what the gate proved."""
+    """The program of this repository, built in a scratch repository over the libraries that were built here."""
     laid_out(folder, lines_of(["keyringd"]))
-    run(["rt", "ci"], cwd=folder)
-    return folder / "crates/keyringd/out/keyringd"
+    return built(folder / "crates/keyringd")
 
 
 def c_program(folder, name, text, *more):
