@@ -19,7 +19,7 @@ use Rattle.kr_base.specs.IdLists.{has_id, with_id, without_id}
 use Rattle.kr_base.proofs.IdLemmas.{Rises, AllBelow, AllAbove, all-weaker, all-lower, all-upper, above-head, has-other, other-above, rises-joined}
 use Rattle.attribute_index.proofs.FindLemmas.{has-filter}
 use Rattle.item_store.specs.declared.rows.Row.{Row}
-use Rattle.item_store.specs.Rows.{HasJustRows, Rows, IsRising, ids_where, last_id, next_id, passes_at, row_at, row_of, rows_changed, rows_without}
+use Rattle.item_store.specs.Rows.{HasJustRows, Rows, IsRising, greatest_id, ids_where, last_id, next_id, passes_at, row_at, row_of, rows_changed, rows_without}
 
 -- ---- a rising list is determined by its ids
 
@@ -339,12 +339,12 @@ all-last (r ∷ s ∷ more) rising =
 
 pub next-last : (rows : Rows) (n : ℕ) → Some n ≡ next_id rows → IsRising rows → AllBelow n (keys_of rows)
 next-last rows n next rising =
-    let step : (b : Bool) → nat_eq (last_id rows) 4294967295 ≡ b → AllBelow n (keys_of rows) =
+    let step : (b : Bool) → nat_eq (last_id rows) greatest_id ≡ b → AllBelow n (keys_of rows) =
     elim [
       | true ↦ λ is. let none : Some n ≡ None = rw is at next in absurd cc
       | false ↦ λ off. let some : Some n ≡ Some (last_id rows + 1) = rw off at next in let same : n ≡ last_id rows + 1 = cc in subst (λ m. AllBelow m (keys_of rows)) (sym same) (all-last rows rising)
     ] in
-    step (nat_eq (last_id rows) 4294967295) refl
+    step (nat_eq (last_id rows) greatest_id) refl
 
 -- ---- rows that are given in any order
 

@@ -16,5 +16,5 @@ pub use fault::ItemFault;
 pub use laws::rising_rows_are_one_list;
 pub use moving::Moving;
 pub use rows::Row;
-pub use store::ItemStore;
+pub use store::{ItemStore, MOST_ATTRIBUTES};
 pub use swapping::Swap;

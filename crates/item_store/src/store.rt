@@ -46,7 +46,7 @@ pub fn store_of(rows: BTreeMap<u32, Row>, index: AttributeIndex) -> ItemStore
 }
 
 /// The most attributes that a call may give an item.
-const MOST_ATTRIBUTES: usize = 256;
+pub const MOST_ATTRIBUTES: usize = 256;
 
 /// The most attributes that a call may give an item, as the definitions have it.
 fn most() -> usize
