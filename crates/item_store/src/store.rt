@@ -1,4 +1,5 @@
 ghost use Rattle.std.specs.Prelude.{◌≡◌, ℕ, ◌+◌, ◌<◌, ◌≤◌, ◌↔◌, ◌++◌, ◌∷◌, List, [], IfOk, IfErr, IfSome, OnOk, OnErr, IsErrOf, IsSome, Some, None, true, IfNone, false, ◌*◌, if◌then◌else◌, slice_index_or, nat_eq, length, map};
+ghost use Rattle.std.specs.Bool.{OnFalse};
 ghost use Rattle.std.specs.Option.{is_some, option_copied, option_map};
 ghost use Rattle.attribute_match.specs.Match.{has_pair, matches as matches_all};
 ghost use Rattle.kr_base.specs.IdLists.{with_id};
@@ -141,13 +142,14 @@ impl ItemStore {
     }
 
     /// Swaps parts of an item with others, and returns whether the item is there. A second swap undoes the
-    /// first. It takes no memory.
+    /// first. If there is no such item, the parts stay as they were. It takes no memory.
     pub fn swap(&mut self, id: ItemId, parts: &mut Swap) -> bool
         ensures there { result ≡ is_some (row_at id.0 self.old) }
         ensures set { self.new ≡ rows_changed id.0
             (λ row. record row { item = with_parts parts.old row.item }) self.old }
         ensures back { rows_changed id.0
             (λ row. record row { item = with_parts parts.new row.item }) self.new ≡ self.old }
+        ensures unchanged { OnFalse result (parts.new ≡ parts.old) }
     {
         swapping::swap_parts(&mut self.rows, id.0, parts)
     }

@@ -1,5 +1,6 @@
 // A swap changes parts of one item and takes no memory; a second swap undoes it.
 ghost use Rattle.std.specs.Prelude.{◌≡◌, IfSome};
+ghost use Rattle.std.specs.Bool.{OnFalse};
 ghost use Rattle.std.specs.Option.{is_some};
 ghost use Rattle.item_store.specs.Moves.{with_attributes};
 ghost use Rattle.item_store.specs.Rows.{attributes_of, row_at, rows_changed};
@@ -60,6 +61,7 @@ pub fn swap_parts(rows: &mut BTreeMap<u32, Row>, number: u32, parts: &mut Swap) 
         (λ row. record row { item = with_parts parts.new row.item }) rows.new.entries
         ≡ rows.old.entries }
     ensures there { result ≡ is_some (row_at number rows.old.entries) }
+    ensures unchanged { OnFalse result (parts.new ≡ parts.old) }
 {
     match rows.get_mut(&number) {
         Some(row) => {
