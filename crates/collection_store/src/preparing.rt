@@ -21,7 +21,7 @@ use crate::rest::{Rest, swap_back, take_out};
 use crate::told::Told;
 use crate::{Change, ChangeRefused, Changed};
 use attribute_hash::hashed;
-use item_store::{ItemFault, ItemStore, Row, Swap};
+use item_store::{ItemFault, ItemStore, MOST_ATTRIBUTES, Row, Swap};
 use keyring_file::{ClearItem, FullItem};
 use keyring_seal::SealRefused;
 use kr_base::{Attributes, Bytes, ItemId, Text};
@@ -475,7 +475,7 @@ fn equal_item(items: &ItemStore, replace: bool, attributes: &Attributes) -> Opti
 fn are_too_many(attributes: &Attributes) -> bool
     ensures { result ≡ nat_lt most_attributes (length attributes.now) }
 {
-    attributes.len() > 256
+    attributes.len() > MOST_ATTRIBUTES
 }
 
 /// Prepares a new item, or another label, secret and content type of an equal one.

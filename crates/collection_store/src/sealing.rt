@@ -9,7 +9,7 @@ ghost use Rattle.keyring_file.specs.ClearText.{HasClear, most_iterations};
 ghost use Rattle.keyring_seal.specs.Arranged.{of_lent};
 ghost use Rattle.keyring_seal.specs.Whole.{most_bytes, opened, sealed};
 
-use keyring_file::{Clear, ClearItem, FullItem, a_file_that_is_read_is_spelled_so};
+use keyring_file::{Clear, ClearItem, FILE_LIMIT, FullItem, a_file_that_is_read_is_spelled_so};
 use keyring_seal::{SealRefused, seal_rows};
 use keyring_text::known_bytes;
 use replace_slot::Image;
@@ -19,7 +19,7 @@ use std::alloc::Global;
 fn room_for(longest: usize, room: u64) -> usize
     ensures { min result most_bytes ≡ min most_bytes (longest + room) }
 {
-    longest.saturating_add(room.min(67_108_864) as usize)
+    longest.saturating_add(room.min(FILE_LIMIT as u64) as usize)
 }
 
 /// The image of a clear part and borrowed rows. The file may grow by `room` bytes beyond its longest image.
