@@ -4,10 +4,10 @@ use Rattle.std.proofs.lemmas.Bool.{le-leb, lt-ltb}
 use Rattle.kr_base.specs.declared.ids.ConnId.{ConnId}
 use Rattle.secret_calls.specs.declared.out.Out.{Out}
 use Rattle.secret_calls.specs.Outs.{most_waiting}
-use Rattle.service_machine.specs.State.{State}
-use Rattle.service_machine.specs.declared.rows.ConnRow.{ConnRow}
-use Rattle.service_machine.specs.Connections.{size_of, changed, emptied, delivered}
-use Rattle.service_machine.specs.declared.rows.ConnRows.{ConnRows}
+use Rattle.service_tables.specs.State.{State}
+use Rattle.service_tables.specs.declared.rows.ConnRow.{ConnRow}
+use Rattle.service_tables.specs.Connections.{size_of, changed, emptied, delivered}
+use Rattle.service_tables.specs.declared.rows.ConnRows.{ConnRows}
 use Rattle.service_machine.specs.Step.{message_of, replies, served, step}
 use Rattle.service_machine.proofs.RunLemmas.{connections-served, put_out-served}
 use Rattle.service_machine.proofs.SmallLemmas.{reply-small}

@@ -1,8 +1,8 @@
 -- One method call, from its message to what is written for it.
 use Rattle.std.proofs.Common.{◌≡◌, ℕ, List, [], ◌∷◌, Result, Ok, Err, refl, sym, ◌∙◌, ap, arith}
 use Rattle.secret_calls.specs.declared.call.Request.{Request}
-use Rattle.service_machine.specs.State.{State}
-use Rattle.service_machine.specs.Connections.{waiting_for}
+use Rattle.service_tables.specs.State.{State}
+use Rattle.service_tables.specs.Connections.{waiting_for}
 use Rattle.service_desk.specs.Places.{Told, Place}
 use Rattle.dbus_framing.specs.Messages.{Parts}
 use Rattle.call_wire.specs.CallOf.{CallOf}

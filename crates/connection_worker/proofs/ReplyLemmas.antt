@@ -4,7 +4,7 @@ use Rattle.std.proofs.lemmas.Bool.{lt-ltb}
 use Rattle.kr_base.specs.declared.ids.ConnId.{ConnId}
 use Rattle.secret_calls.specs.declared.out.Out.{Out}
 use Rattle.service_machine.specs.declared.event.Event.TheVariants as event
-use Rattle.service_machine.specs.Connections.{waiting_for, sent_to}
+use Rattle.service_tables.specs.Connections.{waiting_for, sent_to}
 use Rattle.service_machine.specs.Step.{served, message_of, step}
 use Rattle.service_machine.proofs.RunLemmas.{put_out-served}
 use Rattle.service_machine.specs.Replay.{replay, Legal}

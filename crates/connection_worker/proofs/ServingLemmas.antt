@@ -3,8 +3,8 @@ use Rattle.std.proofs.Common.{◌≡◌, ℕ, ◌≤◌, IsTrue, true, false, Li
 use Rattle.kr_outside.specs.Clock.{GivesFirst}
 use Rattle.secret_calls.specs.declared.out.Out.{Out}
 use Rattle.service_machine.specs.declared.event.Output.TheVariants as output
-use Rattle.service_machine.specs.Connections.{has, desk_of}
-use Rattle.service_machine.specs.Limits.{most_events}
+use Rattle.service_tables.specs.Connections.{has, desk_of}
+use Rattle.service_tables.specs.Limits.{most_events}
 use Rattle.service_desk.specs.Places.{Told, Place, Looks}
 use Rattle.service_desk.proofs.RecordLemmas.{alone-looks, alone-extends}
 use Rattle.service_desk.specs.Calls.{Arrives}

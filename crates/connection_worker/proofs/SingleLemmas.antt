@@ -5,10 +5,10 @@ use Rattle.dbus_auth.specs.Handshake as shaking
 use Rattle.dbus_auth.specs.Conversation.{continued}
 use Rattle.dbus_auth.proofs.HandshakeLemmas.{handshake-nothing, handshake-append}
 use Rattle.dbus_framing.specs.Framers.{Framing}
-use Rattle.service_machine.specs.State.{State}
+use Rattle.service_tables.specs.State.{State}
 use Rattle.service_machine.specs.declared.event.Event.TheVariants as event
 use Rattle.service_machine.specs.declared.event.Output.TheVariants as output
-use Rattle.service_machine.specs.Connections.{has}
+use Rattle.service_tables.specs.Connections.{has}
 use Rattle.service_machine.specs.Replay.{replay}
 use Rattle.service_desk.specs.Places.{Told, Place}
 use Rattle.service_desk.specs.Records.{Records, of_own}

@@ -6,7 +6,7 @@ use Rattle.dbus_auth.specs.Handshake as shaking
 use Rattle.dbus_framing.specs.declared.violation.Violation.{Violation}
 use Rattle.dbus_framing.specs.declared.violation.Violation.TheVariants as violation
 use Rattle.dbus_framing.specs.Streams.{Breaks}
-use Rattle.service_machine.specs.Limits.{IsSpent}
+use Rattle.service_tables.specs.Limits.{IsSpent}
 use Rattle.connection_worker.specs.declared.ending.End.{End}
 use Rattle.connection_worker.specs.declared.ending.End.TheVariants as end
 use Rattle.connection_worker.specs.Arrivals.{AllRequests, FirstRequests}

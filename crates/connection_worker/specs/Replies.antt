@@ -2,8 +2,8 @@
 use Rattle.std.specs.Prelude.{List, [], ◌∷◌, ◌++◌}
 use Rattle.kr_base.specs.declared.ids.ConnId.{ConnId}
 use Rattle.secret_calls.specs.declared.out.Out.{Out}
-use Rattle.service_machine.specs.State.{State}
-use Rattle.service_machine.specs.Connections.{sent_to}
+use Rattle.service_tables.specs.State.{State}
+use Rattle.service_tables.specs.Connections.{sent_to}
 use Rattle.service_machine.specs.Step.{puts_out}
 use Rattle.service_machine.specs.Replay.{replay}
 use Rattle.service_machine.specs.Single.{TimedRequest, arrival, turn}

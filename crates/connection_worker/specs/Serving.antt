@@ -2,8 +2,8 @@
 use Rattle.std.specs.Prelude.{◌≡◌, ℕ, ◌+◌, ◌%◌, ◌^◌, false, List, [], ◌∷◌, ◌++◌, length, map, Option, Result, Ok, Err}
 use Rattle.kr_outside.specs.Clock.{GivesFirst}
 use Rattle.kr_outside.specs.Faults.{Rose}
-use Rattle.service_machine.specs.Connections.{new_row, waiting_for}
-use Rattle.service_machine.specs.Limits.{IsSpent}
+use Rattle.service_tables.specs.Connections.{new_row, waiting_for}
+use Rattle.service_tables.specs.Limits.{IsSpent}
 use Rattle.secret_calls.specs.declared.call.Request.{Request}
 use Rattle.secret_calls.specs.declared.out.Out.{Out}
 use Rattle.service_desk.specs.Places.{Told, Place}

@@ -3,11 +3,11 @@ use Rattle.std.specs.Prelude.{ℕ, ◌+◌, ◌%◌, ◌==◌, if◌then◌else�
 use Rattle.kr_base.specs.declared.ids.ConnId.{ConnId}
 use Rattle.secret_calls.specs.declared.out.Out.{Out}
 use Rattle.secret_calls.specs.Outs.{spelled}
-use Rattle.service_machine.specs.State.{State}
-use Rattle.service_machine.specs.declared.rows.ConnRow.{ConnRow}
+use Rattle.service_tables.specs.State.{State}
+use Rattle.service_tables.specs.declared.rows.ConnRow.{ConnRow}
 use Rattle.service_machine.specs.declared.event.Event.{Event}
 use Rattle.service_machine.specs.declared.event.Event.TheVariants as event
-use Rattle.service_machine.specs.Connections.{is_row, waiting_for}
+use Rattle.service_tables.specs.Connections.{is_row, waiting_for}
 use Rattle.service_machine.specs.Step.{step}
 
 -- what an event gives to the connection

@@ -1,7 +1,7 @@
 // Laws of the definitions of one thread. Each law is the contract of a function that does nothing.
 ghost use Rattle.std.specs.Prelude.{◌≡◌, List, []};
 ghost use Rattle.kr_base.specs.declared.ids.ConnId.{ConnId};
-ghost use Rattle.service_machine.specs.State.{State};
+ghost use Rattle.service_tables.specs.State.{State};
 ghost use Rattle.service_desk.specs.Places.{Told};
 ghost use Rattle.service_desk.specs.Records as records;
 ghost use Rattle.connection_worker.specs.Replies.{replies_to};

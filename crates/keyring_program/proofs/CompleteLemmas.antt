@@ -27,8 +27,8 @@ use Rattle.keyring_program.specs.declared.status.Status.{Status}
 use Rattle.keyring_program.specs.declared.status.Status.TheVariants as status
 use Rattle.keyring_program.specs.Status.{status_of}
 use Rattle.service_machine.specs.declared.event.Event.TheVariants as event
-use Rattle.service_machine.specs.Limits.{most_events}
-use Rattle.service_machine.specs.Opened.{Contents}
+use Rattle.service_tables.specs.Limits.{most_events}
+use Rattle.service_tables.specs.Opened.{Contents}
 
 -- ---- streams
 

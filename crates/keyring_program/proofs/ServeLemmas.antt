@@ -6,11 +6,11 @@ use Rattle.rand_chacha.specs.ChaCha.{key_of}
 use Rattle.kr_base.specs.declared.ids.ConnId.{ConnId}
 use Rattle.kr_outside.proofs.FaultLemmas.{KeepsSteady-none}
 use Rattle.dbus_auth.specs.Handshake.{Run}
-use Rattle.service_machine.specs.State.{State}
+use Rattle.service_tables.specs.State.{State}
 use Rattle.service_machine.specs.declared.event.Event.TheVariants as event
-use Rattle.service_machine.specs.Connections.{has, new_row}
+use Rattle.service_tables.specs.Connections.{has, new_row}
 use Rattle.service_machine.specs.Step.{Fits}
-use Rattle.service_machine.specs.Opened.{Contents, opened_state}
+use Rattle.service_tables.specs.Opened.{Contents, opened_state}
 use Rattle.service_machine.specs.Replay.{Legal}
 use Rattle.service_desk.specs.Places.{Told}
 use Rattle.service_desk.proofs.RecordLemmas.{own-legal}

@@ -8,10 +8,10 @@ use Rattle.dbus_framing.specs.Messages.{Parts}
 use Rattle.dbus_framing.specs.Streams.{Stream}
 use Rattle.dbus_framing.proofs.Cuts.{one_stream}
 use Rattle.call_wire.specs.CallOf.{CallOf}
-use Rattle.service_machine.specs.State.{State}
+use Rattle.service_tables.specs.State.{State}
 use Rattle.service_machine.specs.declared.event.Event.{Event}
 use Rattle.service_machine.specs.declared.event.Event.TheVariants as event
-use Rattle.service_machine.specs.Opened.{Contents, opened_state}
+use Rattle.service_tables.specs.Opened.{Contents, opened_state}
 use Rattle.service_machine.specs.Run.{ran}
 use Rattle.service_machine.specs.Step.{plan_of, message_of, with_delivered, step}
 use Rattle.service_machine.specs.Replay.{replay}

@@ -6,8 +6,8 @@ use Rattle.kr_base.specs.declared.ids.ConnId.{ConnId}
 use Rattle.dbus_auth.specs.Handshake.{Run}
 use Rattle.service_machine.specs.declared.event.Event.{Event}
 use Rattle.service_machine.specs.declared.event.Event.TheVariants as event
-use Rattle.service_machine.specs.Opened.{Contents, opened_state}
-use Rattle.service_machine.specs.State.{State}
+use Rattle.service_tables.specs.Opened.{Contents, opened_state}
+use Rattle.service_tables.specs.State.{State}
 use Rattle.service_machine.specs.Step.{step}
 use Rattle.connection_worker.specs.Salts.{salt_of}
 use Rattle.service_machine.specs.Single.{TimedRequest, turns}

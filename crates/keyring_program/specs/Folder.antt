@@ -6,8 +6,8 @@ use Rattle.folder_store.specs.declared.loading.Loaded.{Loaded}
 use Rattle.folder_store.specs.Limits.{the_limits}
 use Rattle.folder_store.specs.Loads.{opening_of}
 use Rattle.folder_store.specs.Opened.{Opening, Opened}
-use Rattle.service_machine.specs.Disk.{contents_from}
-use Rattle.service_machine.specs.Opened.{Contents}
+use Rattle.service_tables.specs.Disk.{contents_from}
+use Rattle.service_tables.specs.Opened.{Contents}
 use Rattle.keyring_program.specs.declared.status.Status.{Status}
 use Rattle.keyring_program.specs.declared.status.Status.TheVariants as status
 

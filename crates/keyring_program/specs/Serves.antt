@@ -1,7 +1,7 @@
 -- One run over the standard streams: what was read, recorded and written, and why it ended.
 use Rattle.std.specs.Prelude.{◌≡◌, ℕ, List, Option, length}
 use Rattle.dbus_auth.specs.Handshake.{Run, handshake}
-use Rattle.service_machine.specs.Opened.{Contents, opened_state}
+use Rattle.service_tables.specs.Opened.{Contents, opened_state}
 use Rattle.service_machine.specs.Replay.{Legal}
 use Rattle.connection_worker.specs.declared.ending.End.{End}
 use Rattle.connection_worker.specs.Causes.{HasCause, HasWritten}

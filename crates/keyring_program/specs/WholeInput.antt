@@ -3,8 +3,8 @@ use Rattle.std.specs.Prelude.{◌≡◌, ℕ, ◌<◌, List, [], length}
 use Rattle.dbus_auth.specs.Handshake as shaking
 use Rattle.dbus_framing.specs.Messages.{Parts}
 use Rattle.dbus_framing.specs.Streams.{Stream}
-use Rattle.service_machine.specs.Limits.{most_events}
-use Rattle.service_machine.specs.Opened.{Contents}
+use Rattle.service_tables.specs.Limits.{most_events}
+use Rattle.service_tables.specs.Opened.{Contents}
 use Rattle.connection_worker.specs.Arrivals.{FirstRequests}
 use Rattle.connection_worker.specs.Handshakes.{most_bytes}
 use Rattle.service_machine.specs.Single.{TimedRequest, requests_of}

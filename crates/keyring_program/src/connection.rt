@@ -2,7 +2,7 @@
 ghost use Rattle.std.specs.Prelude.{◌≡◌};
 ghost use Rattle.connection_worker.specs.Streams.{input_of, output_of};
 ghost use Rattle.service_history.specs.History.{opened_history};
-ghost use Rattle.service_machine.specs.Opened.{IsOpened, contents_of};
+ghost use Rattle.service_tables.specs.Opened.{IsOpened, contents_of};
 ghost use Rattle.keyring_program.specs.Serves.{Serves};
 
 use crate::server_number::guid_of;

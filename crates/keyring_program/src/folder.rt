@@ -4,7 +4,7 @@ ghost use Rattle.kr_outside.specs.Faults.{KeepsSteady, Rose};
 ghost use Rattle.kr_outside.specs.Host.{GivesOne, GivesOneAtMost};
 ghost use Rattle.kr_outside.specs.RenameDisk.{Image};
 ghost use Rattle.service_history.specs.History.{opened_history};
-ghost use Rattle.service_machine.specs.Opened.{IsOpened, contents_of};
+ghost use Rattle.service_tables.specs.Opened.{IsOpened, contents_of};
 ghost use Rattle.keyring_program.specs.Folder.{HasOpened};
 
 use kr_outside::{Host, OutsideRefused};

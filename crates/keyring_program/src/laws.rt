@@ -8,7 +8,7 @@ ghost use Rattle.connection_worker.specs.Replies.{replies_to};
 ghost use Rattle.service_machine.specs.Single.{TimedRequest};
 ghost use Rattle.connection_worker.specs.Written.{spelled_behind};
 ghost use Rattle.keyring_program.specs.Events.{the_connection, joined, text_of};
-ghost use Rattle.service_machine.specs.Opened.{Contents};
+ghost use Rattle.service_tables.specs.Opened.{Contents};
 ghost use Rattle.keyring_program.specs.Serves.{handshake_run};
 
 use call_wire::a_message_is_one_request;

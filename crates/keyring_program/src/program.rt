@@ -6,7 +6,7 @@ ghost use Rattle.kr_outside.specs.RenameDisk.{Image};
 ghost use Rattle.connection_worker.specs.Streams.{input_of, output_of};
 ghost use Rattle.keyring_program.specs.Command.{IsStdio, IsStdioIn, IsNoCommand};
 ghost use Rattle.keyring_program.specs.Folder.{IsOpened, HadFolder, HasOpened};
-ghost use Rattle.service_machine.specs.Opened.{Contents};
+ghost use Rattle.service_tables.specs.Opened.{Contents};
 ghost use Rattle.keyring_program.specs.Serves.{Serves};
 ghost use Rattle.keyring_program.specs.WholeInput.{IsWholeInput};
 

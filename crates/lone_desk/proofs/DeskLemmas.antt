@@ -2,14 +2,14 @@
 use Rattle.std.proofs.Common.{◌≡◌, ◌+◌, ◌<◌, ◌≤◌, Bool, true, false, [], Option, Some, None, Result, Ok, Err, OnOk, refl, ap, ◌∙◌, sym, subst, arith, inl, inr}
 use Rattle.std.proofs.lemmas.List.{length_push}
 use Rattle.kr_base.specs.declared.ids.ConnId.{ConnId}
-use Rattle.service_machine.specs.declared.rows.DeskRow.{DeskRow}
+use Rattle.service_tables.specs.declared.rows.DeskRow.{DeskRow}
 use Rattle.service_machine.specs.declared.event.Event.{Event}
 use Rattle.service_machine.specs.declared.event.Event.TheVariants as event
 use Rattle.service_machine.specs.declared.event.Output.{Output}
 use Rattle.service_machine.specs.declared.event.Output.TheVariants as output
-use Rattle.service_machine.specs.Connections.{desk_of}
-use Rattle.service_machine.specs.Limits.{most_events}
-use Rattle.service_machine.proofs.FitLemmas.{has-told, has-none}
+use Rattle.service_tables.specs.Connections.{desk_of}
+use Rattle.service_tables.specs.Limits.{most_events}
+use Rattle.service_tables.proofs.FitLemmas.{has-told, has-none}
 use Rattle.service_machine.specs.Step.{step, output_of, Fits}
 use Rattle.service_machine.specs.declared.event.Arrival.{Arrival}
 use Rattle.secret_calls.specs.declared.taken.Refused.{Refused}

@@ -1,6 +1,6 @@
 ghost use Rattle.std.specs.Prelude.{◌≡◌, ◌≤◌, ◌+◌, IfOk, IsErrOf};
 ghost use Rattle.service_machine.specs.Step.{step, IsCrowded, Fits};
-ghost use Rattle.service_machine.specs.Limits.{IsSpent};
+ghost use Rattle.service_tables.specs.Limits.{IsSpent};
 ghost use Rattle.service_history.specs.Windows.{total};
 ghost use Rattle.service_desk.specs.Views.{IsView};
 ghost use Rattle.service_desk.specs.Places.{place, Looks, Extends};

@@ -2,7 +2,7 @@
 use Rattle.std.specs.Prelude.{◌≡◌, ◌+◌, IsTrue, List, [], ◌∷◌, ◌++◌, length, map}
 use Rattle.std.specs.List.{AllByRecursion}
 use Rattle.secret_calls.specs.declared.out.Out.{Out}
-use Rattle.service_machine.specs.State.{State}
+use Rattle.service_tables.specs.State.{State}
 use Rattle.service_machine.specs.declared.event.Event.{Event}
 use Rattle.service_machine.specs.declared.event.Output.{Output}
 use Rattle.service_machine.specs.declared.event.Output.TheVariants as output

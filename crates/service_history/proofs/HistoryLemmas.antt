@@ -1,10 +1,10 @@
 -- One more event of a history, and a cut.
 use Rattle.std.proofs.Common.{◌+◌, ◌≤◌, [], ◌∷◌, ap, ◌∙◌, sym, arith}
 use Rattle.std.proofs.lemmas.List.{length_push}
-use Rattle.service_machine.specs.State.{State}
+use Rattle.service_tables.specs.State.{State}
 use Rattle.service_machine.specs.declared.event.Event.{Event}
 use Rattle.service_machine.specs.Step.{step, Fits}
-use Rattle.service_machine.specs.Sound.{IsSound}
+use Rattle.service_tables.specs.Sound.{IsSound}
 use Rattle.service_machine.proofs.ReplayLemmas.{replay-append, Legal-append}
 use Rattle.service_machine.proofs.SoundLemmas.{sound_step, sound_replay}
 use Rattle.service_history.specs.Limits.{most_counted}

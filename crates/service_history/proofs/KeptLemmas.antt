@@ -3,14 +3,14 @@ use Rattle.std.proofs.Common.{◌≡◌, ◌+◌, ◌<◌, ◌≤◌, true, fals
 use Rattle.kr_base.specs.declared.ids.ConnId.{ConnId}
 use Rattle.service_machine.specs.declared.event.Event.{Event}
 use Rattle.service_machine.specs.declared.event.Event.TheVariants as event
-use Rattle.service_machine.specs.declared.rows.DeskRow.{DeskRow}
-use Rattle.service_machine.specs.State.{State}
-use Rattle.service_machine.specs.Connections.{left, emptied, desk_of}
-use Rattle.service_machine.specs.Limits.{most_events}
-use Rattle.service_machine.specs.Opened.{IsOpened, contents_of}
-use Rattle.service_machine.specs.Sound.{AreSoundCollections}
+use Rattle.service_tables.specs.declared.rows.DeskRow.{DeskRow}
+use Rattle.service_tables.specs.State.{State}
+use Rattle.service_tables.specs.Connections.{left, emptied, desk_of}
+use Rattle.service_tables.specs.Limits.{most_events}
+use Rattle.service_tables.specs.Opened.{IsOpened, contents_of}
+use Rattle.service_tables.specs.Sound.{AreSoundCollections}
 use Rattle.service_machine.specs.Step.{step, Fits}
-use Rattle.service_machine.proofs.FitLemmas.{has-told}
+use Rattle.service_tables.proofs.FitLemmas.{has-told}
 use Rattle.service_machine.proofs.SoundLemmas.{sound_start}
 use Rattle.service_history.specs.Limits.{most_counted}
 use Rattle.service_history.specs.History.{IsHistory}

@@ -3,19 +3,19 @@ use Rattle.std.specs.Prelude.{◌≡◌, ◌+◌, ◌≤◌, ◌&&◌, not, if�
 use Rattle.kr_base.specs.declared.ids.ConnId.{ConnId}
 use Rattle.secret_calls.specs.declared.taken.Taken.{Taken}
 use Rattle.secret_calls.specs.declared.taken.Taken.TheVariants as taken
-use Rattle.service_machine.specs.Disk.{DiskState}
-use Rattle.service_machine.specs.State.{State}
-use Rattle.service_machine.specs.declared.rows.DeskRow.{DeskRow}
+use Rattle.service_tables.specs.Disk.{DiskState}
+use Rattle.service_tables.specs.State.{State}
+use Rattle.service_tables.specs.declared.rows.DeskRow.{DeskRow}
 use Rattle.service_machine.specs.declared.event.Incoming.{Incoming}
 use Rattle.service_machine.specs.declared.event.Incoming.TheVariants as incoming
 use Rattle.service_machine.specs.declared.event.Event.{Event}
 use Rattle.service_machine.specs.declared.event.Event.TheVariants as event
 use Rattle.service_machine.specs.declared.event.Output.{Output}
-use Rattle.service_machine.specs.Connections.{waiting_for, desk_of}
+use Rattle.service_tables.specs.Connections.{waiting_for, desk_of}
 use Rattle.service_machine.specs.Machine.{Records}
 use Rattle.service_machine.specs.Step.{step, output_of, Fits}
 use Rattle.service_machine.specs.Replay.{replay, Legal}
-use Rattle.service_machine.specs.Sound.{IsSound}
+use Rattle.service_tables.specs.Sound.{IsSound}
 use Rattle.service_history.specs.Limits.{most_counted}
 use Rattle.service_history.specs.Room.{room}
 use Rattle.service_history.specs.Windows.{Window, total, is_due, stored, first_window, next_window}

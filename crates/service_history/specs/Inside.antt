@@ -4,7 +4,7 @@ use Rattle.std.specs.Prelude.{◌≡◌, ◌+◌, ◌-◌, ◌≤◌, ℕ, Bool,
 use Rattle.std.specs.List.{list_any}
 use Rattle.std.specs.declared.alloc.Global.{Global}
 use Rattle.service_machine.specs.declared.event.Event.{Event}
-use Rattle.service_machine.specs.State.{State}
+use Rattle.service_tables.specs.State.{State}
 use Rattle.service_machine.specs.declared.machine.Machine.{Machine}
 use Rattle.service_machine.specs.Rows.{rows_of, disk_of}
 use Rattle.service_machine.specs.Replay.{cost}

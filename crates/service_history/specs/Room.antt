@@ -1,8 +1,8 @@
 -- The events for which room is kept, so that they never want memory: for each connection that it leaves, where it
 -- hasn't; that it takes, where something waits; and that it is gone.
 use Rattle.std.specs.Prelude.{ℕ, ◌+◌, if◌then◌else◌, List, [], ◌∷◌}
-use Rattle.service_machine.specs.declared.rows.ConnRow.{ConnRow}
-use Rattle.service_machine.specs.Connections.{waits}
+use Rattle.service_tables.specs.declared.rows.ConnRow.{ConnRow}
+use Rattle.service_tables.specs.Connections.{waits}
 
 -- how many such events a connection may bring
 abbrev pub room_of : ConnRow → ℕ

@@ -4,7 +4,7 @@ ghost use Rattle.std.specs.Prelude.{◌≡◌, ◌++◌, ◌∷◌, [], List, le
 ghost use Rattle.service_machine.specs.declared.event.Event.{Event};
 ghost use Rattle.service_machine.specs.declared.event.Incoming.{Incoming};
 ghost use Rattle.service_machine.specs.declared.event.Output.{Output};
-ghost use Rattle.service_machine.specs.State.{State};
+ghost use Rattle.service_tables.specs.State.{State};
 ghost use Rattle.service_machine.specs.Replay.{replay, Legal, outputs};
 ghost use Rattle.kr_base.specs.declared.ids.ConnId.{ConnId};
 ghost use Rattle.service_history.specs.History.{History, opened_history, IsHistory, Stores, IsRecorded, IsAppended, told, taken_by, left_by, gone_by};

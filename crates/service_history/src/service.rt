@@ -1,9 +1,9 @@
 ghost use Rattle.std.specs.Prelude.{◌≡◌, ◌≢◌, [], IsTrue, IfOk, OnOk, OnErr, IsErrOf, Err};
 ghost use Rattle.folder_store.specs.Ring.{IsAsFound};
 ghost use Rattle.collection_table.specs.Entries.{rows_of};
-ghost use Rattle.service_machine.specs.Disk.{IsLoaded, FailedToLoad, disk_state};
-ghost use Rattle.service_machine.specs.Opened.{IsOpened};
-ghost use Rattle.service_machine.specs.Limits.{IsSpent};
+ghost use Rattle.service_tables.specs.Disk.{IsLoaded, FailedToLoad, disk_state};
+ghost use Rattle.service_tables.specs.Opened.{IsOpened};
+ghost use Rattle.service_tables.specs.Limits.{IsSpent};
 ghost use Rattle.service_machine.specs.Machine.{IsOfNone, IsConnect};
 ghost use Rattle.service_machine.specs.Step.{IsMissing, IsCrowded};
 ghost use Rattle.service_history.specs.Windows.{total};

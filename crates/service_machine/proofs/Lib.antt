@@ -1,12 +1,4 @@
-pub mod AliasLemmas
-pub mod CollectionLemmas
-pub mod DeskLemmas
-pub mod EachLemmas
-pub mod FitLemmas
-pub mod LoadedLemmas
 pub mod LockLemmas
-pub mod NotedLemmas
-pub mod ObjectLemmas
 pub mod ReplayLemmas
 pub mod RunLemmas
 pub mod SmallLemmas

@@ -7,11 +7,13 @@ use Rattle.kr_names.specs.declared.object_name.ObjectName.{ObjectName}
 use Rattle.secret_calls.specs.declared.out.Body.{Body}
 use Rattle.secret_calls.specs.declared.out.Body.TheVariants as body
 use Rattle.secret_calls.specs.declared.out.ErrorName.TheVariants as name
-use Rattle.service_machine.specs.Objects.{collection_around, is_there, once, paths_of}
+use Rattle.service_tables.specs.Objects.{collection_around, is_there, once, paths_of}
+use Rattle.service_tables.specs.Opened.{contents_of}
+use Rattle.service_tables.specs.Reading.{asked_collections}
 use Rattle.service_machine.specs.Plan.{Change, Lock_collection, answered, refused}
-use Rattle.service_machine.specs.Run.{Ran, asked, asked_collections, limited, performed_all, ran, run}
+use Rattle.service_machine.specs.Run.{Ran, asked, limited, performed_all, ran, run}
 use Rattle.service_machine.specs.ServiceCalls.{is_small, lock, locks}
-use Rattle.service_machine.specs.State.{State}
+use Rattle.service_tables.specs.State.{State}
 use Rattle.service_machine.proofs.RunLemmas.{state-limited}
 
 -- a return that isn't too large is answered, whether or not anything changes
@@ -23,7 +25,7 @@ small-answer caller body (change ∷ changes) state small = refl
 module _ (caller : ConnId) (objects : List ObjectName) (state : State) where
   -- the paths that are answered, and the plan by whether they are few enough
   abbrev answers : List (List ℕ)
-  answers = paths_of (once (filter (is_there (asked_collections state)) objects))
+  answers = paths_of (once (filter (is_there (asked_collections (contents_of state))) objects))
 
   abbrev led : Bool → Ran
   led small =
@@ -43,7 +45,7 @@ module _ (caller : ConnId) (objects : List ObjectName) (state : State) where
 
     -- the state in which the collections of these stems are locked
     pub lock-state : (after : State) (lent stems : List (List ℕ)) → is_small (body.Locked listed) ≡ true → after ≡ performed_all caller (map Lock_collection lent) state
-        → lent ≡ stems → stems ≡ filter_map (collection_around (asked_collections state)) objects → after ≡ (ran caller (lock objects) state).state
+        → lent ≡ stems → stems ≡ filter_map (collection_around (asked_collections (contents_of state))) objects → after ≡ (ran caller (lock objects) state).state
     lock-state after lent stems small locked as_lent around =
         let plan = answered (body.Locked answers) (locks objects (asked caller state)) in
         locked ∙ ap (λ these. performed_all caller (map Lock_collection these) state) (as_lent ∙ around)

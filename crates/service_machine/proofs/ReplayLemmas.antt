@@ -1,6 +1,6 @@
 -- Lists of events one behind the other.
 use Rattle.std.proofs.Common.{◌≡◌, List, [], ◌∷◌, ◌++◌, refl, ap}
-use Rattle.service_machine.specs.State.{State}
+use Rattle.service_tables.specs.State.{State}
 use Rattle.service_machine.specs.declared.event.Event.{Event}
 use Rattle.service_machine.specs.Step.{step, output_of}
 use Rattle.service_machine.specs.Replay.{replay, Legal, outputs}

@@ -2,10 +2,10 @@
 use Rattle.std.proofs.Common.{◌≡◌, true, false, List, [], ◌∷◌, ◌++◌, refl, ap, ◌∙◌, append-nil}
 use Rattle.kr_base.specs.declared.ids.ConnId.{ConnId}
 use Rattle.secret_calls.specs.declared.call.Request.{Request}
-use Rattle.service_machine.specs.State.{State}
+use Rattle.service_tables.specs.State.{State}
 use Rattle.service_machine.specs.Plan.{Change, Open_session, Close_session, Lock_collection, Plan, Ends, After}
 use Rattle.service_machine.specs.Run.{asked, performed, performed_all, sent_all, Ran, run, limited}
-use Rattle.service_machine.specs.Connections.{changed, with_out}
+use Rattle.service_tables.specs.Connections.{changed, with_out}
 use Rattle.service_machine.specs.Step.{arrived, message_of, plan_of, put_out, replies, served, with_delivered, with_rows}
 
 -- no change is one of the connections

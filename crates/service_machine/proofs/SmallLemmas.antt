@@ -18,15 +18,17 @@ use Rattle.secret_calls.specs.Outs.{spelled_body, most_waiting}
 use Rattle.secret_calls.proofs.SizeLemmas.{error-short, return-waits, session-short}
 use Rattle.session_table.specs.Sessions.{rows_of, is_full, owns, most_sessions, last_session}
 use Rattle.service_machine.specs.CollectionCalls.{on_collection}
-use Rattle.service_machine.specs.Connections.{size_of}
+use Rattle.service_tables.specs.Connections.{size_of}
 use Rattle.service_machine.specs.ItemCalls.{get_secret, secret_if_open}
-use Rattle.service_machine.specs.Limits.{most_body}
-use Rattle.service_machine.specs.Objects.{collection_named, is_there, item_paths, once, paths_of}
+use Rattle.service_tables.specs.Limits.{most_body}
+use Rattle.service_tables.specs.Objects.{collection_named, is_there, item_paths, once, paths_of}
+use Rattle.service_tables.specs.Opened.{contents_of}
+use Rattle.service_tables.specs.Reading.{asked_collections}
 use Rattle.service_machine.specs.Plan.{Change, Open_session, Close_session, Secret_of, Plan, Ends, After, refused, answered, given}
-use Rattle.service_machine.specs.Run.{asked, asked_collections, filled, run, bounded, limited}
+use Rattle.service_machine.specs.Run.{asked, filled, run, bounded, limited}
 use Rattle.service_machine.specs.ServiceCalls.{is_plain, is_small, locks}
 use Rattle.service_machine.specs.SessionCalls.{with_session}
-use Rattle.service_machine.specs.State.{State}
+use Rattle.service_tables.specs.State.{State}
 use Rattle.service_machine.specs.Step.{plan_of, message_of, served}
 
 -- the caller can open a session: it has fewer than it may have, and a number is left
@@ -113,10 +115,10 @@ plan-small caller state (Ok (call.OpenSession algorithm)) = opened-small caller 
 plan-small caller state (Ok (call.CloseSession session)) = closed-small caller session state ((asked caller state).sessions.owns session)
 plan-small caller state (Ok (call.SearchItems wanted)) = tt
 plan-small caller state (Ok (call.Lock objects)) =
-    let paths = paths_of (once (filter (is_there (asked_collections state)) objects)) in
+    let paths = paths_of (once (filter (is_there (asked_collections (contents_of state))) objects)) in
     answered-small caller (body.Locked paths) (locks objects (asked caller state)) state (is_small (body.Locked paths)) refl
 plan-small caller state (Ok (call.GetSecrets items session)) = session-small caller session _ state (λ own. tt)
-plan-small caller state (Ok (call.SearchCollection collection wanted)) = collection-small caller wanted state (collection_named (asked_collections state) collection)
+plan-small caller state (Ok (call.SearchCollection collection wanted)) = collection-small caller wanted state (collection_named (asked_collections (contents_of state)) collection)
 plan-small caller state (Ok (call.GetSecret stem item session)) = secret-small caller stem item session state
 
 -- ---- the reply

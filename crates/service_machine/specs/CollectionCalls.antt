@@ -5,7 +5,7 @@ use Rattle.kr_base.specs.declared.attributes.AttrValue.{AttrValue}
 use Rattle.kr_names.specs.declared.object_name.ObjectName.{ObjectName}
 use Rattle.secret_calls.specs.declared.out.Body.TheVariants as body
 use Rattle.secret_calls.specs.declared.out.ErrorName.TheVariants as name
-use Rattle.service_machine.specs.Objects.{collection_named, item_paths}
+use Rattle.service_tables.specs.Objects.{collection_named, item_paths}
 use Rattle.service_machine.specs.Plan.{Questions, Plan, refused, answered}
 
 -- what is done with the collection that a call is made on, or that the alias stands for: NoSuchObject if it isn't there

@@ -1,12 +1,6 @@
 pub mod CollectionCalls
-pub mod Connections
-pub mod Desks
-pub mod Disk
 pub mod ItemCalls
-pub mod Limits
 pub mod Machine
-pub mod Objects
-pub mod Opened
 pub mod Plan
 pub mod Replay
 pub mod Rows
@@ -14,6 +8,4 @@ pub mod Run
 pub mod ServiceCalls
 pub mod SessionCalls
 pub mod Single
-pub mod Sound
-pub mod State
 pub mod Step

@@ -5,9 +5,9 @@ use Rattle.service_machine.specs.declared.event.Incoming.{Incoming}
 use Rattle.service_machine.specs.declared.event.Incoming.TheVariants as incoming
 use Rattle.service_machine.specs.declared.event.Event.{Event}
 use Rattle.service_machine.specs.declared.event.Event.TheVariants as event
-use Rattle.service_machine.specs.Connections.{desk_of}
-use Rattle.service_machine.specs.Desks.{Table}
-use Rattle.service_machine.specs.State.{State}
+use Rattle.service_tables.specs.Connections.{desk_of}
+use Rattle.service_tables.specs.Desks.{Table}
+use Rattle.service_tables.specs.State.{State}
 use Rattle.service_machine.specs.Step.{IsMissing}
 use Rattle.session_table.specs.declared.row.Sessions.{Sessions}
 

@@ -2,13 +2,12 @@
 -- row sees nothing but its questions, and changes nothing but by these changes, so what holds of every question and
 -- of every kind of change holds of all rows. No question shows the value of a secret: a plan says whose is given.
 use Rattle.std.specs.Prelude.{ℕ, Bool, List, [], Option}
-use Rattle.kr_base.specs.declared.attributes.AttrValue.{AttrValue}
 use Rattle.kr_base.specs.declared.ids.ItemId.{ItemId}
 use Rattle.kr_base.specs.declared.ids.SessionId.{SessionId}
 use Rattle.kr_names.specs.declared.object_name.ObjectName.{ObjectName}
-use Rattle.collection_table.specs.declared.matches.Matches.{Matches}
 use Rattle.secret_calls.specs.declared.out.Body.{Body}
 use Rattle.secret_calls.specs.declared.out.ErrorName.{ErrorName}
+use Rattle.service_tables.specs.Questions.{CollectionQuestions}
 
 -- what a row may ask of the sessions, about its caller
 pub record SessionQuestions : Type 0 where
@@ -18,21 +17,6 @@ pub record SessionQuestions : Type 0 where
   pub is_full : Bool
   -- the number that the next session gets
   pub next : ℕ
-
--- what a row may ask of the collections and of the aliases
-pub record CollectionQuestions : Type 0 where
-  -- the stem that an alias stands for, if there is a collection of that stem
-  pub alias : List ℕ → Option (List ℕ)
-  -- whether there is a collection of the stem
-  pub has : List ℕ → Bool
-  -- whether there is one, and it is unlocked
-  pub is_open : List ℕ → Bool
-  -- whether there is one, and it has the item, locked or not
-  pub has_item : List ℕ → ItemId → Bool
-  -- the items of one collection that match, by rising numbers
-  pub found_in : List ℕ → List (List ℕ × AttrValue) → List ItemId
-  -- the items of each collection that match, in byte order of the collections' stems
-  pub found : List (List ℕ × AttrValue) → List Matches
 
 -- what a row may ask: a record for each table
 pub record Questions : Type 0 where

@@ -2,9 +2,9 @@
 use Rattle.collection_table.specs.Entries.{rows_of as collections_of}
 use Rattle.folder_store.specs.Aliases.{pairs_in}
 use Rattle.service_machine.specs.declared.machine.Machine.{Machine}
-use Rattle.service_machine.specs.Disk.{DiskState, disk_state}
+use Rattle.service_tables.specs.Disk.{DiskState, disk_state}
 use Rattle.service_machine.specs.Machine.{rows_from}
-use Rattle.service_machine.specs.State.{State}
+use Rattle.service_tables.specs.State.{State}
 
 -- a machine's state: the rows of its tables
 abbrev pub rows_of : {F S : Type 0} → Machine F S → State

@@ -10,8 +10,8 @@ use Rattle.secret_calls.specs.declared.out.Body.{Body}
 use Rattle.secret_calls.specs.declared.out.Body.TheVariants as body
 use Rattle.secret_calls.specs.declared.out.ErrorName.TheVariants as name
 use Rattle.secret_calls.specs.Outs.{spelled_body}
-use Rattle.service_machine.specs.Limits.{most_body}
-use Rattle.service_machine.specs.Objects.{collection_around, is_there, is_open_item, once, paths_of, unlocked_paths, locked_paths}
+use Rattle.service_tables.specs.Limits.{most_body}
+use Rattle.service_tables.specs.Objects.{collection_around, is_there, is_open_item, once, paths_of, unlocked_paths, locked_paths}
 use Rattle.service_machine.specs.Plan.{Questions, Change, Plan, Open_session, Lock_collection, Secrets_of, refused, answered, given}
 use Rattle.service_machine.specs.SessionCalls.{with_session}
 

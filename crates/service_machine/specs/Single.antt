@@ -2,10 +2,10 @@
 use Rattle.std.specs.Prelude.{ℕ, Bool, nat_lt, if◌then◌else◌, List, [], ◌∷◌, ◌++◌, length, map}
 use Rattle.kr_base.specs.declared.ids.ConnId.{ConnId}
 use Rattle.secret_calls.specs.declared.call.Request.{Request}
-use Rattle.service_machine.specs.State.{State}
+use Rattle.service_tables.specs.State.{State}
 use Rattle.service_machine.specs.declared.event.Event.{Event}
 use Rattle.service_machine.specs.declared.event.Event.TheVariants as event
-use Rattle.service_machine.specs.Connections.{waiting_for}
+use Rattle.service_tables.specs.Connections.{waiting_for}
 use Rattle.service_machine.specs.Step.{step}
 use Rattle.service_machine.specs.Replay.{replay}
 

@@ -13,20 +13,20 @@ use Rattle.secret_calls.specs.declared.out.Out.TheVariants as out
 use Rattle.secret_calls.specs.declared.serial.Serial.{Serial}
 use Rattle.secret_calls.specs.Calls.{error_of}
 use Rattle.session_table.specs.Sessions.{abandoned}
-use Rattle.service_machine.specs.declared.rows.ConnRow.{ConnRow}
+use Rattle.service_tables.specs.declared.rows.ConnRow.{ConnRow}
 use Rattle.service_machine.specs.declared.event.Event.{Event}
 use Rattle.service_machine.specs.declared.event.Event.TheVariants as event
 use Rattle.service_machine.specs.declared.event.Output.{Output}
 use Rattle.service_machine.specs.declared.event.Output.TheVariants as output
 use Rattle.service_machine.specs.CollectionCalls.{search_collection}
-use Rattle.service_machine.specs.Connections.{joined, has, changed, without, left, emptied, waiting_for, desk_of, Sent, delivered}
+use Rattle.service_tables.specs.Connections.{joined, has, changed, without, left, emptied, waiting_for, desk_of, Sent, delivered}
 use Rattle.service_machine.specs.ItemCalls.{get_secret}
-use Rattle.service_machine.specs.Limits.{most_connections, last_connection}
+use Rattle.service_tables.specs.Limits.{most_connections, last_connection}
 use Rattle.service_machine.specs.Plan.{Questions, Plan, refused}
 use Rattle.service_machine.specs.Run.{Ran, ran}
 use Rattle.service_machine.specs.ServiceCalls.{open_session, search_items, lock, get_secrets}
 use Rattle.service_machine.specs.SessionCalls.{ping, close_session}
-use Rattle.service_machine.specs.State.{State}
+use Rattle.service_tables.specs.State.{State}
 
 -- the state with other rows of connections
 abbrev pub with_rows : List ConnRow → State → State

@@ -2,33 +2,21 @@
 ghost use Rattle.std.specs.Prelude.{◌≡◌, IfOk, map};
 ghost use Rattle.kr_base.specs.declared.ids.ConnId.{ConnId};
 ghost use Rattle.service_machine.specs.CollectionCalls.{search_collection};
-ghost use Rattle.service_machine.specs.Connections.{Sent};
+ghost use Rattle.service_tables.specs.Connections.{Sent};
 ghost use Rattle.service_machine.specs.Plan.{Lock_collection};
 ghost use Rattle.service_machine.specs.Rows.{rows_of, disk_of};
-ghost use Rattle.service_machine.specs.Run.{found_in, performed, performed_all, ran};
+ghost use Rattle.service_machine.specs.Run.{performed, performed_all, ran};
 
 use crate::Machine;
 use crate::answer::{Answer, bounded};
-use crate::paths::item_paths;
-use kr_base::{Attributes, ConnId, ItemId, OutOfMemory, Stem};
+use kr_base::{Attributes, ConnId, OutOfMemory, Stem};
 use kr_items::Items;
 use kr_names::ObjectName;
 use kr_outside::Folder;
 use secret_calls::{Body, ErrorName};
+use service_tables::item_paths;
 
 impl<F: Folder> Machine<F> {
-    // The items of one collection that match.
-    fn found_in(&self, stem: &Stem, wanted: &Attributes) -> Result<Vec<ItemId>, OutOfMemory>
-        ensures { IfOk result (λ ids.
-            ids.items ≡ found_in stem.now wanted.now (rows_of self.now)) }
-    {
-        let Some(collection) = self.disk.collections.get(stem) else {
-            return Ok(Vec::new(self.alloc));
-        };
-        let ids = collection.search(wanted)?;
-        Ok(ids)
-    }
-
     /// Performs the row of SearchItems.
     pub(crate) fn search_collection(
         &self,
@@ -43,10 +31,10 @@ impl<F: Folder> Machine<F> {
             ≡ (ran conn (search_collection collection.now wanted.now) (rows_of self.now)).state }
     {
         let _ = conn;
-        let Some(stem) = self.collection_named(collection) else {
+        let Some(stem) = self.disk.collection_named(collection) else {
             return Ok(Err(ErrorName::NoSuchObject));
         };
-        let ids = self.found_in(stem, wanted)?;
+        let ids = self.disk.found_in(self.alloc, stem, wanted)?;
         let paths = item_paths(self.alloc, stem, &ids)?;
         Ok(bounded(Ok(Body::Objects(Items::new(paths)))))
     }

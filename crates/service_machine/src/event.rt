@@ -1,7 +1,6 @@
 ghost use Rattle.std.specs.Prelude.{◌≡◌};
 ghost use Rattle.service_machine.specs.declared.event.ApplyRefused.TheVariants as ApplyRefused;
 ghost use Rattle.service_machine.specs.declared.event.JoinRefused.TheVariants as JoinRefused;
-ghost use Rattle.service_machine.specs.declared.event.OpenRefused.TheVariants as OpenRefused;
 
 use kr_base::ConnId;
 use kr_items::Items;
@@ -71,17 +70,6 @@ pub enum Output {
     Gone,
 }
 
-/// Why the service didn't open.
-#[derive(Clone, Copy, Debug, PartialEq, Eq, Error)]
-pub enum OpenRefused {
-    /// The folder, or one of its slots, failed while it was loaded.
-    #[error("the folder could not be loaded")]
-    Folder,
-    /// No memory was left.
-    #[error("out of memory")]
-    OutOfMemory,
-}
-
 /// Why an event didn't happen.
 #[derive(Clone, Copy, Debug, PartialEq, Eq, Error)]
 pub enum ApplyRefused {
@@ -108,14 +96,6 @@ pub enum JoinRefused {
     /// No memory was left.
     #[error("out of memory")]
     OutOfMemory,
-}
-
-impl From<AllocError> for OpenRefused {
-    ghost from_gives = { λ _ e. e ≡ OpenRefused.OutOfMemory };
-
-    fn from(_error: AllocError) -> Self {
-        OpenRefused::OutOfMemory
-    }
 }
 
 impl From<AllocError> for ApplyRefused {

@@ -5,9 +5,9 @@ ghost use Rattle.std.specs.List.{AllByRecursion};
 ghost use Rattle.service_machine.specs.declared.event.Event.{Event};
 ghost use Rattle.service_machine.specs.Step.{step, puts_out, output_of, Fits};
 ghost use Rattle.service_machine.specs.Replay.{replay, Legal, outputs};
-ghost use Rattle.service_machine.specs.Sound.{AreSoundCollections, CanWait, IsSound};
-ghost use Rattle.service_machine.specs.Opened.{Contents, opened_state};
-ghost use Rattle.service_machine.specs.State.{State};
+ghost use Rattle.service_tables.specs.Sound.{AreSoundCollections, CanWait, IsSound};
+ghost use Rattle.service_tables.specs.Opened.{Contents, opened_state};
+ghost use Rattle.service_tables.specs.State.{State};
 
 /// A start with sound collections is sound, and each event that fits keeps a sound state sound.
 #[tactic(auto, using(crate::proofs::SoundLemmas::sound_start, crate::proofs::SoundLemmas::sound_step, crate::proofs::SoundLemmas::sound_replay))]

@@ -10,24 +10,14 @@
 
 mod answer;
 mod collection;
-mod connections;
-mod desk;
-mod desks;
-mod disk;
 mod event;
 mod item;
 mod laws;
 mod machine;
-mod objects;
-mod paths;
-mod rows;
 mod service;
 mod session;
 
-pub use disk::Disk;
-pub use event::{
-    ApplyRefused, Arrival, Arrived, Event, Incoming, JoinRefused, OpenRefused, Output,
-};
+pub use event::{ApplyRefused, Arrival, Arrived, Event, Incoming, JoinRefused, Output};
 pub use laws::{lists_of_events_go_on, outputs_can_wait, steps_keep_the_rows_sound};
 pub use machine::Machine;
-pub use rows::{ConnRow, ConnRows, DeskRow, Rows};
+pub use service_tables::{ConnRow, ConnRows, DeskRow, Disk, OpenRefused, Rows};

@@ -1,21 +1,21 @@
 ghost use Rattle.std.specs.Prelude.{◌≡◌, [], true, false, IsTrue, IfOk, OnOk, OnErr, IsErrOf};
 ghost use Rattle.collection_table.specs.Entries.{rows_of as collections_of};
 ghost use Rattle.folder_store.specs.Ring.{IsAsFound};
-ghost use Rattle.service_machine.specs.Connections.{has, waiting_for, desk_of};
-ghost use Rattle.service_machine.specs.Disk.{IsLoaded, FailedToLoad, disk_state};
+ghost use Rattle.service_tables.specs.Connections.{has, waiting_for, desk_of};
+ghost use Rattle.service_tables.specs.Disk.{IsLoaded, FailedToLoad, disk_state};
 ghost use Rattle.service_machine.specs.Machine.{Records, IsDue, IsOfNone, IsConnect, TakesMemory};
-ghost use Rattle.service_machine.specs.Opened.{IsOpened};
+ghost use Rattle.service_tables.specs.Opened.{IsOpened};
 ghost use Rattle.service_machine.specs.Run.{ran};
-ghost use Rattle.service_machine.specs.Sound.{AreSoundCollections};
+ghost use Rattle.service_tables.specs.Sound.{AreSoundCollections};
 ghost use Rattle.service_machine.specs.Step.{step, output_of, arrived, plan_of, message_of, IsMissing, IsCrowded, CanJoin, Fits};
 
 use crate::answer::{Answer, bounded};
-use crate::connections::Connections;
-use crate::{ApplyRefused, Arrived, DeskRow, Disk, Event, Incoming, OpenRefused, Output, Rows};
+use crate::{ApplyRefused, Arrived, Event, Incoming, Output};
 use kr_base::{ConnId, OutOfMemory};
 use kr_items::Items;
 use kr_outside::Folder;
 use secret_calls::{Body, Call, CallFault, Out, Request, Serial};
+use service_tables::{Connections, DeskRow, Disk, OpenRefused, Rows};
 use session_table::SessionTable;
 use std::alloc::Global;
 

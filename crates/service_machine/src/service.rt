@@ -6,12 +6,12 @@ ghost use Rattle.service_machine.specs.ServiceCalls.{is_plain, open_session, sea
 
 use crate::Machine;
 use crate::answer::{Answer, bounded, is_small};
-use crate::paths::{locked_paths, unlocked_paths};
 use kr_base::{Attributes, ConnId, OutOfMemory, SessionId, Text};
 use kr_items::Items;
 use kr_names::ObjectName;
 use kr_outside::Folder;
 use secret_calls::{Body, ErrorName};
+use service_tables::{locked_paths, unlocked_paths};
 use session_table::SessionRefused;
 use std::alloc::AllocError;
 
@@ -82,8 +82,8 @@ impl<F: Folder> Machine<F> {
         ensures disk { disk_of self.new ≡ disk_of self.old }
         ensures unchanged { OnErr result (rows_of self.new ≡ rows_of self.old) }
     {
-        let stems = self.collections_around(objects)?;
-        let paths = self.those_there(objects)?;
+        let stems = self.disk.collections_around(self.alloc, objects)?;
+        let paths = self.disk.those_there(self.alloc, objects)?;
         let body = Body::Locked(Items::new(paths));
         if !is_small(&body) {
             return Ok(Err(ErrorName::LimitsExceeded));
@@ -110,8 +110,8 @@ impl<F: Folder> Machine<F> {
         if !self.sessions.owned_by(session, conn) {
             return Ok(Err(ErrorName::NoSession));
         }
-        let open = self.open_items(items)?;
-        let secrets = self.secrets(session, &open)?;
+        let open = self.disk.open_items(self.alloc, items)?;
+        let secrets = self.disk.secrets(self.alloc, session, &open)?;
         Ok(bounded(Ok(Body::Secrets(Items::new(secrets)))))
     }
 }

@@ -3,14 +3,14 @@ use Rattle.std.proofs.Common.{◌≡◌, ℕ, ◌<◌, Bool, true, false, List, 
 use Rattle.std.proofs.lemmas.List.{length_push, append_assoc}
 use Rattle.kr_base.specs.declared.ids.ConnId.{ConnId}
 use Rattle.secret_calls.specs.declared.taken.Taken.{Taken}
-use Rattle.service_machine.specs.State.{State}
-use Rattle.service_machine.specs.declared.rows.DeskRow.{DeskRow}
+use Rattle.service_tables.specs.State.{State}
+use Rattle.service_tables.specs.declared.rows.DeskRow.{DeskRow}
 use Rattle.service_machine.specs.declared.event.Event.{Event}
 use Rattle.service_machine.specs.declared.event.Event.TheVariants as event
-use Rattle.service_machine.specs.Connections.{desk_of, has}
+use Rattle.service_tables.specs.Connections.{desk_of, has}
 use Rattle.service_machine.specs.Step.{step, output_of, Fits, IsMissing, IsCrowded}
 use Rattle.service_machine.specs.Replay.{replay, Legal}
-use Rattle.service_machine.proofs.FitLemmas.{has-told, has-none}
+use Rattle.service_tables.proofs.FitLemmas.{has-told, has-none}
 use Rattle.service_machine.proofs.ReplayLemmas.{replay-append}
 use Rattle.service_history.specs.History.{History, Stores, given_for}
 use Rattle.service_history.specs.History as history
@@ -18,7 +18,7 @@ use Rattle.service_history.specs.Windows.{total}
 use Rattle.service_desk.specs.Places.{Looks, Extends}
 use Rattle.service_desk.specs.Views.{View, with_others, with_own}
 use Rattle.service_desk.specs.Calls.{Arrives, IsRefusal, Leaves, Goes, Takes}
-use Rattle.service_machine.specs.Limits.{most_events, IsSpent}
+use Rattle.service_tables.specs.Limits.{most_events, IsSpent}
 use Rattle.service_machine.specs.declared.event.Arrival.{Arrival}
 use Rattle.service_machine.specs.declared.event.Output.TheVariants as output
 use Rattle.service_machine.specs.declared.event.JoinRefused.{JoinRefused}

@@ -2,14 +2,14 @@
 use Rattle.std.proofs.Common.{◌≡◌, ℕ, ◌+◌, ◌<◌, Bool, true, false, List, [], ◌∷◌, ◌++◌, length, Option, Some, None, Result, Ok, Err, IfOk, OnErr, refl, sym, ap, ◌∙◌, subst, arith, length-append}
 use Rattle.std.proofs.lemmas.List.{length_push}
 use Rattle.kr_base.specs.declared.ids.ConnId.{ConnId}
-use Rattle.service_machine.specs.State.{State}
-use Rattle.service_machine.specs.declared.rows.DeskRow.{DeskRow}
+use Rattle.service_tables.specs.State.{State}
+use Rattle.service_tables.specs.declared.rows.DeskRow.{DeskRow}
 use Rattle.service_machine.specs.declared.event.Event.{Event}
 use Rattle.service_machine.specs.declared.event.Event.TheVariants as event
-use Rattle.service_machine.specs.Connections.{desk_of}
+use Rattle.service_tables.specs.Connections.{desk_of}
 use Rattle.service_machine.specs.Step.{Fits}
 use Rattle.service_machine.specs.Replay.{Legal}
-use Rattle.service_machine.proofs.FitLemmas.{has-told}
+use Rattle.service_tables.proofs.FitLemmas.{has-told}
 use Rattle.service_history.specs.History.{History, IsHistory, Stores, cut_where_due, with_event, given_for, taken_by, left_by, gone_by}
 use Rattle.service_history.specs.Windows.{total, is_due}
 use Rattle.service_desk.specs.Views.{View, ArePlaces, with_others, with_own}

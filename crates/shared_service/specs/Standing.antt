@@ -1,6 +1,6 @@
 -- What a service is in a run: the history since the run's start led to it.
 use Rattle.std.specs.Prelude.{◌≡◌, ℕ, ◌+◌, ◌≤◌, List, [], ◌∷◌, length, take, drop}
-use Rattle.service_machine.specs.State.{State}
+use Rattle.service_tables.specs.State.{State}
 use Rattle.service_machine.specs.declared.event.Event.{Event}
 use Rattle.service_machine.specs.Replay.{replay, Legal}
 use Rattle.service_history.specs.History.{History, IsHistory}

@@ -12,7 +12,7 @@ pub struct Moment<F: Folder> {
 }
 
 impl<F: Folder> Model for Moment<F> {
-    ghost use Rattle.service_machine.specs.State.{State};
+    ghost use Rattle.service_tables.specs.State.{State};
 
     ghost Value = { State };
 

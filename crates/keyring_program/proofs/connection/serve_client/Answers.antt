@@ -2,9 +2,9 @@ use Rattle.std.proofs.Common.{◌≡◌, ℕ, ◌+◌, ◌∙◌, ap, subst}
 use Rattle.rand_chacha.specs.ChaCha.{key_of}
 use Rattle.kr_base.specs.declared.ids.ConnId.{ConnId}
 use Rattle.dbus_auth.specs.Exchange.{Exchange}
-use Rattle.service_machine.specs.State.{State}
+use Rattle.service_tables.specs.State.{State}
 use Rattle.service_machine.specs.declared.event.Event.TheVariants as event
-use Rattle.service_machine.specs.Opened.{Contents, contents_of, opened_state}
+use Rattle.service_tables.specs.Opened.{Contents, contents_of, opened_state}
 use Rattle.service_machine.specs.Step.{step, Fits}
 use Rattle.service_history.specs.History.{History}
 use Rattle.service_history.specs.Windows.{total}

@@ -1,6 +1,6 @@
 use Rattle.std.proofs.Common.{◌++◌, true, false, refl, ap}
 use Rattle.std.specs.List.{concat}
-use Rattle.service_machine.specs.Opened.{Contents}
+use Rattle.service_tables.specs.Opened.{Contents}
 use Rattle.service_desk.specs.Places.{Told}
 use Rattle.connection_worker.specs.Written.{spelled_behind}
 use Rattle.keyring_program.specs.Events.{the_connection, joined}

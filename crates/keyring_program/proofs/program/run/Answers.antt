@@ -1,5 +1,5 @@
 use Rattle.std.proofs.Common.{[], inr, sym, ◌∙◌}
-use Rattle.service_machine.specs.Opened.{Contents, contents_of}
+use Rattle.service_tables.specs.Opened.{Contents, contents_of}
 use Rattle.connection_worker.specs.Streams.{input_of, output_of}
 use Rattle.keyring_program.proofs.CommandLemmas.{one_user, one_folder}
 use Rattle.keyring_program.proofs.CompleteLemmas.{complete, never-usage}

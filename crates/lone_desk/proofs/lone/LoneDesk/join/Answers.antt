@@ -1,5 +1,5 @@
 use Rattle.std.proofs.Common.{rules, ap, ◌∙◌}
-use Rattle.service_machine.specs.State.{State}
+use Rattle.service_tables.specs.State.{State}
 use Rattle.service_machine.specs.Step.{step}
 use Rattle.service_machine.specs.declared.event.Event.TheVariants as event
 use Rattle.service_history.specs.History.{History}

@@ -1,5 +1,5 @@
 use Rattle.std.proofs.Common.{◌<◌, arith}
-use Rattle.service_machine.specs.Limits.{most_events}
+use Rattle.service_tables.specs.Limits.{most_events}
 use Rattle.service_machine.specs.Rows.{rows_of}
 use Rattle.service_machine.specs.declared.event.Event.TheVariants as event
 use Rattle.service_history.specs.Windows.{total}

@@ -1,8 +1,8 @@
 use Rattle.std.proofs.Common.{◌≡◌, ap, sym, ◌∙◌}
 use Rattle.secret_calls.specs.declared.out.Out.{Out}
-use Rattle.service_machine.specs.Connections.{changed, with_out}
+use Rattle.service_tables.specs.Connections.{changed, with_out}
 use Rattle.service_machine.specs.Rows.{rows_of}
-use Rattle.service_machine.specs.State.{State}
+use Rattle.service_tables.specs.State.{State}
 use Rattle.service_machine.specs.Step.{message_of, served, with_rows}
 use Rattle.service_machine.proofs.RunLemmas.{arrived-replied, arrived-silent}
 use Rattle.service_machine.proofs.machine.Machine.arrive.Goals as goal

@@ -1,7 +1,7 @@
 use Rattle.std.proofs.Common.{ap, ◌∙◌}
-use Rattle.service_machine.specs.Disk.{slots_of}
+use Rattle.service_tables.specs.Disk.{slots_of}
 use Rattle.service_machine.specs.Rows.{disk_of}
-use Rattle.service_machine.proofs.CollectionLemmas.{slots-locked}
+use Rattle.service_tables.proofs.CollectionLemmas.{slots-locked}
 use Rattle.service_machine.proofs.machine.Machine.lock_one.Goals as goal
 
 -- no slot changes

@@ -1,0 +1,9 @@
+pub mod AliasLemmas
+pub mod CollectionLemmas
+pub mod DeskLemmas
+pub mod EachLemmas
+pub mod FitLemmas
+pub mod LoadedLemmas
+pub mod NotedLemmas
+pub mod ObjectLemmas
+pub mod TableLemmas

@@ -1,0 +1,35 @@
+use Rattle.std.proofs.Common.{rules, refl, sym, subst}
+use Rattle.collection_table.specs.Entries.{rows_of}
+use Rattle.service_tables.specs.Sound.{AreSoundCollections}
+use Rattle.service_tables.proofs.LoadedLemmas.{loaded-sound, stems-rise}
+use Rattle.service_tables.proofs.disk.Disk.open.Goals as goal
+
+-- the stems of what was loaded rise
+pub loaded-requires : goal.loaded-requires
+loaded-requires g c = stems-rise c.in-Ok.loaded c.in-Ok.ensures.loaded.some
+
+-- the folder as the load left it, and the collections of what was loaded
+pub returns-in-Ok-clause-loaded : goal.returns-in-Ok-clause-loaded
+returns-in-Ok-clause-loaded g c = record {
+  loaded = c.in-Ok.loaded;
+  loads = c.in-Ok.ensures.loaded;
+  kept = rw c.in_ok-collections-in-Ok.ensures refl;
+  starts = rw c.in_ok-collections-in-Ok.ensures refl;
+  honest = c.load.ensures.honest;
+  later = c.load.ensures.later;
+  steady = c.load.ensures.steady;
+}
+
+-- they are sound, as what a start lists
+pub returns-in-Ok-clause-sound : goal.returns-in-Ok-clause-sound
+returns-in-Ok-clause-sound g c =
+    subst (λ entries. AreSoundCollections (rows_of entries)) (sym c.in_ok-collections-in-Ok.ensures) (loaded-sound c.in-Ok.loaded c.in-Ok.ensures.loaded.some)
+
+pub returns-in-Folder-clause-cause : goal.returns-in-Folder-clause-cause
+returns-in-Folder-clause-cause g c is = record {
+  left = c.load.new.folder;
+  honest = c.load.ensures.honest;
+  later = c.load.ensures.later;
+  steady = c.load.ensures.steady;
+  cause = c.in-Err.ensures.cause (search rules);
+}

@@ -1,0 +1,93 @@
+-- The connections' rows: the outputs that wait for each, and what becomes of a row. This file is the table of
+-- connections; another table has a file of its own.
+use Rattle.std.specs.Prelude.{ℕ, ◌+◌, Bool, true, false, ◌==◌, not, nat_le, nat_lt, if◌then◌else◌, List, [], ◌∷◌, ◌++◌, length, filter, map, min, sum_by, Option}
+use Rattle.std.specs.List.{list_any, find}
+use Rattle.std.specs.Option.{option_map}
+use Rattle.kr_base.specs.declared.ids.ConnId.{ConnId}
+use Rattle.secret_calls.specs.declared.out.Out.{Out}
+use Rattle.secret_calls.specs.Outs.{spelled, most_waiting}
+use Rattle.service_tables.specs.Limits.{most_taken}
+use Rattle.service_tables.specs.declared.rows.ConnRow.{ConnRow}
+use Rattle.service_tables.specs.declared.rows.ConnRows.{ConnRows}
+use Rattle.service_tables.specs.declared.rows.DeskRow.{DeskRow}
+
+-- the row of a connection that joins
+abbrev pub new_row : ConnId → ConnRow
+new_row conn = record { conn = conn; waiting = []; overrun = false; leaving = false; taken = 0 }
+
+-- the connections with one more
+abbrev pub joined : ConnId → ConnRows → ConnRows
+joined conn connections = record { rows = connections.rows ++ new_row conn ∷ []; next = connections.next + 1 }
+
+-- whether the row is this connection's
+abbrev pub is_row : ConnId → ConnRow → Bool
+is_row conn row = row.conn.0 == conn.0
+
+-- whether the connection is there
+abbrev pub has : ConnId → List ConnRow → Bool
+has conn rows = list_any (is_row conn) rows
+
+-- the rows with a change of one connection's
+abbrev pub changed : ConnId → (ConnRow → ConnRow) → List ConnRow → List ConnRow
+changed conn change rows = map (λ row. if is_row conn row then change row else row) rows
+
+-- the rows of all others
+abbrev pub without : ConnId → List ConnRow → List ConnRow
+without conn rows = filter (λ row. not (is_row conn row)) rows
+
+-- how many bytes an output has, whatever serial it is sent with
+unfoldable pub size_of : Out → ℕ
+size_of out = length (spelled out 1)
+
+-- how many bytes wait
+abbrev pub size_waiting : List Out → ℕ
+size_waiting outs = sum_by size_of outs
+
+-- The row with one more output. One with which more bytes would wait than may isn't added, and sets the flag of a
+-- connection that has lost an output; nothing is added behind it.
+abbrev pub with_out : Out → ConnRow → ConnRow
+with_out out row =
+    if row.overrun then row
+    else (if nat_le (size_waiting row.waiting + size_of out) most_waiting
+    then record row { waiting = row.waiting ++ out ∷ [] }
+    else record row { overrun = true })
+
+-- the row of a connection that asks no more
+abbrev pub left : ConnRow → ConnRow
+left row = record row { leaving = true }
+
+-- the row of a connection that took what waited; the count stands still at its last number
+abbrev pub emptied : ConnRow → ConnRow
+emptied row = record row { waiting = []; taken = min (row.taken + length row.waiting) most_taken }
+
+-- whether something waits
+abbrev pub waits : ConnRow → Bool
+waits row = nat_lt 0 (length row.waiting)
+
+-- what is told of a row
+abbrev pub told_of : ConnRow → DeskRow
+told_of row = record { waits = waits row; overrun = row.overrun; leaving = row.leaving }
+
+-- what is told of a connection, which is none where it isn't there
+abbrev pub desk_of : ConnId → List ConnRow → Option DeskRow
+desk_of conn rows = option_map told_of (find (is_row conn) rows)
+
+-- what waits for a connection
+abbrev pub waiting_for : ConnId → List ConnRow → List Out
+waiting_for conn [] = []
+waiting_for conn (row ∷ rows) = if is_row conn row then row.waiting else waiting_for conn rows
+
+-- an output on its way to a connection
+pub record Sent : Type 0 where
+  pub to : ConnId
+  pub out : Out
+
+-- the rows with the outputs delivered, in order
+abbrev pub delivered : List Sent → List ConnRow → List ConnRow
+delivered [] rows = rows
+delivered (sent ∷ more) rows = delivered more (changed sent.to (with_out sent.out) rows)
+
+-- the outputs among these that are on their way to this connection
+abbrev pub sent_to : ConnId → List Sent → List Out
+sent_to conn [] = []
+sent_to conn (sent ∷ more) = if sent.to.0 == conn.0 then sent.out ∷ sent_to conn more else sent_to conn more

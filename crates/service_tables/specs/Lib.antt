@@ -1,0 +1,10 @@
+pub mod Connections
+pub mod Desks
+pub mod Disk
+pub mod Limits
+pub mod Objects
+pub mod Opened
+pub mod Questions
+pub mod Reading
+pub mod Sound
+pub mod State

@@ -1,0 +1,27 @@
+-- The service as it starts: with the collections and the aliases that its folder has, and nothing else.
+use Rattle.std.specs.Prelude.{◌≡◌, ℕ, List, []}
+use Rattle.collection_table.specs.Rows.{Rows}
+use Rattle.session_table.specs.Sessions.{no_sessions}
+use Rattle.service_tables.specs.State.{State}
+
+-- what a service starts with: the collections by rising stems, and the aliases
+pub record Contents : Type 0 where
+  pub collections : Rows
+  pub aliases : List (List ℕ × List ℕ)
+
+-- the service as it starts with these
+abbrev pub opened_state : Contents → State
+opened_state contents = record {
+  connections = record { rows = []; next = 1 };
+  sessions = no_sessions;
+  collections = contents.collections;
+  aliases = contents.aliases;
+}
+
+-- the collections and the aliases of a state
+abbrev pub contents_of : State → Contents
+contents_of state = record { collections = state.collections; aliases = state.aliases }
+
+-- the state is that of a service as it starts
+abbrev pub IsOpened : State → Type 0
+IsOpened state = state ≡ opened_state (contents_of state)

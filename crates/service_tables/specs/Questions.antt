@@ -1,0 +1,20 @@
+-- What a row of the table of calls may ask of the collections. No answer shows the value of a secret.
+use Rattle.std.specs.Prelude.{ℕ, Bool, List, Option}
+use Rattle.kr_base.specs.declared.attributes.AttrValue.{AttrValue}
+use Rattle.kr_base.specs.declared.ids.ItemId.{ItemId}
+use Rattle.collection_table.specs.declared.matches.Matches.{Matches}
+
+-- what may be asked of the collections and of the aliases
+pub record CollectionQuestions : Type 0 where
+  -- the stem that an alias stands for, if there is a collection of that stem
+  pub alias : List ℕ → Option (List ℕ)
+  -- whether there is a collection of the stem
+  pub has : List ℕ → Bool
+  -- whether there is one, and it is unlocked
+  pub is_open : List ℕ → Bool
+  -- whether there is one, and it has the item, locked or not
+  pub has_item : List ℕ → ItemId → Bool
+  -- the items of one collection that match, by rising numbers
+  pub found_in : List ℕ → List (List ℕ × AttrValue) → List ItemId
+  -- the items of each collection that match, in byte order of the collections' stems
+  pub found : List (List ℕ × AttrValue) → List Matches

@@ -1,0 +1,55 @@
+-- What is read of the collections: which of them and which of their items are there, what a search finds, and secrets.
+use Rattle.std.specs.Prelude.{ℕ, if◌then◌else◌, List, [], Option, Some, None}
+use Rattle.std.specs.Option.{option_and_then, option_map, option_map_or}
+use Rattle.kr_base.specs.Attributes.{value_at}
+use Rattle.kr_base.specs.declared.attributes.AttrValue.{AttrValue}
+use Rattle.kr_base.specs.declared.ids.ItemId.{ItemId}
+use Rattle.kr_base.specs.declared.ids.SessionId.{SessionId}
+use Rattle.kr_names.specs.declared.object_name.ObjectName.{ObjectName}
+use Rattle.kr_names.specs.declared.object_name.ObjectName.TheVariants as object
+use Rattle.kr_names.specs.Naming.{is_alias}
+use Rattle.kr_names.specs.Path.{path_text}
+use Rattle.collection_table.specs.Rows as collections
+use Rattle.collection_table.specs.Rows.{Rows, content_of, found_in_all, has, has_item, is_open, item_of}
+use Rattle.secret_calls.specs.declared.secret.ItemSecret.{ItemSecret}
+use Rattle.secret_calls.specs.declared.secret.ReturnedSecret.{ReturnedSecret}
+use Rattle.service_tables.specs.Objects.{stem_where}
+use Rattle.service_tables.specs.Opened.{Contents}
+use Rattle.service_tables.specs.Questions.{CollectionQuestions}
+
+-- the stem of an alias, if there is a collection of that stem
+abbrev pub stem_there : Rows → Option (List ℕ) → Option (List ℕ)
+stem_there rows None = None
+stem_there rows (Some stem) = stem_where (has stem rows) stem
+
+-- the collection that an alias stands for
+abbrev pub alias_of : List ℕ → Contents → Option (List ℕ)
+alias_of alias contents = if is_alias alias then stem_there contents.collections (value_at alias contents.aliases) else None
+
+-- the items of one collection that match
+abbrev pub found_in : List ℕ → List (List ℕ × AttrValue) → Rows → List ItemId
+found_in stem wanted rows = option_map_or (λ row. (collections.found_in wanted (stem, row)).ids) (value_at stem rows) []
+
+-- the answers to questions about the collections
+abbrev pub asked_collections : Contents → CollectionQuestions
+asked_collections contents = record {
+  alias = λ alias. alias_of alias contents;
+  has = λ stem. has stem contents.collections;
+  is_open = λ stem. is_open stem contents.collections;
+  has_item = λ stem item. has_item stem item.0 contents.collections;
+  found_in = λ stem wanted. found_in stem wanted contents.collections;
+  found = λ wanted. found_in_all wanted contents.collections;
+}
+
+-- The secret of an item, for a session (Secret Service API draft 0.2, "Secrets"). None if its collection is locked.
+abbrev pub secret_of : SessionId → Rows → List ℕ → ItemId → Option ReturnedSecret
+secret_of session rows stem item =
+    option_and_then
+    (λ full. option_map (λ content. record { session = session; value = full.value; content = content }) (content_of stem item.0 rows))
+    (item_of stem item.0 rows)
+
+-- the same with the path of the item
+abbrev pub item_secret : SessionId → Rows → ObjectName → Option ItemSecret
+item_secret session rows (object.Item stem item) =
+    option_map (λ secret. record { item = path_text (object.Item stem item); secret = secret }) (secret_of session rows stem item)
+item_secret session rows _ = None

@@ -1,0 +1,102 @@
+-- What every state has that a start leads to, and a state has to have from which lists of events may begin: a number
+-- in use was given, and is given to no other; a session's owner is there; the connections, the sessions of each and the bytes
+-- that wait are within their limits, and each output that waits has a spelling; the collections' stems rise, and what is
+-- known of a collection has its types. Laws over lists from any start take it as their premise.
+use Rattle.std.specs.Prelude.{ℕ, ◌==◌, ◌<◌, ◌≤◌, IsTrue, IfSome, List, [], ◌∷◌, length, filter}
+use Rattle.std.specs.List.{AllByRecursion}
+use Rattle.kr_base.specs.Attributes.{IsInOrder}
+use Rattle.kr_base.specs.Stem.{IsStem}
+use Rattle.kr_base.specs.declared.ids.ConnId.{ConnId}
+use Rattle.keyring_file.specs.Known.{IsKnownClearItem, IsKnownItem}
+use Rattle.keyring_seal.specs.Arranged.{Row}
+use Rattle.collection_store.specs.State.{Held}
+use Rattle.collection_table.specs.Rows as collections
+use Rattle.secret_calls.specs.Outs.{HasSpelling, most_waiting}
+use Rattle.session_table.specs.declared.row.SessionRow.{SessionRow}
+use Rattle.session_table.specs.declared.row.Sessions.{Sessions}
+use Rattle.session_table.specs.Sessions.{rows_of, most_sessions, last_session}
+use Rattle.service_tables.specs.State.{State}
+use Rattle.service_tables.specs.declared.rows.ConnRow.{ConnRow}
+use Rattle.service_tables.specs.declared.rows.ConnRows.{ConnRows}
+use Rattle.service_tables.specs.Connections.{has, size_of, size_waiting, Sent}
+use Rattle.service_tables.specs.Limits.{most_connections}
+
+-- each connection's number is below the next one
+abbrev pub AreJoined : ℕ → List ConnRow → Type 0
+AreJoined next rows = AllByRecursion (λ row. row.conn.0 < next) rows
+
+-- the connections' numbers rise, so no two are equal
+abbrev pub AreApart : List ConnRow → Type 0
+AreApart [] = Unit {0}
+AreApart (row ∷ rows) = AllByRecursion (λ other. row.conn.0 < other.conn.0) rows × AreApart rows
+
+-- an output that can wait for a connection for which nothing waits: it has a spelling, which isn't too long
+pub record CanWait (sent : Sent) : Type 0 where
+  pub spelled : HasSpelling sent.out
+  pub small : size_of sent.out ≤ most_waiting
+
+-- no more bytes wait than may, and each output that waits has a spelling
+pub record WaitsWell (row : ConnRow) : Type 0 where
+  pub within : size_waiting row.waiting ≤ most_waiting
+  pub spelled : AllByRecursion HasSpelling row.waiting
+
+-- the same for each connection
+abbrev pub AreWaiting : List ConnRow → Type 0
+AreWaiting rows = AllByRecursion WaitsWell rows
+
+-- each session's number is below the next one
+abbrev pub AreOpened : ℕ → List SessionRow → Type 0
+AreOpened next rows = AllByRecursion (λ row. row.session.0 < next) rows
+
+-- no two sessions have one number
+abbrev pub AreOnce : List SessionRow → Type 0
+AreOnce rows = (number : ℕ) → length (filter (λ row. row.session.0 == number) rows) ≤ 1
+
+-- no connection has more sessions than it may
+abbrev pub AreFew : List SessionRow → Type 0
+AreFew rows = (owner : ConnId) → length (rows_of owner rows) ≤ most_sessions
+
+-- each session's owner is there
+abbrev pub AreOwned : List ConnRow → List SessionRow → Type 0
+AreOwned connections rows = AllByRecursion (λ row. IsTrue (has row.owner connections)) rows
+
+-- sound connections
+pub record AreSoundConnections (connections : ConnRows) : Type 0 where
+  pub joined : AreJoined connections.next connections.rows
+  pub apart : AreApart connections.rows
+  pub few : length connections.rows ≤ most_connections
+  pub waiting : AreWaiting connections.rows
+
+-- sound sessions, among the connections that are there
+pub record AreSoundSessions (connections : List ConnRow) (sessions : Sessions) : Type 0 where
+  pub opened : AreOpened sessions.next sessions.rows
+  pub once : AreOnce sessions.rows
+  pub limited : AreFew sessions.rows
+  pub owned : AreOwned connections sessions.rows
+  pub numbered : sessions.next ≤ last_session
+
+-- what an unlocked collection holds of an item has its types
+pub record IsSoundItem (row : Row) : Type 0 where
+  pub clear : IsKnownClearItem row.0
+  pub full : IsKnownItem row.1
+
+-- the same of all items that it holds
+abbrev pub AreSoundItems : Held → Type 0
+AreSoundItems held = AllByRecursion IsSoundItem held.rows
+
+-- what is known of a collection has its types: its stem is one, and the items are those of a file
+pub record IsSoundCollection (collection : List ℕ × collections.CollectionRow) : Type 0 where
+  pub stem : IsStem collection.0
+  pub shown : AllByRecursion IsKnownClearItem collection.1.clear.items
+  pub held : IfSome collection.1.held AreSoundItems
+
+-- sound collections, whose stems rise
+pub record AreSoundCollections (rows : collections.Rows) : Type 0 where
+  pub ordered : IsInOrder rows
+  pub each : AllByRecursion IsSoundCollection rows
+
+-- a sound state: each table is
+pub record IsSound (state : State) : Type 0 where
+  pub connections : AreSoundConnections state.connections
+  pub sessions : AreSoundSessions state.connections.rows state.sessions
+  pub collections : AreSoundCollections state.collections

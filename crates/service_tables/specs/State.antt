@@ -1,0 +1,12 @@
+-- What the service is at a moment: the rows of each table, with no trace of how they are kept.
+use Rattle.std.specs.Prelude.{ℕ, List}
+use Rattle.session_table.specs.declared.row.Sessions.{Sessions}
+use Rattle.collection_table.specs.Rows.{Rows}
+use Rattle.service_tables.specs.declared.rows.ConnRows.{ConnRows}
+
+-- the connections, the sessions, the collections by rising stems, and the aliases, each a name and the stem that it stands for
+pub record State : Type 0 where
+  pub connections : ConnRows
+  pub sessions : Sessions
+  pub collections : Rows
+  pub aliases : List (List ℕ × List ℕ)

@@ -1,0 +1,131 @@
+// What is kept of one connection.
+ghost use Rattle.std.specs.Prelude.{◌≡◌, ℕ, ◌<◌, vec_len, vec_capacity, OnOk, IfOk};
+ghost use Rattle.service_tables.specs.Connections.{new_row, with_out, left, emptied, told_of};
+ghost use Rattle.service_tables.specs.Desks.{row_of, HasRoom, IsCounted};
+
+use crate::{ConnRow, DeskRow};
+use kr_base::{ConnId, OutOfMemory};
+use kr_items::Items;
+use secret_calls::{Out, size_of_out};
+use std::alloc::Global;
+use std::mem;
+
+/// How many bytes may wait for a connection.
+const MOST_WAITING: u64 = 8_912_896;
+
+/// A connection, as it is kept.
+#[derive(Drop)]
+pub struct Desk {
+    /// The outputs that wait.
+    pub waiting: Vec<Out>,
+    /// How many bytes they have.
+    pub size: u64,
+    /// Whether an output was lost.
+    pub overrun: bool,
+    /// Whether it has left.
+    pub leaving: bool,
+    /// How many outputs it took.
+    pub taken: u64,
+}
+
+// Second values of the outputs.
+fn copies(alloc: Global, outs: &[Out]) -> Result<Vec<Out>, OutOfMemory>
+    ensures { IfOk result (λ copied. copied.items ≡ outs.now) }
+{
+    let mut copied = Vec::with_capacity(alloc, outs.len())?;
+    for out in outs {
+        copied.push(out.copy(alloc)?)?;
+    }
+    Ok(copied)
+}
+
+impl Desk {
+    /// A connection that joins. It takes no memory.
+    pub fn new(alloc: Global) -> Desk
+        ensures row { (conn : ℕ) → row_of (conn, result) ≡ new_row (record { 0 = conn }) }
+        ensures counts { IsCounted result }
+    {
+        Desk {
+            waiting: Vec::new(alloc),
+            size: 0,
+            overrun: false,
+            leaving: false,
+            taken: 0,
+        }
+    }
+
+    /// Makes room for one more output.
+    pub fn reserve(&mut self) -> Result<(), OutOfMemory>
+        ensures room { OnOk result (HasRoom self.new) }
+        ensures row { (conn : ℕ) → row_of (conn, self.new) ≡ row_of (conn, self.old) }
+        ensures counts { IsCounted self.old → IsCounted self.new }
+    {
+        self.waiting.reserve(1)
+    }
+
+    /// Puts an output behind those that wait, or drops it where too much would wait. It takes no
+    /// memory.
+    pub fn put(&mut self, out: Out)
+        requires room { HasRoom self.old }
+        requires counts { IsCounted self.old }
+        ensures row { (conn : ℕ)
+            → row_of (conn, self.new) ≡ with_out out (row_of (conn, self.old)) }
+        ensures counts { IsCounted self.new }
+    {
+        if self.overrun {
+            return;
+        }
+        let size = size_of_out(&out);
+        if size > MOST_WAITING - self.size {
+            self.overrun = true;
+            return;
+        }
+        self.size += size;
+        self.waiting.push(out).unwrap();
+    }
+
+    /// Marks that it asks no more. It takes no memory.
+    pub fn leave(&mut self)
+        ensures row { (conn : ℕ) → row_of (conn, self.new) ≡ left (row_of (conn, self.old)) }
+        ensures counts { IsCounted self.old → IsCounted self.new }
+    {
+        self.leaving = true;
+    }
+
+    /// Takes what waits, and counts it. It takes no memory.
+    pub fn take(&mut self, alloc: Global) -> Items<Out>
+        ensures outs { result ≡ self.old.waiting.items }
+        ensures row { (conn : ℕ) → row_of (conn, self.new) ≡ emptied (row_of (conn, self.old)) }
+        ensures counts { IsCounted self.new }
+    {
+        let outs = mem::replace(&mut self.waiting, Vec::new(alloc));
+        self.size = 0;
+        self.taken = self.taken.saturating_add(outs.len() as u64);
+        Items::new(outs)
+    }
+
+    /// What is told of it.
+    pub fn told(&self) -> DeskRow
+        ensures { (conn : ℕ) → result ≡ told_of (row_of (conn, self.now)) }
+    {
+        DeskRow {
+            waits: !self.waiting.is_empty(),
+            overrun: self.overrun,
+            leaving: self.leaving,
+        }
+    }
+
+    /// The row that it is.
+    pub fn row(&self, alloc: Global, conn: u64) -> Result<ConnRow, OutOfMemory>
+        ensures { IfOk result (λ row. row ≡ row_of (conn, self.now)) }
+    {
+        let waiting = copies(alloc, &self.waiting)?;
+        Ok(ConnRow {
+            conn: ConnId(conn),
+            waiting: Items::new(waiting),
+            overrun: self.overrun,
+            leaving: self.leaving,
+            taken: self.taken,
+        })
+    }
+}

@@ -1,0 +1,92 @@
+// The folder of the service, and what was loaded from it.
+ghost use Rattle.std.specs.Prelude.{◌≡◌, [], IsTrue, IfOk, IsErrOf, OnOk};
+ghost use Rattle.folder_store.specs.Ring.{IsAsFound};
+ghost use Rattle.collection_table.specs.Entries.{rows_of};
+ghost use Rattle.service_tables.specs.Disk.{IsLoaded, FailedToLoad, contents_in, disk_state};
+ghost use Rattle.service_tables.specs.declared.disk.OpenRefused.TheVariants as OpenRefused;
+ghost use Rattle.service_tables.specs.Opened.{opened_state};
+ghost use Rattle.service_tables.specs.Sound.{AreSoundCollections};
+
+use collection_table::CollectionTable;
+use folder_store::{FoundAliases, LeftAlone, LoadRefused, load};
+use kr_base::Stem;
+use kr_outside::Folder;
+use std::alloc::{AllocError, Global};
+use thiserror::Error;
+
+/// Why the service didn't open.
+#[derive(Clone, Copy, Debug, PartialEq, Eq, Error)]
+pub enum OpenRefused {
+    /// The folder, or one of its slots, failed while it was loaded.
+    #[error("the folder could not be loaded")]
+    Folder,
+    /// No memory was left.
+    #[error("out of memory")]
+    OutOfMemory,
+}
+
+impl From<AllocError> for OpenRefused {
+    ghost from_gives = { λ _ e. e ≡ OpenRefused.OutOfMemory };
+
+    fn from(_error: AllocError) -> Self {
+        OpenRefused::OutOfMemory
+    }
+}
+
+/// A folder, and what was loaded from it. Every slot that was made of the folder is in here.
+#[derive(Drop)]
+pub struct Disk<F: Folder> {
+    /// The folder.
+    pub folder: F,
+    /// The collections, each with the slot of its file.
+    pub collections: CollectionTable<F::Cell>,
+    /// The stems of all keyring files, including those that were left alone.
+    pub used: Vec<Stem>,
+    /// The keyring files that were left alone.
+    pub left_alone: Vec<LeftAlone<F::Cell>>,
+    /// The aliases.
+    pub aliases: FoundAliases<F::Cell>,
+}
+
+impl<F: Folder> Disk<F> {
+    /// Loads a folder of which no slot was made yet (docs/KEYRING_FILES.md, "A folder"). All collections are
+    /// locked.
+    ///
+    /// Refused with `Folder` if the folder or one of its slots failed, and with `OutOfMemory`; the
+    /// folder and the slots that were made of it are dropped then.
+    pub fn open(alloc: Global, folder: F) -> Result<Disk<F>, OpenRefused>
+        requires fresh { F.made folder ≡ [] }
+        ensures loaded { IfOk result (λ disk. IsLoaded (IsAsFound F.Cell.seen F.Cell.temporary
+            F.Cell.may_leave F.Cell.left_since F.Cell.is_honest F.Cell.is_steady
+            (F.is_honest folder) (F.is_steady folder))
+            F.is_honest F.is_steady F.faults F.images F.may_leave F.made folder (disk_state disk)
+            (opened_state (contents_in disk))) }
+        ensures sound { IfOk result (λ disk.
+            AreSoundCollections (rows_of disk.collections.entries)) }
+
+        // The folder is at fault only if it failed, and never if it is steady.
+        ensures cause { IsErrOf result OpenRefused.Folder → FailedToLoad (IsAsFound F.Cell.seen
+            F.Cell.temporary F.Cell.may_leave F.Cell.left_since F.Cell.is_honest F.Cell.is_steady
+            (F.is_honest folder) (F.is_steady folder))
+            F.is_honest F.is_steady F.faults F.images F.made F.Cell.faults F.Cell.failed folder }
+        ensures never { IsTrue (F.is_steady folder) → ¬ (IsErrOf result OpenRefused.Folder) }
+    {
+        let mut folder = folder;
+        match load(alloc, &mut folder) {
+            Ok(loaded) => {
+                let collections = CollectionTable::loaded(alloc, loaded.rings)?;
+                Ok(Disk {
+                    folder,
+                    collections,
+                    used: loaded.used,
+                    left_alone: loaded.left_alone,
+                    aliases: loaded.aliases,
+                })
+            }
+            Err(not_loaded) => match not_loaded.refused {
+                LoadRefused::Folder => Err(OpenRefused::Folder),
+                LoadRefused::OutOfMemory => Err(OpenRefused::OutOfMemory),
+            },
+        }
+    }
+}
