@@ -1,5 +1,5 @@
 -- A collection's state after a change of the key, from what was prepared and stored.
-use Rattle.std.proofs.Common.{◌≡◌, ℕ, ◌+◌, ◌<◌, ◌≤◌, List, length, Option, Some, None, Result, Ok, Err, refl, sym, ap, subst, ◌∙◌, inl, inr, arith}
+use Rattle.std.proofs.Common.{◌≡◌, ℕ, ◌<◌, ◌≤◌, List, length, Option, Some, None, Result, Ok, Err, refl, sym, ap, subst, ◌∙◌, inl, inr, arith}
 use Rattle.std.specs.Prelude.{IfSome, IfOk, IsErrOf, OnErr, OnOk, ◌⊎◌}
 use Rattle.std.specs.Option.{option_map}
 use Rattle.kr_outside.specs.RenameDisk.{Image}
@@ -14,9 +14,9 @@ use Rattle.keyring_seal.proofs.ArrangedLemmas.{rows_again}
 use Rattle.item_store.specs.declared.fault.ItemFault.{ItemFault}
 use Rattle.collection_store.specs.Changes.{content_rekeyed, content_stored}
 use Rattle.collection_store.specs.Outcomes.{IsFault, IsOldOrSealed, IsSame, IsStored, IsUnsure, most_for}
-use Rattle.collection_store.specs.Preparing.{IsOver, IsPrepared, MayRefuse}
+use Rattle.collection_store.specs.Preparing.{IsOver, MayRefuse}
 use Rattle.collection_store.specs.Resting.{finished}
-use Rattle.collection_store.specs.State.{IsKept, held_of, rows_with, shown_of, without_hashes}
+use Rattle.collection_store.specs.State.{IsKept, held_of, rows_with, shown_of}
 use Rattle.collection_store.specs.Storing.{AreBefore, AreStored, AreUnsure, IsPreparedIn, MayRefuseIn, parts_of, without_answer}
 use Rattle.collection_store.specs.declared.candidate.Frame.{Frame}
 use Rattle.collection_store.specs.declared.change.Changed.{Changed}
@@ -25,6 +25,7 @@ use Rattle.collection_store.specs.declared.holding.Open.{Open}
 use Rattle.collection_store.specs.declared.preparing.Prepared.{Prepared}
 use Rattle.collection_store.specs.declared.refused.ChangeRefused.{ChangeRefused}
 use Rattle.collection_store.specs.declared.refused.ChangeRefused.TheVariants as refused
+use Rattle.collection_store.proofs.StateLemmas.{newer_none}
 use Rattle.collection_store.proofs.ChangeLemmas.{err_of, known_one, shown_same, state_of, undone_same}
 
 -- the rows after a change of the key
@@ -86,7 +87,7 @@ module _ {S : Type 0} (now longest room : ℕ) (key vector salt : List ℕ) (ite
       }
 
   stored_at : (w : Open) (ready : Prepared) (slot_now : S) (file_now : File) (told_now : ClearPart) (newer_now : Option ClearPart) (held_now : Option Open) (answer : Changed) → longest ≡ longest_of file → IsKept file told newer (Some (parts_of w))
-      → IsPreparedIn frame (keyed salt iterations told) told kept_rows (Some w) (Some w) ready → AreStored frame ready newer (Some w) file_now told_now newer_now held_now answer → IsStored (content_at w) key vector (state_of slot_now file_now told_now held_now)
+      → IsPreparedIn frame (keyed salt iterations told) told kept_rows (Some w) (Some w) ready → AreStored frame ready newer (Some w) file_now told_now newer_now held_now answer → IsStored (content_at w) key vector (state_of slot_now file_now told_now newer_now held_now)
   stored_at w ready slot_now file_now told_now newer_now held_now answer long kept p s =
       let core = key_core w ready long kept p in
       let these : p.1.rows ≡ rows_with told w.items = sym (ap (λ (x : List Row × Changed). x.0) (rows_of_made _ _ p.1.is_made)) in
@@ -94,29 +95,31 @@ module _ {S : Type 0} (now longest room : ℕ) (key vector salt : List ℕ) (ite
       record {
         file = s.file ∙ ap (λ t. Known (Some t)) core.image;
         clear = ap (λ h. shown_of told_now (option_map parts_of h)) s.held ∙ s.told ∙ core.clear;
+        other = s.newer ∙ newer_none file told newer (parts_of w) kept;
         held = ap (λ h. held_of told_now (option_map parts_of h)) s.held ∙ ap (λ (r : List Row). Some (record { key = key; vector = vector; rows = r })) items;
       }
 
   pub stored_key : (was : Option Open) (ready : Prepared) (slot_now : S) (file_now : File) (told_now : ClearPart) (newer_now : Option ClearPart) (held_now : Option Open) (result : Result Changed ChangeRefused) → longest ≡ longest_of file → IsKept file told newer (option_map parts_of was)
       → IsPreparedIn frame (keyed salt iterations told) told kept_rows was was ready → IfOk result (AreStored frame ready newer was file_now told_now newer_now held_now)
-      → OnOk (without_answer result) (IfSome (held_of told (option_map parts_of was)) (λ held. IsStored (content_rekeyed now salt iterations (shown_of told (option_map parts_of was)) held.rows) key vector (state_of slot_now file_now told_now held_now)))
+      → OnOk (without_answer result) (IfSome (held_of told (option_map parts_of was)) (λ held. IsStored (content_rekeyed now salt iterations (shown_of told (option_map parts_of was)) held.rows) key vector (state_of slot_now file_now told_now newer_now held_now)))
   stored_key was ready slot_now file_now told_now newer_now held_now (Err e) long kept p s = tt
   stored_key None ready slot_now file_now told_now newer_now held_now (Ok answer) long kept p s = tt
   stored_key (Some w) ready slot_now file_now told_now newer_now held_now (Ok answer) long kept p s = stored_at w ready slot_now file_now told_now newer_now held_now answer long kept p s
 
   unsure_key_at : (w : Open) (ready : Prepared) (slot_now : S) (file_now : File) (told_now : ClearPart) (newer_now : Option ClearPart) (held_now : Option Open) → longest ≡ longest_of file → IsKept file told newer (Some (parts_of w))
-      → IsPreparedIn frame (keyed salt iterations told) told kept_rows (Some w) (Some w) ready → AreUnsure ready file told (Some w) file_now told_now newer_now held_now → IsUnsure (content_at w) key vector (state_of slot file told (Some w)) (state_of slot_now file_now told_now held_now)
+      → IsPreparedIn frame (keyed salt iterations told) told kept_rows (Some w) (Some w) ready → AreUnsure ready file told (Some w) file_now told_now newer_now held_now → IsUnsure (content_at w) key vector (state_of slot file told newer (Some w)) (state_of slot_now file_now told_now newer_now held_now)
   unsure_key_at w ready slot_now file_now told_now newer_now held_now long kept p u =
       let core = key_core w ready long kept p in
       record {
         file = u.file ∙ ap (λ t. Doubt (old_image file) (Some t)) core.image;
         clear = ap (λ h. shown_of told_now (option_map parts_of h)) u.held ∙ u.told;
+        other = u.newer ∙ ap (λ t. Some t) core.clear;
         locked = ap (λ h. held_of told_now (option_map parts_of h)) u.held;
       }
 
   pub unsure_key : (was : Option Open) (ready : Prepared) (slot_now : S) (file_now : File) (told_now : ClearPart) (newer_now : Option ClearPart) (held_now : Option Open) → longest ≡ longest_of file → IsKept file told newer (option_map parts_of was)
       → IsPreparedIn frame (keyed salt iterations told) told kept_rows was was ready → AreUnsure ready file told was file_now told_now newer_now held_now
-      → IfSome (held_of told (option_map parts_of was)) (λ held. IsUnsure (content_rekeyed now salt iterations (shown_of told (option_map parts_of was)) held.rows) key vector (state_of slot file told was) (state_of slot_now file_now told_now held_now))
+      → IfSome (held_of told (option_map parts_of was)) (λ held. IsUnsure (content_rekeyed now salt iterations (shown_of told (option_map parts_of was)) held.rows) key vector (state_of slot file told newer was) (state_of slot_now file_now told_now newer_now held_now))
   unsure_key None ready slot_now file_now told_now newer_now held_now long kept p u = tt
   unsure_key (Some w) ready slot_now file_now told_now newer_now held_now long kept p u = unsure_key_at w ready slot_now file_now told_now newer_now held_now long kept p u
 
@@ -145,7 +148,7 @@ module _ {S : Type 0} (now longest room : ℕ) (key vector salt : List ℕ) (ite
       LeavesOnly-weaker moment left_since slot slot_now (IsOneOf (Doubt (old_image file) (Some ready.image))) (IsOldOrSealed file (content_at w) key vector) (λ image is. one_key w ready image long kept p is) only
 
   pub before_key : (was : Option Open) (ready : Prepared) (slot_now : S) (file_now : File) (told_now : ClearPart) (newer_now : Option ClearPart) (held_now : Option Open)
-      → IsPreparedIn frame (keyed salt iterations told) told kept_rows was was ready → AreBefore ready file told newer was file_now told_now newer_now held_now → IsSame (state_of slot file told was) (state_of slot_now file_now told_now held_now)
+      → IsPreparedIn frame (keyed salt iterations told) told kept_rows was was ready → AreBefore ready file told newer was file_now told_now newer_now held_now → IsSame (state_of slot file told newer was) (state_of slot_now file_now told_now newer_now held_now)
   before_key was ready slot_now file_now told_now newer_now held_now p b = undone_same slot file told newer frame (keyed salt iterations told) kept_rows was was ready slot_now file_now told_now newer_now held_now p b
 
   -- ---- if the change isn't prepared

@@ -1,3 +1,4 @@
+mod AnswerLemmas
 mod ChangeLemmas
 mod KeyLemmas
 mod OpenedLemmas

@@ -1,5 +1,5 @@
 -- The clear part of a file that was opened.
-use Rattle.std.proofs.Common.{◌≡◌, ℕ, ◌≤◌, List, length, Result, Ok, Err, refl, ap, sym, ◌∙◌}
+use Rattle.std.proofs.Common.{◌≡◌, ℕ, ◌≤◌, List, Result, Ok, Err, refl, ap, sym, ◌∙◌}
 use Rattle.keyring_text.specs.Fields.{IsBytes}
 use Rattle.keyring_text.specs.Reading.{◌>>=◌}
 use Rattle.keyring_file.specs.Clear.{ClearPart}

@@ -1,7 +1,7 @@
 -- What is prepared, from its parts.
-use Rattle.std.proofs.Common.{◌≡◌, ℕ, ◌+◌, ◌<◌, ◌≤◌, Bool, true, false, cond, List, [], ◌∷◌, length, map, Result, Ok, Err, refl, sym, ap, subst, ◌∙◌, arith}
+use Rattle.std.proofs.Common.{◌≡◌, ℕ, ◌<◌, ◌≤◌, Bool, true, false, cond, List, [], ◌∷◌, length, map, Result, Ok, refl, sym, ap, subst, ◌∙◌, arith}
 use denote.Ref.{Bor}
-use Rattle.std.specs.List.{AllByRecursion, list_all, zip}
+use Rattle.std.specs.List.{AllByRecursion, list_all}
 use Rattle.std.specs.List.Sorted.{IsStrictlyIncreasing}
 use Rattle.std.specs.Map.{keys_of}
 use Rattle.std.proofs.lemmas.Map.Lookups.{exact_bytes}
@@ -24,13 +24,12 @@ use Rattle.keyring_seal.proofs.RisingLemmas.{rising_by_number, rising_by_place}
 use Rattle.item_store.specs.Rows.{Rows}
 use Rattle.item_store.specs.declared.fault.ItemFault.{ItemFault}
 use Rattle.collection_store.specs.Changes.{content_stored, minor_made}
-use Rattle.collection_store.specs.Preparing.{AreHashed, IsOver, IsPrepared, looked, most_in}
+use Rattle.collection_store.specs.Preparing.{AreHashed, IsOver, IsPrepared, most_in}
 use Rattle.collection_store.specs.Resting.{finished, undone}
 use Rattle.collection_store.specs.State.{IsOpened, ids_of, rows_with}
 use Rattle.keyring_file.specs.ClearText.{HasClear}
 use Rattle.collection_store.specs.declared.candidate.Frame.{Frame}
 use Rattle.collection_store.specs.declared.change.Changed.{Changed}
-use Rattle.collection_store.specs.declared.preparing.Prepared.{Prepared}
 use Rattle.collection_store.specs.declared.rest.Rest.{Rest}
 
 abbrev rehashed : List HashedPair → Row → Row

@@ -27,7 +27,7 @@ use Rattle.collection_store.specs.Storing.{IsReady, finished_open, parts_of, und
 use Rattle.collection_store.specs.declared.candidate.Frame.{Frame}
 use Rattle.collection_store.specs.declared.holding.Open.{Open}
 use Rattle.collection_store.specs.declared.preparing.Prepared.{Prepared}
-use Rattle.collection_store.specs.State.{CollectionState, HasItems, HasMostItems, IsById, IsHeld, IsKept, IsNewer, IsOpened, IsOpenedFile, OpensTo, Parts, Shows, by_id, has_image, held_of, ids_of, rows_with, shown_image, shown_of, told_after, unhashed, without_hashes}
+use Rattle.collection_store.specs.State.{CollectionState, HasItems, HasMostItems, IsById, IsHeld, IsKept, IsOpened, IsOpenedFile, Parts, Shows, by_id, has_image, held_of, ids_of, items_of, most_items, rows_with, shown_image, shown_of, told_after, unhashed, without_hashes}
 use Rattle.keyring_file.specs.ClearText.{HasClear}
 
 -- a collection whose file was read
@@ -163,11 +163,11 @@ kept_unlocked spelled file told newer parts bytes key vector content made items 
     }
 
 -- its state is the old one with what is kept
-pub state_unlocked : {S : Type 0} (slot : S) (file : File) (told : ClearPart) (parts : Option Parts) (key vector : List ℕ) (content : Content) (made : ClearPart) (items : Rows) (written : ClearPart) → held_of told parts ≡ None → rows_with made items ≡ arranged_rows content → written ≡ told
-    → ◌≡◌ {A = CollectionState S} (record { slot = slot; file = file; clear = written; held = Some (record { key = key; vector = vector; rows = rows_with made items }) }) (record { slot = slot; file = file; clear = shown_of told parts; held = Some (record { key = key; vector = vector; rows = arranged_rows content }) })
-state_unlocked slot file told parts key vector content made items written locked rows was =
+pub state_unlocked : {S : Type 0} (slot : S) (file : File) (told : ClearPart) (newer : Option ClearPart) (parts : Option Parts) (key vector : List ℕ) (content : Content) (made : ClearPart) (items : Rows) (written : ClearPart) → held_of told parts ≡ None → rows_with made items ≡ arranged_rows content → written ≡ told
+    → ◌≡◌ {A = CollectionState S} (record { slot = slot; file = file; clear = written; other = newer; held = Some (record { key = key; vector = vector; rows = rows_with made items }) }) (record { slot = slot; file = file; clear = shown_of told parts; other = newer; held = Some (record { key = key; vector = vector; rows = arranged_rows content }) })
+state_unlocked slot file told newer parts key vector content made items written locked rows was =
     let clear : written ≡ shown_of told parts = was ∙ sym (none_held told parts locked) in
-    λ i. record { slot = slot; file = file; clear = clear i; held = Some (record { key = key; vector = vector; rows = rows i }) }
+    λ i. record { slot = slot; file = file; clear = clear i; other = newer; held = Some (record { key = key; vector = vector; rows = rows i }) }
 
 -- what the file opens to
 pub opens_so : (Holds : Content → Type 0) (bytes key vector : List ℕ) (content : Content) → opened bytes key vector ≡ Ok content → Holds content → Opens bytes key vector Holds
@@ -243,6 +243,14 @@ items_of_both (Doubt (Some bytes) (Some image)) told part None kept =
     let same : kept.shown_next.0 ≡ part = cc in
     (length told.items, length part.items, counted (Some bytes) told refl kept.shows, subst (λ (t : ClearPart). HasItems (Some image) (length t.items)) same (counted (Some image) kept.shown_next.0 refl kept.shown_next.1), refl)
 
+-- the same number by what is shown
+pub most_shown : (file : File) (told : ClearPart) (newer : Option ClearPart) (parts : Option Parts) (count : ℕ) → IsOpenedFile file told parts → has_image file ≡ true → count ≡ max (length told.items) (items_of newer) → count ≡ most_items file (shown_of told parts) newer
+most_shown file told newer parts count opens there is =
+    is ∙ ap (λ n. max n (items_of newer)) (count_shown file told parts opens) ∙ sym (ap (λ b. cond b (max (length (shown_of told parts).items) (items_of newer)) 0) there)
+
+pub none_shown : (file : File) (told : ClearPart) (newer : Option ClearPart) (parts : Option Parts) → has_image file ≡ false → 0 ≡ most_items file (shown_of told parts) newer
+none_shown file told newer parts none = sym (ap (λ b. cond b (max (length (shown_of told parts).items) (items_of newer)) 0) none)
+
 -- ---- storing
 
 by_id_same : (clear : ClearPart) → IsById clear → by_id clear ≡ clear
@@ -253,7 +261,8 @@ pub shown_by : (told : ClearPart) (key vector : List ℕ) (items more : Rows) (w
 shown_by told key vector items more None = refl
 shown_by told key vector items more (Some part) = refl
 
-newer_none : (file : File) (told : ClearPart) (newer : Option ClearPart) (parts : Parts) → IsKept file told newer (Some parts) → newer ≡ None
+-- there is no other clear part while a collection is unlocked
+pub newer_none : (file : File) (told : ClearPart) (newer : Option ClearPart) (parts : Parts) → IsKept file told newer (Some parts) → newer ≡ None
 newer_none (Known image) told newer parts kept = kept.shown_next
 newer_none (Doubt old new) told newer parts kept = absurd kept.opens
 

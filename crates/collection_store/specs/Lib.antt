@@ -5,4 +5,5 @@ pub mod Preparing
 pub mod Reading
 pub mod Resting
 pub mod State
+pub mod Storable
 pub mod Storing

@@ -19,18 +19,21 @@ use Rattle.collection_store.specs.declared.refused.CreateRefused.TheVariants as 
 pub record IsStored {S : Type 0} (content : Content) (key vector : List ℕ) (new : CollectionState S) : Type 0 where
   pub file : new.file ≡ Known (Some (sealed content key vector))
   pub clear : new.clear ≡ content.clear
+  pub other : new.other ≡ None
   pub held : new.held ≡ Some (record { key = key; vector = vector; rows = rows content })
 
--- the content may be stored or not: the collection is locked, and its file in doubt
+-- the content may be stored or not: the collection is locked, its file in doubt, and the clear part of the content is the other one
 pub record IsUnsure {S : Type 0} (content : Content) (key vector : List ℕ) (old new : CollectionState S) : Type 0 where
   pub file : new.file ≡ Doubt (old_image old.file) (Some (sealed content key vector))
   pub clear : new.clear ≡ old.clear
+  pub other : new.other ≡ Some content.clear
   pub locked : new.held ≡ None
 
 -- everything is as before, except perhaps the slot
 pub record IsSame {S : Type 0} (old new : CollectionState S) : Type 0 where
   pub file : new.file ≡ old.file
   pub clear : new.clear ≡ old.clear
+  pub other : new.other ≡ old.other
   pub held : new.held ≡ old.held
 
 -- how long the new file may be, if all files together may grow by `room` bytes

@@ -1,5 +1,4 @@
 -- The items after a change has been prepared, until the file has been replaced or hasn't.
-use Rattle.std.specs.Prelude.{List}
 use Rattle.item_store.specs.Rows.{Rows, rows_changed, rows_without}
 use Rattle.item_store.specs.Swapping.{with_parts}
 use Rattle.item_store.specs.declared.rows.Row.{Row as StoreRow}

@@ -1,10 +1,10 @@
 -- A collection as the service's state has it (Secret Service API, interface Collection): its file, the clear part that is shown, and
 -- what it holds while it is unlocked.
-use Rattle.std.specs.Prelude.{◌≡◌, ℕ, Bool, ◌||◌, List, [], length, map, max, Option, None, Some, Ok}
+use Rattle.std.specs.Prelude.{◌≡◌, ℕ, Bool, ◌||◌, if◌then◌else◌, List, [], length, map, max, Option, None, Some, Ok}
 use Rattle.std.specs.List.{zip, AllByRecursion}
 use Rattle.std.specs.List.Sorted.{IsStrictlyIncreasing}
 use Rattle.std.specs.Map.{keys_of}
-use Rattle.std.specs.Option.{is_some}
+use Rattle.std.specs.Option.{is_some, option_map_or}
 use Rattle.attribute_hash.specs.Hash.{hashes}
 use Rattle.kr_outside.specs.RenameDisk.{Image}
 use Rattle.replace_slot.specs.Cell.{File, Known, Doubt, IsKnownFile, new_image, old_image}
@@ -27,11 +27,12 @@ pub record Held : Type 0 where
   pub rows : List Row
 
 -- a collection as contracts see it: its slot, what is known of its file, the clear part that is shown, with its items in order of
--- their ids, and what it keeps while it is unlocked
+-- their ids, the other clear part of a doubt between two files, which is that of the newer one, and what it keeps while it is unlocked
 pub record CollectionState (S : Type 0) : Type 0 where
   pub slot : S
   pub file : File
   pub clear : ClearPart
+  pub other : Option ClearPart
   pub held : Option Held
 
 -- ---- what is shown
@@ -67,6 +68,14 @@ HasItems (Some bytes) count = (part : ClearPart) × HasClear bytes part × (coun
 -- one of the images is a file
 abbrev pub has_image : File → Bool
 has_image file = is_some (old_image file) || is_some (new_image file)
+
+-- the number of items in a clear part; none has 0
+abbrev pub items_of : Option ClearPart → ℕ
+items_of part = option_map_or (λ clear. length clear.items) part 0
+
+-- how many items a collection counts with: in doubt, the greater number of the two images
+abbrev pub most_items : File → ClearPart → Option ClearPart → ℕ
+most_items file clear other = if has_image file then max (length clear.items) (items_of other) else 0
 
 -- the larger number of items in the two images
 abbrev pub HasMostItems : File → ℕ → Type 0

@@ -12,15 +12,17 @@ ghost use Rattle.replace_slot.specs.Found.{IsFoundBy, IsFoundOf, Shows as ShowsB
 ghost use Rattle.collection_store.specs.Changes.{content_created, content_rekeyed};
 ghost use Rattle.collection_store.specs.Outcomes.{IfFaultBefore, IfFaultUnsure, IfNoMemory, IfTooLarge, IsChanged, IsCreateFault, IsFault, IsNewImage, IsOldOrNew, IsOldOrSealed, IsSame, IsStored, IsTooLarge, IsTooLargeOrNoMemory, IsUnsure, MayBeChanged, made_of, most_for, slot_of};
 ghost use Rattle.collection_store.specs.Reading.{Fits, Opens, Unlocks, content_at, found as found_in, item_at};
-ghost use Rattle.collection_store.specs.State.{HasMostItems, IsHeld, Shows, by_id, has_image as has_image_of, shown_image, shown_of, told_after};
+ghost use Rattle.collection_store.specs.State.{HasMostItems, IsHeld, IsNewer, Shows, by_id, has_image as has_image_of, most_items, shown_image, shown_of, told_after};
+ghost use Rattle.collection_store.specs.Storable.{EndsAs, answer_of, storable};
 
+use crate::answering::answer_in;
 use crate::candidate::Frame;
 use crate::holding::{Open, answered, frame_of, prepare_in, prepare_key, show_again, store};
 use crate::opening::{arranged_parts, content_of};
 use crate::sealing::image_of;
 use crate::told::Told;
 use crate::{Change, ChangeRefused, Changed, CreateRefused, UnlockRefused};
-use item_store::ItemStore;
+use item_store::{ItemFault, ItemStore};
 use key_derivation::Derived;
 use keyring_file::{Clear, FullItem, a_file_that_is_spelled_so_is_read};
 use keyring_seal::SealRefused;
@@ -58,6 +60,7 @@ impl<S: Slot> Model for Collection<S> {
       file = c.cell.file;
       clear = shown_of c.told
           (option_map parts_of c.held);
+      other = c.newer;
       held = held_of c.told
           (option_map parts_of c.held);
     } };
@@ -77,6 +80,7 @@ impl<S: Slot> Collection<S> {
         ensures slot { IfOk result (λ made. made.slot ≡ cell.slot) }
         ensures file { IfOk result (λ made. made.file ≡ cell.file) }
         ensures clear { IfOk result (λ made. made.clear ≡ by_id clear) }
+        ensures other { IfOk result (λ made. made.other ≡ None) }
         ensures locked { IfOk result (λ made. made.held ≡ None) }
     {
         let told = Told::new(alloc, clear)?;
@@ -118,7 +122,8 @@ impl<S: Slot> Collection<S> {
         ensures unsure { IfFaultUnsure result (λ made. (made.file ≡ Doubt None
             (Some (sealed (content_created now label key.salt key.iterations)
             (key_of key) (vector_of key)))) × (made.held ≡ None)
-            × (made.clear ≡ (content_created now label key.salt key.iterations).clear)) }
+            × (made.clear ≡ (content_created now label key.salt key.iterations).clear)
+            × (made.other ≡ None)) }
         ensures memory { IfNoMemory result (λ back. back ≡ cell) }
 
         // What a crash leaves at each moment, and the cause of each fault, seen on what is handed back.
@@ -256,6 +261,8 @@ impl<S: Slot> Collection<S> {
         // The refusals, in their order.
         ensures item { (fault : Fault) → IsErrOf result (ChangeRefused.Item fault)
             → IfSome self.old.held (λ held. made_of change now self.old held ≡ Err fault) }
+        ensures known { IfSome self.old.held (λ held.
+            EndsAs (storable change now room self.old.file self.old.clear held) result) }
         ensures no_item { (fault : Fault) → IfSome self.old.held (λ held.
             made_of change now self.old held ≡ Err fault
             → IsErrOf result (ChangeRefused.Item fault)
@@ -312,6 +319,21 @@ impl<S: Slot> Collection<S> {
                 self.cell.untouched();
                 Err(refused)
             }
+        }
+    }
+
+    /// What `change` would answer if it stored the change. It takes no memory.
+    ///
+    /// Refused with the fault with which `change` would be refused. Whether the file would be too large isn't
+    /// known yet.
+    pub fn answer_to(&self, change: &Change) -> Result<Changed, ItemFault>
+        requires { IsSome self.now.held }
+        ensures { (now : ℕ) → IfSome self.now.held (λ held.
+            result ≡ answer_of (made_of change.now now self.now held)) }
+    {
+        match &self.held {
+            Some(held) => answer_in(&held.items, change),
+            None => unreachable!(),
         }
     }
 
@@ -409,6 +431,7 @@ impl<S: Slot> Collection<S> {
         ensures unsure { OnErr result (self.new.file ≡ Doubt (old_image self.old.file) None) }
         ensures locked { self.new.held ≡ None }
         ensures clear { self.new.clear ≡ self.old.clear }
+        ensures other { self.new.other ≡ None }
 
         ensures crash { IsTrue (S.is_honest self.new.slot)
             → LeavesFile self.new.file (S.may_leave self.new.slot) }
@@ -439,6 +462,9 @@ impl<S: Slot> Collection<S> {
         ensures found { IfOk result (λ found. self.new.file ≡ found_file found self.old.file) }
         ensures shown { IfOk result (λ found. ShowsBytes found self.old.file buffer.new) }
         ensures shows { OnOk result (Shows (shown_image self.new.file) self.new.clear) }
+        ensures clear { IfOk result (λ found.
+            self.new.clear ≡ told_after found self.old.clear self.old.other) }
+        ensures other { OnOk result (self.new.other ≡ None) }
         ensures locked { self.new.held ≡ None }
         ensures unchanged { OnErr result (IsSame self.old self.new) }
 
@@ -494,6 +520,7 @@ impl<S: Slot> Collection<S> {
         ensures value { IsTrue result ↔ IsSome self.now.held }
         ensures opens { IsHeld self.now.file self.now.held }
         ensures shows { Shows (shown_image self.now.file) self.now.clear }
+        ensures other { IsNewer self.now.file self.now.other }
     {
         self.held.is_some()
     }
@@ -514,7 +541,8 @@ impl<S: Slot> Collection<S> {
 
     /// The greatest number of items in one of the images; 0 for no file.
     pub fn most_items(&self) -> usize
-        ensures { HasMostItems self.now.file result }
+        ensures value { result ≡ most_items self.now.file self.now.clear self.now.other }
+        ensures images { HasMostItems self.now.file result }
     {
         if !has_image(&self.cell) {
             return 0;

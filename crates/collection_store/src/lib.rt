@@ -5,6 +5,7 @@
 //! moment leaves the file with the content from before a change or from after it.
 #![tactic(auto)]
 
+mod answering;
 mod candidate;
 mod change;
 mod collection;

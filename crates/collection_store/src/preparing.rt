@@ -187,7 +187,7 @@ fn sealed_with(
 }
 
 /// Whether there is an item with the id.
-fn has_item(items: &ItemStore, id: ItemId) -> bool
+pub fn has_item(items: &ItemStore, id: ItemId) -> bool
     ensures { result ≡ is_some (row_at id.0 items.now) }
 {
     items.item(id).is_some()
@@ -460,7 +460,7 @@ fn prepare_added(
 }
 
 /// The least id of an item with exactly these attributes, if it is to be replaced.
-fn equal_item(items: &ItemStore, replace: bool, attributes: &Attributes) -> Option<ItemId>
+pub fn equal_item(items: &ItemStore, replace: bool, attributes: &Attributes) -> Option<ItemId>
     ensures { option_map (λ id. id.0) result ≡ (if replace
         then first_id (ids_where (has_just attributes.now) items.now) else None) }
 {
@@ -472,7 +472,7 @@ fn equal_item(items: &ItemStore, replace: bool, attributes: &Attributes) -> Opti
 }
 
 /// Whether a call brings too many attributes.
-fn are_too_many(attributes: &Attributes) -> bool
+pub fn are_too_many(attributes: &Attributes) -> bool
     ensures { result ≡ nat_lt most_attributes (length attributes.now) }
 {
     attributes.len() > MOST_ATTRIBUTES

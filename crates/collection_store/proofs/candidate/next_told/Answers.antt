@@ -1,5 +1,4 @@
-use Rattle.std.proofs.Common.{◌≡◌, ◌≤◌, ap, rules}
-use Rattle.keyring_file.specs.Clear.{ClearPart}
+use Rattle.std.proofs.Common.{◌≡◌, rules}
 use Rattle.collection_store.proofs.PreparedLemmas.{version_made}
 use Rattle.collection_store.proofs.candidate.next_told.Goals as goal
 

@@ -1,4 +1,4 @@
-use Rattle.std.proofs.Common.{◌≡◌, List, map, ap, subst, sym, ◌∙◌, IfOk, rules}
+use Rattle.std.proofs.Common.{◌≡◌, map, subst, IfOk, rules}
 use Rattle.keyring_file.specs.Clear.{ClearPart, IsOfVersion}
 use Rattle.keyring_seal.specs.Arranged.{of_lent, of_rows}
 use Rattle.keyring_seal.specs.declared.content.Content.{Content}

@@ -1,4 +1,4 @@
-use Rattle.std.proofs.Common.{◌+◌, ◌∙◌, refl, ap, sym, arith}
+use Rattle.std.proofs.Common.{◌+◌, ◌∙◌, refl, ap, arith}
 use Rattle.keyring_seal.proofs.RisingLemmas.{place_by_rising, rising_at, rising_by_place, rising_end}
 use Rattle.collection_store.proofs.order.is_rising.Goals as goal
 

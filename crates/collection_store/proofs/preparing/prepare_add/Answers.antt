@@ -1,4 +1,4 @@
-use Rattle.std.proofs.Common.{◌≡◌, ◌∙◌, cond, List, None, Some, IfOk, ap, subst, sym}
+use Rattle.std.proofs.Common.{◌∙◌, cond, None, IfOk, ap, subst, sym}
 use Rattle.std.specs.Prelude.{IfErr}
 use Rattle.item_store.specs.Rows.{first_id}
 use Rattle.collection_store.specs.Changes.{made_added, made_new}

@@ -1,10 +1,10 @@
-use Rattle.std.proofs.Common.{◌≡◌, ◌∙◌, ◌++◌, ◌<◌, ℕ, List, [], ◌∷◌, Some, Ok, Err, IsSome, length, map, ap, refl, subst, sym, rules}
+use Rattle.std.proofs.Common.{◌≡◌, ◌∙◌, ◌++◌, ◌<◌, List, [], ◌∷◌, Err, IsSome, length, map, ap, refl, subst, sym, rules}
 use Rattle.attribute_hash.specs.Hash.{hashes}
 use Rattle.keyring_file.specs.declared.clear.ClearItem.{ClearItem}
 use Rattle.keyring_seal.specs.Arranged.{Row}
-use Rattle.item_store.specs.Rows.{Rows, most_attributes}
+use Rattle.item_store.specs.Rows.{most_attributes}
 use Rattle.item_store.specs.declared.rows.Row.{Row as StoreRow}
-use Rattle.collection_store.specs.Changes.{made_new, new_row}
+use Rattle.collection_store.specs.Changes.{made_new}
 use Rattle.collection_store.specs.Preparing.{AreHashed, looked, next_of}
 use Rattle.collection_store.specs.State.{rows_with}
 use Rattle.collection_store.specs.declared.change.Changed.TheVariants as changed

@@ -1,4 +1,4 @@
-use Rattle.std.proofs.Common.{◌≡◌, ◌∙◌, ℕ, cond, nat_eq, nat_lt, List, Err, Ok, length, map, ap, refl, subst, sym, rules}
+use Rattle.std.proofs.Common.{◌≡◌, ◌∙◌, ℕ, cond, nat_eq, List, Err, map, ap, refl, subst, sym, rules}
 use Rattle.std.specs.List.{zip}
 use Rattle.std.specs.List.Sorted.{IsStrictlyIncreasing}
 use Rattle.std.specs.Map.{keys_of}
@@ -8,14 +8,14 @@ use Rattle.keyring_seal.specs.Arranged.{Row}
 use Rattle.item_store.specs.Moves.{with_attributes as item_with_attributes}
 use Rattle.item_store.specs.Rows.{Rows, rows_changed as items_changed}
 use Rattle.item_store.specs.declared.rows.Row.{Row as StoreRow}
-use Rattle.collection_store.specs.Changes.{at_item, with_attributes}
+use Rattle.collection_store.specs.Changes.{with_attributes}
 use Rattle.collection_store.specs.Copying.{hashes_set}
-use Rattle.collection_store.specs.Preparing.{AreHashed, looked, next_of}
-use Rattle.collection_store.specs.State.{ids_of, rows_with}
+use Rattle.collection_store.specs.Preparing.{looked, next_of}
+use Rattle.collection_store.specs.State.{ids_of}
 use Rattle.collection_store.specs.declared.change.Changed.TheVariants as changed
 use Rattle.collection_store.specs.declared.rest.Rest.TheVariants as rest
 use Rattle.collection_store.proofs.PreparedLemmas.{next_is, over, prepared}
-use Rattle.collection_store.proofs.StepLemmas.{firsts_zip, hashed_in, keys_stay, looked_in, made_of as made_as, none_made, over_at, parts_hashed, parts_ids, parts_made, parts_rows, there_in, within_at}
+use Rattle.collection_store.proofs.StepLemmas.{firsts_zip, hashed_in, keys_stay, looked_in, made_of as made_as, none_made, over_at, parts_hashed, parts_ids, parts_rows, there_in, within_at}
 use Rattle.collection_store.proofs.preparing.prepare_attributes.Goals as goal
 
 pub returns-then-not-has_item-clause-refused : goal.returns-then-not-has_item-clause-refused

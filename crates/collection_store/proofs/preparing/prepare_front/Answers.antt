@@ -4,7 +4,7 @@ use Rattle.keyring_file.specs.Clear.{ClearPart}
 use Rattle.keyring_file.specs.declared.clear.ClearItem.{ClearItem}
 use Rattle.keyring_seal.specs.Arranged.{Row}
 use Rattle.item_store.specs.Rows.{Rows}
-use Rattle.collection_store.specs.Changes.{content_stored, minor_made}
+use Rattle.collection_store.specs.Changes.{minor_made}
 use Rattle.collection_store.specs.Preparing.{AreHashed, looked}
 use Rattle.collection_store.specs.State.{ids_of, rows_with}
 use Rattle.collection_store.specs.declared.change.Changed.TheVariants as changed

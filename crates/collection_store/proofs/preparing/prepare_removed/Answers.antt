@@ -1,5 +1,4 @@
-use Rattle.std.proofs.Common.{◌≡◌, Err, ◌∙◌, List, filter, map, ap, refl, subst, sym, rules}
-use Rattle.item_store.specs.Rows.{Rows}
+use Rattle.std.proofs.Common.{◌≡◌, Err, ◌∙◌, filter, ap, refl, subst, sym, rules}
 use Rattle.collection_store.specs.Changes.{rows_without}
 use Rattle.collection_store.specs.Copying.{is_other}
 use Rattle.collection_store.specs.Preparing.{AreHashed, looked, next_of}

@@ -1,16 +1,14 @@
-use Rattle.std.proofs.Common.{◌≡◌, ◌∙◌, cond, nat_eq, List, Some, None, Result, Ok, IfOk, map, ap, refl, subst, sym, rules}
+use Rattle.std.proofs.Common.{◌≡◌, cond, nat_eq, List, Some, IfOk, map, ap, refl, subst, sym, rules}
 use Rattle.std.specs.Prelude.{IfErr}
 use Rattle.std.specs.List.Sorted.{IsStrictlyIncreasing}
 use Rattle.keyring_file.specs.declared.clear.ClearItem.{ClearItem}
 use Rattle.keyring_seal.specs.Arranged.{Row}
 use Rattle.item_store.specs.Swapping.{with_parts}
-use Rattle.item_store.specs.declared.fault.ItemFault.{ItemFault}
 use Rattle.item_store.specs.declared.rows.Row.{Row as StoreRow}
-use Rattle.collection_store.specs.Changes.{replaced, with_label, with_secret}
+use Rattle.collection_store.specs.Changes.{replaced}
 use Rattle.collection_store.specs.Preparing.{IsPrepared, MayRefuse}
-use Rattle.collection_store.specs.declared.change.Changed.{Changed}
 use Rattle.collection_store.specs.declared.change.Changed.TheVariants as changed
-use Rattle.collection_store.proofs.StepLemmas.{edited_none, made_of as made_as, none_made, parts_hashed, parts_ids, parts_made, parts_rows}
+use Rattle.collection_store.proofs.StepLemmas.{made_of as made_as, parts_hashed, parts_ids, parts_rows}
 use Rattle.collection_store.proofs.preparing.prepare_replaced.Goals as goal
 
 pub prepare_parts-requires-clause-ids : goal.prepare_parts-requires-clause-ids

@@ -1,16 +1,13 @@
-use Rattle.std.proofs.Common.{◌≡◌, ◌∙◌, cond, nat_eq, List, Some, None, Result, Ok, IfOk, map, ap, refl, subst, sym, rules}
+use Rattle.std.proofs.Common.{◌≡◌, ◌∙◌, cond, nat_eq, Some, None, IfOk, map, refl, subst, sym, rules}
 use Rattle.std.specs.Prelude.{IfErr}
 use Rattle.std.specs.List.Sorted.{IsStrictlyIncreasing}
 use Rattle.keyring_file.specs.declared.clear.ClearItem.{ClearItem}
-use Rattle.keyring_seal.specs.Arranged.{Row}
 use Rattle.item_store.specs.Swapping.{with_parts}
-use Rattle.item_store.specs.declared.fault.ItemFault.{ItemFault}
 use Rattle.item_store.specs.declared.rows.Row.{Row as StoreRow}
-use Rattle.collection_store.specs.Changes.{replaced, with_label, with_secret}
+use Rattle.collection_store.specs.Changes.{with_secret}
 use Rattle.collection_store.specs.Preparing.{IsPrepared, MayRefuse}
-use Rattle.collection_store.specs.declared.change.Changed.{Changed}
 use Rattle.collection_store.specs.declared.change.Changed.TheVariants as changed
-use Rattle.collection_store.proofs.StepLemmas.{edited_none, made_of as made_as, none_made, parts_hashed, parts_ids, parts_made, parts_rows}
+use Rattle.collection_store.proofs.StepLemmas.{none_made, parts_hashed, parts_ids, parts_made}
 use Rattle.collection_store.proofs.preparing.prepare_secret.Goals as goal
 
 pub returns-then-not-has_item-clause-refused : goal.returns-then-not-has_item-clause-refused

@@ -1,11 +1,13 @@
-use Rattle.std.proofs.Common.{◌≡◌, ap, inl, inr, refl, sym, ◌∙◌, rules}
+use Rattle.std.proofs.Common.{Err, inl, inr, subst}
+use Rattle.std.specs.Prelude.{IfSome}
 use Rattle.std.specs.Option.{option_map}
 use Rattle.collection_store.specs.Changes.{rows_made}
-use Rattle.collection_store.specs.State.{held_of}
+use Rattle.collection_store.specs.State.{CollectionState, held_of}
+use Rattle.collection_store.specs.Storable.{EndsAs, storable}
 use Rattle.collection_store.specs.Storing.{parts_of}
 use Rattle.collection_store.specs.declared.change.Changed.{Changed}
 use Rattle.collection_store.specs.declared.refused.ChangeRefused.TheVariants as refused
-use Rattle.collection_store.proofs.ChangeLemmas.{before_ok, before_or, call_so, changed_ok, err_of, fault_or, fits_ok, front_of, image_ok, in_step, is_back, is_ready, is_unlocked, item_no, large_no, measured_no, moments_no, moments_ok, never_ok, no_fault, no_item_no, no_other, same_now, unsure_ok}
+use Rattle.collection_store.proofs.ChangeLemmas.{before_ok, before_or, call_so, changed_ok, err_of, fault_or, fits_ok, front_of, image_ok, in_step, is_back, is_ready, is_unlocked, item_no, known_no, known_ok, large_no, measured_no, moments_no, moments_ok, never_ok, no_fault, no_item_no, no_other, same_now, unsure_ok}
 use Rattle.collection_store.proofs.collection.Collection.change.Goals as goal
 
 pub prepare_in-requires-clause-step : goal.prepare_in-requires-clause-step
@@ -69,7 +71,7 @@ pub returns-in-Err-clause-unsure : goal.returns-in-Err-clause-unsure
 returns-in-Err-clause-unsure g c = λ is. absurd (no_fault {S = g.row.S.Denot} c.args.change c.args.now c.longest.result c.args.room c.self.inside.cell.slot c.self.inside.cell.file c.self.inside.told c.self.inside.newer Changed c.frame_of-frame.result (front_of c.args.change c.self.inside.told) (rows_made c.args.change c.frame_of-frame.result.time) c.self.inside.held c.in-Err.refused c.in-Err.ensures.refused (inr is))
 
 pub returns-in-Err-clause-unchanged : goal.returns-in-Err-clause-unchanged
-returns-in-Err-clause-unchanged g c = inr (rw (← c.self.view_is) (same_now c.self.inside.cell.slot c.self.inside.cell.file c.self.inside.told c.self.inside.held c.prepare_in.new.held c.in-Err.ensures.unchanged))
+returns-in-Err-clause-unchanged g c = inr (rw (← c.self.view_is) (same_now c.self.inside.cell.slot c.self.inside.cell.file c.self.inside.told c.self.inside.newer c.self.inside.held c.prepare_in.new.held c.in-Err.ensures.unchanged))
 
 pub returns-in-Err-clause-any_moment : goal.returns-in-Err-clause-any_moment
 returns-in-Err-clause-any_moment g c = λ honest. rw (← c.self.view_is) (moments_no {S = g.row.S.Denot} c.args.change c.args.now c.longest.result c.args.room c.self.inside.cell.slot c.self.inside.cell.file c.self.inside.told c.self.inside.newer g.S.Slot.moment g.S.Slot.left_since c.self.inside.held c.self.invariant (c.untouched.ensures.any_moment (rw (← c.self.view_is) at honest)))
@@ -85,3 +87,9 @@ returns-in-Err-clause-before_call g c = λ is. absurd (no_fault {S = g.row.S.Den
 
 pub returns-in-Err-clause-unsure_call : goal.returns-in-Err-clause-unsure_call
 returns-in-Err-clause-unsure_call g c = λ is. absurd (no_fault {S = g.row.S.Denot} c.args.change c.args.now c.longest.result c.args.room c.self.inside.cell.slot c.self.inside.cell.file c.self.inside.told c.self.inside.newer Changed c.frame_of-frame.result (front_of c.args.change c.self.inside.told) (rows_made c.args.change c.frame_of-frame.result.time) c.self.inside.held c.in-Err.refused c.in-Err.ensures.refused (inr is))
+
+pub returns-in-Ok-clause-known : goal.returns-in-Ok-clause-known
+returns-in-Ok-clause-known g c = rw (← c.self.view_is) (known_ok {S = g.row.S.Denot} c.args.change c.args.now c.longest.result c.args.room c.self.inside.cell.slot c.self.inside.cell.file c.self.inside.told c.self.inside.newer c.frame_of-frame.result c.self.inside.held c.prepare_in.new.held c.in-Ok.prepared c.store.new.cell.file c.store.new.told c.store.new.newer c.store.new.held c.store.result c.longest.ensures c.self.invariant c.frame_of-frame.ensures c.in-Ok.ensures.prepared c.store.ensures.stored c.store.ensures.faults)
+
+pub returns-in-Err-clause-known : goal.returns-in-Err-clause-known
+returns-in-Err-clause-known g c = subst (λ (state : CollectionState g.row.S.Denot). IfSome state.held (λ held. EndsAs (storable c.args.change c.args.now c.args.room state.file state.clear held) (Err c.in-Err.refused))) c.self.view_is (known_no {S = g.row.S.Denot} c.args.change c.args.now c.longest.result c.args.room c.self.inside.cell.slot c.self.inside.cell.file c.self.inside.told c.self.inside.newer c.frame_of-frame.result c.self.inside.held c.in-Err.refused c.longest.ensures c.self.invariant c.frame_of-frame.ensures c.in-Err.ensures.refused)

@@ -1,4 +1,3 @@
-use Rattle.std.proofs.Common.{◌≡◌, rules}
 use Rattle.collection_store.proofs.StateLemmas.{held_there, kept_removed}
 use Rattle.collection_store.proofs.collection.Collection.delete.Goals as goal
 

@@ -1,4 +1,4 @@
-use Rattle.std.proofs.Common.{◌≡◌, ap, inl, inr, refl, sym, ◌∙◌, rules}
+use Rattle.std.proofs.Common.{inl, inr, refl, sym, ◌∙◌}
 use Rattle.std.specs.Option.{option_map}
 use Rattle.collection_store.specs.State.{held_of}
 use Rattle.collection_store.specs.Storing.{parts_of}
@@ -59,7 +59,7 @@ pub returns-clause-unsure : goal.returns-clause-unsure
 returns-clause-unsure g c = λ is. absurd (no_key_fault {S = g.row.S.Denot} c.args.now c.longest.result c.args.room c.key-2.result c.vector.result c.salt.result c.iterations.result c.self.inside.cell.slot c.self.inside.cell.file c.self.inside.told c.self.inside.newer c.self.inside.held c.in-Err.refused c.in-Err.ensures.refused (inr is))
 
 pub returns-clause-unchanged : goal.returns-clause-unchanged
-returns-clause-unchanged g c = inr (rw (← c.self.view_is) (same_now c.self.inside.cell.slot c.self.inside.cell.file c.self.inside.told c.self.inside.held c.self.inside.held refl))
+returns-clause-unchanged g c = inr (rw (← c.self.view_is) (same_now c.self.inside.cell.slot c.self.inside.cell.file c.self.inside.told c.self.inside.newer c.self.inside.held c.self.inside.held refl))
 
 pub returns-clause-any_moment : goal.returns-clause-any_moment
 returns-clause-any_moment g c = λ honest. rw (← c.key-2.ensures, ← c.vector.ensures, ← c.salt.ensures, ← c.iterations.ensures, ← c.self.view_is) (moments_none {S = g.row.S.Denot} c.args.now c.longest.result c.args.room c.key-2.result c.vector.result c.salt.result c.iterations.result c.self.inside.cell.slot c.self.inside.cell.file c.self.inside.told c.self.inside.newer g.S.Slot.moment g.S.Slot.left_since c.self.inside.held c.self.invariant (c.untouched.ensures.any_moment (rw (← c.self.view_is) at honest)))

@@ -1,5 +1,4 @@
-use Rattle.std.proofs.Common.{◌≡◌, rules}
-use Rattle.collection_store.proofs.StateLemmas.{doubt_locked, kept_found}
+use Rattle.collection_store.proofs.StateLemmas.{kept_found}
 use Rattle.collection_store.proofs.collection.Collection.resolve.Goals as goal
 
 pub invariant_of-self-2 : goal.invariant_of-self-2

@@ -1,4 +1,3 @@
-use Rattle.std.proofs.Common.{◌≡◌, ℕ, Some, None, inl, inr, rules}
 use Rattle.key_derivation.specs.Kdf.{key_of, vector_of}
 use Rattle.replace_slot.specs.Cell.{HasFile}
 use Rattle.collection_store.proofs.StateLemmas.{has_part, there_image, kept_unlocked, known_so, opens_so, state_unlocked}
@@ -26,7 +25,7 @@ returns-clause-unlocked g c =
     let there : HasFile c.self.inside.cell.file = rw (← c.self.view_is) at c.requires.there in
     let locked = rw (← c.self.view_is) at c.requires.locked in
     let opens = rw c.bytes.ensures at c.in_ok-content.ensures.opened in
-    rw (← c.self.view_is) (known_so _ c.self.inside.cell.file c.in-Some.image.now there c.in-Some.ensures (opens_so _ c.in-Some.image.now (key_of c.args.key) (vector_of c.args.key) c.in_ok-content.content opens (rw (c.key-2.ensures, c.vector.ensures, c.replace-written.ensures.after) (state_unlocked c.self.inside.cell.slot c.self.inside.cell.file c.self.inside.told _ (key_of c.args.key) (vector_of c.args.key) c.in_ok-content.content c.in-Ok.parts.0 c.in-Ok.parts.1 c.replace-written.result locked c.in-Ok.ensures.rows c.replace-written.ensures.value))))
+    rw (← c.self.view_is) (known_so _ c.self.inside.cell.file c.in-Some.image.now there c.in-Some.ensures (opens_so _ c.in-Some.image.now (key_of c.args.key) (vector_of c.args.key) c.in_ok-content.content opens (rw (c.key-2.ensures, c.vector.ensures, c.replace-written.ensures.after) (state_unlocked c.self.inside.cell.slot c.self.inside.cell.file c.self.inside.told c.self.inside.newer _ (key_of c.args.key) (vector_of c.args.key) c.in_ok-content.content c.in-Ok.parts.0 c.in-Ok.parts.1 c.replace-written.result locked c.in-Ok.ensures.rows c.replace-written.ensures.value))))
 
 pub returns-clause-refused : goal.returns-clause-refused
 returns-clause-refused g c = λ refused is. absurd cc
