@@ -10,13 +10,19 @@ use Rattle.std.proofs.lemmas.List.Sums.{sum_by-append}
 use Rattle.std.proofs.lemmas.Map.Made.{lookup-map_values}
 use Rattle.kr_base.specs.Attributes.{is_name, value_at}
 use Rattle.kr_base.specs.declared.ids.ItemId.{ItemId}
-use Rattle.replace_slot.specs.Cell.{longest_of}
+use Rattle.replace_slot.specs.Cell.{Doubt, longest_of, old_image}
 use Rattle.keyring_file.specs.declared.clear.ClearItem.{ClearItem}
+use Rattle.keyring_seal.specs.declared.content.Content.{Content}
+use Rattle.collection_store.specs.Changes.{content_changed}
+use Rattle.collection_store.specs.Outcomes.{IsChanged, IsSame, IsStored, IsUnsure, MayBeChanged}
+use Rattle.collection_store.specs.declared.change.Change.{Change}
+use Rattle.collection_store.specs.declared.change.Changed.{Changed}
 use Rattle.collection_store.specs.Reading.{content_at, item_at}
-use Rattle.collection_store.specs.State.{CollectionState, HasMostItems, by_id}
+use Rattle.collection_store.specs.State.{CollectionState, HasMostItems, Held, by_id, most_items}
 use Rattle.folder_store.specs.Ring.{RingState}
-use Rattle.collection_table.specs.Entries.{Entries, changed, closed, inserted, loaded_from, row_of, rows_of, without}
-use Rattle.collection_table.specs.Rows.{AddUp, CollectionRow, HaveItems, Rows, bytes_in, content_of, has, has_item, is_open, is_unlocked, item_of, locked, most, shows_item}
+use Rattle.collection_table.specs.Changing.{after_change, after_unsure, made_perhaps, made_stored}
+use Rattle.collection_table.specs.Entries.{Entries, changed, closed, inserted, loaded_from, row_of, rows_of, slots_of, without}
+use Rattle.collection_table.specs.Rows.{AddUp, CollectionRow, HaveItems, Rows, bytes_in, content_of, has, has_item, is_open, is_unlocked, item_of, items_in, locked, most, perhaps_removed, perhaps_stored, shows_item, stored}
 
 -- ---- single values
 
@@ -58,6 +64,9 @@ alone a b = omega arith
 
 bytes-pushed : (rows : Rows) (row : List ℕ × CollectionRow) → bytes_in (rows ++ row ∷ []) ≡ bytes_in rows + longest_of row.1.file
 bytes-pushed rows row = sum_by-append (λ (r : List ℕ × CollectionRow). longest_of r.1.file) rows (row ∷ []) ∙ alone (bytes_in rows) (longest_of row.1.file)
+
+items-pushed : (rows : Rows) (row : List ℕ × CollectionRow) → items_in (rows ++ row ∷ []) ≡ items_in rows + most_items row.1.file row.1.clear row.1.other
+items-pushed rows row = sum_by-append (λ (r : List ℕ × CollectionRow). most_items r.1.file r.1.clear r.1.other) rows (row ∷ []) ∙ alone (items_in rows) (most_items row.1.file row.1.clear row.1.other)
 
 adds-pushed : (rows : Rows) (row : List ℕ × CollectionRow) (total one : ℕ) → AddUp rows total → HasMostItems row.1.file one → AddUp (rows ++ row ∷ []) (total + one)
 adds-pushed [] row total one none most_here = (one, 0, most_here, refl, omega (arith, none))
@@ -158,8 +167,8 @@ module _ {S : Type 0} where
   keys-loaded [] = refl
   keys-loaded (ring ∷ rings) = ap (λ l. ring.stem ∷ l) (keys-loaded rings)
 
-  pub is-loaded : (ring : RingState S) (c : CollectionState S) → c.slot ≡ ring.cell.slot → c.file ≡ ring.cell.file → c.clear ≡ by_id ring.clear → c.held ≡ None → (ring.stem, c) ≡ loaded_from ring
-  is-loaded ring c slot file clear held = λ i. (ring.stem, record { slot = slot i; file = file i; clear = clear i; held = held i })
+  pub is-loaded : (ring : RingState S) (c : CollectionState S) → c.slot ≡ ring.cell.slot → c.file ≡ ring.cell.file → c.clear ≡ by_id ring.clear → c.other ≡ None → c.held ≡ None → (ring.stem, c) ≡ loaded_from ring
+  is-loaded ring c slot file clear other held = λ i. (ring.stem, record { slot = slot i; file = file i; clear = clear i; other = other i; held = held i })
 
   -- ---- how much there is
 
@@ -180,6 +189,15 @@ module _ {S : Type 0} where
       ap bytes_in (rows-more entries place x lt read) ∙ bytes-pushed (rows_of (take place entries)) (x.0, row_of x.1) in
       made ∙ ap (λ n. min (n + longest_of x.1.file) most) before ∙ topped most (bytes_in (rows_of (take place entries))) (longest_of x.1.file) ∙ ap (λ n. min n most) (sym all)
 
+  pub counts-more : (entries : Entries S) (place : ℕ) (x : List ℕ × CollectionState S) (count one next : ℕ) → place < length entries → x ≡ get_or entries place x
+      → count ≡ min (items_in (rows_of (take place entries))) most → one ≡ most_items (get_or entries place x).1.file (get_or entries place x).1.clear (get_or entries place x).1.other → next ≡ min (count + one) most
+      → next ≡ min (items_in (rows_of (take (place + 1) entries))) most
+  counts-more entries place x count one next lt read before is made =
+      let all : items_in (rows_of (take (place + 1) entries)) ≡ items_in (rows_of (take place entries)) + most_items x.1.file x.1.clear x.1.other =
+      ap items_in (rows-more entries place x lt read) ∙ items-pushed (rows_of (take place entries)) (x.0, row_of x.1) in
+      let own : one ≡ most_items x.1.file x.1.clear x.1.other = is ∙ ap (λ (y : List ℕ × CollectionState S). most_items y.1.file y.1.clear y.1.other) (sym read) in
+      made ∙ (λ i. min (before i + own i) most) ∙ topped most (items_in (rows_of (take place entries))) (most_items x.1.file x.1.clear x.1.other) ∙ ap (λ n. min n most) (sym all)
+
   pub items-more : (entries : Entries S) (place : ℕ) (x : List ℕ × CollectionState S) (count one next : ℕ) → place < length entries → x ≡ get_or entries place x
       → HaveItems (rows_of (take place entries)) count → HasMostItems (get_or entries place x).1.file one → next ≡ min (count + one) most
       → HaveItems (rows_of (take (place + 1) entries)) next
@@ -188,3 +206,59 @@ module _ {S : Type 0} where
     subst (λ l. AddUp l (total + one)) (sym (rows-more entries place x lt read)) (adds-pushed (rows_of (take place entries)) (x.0, row_of x.1) total one adds (subst (λ (y : List ℕ × CollectionState S). HasMostItems y.1.file one) (sym read) most_here)),
     made ∙ ap (λ n. min (n + one) most) before ∙ topped most total one,
   )
+
+  -- ---- what is stored
+
+  pub row-stored : (content : Content) (key vector : List ℕ) (c : CollectionState S) → IsStored content key vector c → row_of c ≡ stored content key vector
+  row-stored content key vector c is = λ i. record { file = is.file i; clear = is.clear i; other = is.other i; held = is.held i }
+
+  pub row-perhaps : (content : Content) (key vector : List ℕ) (old c : CollectionState S) → IsUnsure content key vector old c → row_of c ≡ perhaps_stored content key vector (row_of old)
+  row-perhaps content key vector old c is = λ i. record { file = is.file i; clear = is.clear i; other = is.other i; held = is.locked i }
+
+  pub row-same : (old c : CollectionState S) → IsSame old c → row_of c ≡ row_of old
+  row-same old c is = λ i. record { file = is.file i; clear = is.clear i; other = is.other i; held = is.held i }
+
+  pub row-removed : (old c : CollectionState S) → c.file ≡ Doubt (old_image old.file) None → c.clear ≡ old.clear → c.other ≡ None → c.held ≡ None → row_of c ≡ perhaps_removed (row_of old)
+  row-removed old c file clear other held = λ i. record { file = file i; clear = clear i; other = other i; held = held i }
+
+  pub row-changed : (change : Change) (now : ℕ) (old : CollectionState S) (held : Held) (c : CollectionState S) (answer : Changed) → old.held ≡ Some held → IsChanged change now old held c answer → row_of c ≡ after_change change now (row_of old)
+  row-changed change now old held c answer open_so is =
+      row-stored is.content held.key held.vector c is.stored
+      ∙ sym (ap (λ o. option_map_or (λ (h : Held). made_stored h (row_of old) (content_changed change now old.clear h.rows)) o (row_of old)) open_so ∙ ap (λ m. made_stored held (row_of old) m) is.made)
+
+  pub row-unsure : (change : Change) (now : ℕ) (old : CollectionState S) (held : Held) (c : CollectionState S) → old.held ≡ Some held → MayBeChanged change now old held c → row_of c ≡ after_unsure change now (row_of old)
+  row-unsure change now old held c open_so is =
+      row-perhaps is.content held.key held.vector old c is.unsure
+      ∙ sym (ap (λ o. option_map_or (λ (h : Held). made_perhaps h (row_of old) (content_changed change now old.clear h.rows)) o (row_of old)) open_so ∙ ap (λ m. made_perhaps held (row_of old) m) is.made)
+
+  -- ---- slots
+
+  pub slots-changed : (stem : List ℕ) (c : CollectionState S) (entries : Entries S) → slots_of (changed stem (λ _. c) entries) ≡ changed stem (λ _. c.slot) (slots_of entries)
+  slots-changed stem c [] = refl
+  slots-changed stem c (e ∷ more) =
+      let step : (b : Bool) → is_name stem e.0 ≡ b → slots_of (changed stem (λ _. c) (e ∷ more)) ≡ changed stem (λ _. c.slot) (slots_of (e ∷ more)) =
+      elim [
+        | true ↦ λ is. rw is (ap (λ t. (e.0, c.slot) ∷ t) (slots-changed stem c more))
+        | false ↦ λ off. rw off (ap (λ t. (e.0, e.1.slot) ∷ t) (slots-changed stem c more))
+      ] in
+      step (is_name stem e.0) refl
+
+  pub slots-locked : (stem : List ℕ) (entries : Entries S) → slots_of (changed stem closed entries) ≡ slots_of entries
+  slots-locked stem [] = refl
+  slots-locked stem (e ∷ more) =
+      let step : (b : Bool) → is_name stem e.0 ≡ b → slots_of (changed stem closed (e ∷ more)) ≡ slots_of (e ∷ more) =
+      elim [
+        | true ↦ λ is. rw is (ap (λ t. (e.0, e.1.slot) ∷ t) (slots-locked stem more))
+        | false ↦ λ off. rw off (ap (λ t. (e.0, e.1.slot) ∷ t) (slots-locked stem more))
+      ] in
+      step (is_name stem e.0) refl
+
+  pub slots-without : (stem : List ℕ) (entries : Entries S) → slots_of (without stem entries) ≡ without stem (slots_of entries)
+  slots-without stem [] = refl
+  slots-without stem (e ∷ more) =
+      let step : (b : Bool) → is_name stem e.0 ≡ b → slots_of (without stem (e ∷ more)) ≡ without stem (slots_of (e ∷ more)) =
+      elim [
+        | true ↦ λ is. rw is (slots-without stem more)
+        | false ↦ λ off. rw off (ap (λ t. (e.0, e.1.slot) ∷ t) (slots-without stem more))
+      ] in
+      step (is_name stem e.0) refl

@@ -19,15 +19,19 @@ pub record TableState (S : Type 0) : Type 0 where
 
 -- a collection without its slot
 abbrev pub row_of : {S : Type 0} → CollectionState S → CollectionRow
-row_of collection = record { file = collection.file; clear = collection.clear; held = collection.held }
+row_of collection = record { file = collection.file; clear = collection.clear; other = collection.other; held = collection.held }
 
 -- the collections without their slots
 abbrev pub rows_of : {S : Type 0} → Entries S → Rows
 rows_of entries = map (λ entry. (entry.0, row_of entry.1)) entries
 
+-- the slot of each collection
+abbrev pub slots_of : {S : Type 0} → Entries S → List (List ℕ × S)
+slots_of entries = map (λ entry. (entry.0, entry.1.slot)) entries
+
 -- the collection of a file that a start lists: it is locked, and shows the clear part that was read
 abbrev pub loaded_from : {S : Type 0} → RingState S → List ℕ × CollectionState S
-loaded_from ring = (ring.stem, record { slot = ring.cell.slot; file = ring.cell.file; clear = by_id ring.clear; held = None })
+loaded_from ring = (ring.stem, record { slot = ring.cell.slot; file = ring.cell.file; clear = by_id ring.clear; other = None; held = None })
 
 -- the same list with what is at a stem changed
 abbrev pub changed : {V : Type 0} → List ℕ → (V → V) → List (List ℕ × V) → List (List ℕ × V)

@@ -4,7 +4,7 @@ ghost use Rattle.std.specs.Map.{keys_of};
 ghost use Rattle.std.specs.Option.{option_copied};
 ghost use Rattle.kr_base.specs.Attributes.{IsInOrder, value_at};
 ghost use Rattle.collection_table.specs.Entries.{IsPlaceOf, changed, closed, inserted, loaded_from, row_of, rows_of, without};
-ghost use Rattle.collection_table.specs.Rows.{HaveItems, bytes_in, found_in, most};
+ghost use Rattle.collection_table.specs.Rows.{HaveItems, bytes_in, found_in, items_in, most};
 
 use crate::Matches;
 use collection_store::Collection;
@@ -168,7 +168,8 @@ pub fn stems<S: Slot>(
 
 /// The number of items in all collections together, at most the greatest number of its type.
 pub fn items_in<S: Slot>(entries: &[(Stem, Collection<S>)]) -> usize
-    ensures { HaveItems (rows_of entries.now) result }
+    ensures value { result ≡ min (items_in (rows_of entries.now)) most }
+    ensures images { HaveItems (rows_of entries.now) result }
 {
     let mut count: usize = 0;
     for place in 0..entries.len() {

@@ -10,6 +10,10 @@ mod laws;
 mod matches;
 mod table;
 
-pub use laws::{a_changed_collection_changes_its_row, other_collections_stay};
+pub use laws::{
+    a_change_leaves_its_row, a_changed_collection_changes_its_row,
+    a_changed_collection_changes_its_slot, a_removal_leaves_its_row, a_stored_content_is_a_row,
+    other_collections_stay,
+};
 pub use matches::Matches;
 pub use table::CollectionTable;

@@ -7,12 +7,12 @@ ghost use Rattle.std.specs.Map.{keys_of, values_of};
 ghost use Rattle.std.specs.Option.{option_copied, option_copied_mut};
 ghost use Rattle.std.specs.Ordering.{nat_cmp};
 ghost use Rattle.kr_base.specs.Attributes.{IsInOrder, value_at};
-ghost use Rattle.collection_table.specs.Entries.{changed, closed, inserted, loaded_from, row_of, rows_of, with_collection, with_place, without};
-ghost use Rattle.collection_table.specs.Rows.{HaveItems, bytes_in, content_of, found_in_all, has, has_item, is_open, item_of, locked, most};
+ghost use Rattle.collection_table.specs.Entries.{changed, closed, inserted, loaded_from, row_of, rows_of, slots_of, with_collection, with_place, without};
+ghost use Rattle.collection_table.specs.Rows.{HaveItems, bytes_in, content_of, found_in_all, has, has_item, is_full, is_open, item_of, items_in, locked, most, room_in};
 
 use crate::{Matches, entries};
 use collection_store::Collection;
-use folder_store::Ring;
+use folder_store::{LIMITS, Ring};
 use keyring_file::FullItem;
 use kr_base::{Attributes, ItemId, OutOfMemory, Stem, Text};
 use kr_outside::Slot;
@@ -143,9 +143,18 @@ impl<S: Slot> CollectionTable<S> {
     /// The number of items in all collections together, or 2^64 - 1 if it is greater. A file in doubt counts
     /// with the greater number of its two images. It takes no memory.
     pub fn items_in_all(&self) -> usize
-        ensures { HaveItems (rows_of self.now.entries) result }
+        ensures value { result ≡ min (items_in (rows_of self.now.entries)) most }
+        ensures images { HaveItems (rows_of self.now.entries) result }
     {
         entries::items_in(&self.entries)
+    }
+
+    /// Whether there are 100,000 items or more in all collections together. A file in doubt counts with the
+    /// greater number of its two images. It takes no memory.
+    pub fn is_full(&self) -> bool
+        ensures { result ≡ is_full (rows_of self.now.entries) }
+    {
+        self.items_in_all() >= LIMITS.items
     }
 
     /// The number of bytes of all collections' files together, or 2^64 - 1 if it is greater. A file in doubt
@@ -156,6 +165,14 @@ impl<S: Slot> CollectionTable<S> {
         entries::bytes_in(&self.entries)
     }
 
+    /// How many bytes all collections' files together may still grow by: they have 268,435,456 at most. A
+    /// file in doubt counts with the longer of its two images. It takes no memory.
+    pub fn room(&self) -> u64
+        ensures { result ≡ room_in (rows_of self.now.entries) }
+    {
+        LIMITS.all_files.saturating_sub(self.bytes_in_all()) as u64
+    }
+
     /// Locks a collection: its key and its items are dropped (Secret Service API, Service.Lock). All others
     /// are as before, and where there is none of the stem nothing changes. It takes no memory.
     pub fn lock(&mut self, stem: &Stem)
@@ -163,6 +180,7 @@ impl<S: Slot> CollectionTable<S> {
             ≡ record self.old { entries = changed stem.now closed self.old.entries } }
         ensures rows { rows_of self.new.entries
             ≡ changed stem.now locked (rows_of self.old.entries) }
+        ensures slots { slots_of self.new.entries ≡ slots_of self.old.entries }
     {
         entries::lock(&mut self.entries, stem);
     }
@@ -219,6 +237,7 @@ impl<S: Slot> CollectionTable<S> {
         ensures value { result ≡ value_at stem.now self.old.entries }
         ensures entries { self.new.entries ≡ without stem.now self.old.entries }
         ensures rows { rows_of self.new.entries ≡ without stem.now (rows_of self.old.entries) }
+        ensures slots { slots_of self.new.entries ≡ without stem.now (slots_of self.old.entries) }
         ensures room { self.old.room ≤ self.new.room }
     {
         entries::remove(&mut self.entries, stem)
