@@ -4,22 +4,37 @@ ghost use Rattle.std.specs.Prelude.{◌≡◌};
 use crate::checks::{add_number, decimal, joined, word};
 use crate::words::{attributes_of, change_of, key_of, refusal};
 use collection_store::{Change, ChangeRefused, Changed, Collection, UnlockRefused};
+use item_store::ItemFault;
 use kr_base::ItemId;
 use kr_memory_disk::MemorySlot;
 use replace_slot::{FaultRead, Found, RemoveFault};
 use std::alloc::Global;
 use std::test::Fail;
 
-// Makes a change at the time 200. None if the collection is locked.
+// Whether what a change answered is what was known before.
+fn is_known(known: &Result<Changed, ItemFault>, made: &Result<Changed, ChangeRefused>) -> bool {
+    match (known, made) {
+        (Ok(known), Ok(answer)) => known == answer,
+        (Err(known), Err(ChangeRefused::Item(fault))) => known == fault,
+        (Ok(_), Err(ChangeRefused::Item(_))) => false,
+        (Ok(_), Err(_)) => true,
+        _ => false,
+    }
+}
+
+// Makes a change at the time 200, and says whether its answer was known before. None if the collection is
+// locked.
 fn changed(
     collection: &mut Collection<MemorySlot>,
     change: Change,
     room: u64,
-) -> Option<Result<Changed, ChangeRefused>> {
+) -> Option<(bool, Result<Changed, ChangeRefused>)> {
     if !collection.is_open() {
         return None;
     }
-    Some(collection.change(change, 200, room))
+    let known = collection.answer_to(&change);
+    let made = collection.change(change, 200, room);
+    Some((is_known(&known, &made), made))
 }
 
 fn numbered(alloc: Global, name: &str, id: ItemId) -> Result<String, Fail> {
@@ -45,8 +60,9 @@ pub fn change(
 ) -> Result<String, Fail> {
     let change = change_of(alloc, row)?;
     match changed(collection, change, room) {
-        Some(Ok(changed)) => change_told(alloc, changed),
-        Some(Err(refused)) => word(alloc, refusal(&refused)),
+        Some((false, _)) => word(alloc, "unknown"),
+        Some((true, Ok(changed))) => change_told(alloc, changed),
+        Some((true, Err(refused))) => word(alloc, refusal(&refused)),
         None => word(alloc, "locked"),
     }
 }
