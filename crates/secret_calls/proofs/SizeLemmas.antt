@@ -40,8 +40,8 @@ head-short to serial (body.Secrets secrets) = omega arith
 pub return-short : (to : Serial) (serial : ℕ) (body : Body) → length (spelled (out.Return to body) serial) ≤ length (spelled_body body) + 48
 return-short to serial body = omega (arith, length-append (head to body serial) (spelled_body body), head-short to serial body)
 
--- a return is short enough to wait if its body has at most 8,388,608 bytes
-pub return-waits : (to : Serial) (serial : ℕ) (body : Body) → length (spelled_body body) ≤ 8388608 → length (spelled (out.Return to body) serial) ≤ most_waiting
+-- a return is short enough to wait if its body is shorter by 48 bytes
+pub return-waits : (to : Serial) (serial : ℕ) (body : Body) → length (spelled_body body) + 48 ≤ most_waiting → length (spelled (out.Return to body) serial) ≤ most_waiting
 return-waits to serial body small = omega (arith, return-short to serial body, small)
 
 pub error-short : (to : Serial) (serial : ℕ) (name : ErrorName) → length (spelled (out.Error to name) serial) ≤ most_waiting

@@ -15,6 +15,7 @@ use Rattle.dbus_types.specs.declared.endian.Endian.TheVariants.{Little}
 use Rattle.dbus_types.specs.Paths.{is_object_path}
 use Rattle.dbus_types.specs.Types.{Ty, Tys}
 use Rattle.dbus_types.specs.Values.{Val, Vals}
+use Rattle.dbus_marshal.specs.Limits.{array_limit}
 use Rattle.dbus_marshal.specs.Wire.{AreBytes}
 use Rattle.dbus_marshal.specs.Spelling.{all_spelled}
 use Rattle.dbus_sending.specs.Sent.{SentHeader, Sent, bare_header, spelled_message}
@@ -134,7 +135,7 @@ AreTyped (body.Secrets secrets) = AreSecrets secrets
 -- "Marshaling"), so no array and no text in it is too long.
 pub record FitsBody (body : Body) : Type 0 where
   pub typed : AreTyped body
-  pub short : length (spelled_body body) ≤ 67108864
+  pub short : length (spelled_body body) ≤ array_limit
 
 -- An output can be spelled as a message if its body can. Its type already says that the serial which it answers isn't 0.
 abbrev pub HasSpelling : Out → Type 0

@@ -1,4 +1,5 @@
-ghost use Rattle.std.specs.Prelude.{◌≢◌, ◌<◌, ◌^◌};
+ghost use Rattle.std.specs.Prelude.{◌≢◌, ◌≤◌};
+ghost use Rattle.secret_calls.specs.Serials.{last_serial};
 
 /// The serial of a message, by which a reply refers to it (D-Bus Specification, "Message Format").
 #[derive(Clone, Copy, PartialEq, Eq)]
@@ -8,5 +9,5 @@ pub struct Serial {
     /// No message has the serial 0.
     pub ghost some: { number ≢ 0 },
     /// A serial is a number of 32 bits.
-    pub ghost fits: { number < 2 ^ 32 },
+    pub ghost fits: { number ≤ last_serial },
 }
