@@ -59,35 +59,35 @@ body_is (body.Session session) fits = record {
   arrays = refl;
 }
 body_is (body.Found unlocked locked) fits =
-    let few = all_within 67108864 (values_of (body.Found unlocked locked)) 0 fits.short in
+    let few = all_within array_limit (values_of (body.Found unlocked locked)) 0 fits.short in
     record {
       listed = refl;
       spelled = ((refl, paths_fit 63 unlocked fits.typed.0 few.0, refl), ((refl, paths_fit 63 locked fits.typed.1 few.1.0, refl), tt));
       arrays = all_short (values_of (body.Found unlocked locked)) 0 fits.short;
     }
 body_is (body.Locked objects) fits =
-    let few = all_within 67108864 (values_of (body.Locked objects)) 0 fits.short in
+    let few = all_within array_limit (values_of (body.Locked objects)) 0 fits.short in
     record {
       listed = refl;
       spelled = ((refl, paths_fit 63 objects fits.typed few.0, refl), (no_object_fits, tt));
       arrays = all_short (values_of (body.Locked objects)) 0 fits.short;
     }
 body_is (body.Objects objects) fits =
-    let few = all_within 67108864 (values_of (body.Objects objects)) 0 fits.short in
+    let few = all_within array_limit (values_of (body.Objects objects)) 0 fits.short in
     record {
       listed = refl;
       spelled = ((refl, paths_fit 63 objects fits.typed few.0, refl), tt);
       arrays = all_short (values_of (body.Objects objects)) 0 fits.short;
     }
 body_is (body.Secret secret) fits =
-    let few = all_within 67108864 (values_of (body.Secret secret)) 0 fits.short in
+    let few = all_within array_limit (values_of (body.Secret secret)) 0 fits.short in
     record {
       listed = refl;
       spelled = (fields_fit 62 secret fits.typed few.0, tt);
       arrays = all_short (values_of (body.Secret secret)) 0 fits.short;
     }
 body_is (body.Secrets secrets) fits =
-    let few = all_within 67108864 (values_of (body.Secrets secrets)) 0 fits.short in
+    let few = all_within array_limit (values_of (body.Secrets secrets)) 0 fits.short in
     record {
       listed = refl;
       spelled = ((refl, secrets_fit secrets fits.typed few.0, refl), tt);
@@ -249,7 +249,7 @@ has_header kind serial to name some few numbered named = record {
   interface = tt;
   member = tt;
   error_name = named;
-  reply_serial = (to.some, to.fits);
+  reply_serial = (to.some, omega (arith, to.fits));
   destination = tt;
   sender = tt;
 }
@@ -266,7 +266,7 @@ can_be_sent : (most serial : ℕ) (out : Out) → IsSendable most out serial →
 can_be_sent most serial out is =
     let are = body_is (body_of out) is.has in
     record {
-      header = header_is serial (is.numbered, is.serial_fits) out;
+      header = header_is serial (is.numbered, omega (arith, is.serial_fits)) out;
       needed = needed serial out;
       listed = are.listed;
       spelled = are.spelled;

@@ -17,6 +17,7 @@ use Rattle.dbus_types.specs.declared.endian.Endian.TheVariants.{Little}
 use Rattle.dbus_types.specs.Paths.{is_element_code, are_elements, is_object_path}
 use Rattle.dbus_types.specs.Types.{Ty, text_of}
 use Rattle.dbus_types.specs.Values.{Val, Vals, ty_of, tys_of}
+use Rattle.dbus_marshal.specs.Limits.{array_limit}
 use Rattle.dbus_marshal.specs.Wire.{width_of, alignment_of, padding, behind, start_of, zeros, number_bytes, is_text}
 use Rattle.dbus_marshal.specs.Spelling.{text_spelled, first_at, spelled, all_spelled, is_short, are_short}
 use Rattle.dbus_marshal.specs.Fitting.{Fits, AllFit, EachFits}
@@ -87,7 +88,7 @@ both_true true b p q = q
 both_true false b p q = p
 
 mutual
-  short : (v : Val) (place : ℕ) → length (spelled Little v place) ≤ 67108864 → is_short Little v place ≡ true
+  short : (v : Val) (place : ℕ) → length (spelled Little v place) ≤ array_limit → is_short Little v place ≡ true
   short (Val.number b n) place few = refl
   short (Val.text b text) place few = refl
   short (Val.variant v) place few =
@@ -96,10 +97,10 @@ mutual
   short (Val.array t vs) place few =
       let first = first_at (alignment_of t) place in
       let E = all_spelled Little vs first in
-      let fewer : length E ≤ 67108864 = omega (arith, array_long (padding 4 place) (length E) (padding (alignment_of t) (behind (start_of 4 place) 4)) E, few) in
-      both_true (are_short Little vs first) (nat_le (length E) 67108864) (all_short vs first fewer) (le-leb (length E) 67108864 fewer)
+      let fewer : length E ≤ array_limit = omega (arith, array_long (padding 4 place) (length E) (padding (alignment_of t) (behind (start_of 4 place) 4)) E, few) in
+      both_true (are_short Little vs first) (nat_le (length E) array_limit) (all_short vs first fewer) (le-leb (length E) array_limit fewer)
   short (Val.bytes them) place few =
-      le-leb (length them) 67108864 (omega (arith, array_long (padding 4 place) (length them) (padding 1 (behind (start_of 4 place) 4)) them, few))
+      le-leb (length them) array_limit (omega (arith, array_long (padding 4 place) (length them) (padding 1 (behind (start_of 4 place) 4)) them, few))
   short (Val.struct vs) place few =
       all_short vs (start_of 8 place) (omega (arith, length-append (zeros (padding 8 place)) (all_spelled Little vs (start_of 8 place)), few))
   short (Val.entry key v) place few =
@@ -111,7 +112,7 @@ mutual
       (short v there (omega (arith, length-append (zeros (padding 8 place)) (K ++ V), length-append K V, few)))
 
   -- no array is too long in values that are short together
-  pub all_short : (vs : Vals) (place : ℕ) → length (all_spelled Little vs place) ≤ 67108864 → are_short Little vs place ≡ true
+  pub all_short : (vs : Vals) (place : ℕ) → length (all_spelled Little vs place) ≤ array_limit → are_short Little vs place ≡ true
   all_short Vals.end place few = refl
   all_short (Vals.more v vs) place few =
       let F = spelled Little v place in
@@ -165,10 +166,10 @@ path_text (code ∷ codes) e = plain_text (code ∷ codes) (All-from_recursion I
 
 -- ---- values have their types
 
-pub path_fits : (depth : ℕ) (path : List ℕ) → IsTrue (is_object_path path) → length path ≤ 67108864 → Fits depth (Ty.basic basics.ObjectPath) (Val.text basics.ObjectPath path)
+pub path_fits : (depth : ℕ) (path : List ℕ) → IsTrue (is_object_path path) → length path ≤ array_limit → Fits depth (Ty.basic basics.ObjectPath) (Val.text basics.ObjectPath path)
 path_fits depth path is few = (refl, ((path_text path is, omega (arith, few)), is))
 
-pub paths_fit : (depth : ℕ) (paths : List (List ℕ)) → ArePaths paths → AllWithin 67108864 (path_values paths) → EachFits depth (Ty.basic basics.ObjectPath) (path_values paths)
+pub paths_fit : (depth : ℕ) (paths : List (List ℕ)) → ArePaths paths → AllWithin array_limit (path_values paths) → EachFits depth (Ty.basic basics.ObjectPath) (path_values paths)
 paths_fit depth [] are few = tt
 paths_fit depth (path ∷ paths) are few = (path_fits depth path are.0 few.0, paths_fit depth paths are.1 few.1)
 
@@ -178,13 +179,13 @@ fields_of secret =
     Vals.more (Val.text basics.ObjectPath (session_path secret.session.0)) (Vals.more (Val.bytes [])
     (Vals.more (Val.bytes secret.value) (Vals.more (Val.text basics.String secret.content) Vals.end)))
 
-pub fields_fit : (fewer : ℕ) (secret : ReturnedSecret) → IsSecret secret → AllWithin 67108864 (fields_of secret) → AllFit (suc fewer) (tys_of (fields_of secret)) (fields_of secret)
+pub fields_fit : (fewer : ℕ) (secret : ReturnedSecret) → IsSecret secret → AllWithin array_limit (fields_of secret) → AllFit (suc fewer) (tys_of (fields_of secret)) (fields_of secret)
 fields_fit fewer secret is few = (
   (refl, ((plain_text (session_path secret.session.0) (path_plain secret.session.0 is.session), omega (arith, few.0)), path_is secret.session.0 is.session)),
   ((refl, tt), ((refl, is.value), ((refl, (text_is secret.content is.content, omega (arith, few.1.1.1.0))), tt))),
 )
 
-pub secrets_fit : (secrets : List ItemSecret) → AreSecrets secrets → AllWithin 67108864 (secret_values secrets) → EachFits 63 (Ty.entry basics.ObjectPath secret_type) (secret_values secrets)
+pub secrets_fit : (secrets : List ItemSecret) → AreSecrets secrets → AllWithin array_limit (secret_values secrets) → EachFits 63 (Ty.entry basics.ObjectPath secret_type) (secret_values secrets)
 secrets_fit [] are few = tt
 secrets_fit (one ∷ secrets) are few =
     ((path_fits 62 one.item are.0 few.0.0, fields_fit 60 one.secret are.1 few.0.1), secrets_fit secrets are.2 few.1)
