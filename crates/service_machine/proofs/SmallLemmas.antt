@@ -125,7 +125,7 @@ plan-small caller state (Ok (call.GetSecret stem item session)) = secret-small c
 
 message-small : (request : Request) (answer : Result Body ErrorName) → IsSmall answer → size_of (message_of request.serial answer) ≤ most_waiting
 unfolding size_of
-message-small request (Ok body) small = return-waits request.serial 1 body small
+message-small request (Ok body) small = return-waits request.serial 1 body (omega (arith, small))
 message-small request (Err name) small = error-short request.serial 1 name
 
 -- the answer to a request, and its reply

@@ -260,7 +260,7 @@ message-waits : (caller : ConnId) (request : Request) (answer : Result Body Erro
 unfolding size_of
 message-waits caller request (Ok body) typed small = record {
   spelled = record { typed = typed; short = omega (arith, small) };
-  small = return-waits request.serial 1 body small;
+  small = return-waits request.serial 1 body (omega (arith, small));
 }
 message-waits caller request (Err name) typed small = record { spelled = empty-fits; small = error-short request.serial 1 name }
 

@@ -21,13 +21,17 @@ abbrev pub outputs : State → List Event → List Output
 outputs state [] = []
 outputs state (event ∷ events) = output_of state event ∷ outputs (step state event) events
 
+-- what a stored event costs besides the bytes of its request (docs/SERVICE.md, "The history")
+abbrev pub event_cost : ℕ
+event_cost = 64
+
 -- what an event costs of the memory that stored events take
 abbrev pub cost_of : Event → ℕ
-cost_of (event.Connect conn) = 64
-cost_of (event.Arrive arrival) = 64 + arrival.request.length
-cost_of (event.Leave conn) = 64
-cost_of (event.Take conn) = 64
-cost_of (event.Gone conn) = 64
+cost_of (event.Connect conn) = event_cost
+cost_of (event.Arrive arrival) = event_cost + arrival.request.length
+cost_of (event.Leave conn) = event_cost
+cost_of (event.Take conn) = event_cost
+cost_of (event.Gone conn) = event_cost
 
 -- what events cost
 abbrev pub cost : List Event → ℕ
