@@ -20,6 +20,9 @@ const MOST_EVENTS: usize = 65_536;
 /// With stored events of so much cost a cut is due.
 const MOST_COST: u64 = 268_435_456;
 
+/// What a stored event costs besides the bytes of its request.
+const EVENT_COST: u64 = 64;
+
 /// Room for an event and for all that 256 connections may bring without memory: three of each.
 const ROOM: usize = 769;
 
@@ -54,8 +57,8 @@ fn cost_of(event: &Event) -> u64
     ensures { result ≡ cost_of event.now }
 {
     match event {
-        Event::Arrive(arrival) => 64 + arrival.request.length as u64,
-        _ => 64,
+        Event::Arrive(arrival) => EVENT_COST + arrival.request.length as u64,
+        _ => EVENT_COST,
     }
 }
 
