@@ -1,5 +1,5 @@
 -- The reply to a call can wait, so it waits after the call, and nothing is lost.
-use Rattle.std.proofs.Common.{◌≡◌, ℕ, ◌+◌, ◌≤◌, Bool, true, false, cond, min, List, [], ◌∷◌, length, refl, sym, ◌∙◌, ap, arith}
+use Rattle.std.proofs.Common.{◌≡◌, ℕ, ◌+◌, ◌≤◌, Bool, true, false, cond, List, [], ◌∷◌, length, refl, sym, ◌∙◌, ap, arith}
 use Rattle.std.proofs.lemmas.Bool.{le-leb, lt-ltb}
 use Rattle.kr_base.specs.declared.ids.ConnId.{ConnId}
 use Rattle.secret_calls.specs.declared.out.Out.{Out}
@@ -80,11 +80,12 @@ given-idle-by mid new (out ∷ outs) is so =
     let state : new.told.state ≡ step mid.told.state (event.Take conn) = own-state mid new (taking conn mid.told.state) so ∙ ap (replay mid.told.state) some in
     let rows : new.told.state.connections.rows ≡ changed conn emptied (row_with conn (out ∷ outs) is.taken ∷ []) =
     ap (λ (s : State). s.connections.rows) state ∙ ap (changed conn emptied) is.only in
-    let row : changed conn emptied (row_with conn (out ∷ outs) is.taken ∷ []) ≡ row_with conn [] (min (is.taken + length (out ∷ outs)) 18446744073709551615) ∷ [] =
+    let count = (emptied (row_with conn (out ∷ outs) is.taken)).taken in
+    let row : changed conn emptied (row_with conn (out ∷ outs) is.taken ∷ []) ≡ row_with conn [] count ∷ [] =
     rw (same conn.0) refl in
     record {
-      taken = min (is.taken + length (out ∷ outs)) 18446744073709551615;
-      only = rows ∙ row ∙ ap (λ c. row_with c [] (min (is.taken + length (out ∷ outs)) 18446744073709551615) ∷ []) (sym so.same.conn);
+      taken = count;
+      only = rows ∙ row ∙ ap (λ c. row_with c [] count ∷ []) (sym so.same.conn);
     }
 
 pub given-idle : (mid new : Place) → IsOwed mid.told (owed mid.told) → HasGiven mid new → IsOwed new.told []

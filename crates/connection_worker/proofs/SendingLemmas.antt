@@ -3,6 +3,7 @@ use Rattle.std.proofs.Common.{◌≡◌, ℕ, ◌+◌, ◌%◌, List, [], ◌∷
 use Rattle.std.proofs.lemmas.List.{length_push}
 use Rattle.secret_calls.specs.declared.out.Out.{Out}
 use Rattle.secret_calls.specs.Outs.{spelled}
+use Rattle.secret_calls.specs.Serials.{last_serial}
 use Rattle.connection_worker.specs.Written.{serial_behind, spelled_behind}
 use Rattle.connection_worker.specs.Sending.{Spells}
 
@@ -14,7 +15,7 @@ spelled_behind-append taken (out ∷ outs) more =
     ∙ ap (λ n. (spelled out (serial_behind taken) ++ spelled_behind (taken + 1) outs) ++ spelled_behind n more) (omega arith)
 
 -- one more output
-pub spells-push : (outs : List Out) (out : Out) (old mid new serial : ℕ) (bytes message : List ℕ) → Spells outs old mid bytes → serial ≡ mid + 1 → new ≡ (mid + 1) % 4294967295
+pub spells-push : (outs : List Out) (out : Out) (old mid new serial : ℕ) (bytes message : List ℕ) → Spells outs old mid bytes → serial ≡ mid + 1 → new ≡ (mid + 1) % last_serial
     → message ≡ spelled out serial → Spells (outs ++ out ∷ []) old new (bytes ++ message)
 spells-push outs out old mid new serial bytes message so serial_is new_is is = λ taken behind.
     let was = so taken behind in

@@ -2,6 +2,7 @@
 use Rattle.std.specs.Prelude.{◌≡◌, ℕ, ◌+◌, ◌%◌, List, length, Result, Ok, Err}
 use Rattle.kr_outside.specs.Faults.{Rose}
 use Rattle.secret_calls.specs.declared.out.Out.{Out}
+use Rattle.secret_calls.specs.Serials.{last_serial}
 use Rattle.connection_worker.specs.declared.ending.End.{End}
 use Rattle.connection_worker.specs.declared.ending.End.TheVariants as end
 use Rattle.connection_worker.specs.Streams.{Output, Gave, GaveFront}
@@ -9,7 +10,7 @@ use Rattle.connection_worker.specs.Written.{spelled_behind}
 
 -- the serials are those after this many outputs
 abbrev pub AreBehind : ℕ → ℕ → Type 0
-AreBehind taken serials = serials ≡ taken % 4294967295
+AreBehind taken serials = serials ≡ taken % last_serial
 
 -- the bytes are the messages of the outputs, whatever number of outputs came before them
 abbrev pub Spells : List Out → ℕ → ℕ → List ℕ → Type 0

@@ -24,6 +24,10 @@ input_of left faults is_steady source = record { left = left source; faults = fa
 abbrev pub output_of : {S : Type 0} → (S → Option (List ℕ)) → (S → ℕ) → (S → Bool) → S → Output
 output_of written faults is_steady sink = record { written = written sink; faults = faults sink; is_steady = is_steady sink }
 
+-- the most bytes that are read at a time
+abbrev pub most_read : ℕ
+most_read = 65536
+
 -- these bytes were read
 pub record Took (old new : Input) (bytes : List ℕ) : Type 0 where
   pub consumed : Consumes old.left new.left bytes

@@ -3,6 +3,7 @@ use Rattle.std.specs.Prelude.{ℕ, ◌+◌, ◌%◌, ◌==◌, if◌then◌else�
 use Rattle.kr_base.specs.declared.ids.ConnId.{ConnId}
 use Rattle.secret_calls.specs.declared.out.Out.{Out}
 use Rattle.secret_calls.specs.Outs.{spelled}
+use Rattle.secret_calls.specs.Serials.{last_serial}
 use Rattle.service_tables.specs.State.{State}
 use Rattle.service_tables.specs.declared.rows.ConnRow.{ConnRow}
 use Rattle.service_machine.specs.declared.event.Event.{Event}
@@ -23,9 +24,9 @@ abbrev pub given_by : ConnId → State → List Event → List Out
 given_by conn state [] = []
 given_by conn state (event ∷ events) = given conn state event ++ given_by conn (step state event) events
 
--- the serial of an output after this many others: 1, 2 and so on up to the last number, then 1 again
+-- the serial of an output after this many others: 1, 2 and so on up to the last one, then 1 again
 abbrev pub serial_behind : ℕ → ℕ
-serial_behind taken = taken % 4294967295 + 1
+serial_behind taken = taken % last_serial + 1
 
 -- outputs as they are written, after this many others
 abbrev pub spelled_behind : ℕ → List Out → List ℕ

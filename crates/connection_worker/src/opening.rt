@@ -1,7 +1,7 @@
 // The handshake over a source and a sink.
-ghost use Rattle.std.specs.Prelude.{◌≡◌, ◌≤◌, ◌<◌, ℕ, IfOk, OnErr, IsErrOf, List, drop, length, vec_len};
+ghost use Rattle.std.specs.Prelude.{◌≡◌, ◌≤◌, ℕ, IfOk, OnErr, IsErrOf, List, drop, length, vec_len};
 ghost use Rattle.dbus_framing.specs.Framers.{just_fed};
-ghost use Rattle.connection_worker.specs.Streams.{input_of, output_of};
+ghost use Rattle.connection_worker.specs.Streams.{input_of, most_read, output_of};
 ghost use Rattle.connection_worker.specs.Handshakes.{HandshakeOutcome, HandshakeOutcomeAfter, ReadsMore, most_bytes};
 
 use crate::ending::End;
@@ -13,14 +13,14 @@ use std::alloc::AllocGlobal;
 use std::sync::Wait;
 
 /// The most bytes that are read at a time.
-const PIECE: usize = 65_536;
+pub const MOST_READ: usize = 65_536;
 
 /// The most bytes that an incoming message may have.
 const MOST_MESSAGE_BYTES: u32 = 1_048_576;
 
 // Reads a piece, and appends it to the bytes that are held.
 fn read_more<I: Source>(input: &mut I, piece: &mut [u8], held: &mut Vec<u8>) -> Result<(), End>
-    requires { 0 < length piece.old }
+    requires { length piece.old ≡ most_read }
     ensures { ReadsMore held.old.items held.new.items
         (input_of I.left I.faults I.is_steady input.old)
         (input_of I.left I.faults I.is_steady input.new) result }
@@ -69,7 +69,7 @@ fn shake<R: Wait, I: Source, O: Sink>(
     output: &mut O,
     piece: &mut [u8],
 ) -> Result<Framer, End>
-    requires { 0 < length piece.old }
+    requires { length piece.old ≡ most_read }
     ensures { HandshakeOutcomeAfter auth held.items
         (record {
           input = input_of I.left I.faults I.is_steady input.old;
@@ -119,7 +119,7 @@ pub fn handshake<R: AllocGlobal + Wait, I: Source, O: Sink>(
         }) result }
 {
     let alloc = rt.alloc();
-    let Ok(mut piece) = vec![in alloc; 0; PIECE] else {
+    let Ok(mut piece) = vec![in alloc; 0; MOST_READ] else {
         return Err(End::Memory);
     };
     let mut held = Vec::new(alloc);

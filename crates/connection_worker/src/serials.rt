@@ -1,9 +1,10 @@
 ghost use Rattle.std.specs.Prelude.{◌≡◌, ◌≢◌, ◌+◌, ◌%◌};
+ghost use Rattle.secret_calls.specs.Serials.{last_serial};
 
 use std::marker::Model;
 
-// The last serial is 2^32 - 1, and after it comes 1 again.
-const COUNT: u32 = 4_294_967_295;
+/// The last serial. After it comes 1 again.
+const LAST_SERIAL: u32 = 4_294_967_295;
 
 /// The serials of a connection's outputs. A contract sees how many outputs there were, modulo the
 /// number of serials.
@@ -14,12 +15,13 @@ pub struct Serials {
 
 impl Model for Serials {
     ghost use Rattle.std.specs.Prelude.{ℕ, ◌<◌};
+    ghost use Rattle.secret_calls.specs.Serials.{last_serial};
 
     ghost Value = { ℕ };
 
     ghost view = { λ s. s.taken };
 
-    ghost invariant = { λ s. s.taken < 4294967295 };
+    ghost invariant = { λ s. s.taken < last_serial };
 }
 
 impl Serials {
@@ -33,11 +35,11 @@ impl Serials {
     /// The next serial.
     pub fn next(&mut self) -> u32
         ensures serial { result ≡ self.old + 1 }
-        ensures taken { self.new ≡ (self.old + 1) % 4294967295 }
+        ensures taken { self.new ≡ (self.old + 1) % last_serial }
         ensures some { result ≢ 0 }
     {
         let serial = self.taken + 1;
-        self.taken = if serial == COUNT { 0 } else { serial };
+        self.taken = if serial == LAST_SERIAL { 0 } else { serial };
         serial
     }
 }

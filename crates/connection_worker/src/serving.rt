@@ -1,14 +1,15 @@
 // Serving requests on one thread.
-ghost use Rattle.std.specs.Prelude.{◌≡◌, ◌<◌, IsTrue, [], length};
+ghost use Rattle.std.specs.Prelude.{◌≡◌, IsTrue, [], length};
 ghost use Rattle.service_desk.specs.Places.{place};
 ghost use Rattle.connection_worker.specs.Serving.{world, owed, IsOwed, Asks, Gives};
 ghost use Rattle.connection_worker.specs.Answering.{AnswersCall, AnswersMessage, AnswersAll};
 ghost use Rattle.connection_worker.specs.Handshakes.{most_bytes};
-ghost use Rattle.connection_worker.specs.Streams.{input_of, output_of};
+ghost use Rattle.connection_worker.specs.Streams.{input_of, most_read, output_of};
 ghost use Rattle.connection_worker.specs.ServingOn.{FeedsMore, ServesOn};
 ghost use Rattle.dbus_framing.specs.Messages.{parts_of};
 
 use crate::ending::End;
+use crate::opening::MOST_READ;
 use crate::outs::send;
 use crate::salts::Salts;
 use crate::serials::Serials;
@@ -20,9 +21,6 @@ use secret_calls::{Refused, Request, Taken};
 use service_desk::{ReadDesk, WriteDesk};
 use std::alloc::{AllocGlobal, Global};
 use std::sync::Wait;
-
-/// The most bytes that are read at a time.
-const PIECE: usize = 65_536;
 
 // Asks the clock, draws a salt, and has the request recorded.
 fn ask<D: ReadDesk, C: Clock>(
@@ -157,7 +155,7 @@ fn answer_messages<R: AllocGlobal + Wait, O: Sink, D: ReadDesk + WriteDesk, C: C
 
 // Reads a piece and feeds it.
 fn feed_more<I: Source>(input: &mut I, piece: &mut [u8], framer: &mut Framer) -> Result<(), End>
-    requires { 0 < length piece.old }
+    requires { length piece.old ≡ most_read }
     ensures { FeedsMore framer.old framer.new
         (input_of I.left I.faults I.is_steady input.old)
         (input_of I.left I.faults I.is_steady input.new) result }
@@ -192,7 +190,7 @@ fn serve_by<R: AllocGlobal + Wait, I: Source, O: Sink, D: ReadDesk + WriteDesk, 
     requires alone { IsTrue (D.told desk.old).is_alone }
     requires idle { IsOwed (D.told desk.old) [] }
     requires most { framer.most ≡ most_bytes }
-    requires room { 0 < length piece.old }
+    requires room { length piece.old ≡ most_read }
     ensures { ServesOn framer
         (input_of I.left I.faults I.is_steady input.old)
         (input_of I.left I.faults I.is_steady input.new)
@@ -241,7 +239,7 @@ pub fn serve<R: AllocGlobal + Wait, I: Source, O: Sink, D: ReadDesk + WriteDesk,
         (output_of O.written O.faults O.is_steady output.old)
         (output_of O.written O.faults O.is_steady output.new) result }
 {
-    let Ok(mut piece) = vec![in rt.alloc(); 0; PIECE] else {
+    let Ok(mut piece) = vec![in rt.alloc(); 0; MOST_READ] else {
         return End::Memory;
     };
     serve_by(rt, framer, input, output, desk, clock, salts, &mut piece)
