@@ -15,7 +15,7 @@ use Rattle.service_machine.specs.declared.event.Event.TheVariants as event
 use Rattle.service_machine.specs.Replay.{replay}
 use Rattle.service_desk.specs.Places.{Told, Place}
 use Rattle.service_desk.proofs.RecordLemmas.{own-state}
-use Rattle.service_machine.specs.Single.{TimedRequest, arrival, taking}
+use Rattle.service_machine.specs.Single.{TimedRequest, recorded_of, arrival, taking}
 use Rattle.connection_worker.specs.Serving.{IsOwed, owed, HasGiven}
 use Rattle.connection_worker.proofs.ServingLemmas.{same}
 
@@ -46,19 +46,20 @@ owed-all told outs is = rw (owed-is told outs is) is
 
 -- what waits after a request is its reply
 pub arrived-rows : (conn : ConnId) (state : State) (a : TimedRequest) (taken : ℕ) → state.connections.rows ≡ row_with conn [] taken ∷ []
-    → (step state (arrival conn a)).connections.rows ≡ row_with conn (waiting_behind a.request.wants_reply (message_of a.request.serial (served conn a.request state).answer)) taken ∷ []
+    → (step state (arrival conn a)).connections.rows ≡ row_with conn (waiting_behind a.request.wants_reply (message_of a.request.serial (served (recorded_of conn a) state).answer)) taken ∷ []
 arrived-rows conn state a taken only =
     let request = a.request in
-    let ran = served conn request state in
-    ap (λ sent. delivered sent ran.state.connections.rows) (put_out-served conn request state)
-    ∙ ap (λ (r : List ConnRow). delivered (replies conn request ran.answer) r) (ap (λ (c : ConnRows). c.rows) (connections-served conn request state) ∙ only)
-    ∙ delivered-reply request.wants_reply conn (message_of request.serial ran.answer) taken (reply-small conn request state)
+    let came = recorded_of conn a in
+    let ran = served came state in
+    ap (λ sent. delivered sent ran.state.connections.rows) (put_out-served came state)
+    ∙ ap (λ (r : List ConnRow). delivered (replies conn request ran.answer) r) (ap (λ (c : ConnRows). c.rows) (connections-served came state) ∙ only)
+    ∙ delivered-reply request.wants_reply conn (message_of request.serial ran.answer) taken (reply-small came state)
 
 -- after a request no output is lost
 pub arrived-owed : (told new : Told) (a : TimedRequest) → IsOwed told [] → new.conn ≡ told.conn → new.state ≡ step told.state (arrival told.conn a) → IsOwed new (owed new)
 arrived-owed told new a is conn state =
     let request = a.request in
-    let out = message_of request.serial (served told.conn request told.state).answer in
+    let out = message_of request.serial (served (recorded_of told.conn a) told.state).answer in
     let behind : new.state.connections.rows ≡ row_with told.conn (waiting_behind request.wants_reply out) is.taken ∷ [] =
     ap (λ (s : State). s.connections.rows) state ∙ arrived-rows told.conn told.state a is.taken is.only in
     owed-all new (waiting_behind request.wants_reply out) (record {

@@ -1,11 +1,14 @@
 -- Requests that were recorded one after the other.
-use Rattle.std.proofs.Common.{◌≡◌, ℕ, true, false, nat_lt, List, [], ◌∷◌, ◌++◌, length, map, Option, refl, sym, ◌∙◌, ap, arith, subst, append_assoc, append-nil}
+use Rattle.std.proofs.Common.{◌≡◌, ℕ, Bool, true, false, cond, nat_lt, List, [], ◌∷◌, ◌++◌, length, map, Option, refl, sym, ◌∙◌, ap, arith, subst, append_assoc, append-nil}
+use Rattle.std.specs.List.{AllByRecursion}
 use Rattle.std.proofs.lemmas.Bool.{lt-ltb}
 use Rattle.std.proofs.lemmas.List.{map-append}
 use Rattle.kr_base.specs.declared.ids.ConnId.{ConnId}
 use Rattle.secret_calls.specs.declared.out.Out.{Out}
 use Rattle.service_tables.specs.State.{State}
 use Rattle.service_machine.specs.declared.event.Event.{Event}
+use Rattle.service_machine.specs.declared.event.Event.TheVariants as event
+use Rattle.service_machine.specs.Fates.{IsFaultless}
 use Rattle.service_tables.specs.Connections.{waiting_for}
 use Rattle.service_machine.specs.Step.{step}
 use Rattle.service_machine.specs.Replay.{replay}
@@ -14,7 +17,7 @@ use Rattle.service_desk.specs.Places.{Place}
 use Rattle.service_desk.specs.Records.{Records, of_own}
 use Rattle.service_desk.proofs.RecordLemmas.{own-append, own-state, records-none, records-more}
 use Rattle.connection_worker.specs.Salts.{Salting}
-use Rattle.service_machine.specs.Single.{TimedRequest, arrival, is_owed, taking, turn, turns}
+use Rattle.service_machine.specs.Single.{TimedRequest, arrival, AllFaultless, is_owed, taking, turn, turns}
 use Rattle.connection_worker.specs.Serving.{World, place_of, GivesMoments, GivesSalts, behind_salt, Recorded, HasArrived, HasAsked, HasGiven}
 use Rattle.connection_worker.specs.Written.{given, given_by}
 use Rattle.connection_worker.proofs.ServingLemmas.{same}
@@ -91,6 +94,24 @@ recorded-one old mid new a p q =
 -- one that was refused
 pub recorded-refused : (old new : World) (a : TimedRequest) → HasAsked old new a → Recorded old new [] (a ∷ [])
 recorded-refused old new a p = record { calls = p.calls; moments = (new.coming, p.moment, refl); salts = (p.salt, p.salting) }
+
+-- to take what waits is no call of a device
+pub taking-faultless : (conn : ConnId) (state : State) → AllByRecursion IsFaultless (taking conn state)
+taking-faultless conn state =
+    let pass : (b : Bool) → AllByRecursion IsFaultless (cond b (event.Take conn ∷ []) []) = elim [ true ↦ (tt, tt) | false ↦ tt ] in
+    pass (is_owed conn state)
+
+each-behind : (P : Event → Type 0) (events more : List Event) → AllByRecursion P (events ++ more) → AllByRecursion P more
+each-behind P [] more all = all
+each-behind P (event ∷ events) more all = each-behind P events more all.1
+
+-- requests whose events have no fault have none
+pub turns-faultless : (conn : ConnId) (state : State) (asked : List TimedRequest) → AllByRecursion IsFaultless (turns conn state asked) → AllFaultless asked
+turns-faultless conn state [] all = tt
+turns-faultless conn state (a ∷ more) all =
+    let behind = step state (arrival conn a) in
+    let next = replay behind (taking conn behind) in
+    (all.0, turns-faultless conn next more (each-behind IsFaultless (taking conn behind) (turns conn next more) all.1))
 
 -- what one request gives is what waits after it
 pub given-turn : (conn : ConnId) (state : State) (a : TimedRequest) → given_by conn state (turns conn state (a ∷ [])) ≡ waiting_for conn (step state (arrival conn a)).connections.rows

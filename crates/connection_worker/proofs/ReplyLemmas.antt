@@ -9,13 +9,13 @@ use Rattle.service_machine.specs.Step.{served, message_of, step}
 use Rattle.service_machine.proofs.RunLemmas.{put_out-served}
 use Rattle.service_machine.specs.Replay.{replay, Legal}
 use Rattle.service_desk.specs.Places.{Told, Place}
-use Rattle.service_desk.proofs.RecordLemmas.{own-own, own-answered, own-events, own-length}
+use Rattle.service_desk.proofs.RecordLemmas.{own-own, own-answered, own-events, own-length, faultless-own}
 use Rattle.connection_worker.specs.Replies.{reply_to, replies_to}
 use Rattle.connection_worker.specs.Serving.{IsOwed, HasGiven}
-use Rattle.service_machine.specs.Single.{TimedRequest, arrival, taking, turn, turns, single}
+use Rattle.service_machine.specs.Single.{TimedRequest, recorded_of, arrival, taking, turn, turns, single}
 use Rattle.connection_worker.specs.Written.{given_by}
 use Rattle.connection_worker.proofs.AnswerLemmas.{waiting_behind, arrived-rows, arrived-owed, given-idle}
-use Rattle.connection_worker.proofs.RecordLemmas.{given_by-append, given-turn}
+use Rattle.connection_worker.proofs.RecordLemmas.{given_by-append, given-turn, taking-faultless}
 use Rattle.connection_worker.proofs.ServingLemmas.{same, only-desk}
 
 -- what waits may be taken
@@ -39,6 +39,7 @@ idle-turn told a idle =
     let after : Place = record { told = new; has_seen = λ view. Unit {0} } in
     let gives : HasGiven before after = record {
       alone = λ alone. own-own mid.state takes;
+      faultless = λ steady. faultless-own mid.state takes (taking-faultless mid.conn mid.state);
       answered = own-answered mid.state takes (taking-legal mid (waiting_for mid.conn mid.state.connections.rows) owes);
       state = ap (replay mid.state) (sym (own-events mid.state takes));
       count = omega (arith, own-length mid.state takes);
@@ -56,12 +57,12 @@ outs-of false conn out = refl
 -- one request
 reply-one : (told : Told) (a : TimedRequest) → IsOwed told [] → given_by told.conn told.state (turn told.conn told.state a) ≡ reply_to told.conn told.state a
 reply-one told a idle =
-    let out = message_of a.request.serial (served told.conn a.request told.state).answer in
+    let out = message_of a.request.serial (served (recorded_of told.conn a) told.state).answer in
     let rows = arrived-rows told.conn told.state a idle.taken idle.only in
     let waits : waiting_for told.conn (step told.state (arrival told.conn a)).connections.rows ≡ waiting_behind a.request.wants_reply out =
     ap (waiting_for told.conn) rows ∙ rw (same told.conn.0) refl in
     ap (given_by told.conn told.state) (sym (append-nil (turn told.conn told.state a))) ∙ given-turn told.conn told.state a ∙ waits
-    ∙ sym (ap (sent_to told.conn) (put_out-served told.conn a.request told.state) ∙ outs-of a.request.wants_reply told.conn out)
+    ∙ sym (ap (sent_to told.conn) (put_out-served (recorded_of told.conn a) told.state) ∙ outs-of a.request.wants_reply told.conn out)
 
 replies : (asked : List TimedRequest) (told : Told) → IsOwed told [] → given_by told.conn told.state (turns told.conn told.state asked) ≡ replies_to told.conn told.state asked
 replies [] told idle = refl

@@ -13,7 +13,7 @@ use Rattle.service_machine.specs.Replay.{replay}
 use Rattle.service_desk.specs.Places.{Told, Place}
 use Rattle.service_desk.specs.Records.{Records, of_own}
 use Rattle.service_desk.specs.Calls.{Goes}
-use Rattle.service_desk.proofs.RecordLemmas.{own-append, own-state, own-count, records-more, alone-looks, alone-extends}
+use Rattle.service_desk.proofs.RecordLemmas.{own-append, own-state, own-count, own-faultless, records-more, alone-looks, alone-extends}
 use Rattle.connection_worker.specs.declared.ending.End.{End}
 use Rattle.connection_worker.specs.declared.ending.End.TheVariants as end
 use Rattle.connection_worker.specs.Causes.{AllServed, FirstServed, HasCause, HasWritten, HasRefused}
@@ -25,7 +25,7 @@ use Rattle.connection_worker.specs.Serving.{World, place_of, HasJoined, IsOwed, 
 use Rattle.connection_worker.specs.ServingOn.{ServesOn}
 use Rattle.connection_worker.specs.OneThread.{IsServed}
 use Rattle.connection_worker.proofs.HandshakeLemmas.{rose-later}
-use Rattle.connection_worker.proofs.RecordLemmas.{recorded-none, given_by-append}
+use Rattle.connection_worker.proofs.RecordLemmas.{recorded-none, given_by-append, turns-faultless}
 use Rattle.connection_worker.proofs.ServingLemmas.{same, only-there}
 use Rattle.connection_worker.proofs.StreamLemmas.{Took-trans, Gave-trans, GaveFront-behind}
 
@@ -149,6 +149,9 @@ served-behind uid guid from mid to sink o out old served new framing how shakes 
       took = Took-trans from mid to shakes.read serves.read shakes.took serves.took;
       asked = serves.asked;
       recorded = single-records old served serves.asked serves.refused new serves.recorded gone;
+      faultless = λ steady.
+          let events = turns old.told.conn old.told.state serves.asked in
+          turns-faultless old.told.conn old.told.state serves.asked (own-faultless old.told.state events (serves.recorded.calls.faultless steady));
       refused = serves.refused;
       few = rw whole (refused-after how all bytes serves.asked serves.refused refl serves.few);
       moments = serves.recorded.moments;
@@ -170,6 +173,7 @@ served-not uid guid from to sink out old new how shakes gone =
       took = shakes.took;
       asked = [];
       recorded = single-records old old [] [] new (recorded-none old) gone;
+      faultless = λ steady. tt;
       refused = [];
       few = ends.2;
       moments = refl;

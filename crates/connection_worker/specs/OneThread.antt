@@ -1,12 +1,12 @@
 -- One connection on one thread: all that was read, recorded and written, and why it ended.
-use Rattle.std.specs.Prelude.{ℕ, ◌+◌, List, ◌++◌, length, map}
+use Rattle.std.specs.Prelude.{ℕ, ◌+◌, IsTrue, List, ◌++◌, length, map}
 use Rattle.std.specs.List.{concat}
 use Rattle.dbus_auth.specs.Handshake.{handshake}
 use Rattle.service_desk.specs.Records.{Records, of_own}
 use Rattle.connection_worker.specs.declared.ending.End.{End}
 use Rattle.connection_worker.specs.Causes.{HasCause, HasWritten, HasRefused}
 use Rattle.connection_worker.specs.Serving.{World, place_of, GivesMoments, GivesSalts}
-use Rattle.service_machine.specs.Single.{TimedRequest, turns, single}
+use Rattle.service_machine.specs.Single.{TimedRequest, AllFaultless, turns, single}
 use Rattle.connection_worker.specs.Streams.{Input, Output, Took}
 use Rattle.connection_worker.specs.Written.{written}
 
@@ -17,6 +17,8 @@ pub record IsServed (uid : ℕ) (guid : List ℕ) (from to : Input) (sink after 
   pub asked : List TimedRequest
   -- the desk recorded the events of these requests and that the connection is gone, and no others
   pub recorded : Records (place_of old) (place_of new) (of_own old.told.state (single old.told.conn old.told.state asked))
+  -- no device failed in them if the desk is steady
+  pub faultless : IsTrue old.told.is_steady → AllFaultless asked
   -- a moment and a salt were taken for these too
   pub refused : List TimedRequest
   pub few : HasRefused how (handshake uid guid read) asked refused

@@ -15,7 +15,7 @@ use Rattle.service_machine.specs.Step.{step}
 abbrev pub given : ConnId → State → Event → List Out
 given conn state (event.Take other) = if other.0 == conn.0 then waiting_for conn state.connections.rows else []
 given conn state (event.Connect other) = []
-given conn state (event.Arrive arrival) = []
+given conn state (event.Arrive came) = []
 given conn state (event.Leave other) = []
 given conn state (event.Gone other) = []
 

@@ -1,5 +1,5 @@
 -- Over streams that didn't fail, a whole input is answered to its end.
-use Rattle.std.proofs.Common.{◌≡◌, ◌≢◌, ℕ, ◌+◌, ◌≤◌, ◌⊎◌, inl, inr, List, [], ◌∷◌, ◌++◌, length, Option, Some, None, refl, sym, ◌∙◌, ap, arith, subst, append-nil, length-append}
+use Rattle.std.proofs.Common.{◌≡◌, ◌≢◌, ℕ, ◌+◌, ◌≤◌, ◌⊎◌, inl, inr, Bool, List, [], ◌∷◌, ◌++◌, length, Option, Some, None, refl, sym, ◌∙◌, ap, arith, subst, append-nil, length-append}
 use Rattle.std.specs.Io.KnownBytes.{Consumes, IsAtEnd}
 use Rattle.kr_outside.specs.Faults.{Rose, StandsStill}
 use Rattle.dbus_auth.specs.declared.auth.AuthFault.{AuthFault}
@@ -135,9 +135,9 @@ until-of contents asked = length-append (events_until contents asked) (event.Gon
 
 -- ---- the whole
 
-pub complete : (uid : ℕ) (seed bytes : List ℕ) (coming : Option (ℕ → ℕ)) (from to : Input) (sink behind : Output) (contents : Contents) (how : Status) → Serves uid seed coming from to sink behind contents how
-    → IsWholeInput uid seed bytes → from.left ≡ Some bytes → StandsStill from.faults to.faults → StandsStill sink.faults behind.faults → (how ≡ status.Done) ⊎ (how ≡ status.Memory)
-complete uid seed bytes coming from to sink behind contents how so whole told input output = subst (λ s. (s ≡ status.Done) ⊎ (s ≡ status.Memory)) (sym so.status_is) (by_cause so.how so.cause)
+pub complete : (uid : ℕ) (seed bytes : List ℕ) (coming : Option (ℕ → ℕ)) (from to : Input) (sink behind : Output) (steady : Bool) (contents : Contents) (how : Status)
+    → Serves uid seed coming from to sink behind steady contents how → IsWholeInput uid seed bytes → from.left ≡ Some bytes → StandsStill from.faults to.faults → StandsStill sink.faults behind.faults → (how ≡ status.Done) ⊎ (how ≡ status.Memory)
+complete uid seed bytes coming from to sink behind steady contents how so whole told input output = subst (λ s. (s ≡ status.Done) ⊎ (s ≡ status.Memory)) (sym so.status_is) (by_cause so.how so.cause)
   where
     front : (left : List ℕ) × (bytes ≡ so.read ++ left) × (to.left ≡ Some left)
     front = front-of from.left to.left so.read bytes told so.took.consumed
@@ -186,5 +186,6 @@ no-usage end.OtherEnded is = cc
 no-usage end.Overrun is = cc
 
 -- so no run with valid arguments ends with Usage
-pub never-usage : (uid : ℕ) (seed : List ℕ) (coming : Option (ℕ → ℕ)) (from to : Input) (sink behind : Output) (contents : Contents) (how : Status) → Serves uid seed coming from to sink behind contents how → how ≡ status.Usage → ⊥
-never-usage uid seed coming from to sink behind contents how so is = no-usage so.how (sym so.status_is ∙ is)
+pub never-usage : (uid : ℕ) (seed : List ℕ) (coming : Option (ℕ → ℕ)) (from to : Input) (sink behind : Output) (steady : Bool) (contents : Contents) (how : Status)
+    → Serves uid seed coming from to sink behind steady contents how → how ≡ status.Usage → ⊥
+never-usage uid seed coming from to sink behind steady contents how so is = no-usage so.how (sym so.status_is ∙ is)

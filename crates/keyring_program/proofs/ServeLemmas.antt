@@ -1,5 +1,5 @@
 -- From what one thread served to a run over the standard streams.
-use Rattle.std.proofs.Common.{◌≡◌, ℕ, ◌+◌, inl, true, List, [], ◌∷◌, ◌++◌, length, map, Option, Some, None, refl, sym, ◌∙◌, ap, arith, subst}
+use Rattle.std.proofs.Common.{◌≡◌, ℕ, ◌+◌, inl, Bool, true, List, [], ◌∷◌, ◌++◌, length, map, Option, Some, None, refl, sym, ◌∙◌, ap, arith, subst}
 use Rattle.std.specs.List.{concat}
 use Rattle.std.proofs.KnownBytes.{Appends-nil, Consumes-nil}
 use Rattle.rand_chacha.specs.ChaCha.{key_of}
@@ -70,7 +70,7 @@ at-start contents conn state c s P p = subst (λ r. P the_connection r) s (subst
 
 pub serves : (contents : Contents) (uid : ℕ) (seed : List ℕ) (from to : Input) (sink behind : Output) (old new : World) (how : End)
     → old.told.conn ≡ the_connection → old.told.state ≡ joined contents → old.told.count ≡ 1 → old.salting ≡ record { key = key_of seed; stream = the_connection.0; place = 0 }
-    → IsServed uid (guid seed) from to sink behind old new how → Serves uid seed old.coming from to sink behind contents (status_of how)
+    → IsServed uid (guid seed) from to sink behind old new how → Serves uid seed old.coming from to sink behind old.told.is_steady contents (status_of how)
 serves contents uid seed from to sink behind old new how conn state count salting so =
     let run = handshake_run uid seed so.read in
     let text : concat run.answers ++ written old.told.conn old.told.state (single old.told.conn old.told.state so.asked) ≡ text_of contents run so.asked =
@@ -83,6 +83,7 @@ serves contents uid seed from to sink behind old new how conn state count saltin
       took = so.took;
       asked = so.asked;
       legal = (joins contents, at-start contents old.told.conn old.told.state conn state (λ c s. Legal s (single c s so.asked)) (own-legal old.told.state (single old.told.conn old.told.state so.asked) so.recorded.answered));
+      faultless = so.faultless;
       moments = have-moments old.coming new.coming so.asked so.refused so.moments;
       salts = have-salts seed new.salting so.asked so.refused (subst (λ s. GivesSalts s (map (λ (a : TimedRequest). a.salt) (so.asked ++ so.refused)) new.salting) salting so.salts);
       how = how;
@@ -92,14 +93,16 @@ serves contents uid seed from to sink behind old new how conn state count saltin
     }
 
 -- there was no memory before the first byte
-pub serves-none : (contents : Contents) (uid : ℕ) (seed : List ℕ) (coming : Option (ℕ → ℕ)) (from : Input) (sink : Output) → Serves uid seed coming from from sink sink contents status.Memory
-serves-none contents uid seed coming from sink =
+pub serves-none : (contents : Contents) (uid : ℕ) (seed : List ℕ) (coming : Option (ℕ → ℕ)) (from : Input) (sink : Output) (steady : Bool)
+    → Serves uid seed coming from from sink sink steady contents status.Memory
+serves-none contents uid seed coming from sink steady =
     let text = text_of contents (handshake_run uid seed []) [] in
     record {
       read = [];
       took = record { consumed = Consumes-nil from.left; later = omega arith; steady = KeepsSteady-none from.is_steady from.faults };
       asked = [];
       legal = (joins contents, (there contents, tt));
+      faultless = λ _. tt;
       moments = none-given coming;
       salts = tt;
       how = end.Memory;

@@ -1,5 +1,5 @@
 -- What is written is determined by what was read.
-use Rattle.std.proofs.Common.{◌≡◌, ℕ, List, [], ◌∷◌, ◌++◌, if◌then◌else◌, refl, sym, ◌∙◌, ap, subst, append_assoc, append-nil}
+use Rattle.std.proofs.Common.{◌≡◌, ℕ, List, [], ◌∷◌, ◌++◌, refl, sym, ◌∙◌, ap, subst, append_assoc, append-nil}
 use Rattle.std.specs.List.{concat}
 use Rattle.secret_calls.specs.declared.call.Request.{Request}
 use Rattle.secret_calls.proofs.SerialLemmas.{one_serial}
@@ -12,52 +12,42 @@ use Rattle.service_tables.specs.State.{State}
 use Rattle.service_machine.specs.declared.event.Event.{Event}
 use Rattle.service_machine.specs.declared.event.Event.TheVariants as event
 use Rattle.service_tables.specs.Opened.{Contents, opened_state}
-use Rattle.service_machine.specs.Run.{ran}
-use Rattle.service_machine.specs.Step.{plan_of, message_of, with_delivered, step}
-use Rattle.service_machine.specs.Replay.{replay}
+use Rattle.service_machine.specs.Step.{step, AreAlike}
+use Rattle.service_machine.specs.Replay.{replay, Legal}
+use Rattle.service_machine.proofs.EventLemmas.{step_alike, fates_alike}
 use Rattle.connection_worker.specs.Arrivals.{calls_in, AreRequests}
 use Rattle.connection_worker.specs.Handshakes.{most_bytes}
 use Rattle.connection_worker.specs.Causes.{AllServed}
-use Rattle.service_machine.specs.Single.{TimedRequest, requests_of, arrival, taking, turns}
+use Rattle.service_machine.specs.Single.{TimedRequest, requests_of, recorded_of, arrival, AllFaultless, taking, turns}
 use Rattle.connection_worker.specs.Written.{given, given_by, spelled_behind}
-use Rattle.keyring_program.specs.Events.{the_connection, joined, events_of, text_of}
+use Rattle.keyring_program.specs.Events.{the_connection, joined, events_of, text_of, HaveSameMoments, HaveSameFates}
 
 -- each message is one request
 abbrev pub OneCall : Type 0
 OneCall = (parts : Parts) (one other : Request) → CallOf parts one → CallOf parts other → one.call ≡ other.call
 
--- two requests that get the same answer
-record Alike (one other : TimedRequest) : Type 0 where
-  call : one.request.call ≡ other.request.call
-  serial : one.request.serial ≡ other.request.serial
-  wants_reply : one.request.wants_reply ≡ other.request.wants_reply
+-- the requests of two lists are alike, each with the one at its place
+abbrev AreAllAlike : List TimedRequest → List TimedRequest → Type 0
+AreAllAlike [] [] = Unit {0}
+AreAllAlike (one ∷ ones) (other ∷ others) = AreAlike (recorded_of the_connection one).arrival (recorded_of the_connection other).arrival × AreAllAlike ones others
+AreAllAlike _ _ = ⊥
 
--- so are all of two lists
-abbrev AreAlike : List TimedRequest → List TimedRequest → Type 0
-AreAlike [] [] = Unit {0}
-AreAlike (one ∷ ones) (other ∷ others) = Alike one other × AreAlike ones others
-AreAlike _ _ = ⊥
-
-alike-of : OneCall → (calls : List Parts) (one other : List TimedRequest) → AreRequests calls (requests_of one) → AreRequests calls (requests_of other) → AreAlike one other
-alike-of same [] [] [] p q = tt
-alike-of same [] [] (b ∷ other) p q = absurd q
-alike-of same [] (a ∷ one) other p q = absurd p
-alike-of same (parts ∷ calls) [] other p q = absurd p
-alike-of same (parts ∷ calls) (a ∷ one) [] p q = absurd q
-alike-of same (parts ∷ calls) (a ∷ one) (b ∷ other) p q = (
+alike-of : OneCall → (calls : List Parts) (one other : List TimedRequest) → AreRequests calls (requests_of one) → AreRequests calls (requests_of other) → HaveSameMoments one other → AreAllAlike one other
+alike-of same [] [] [] p q moments = tt
+alike-of same [] [] (b ∷ other) p q moments = absurd q
+alike-of same [] (a ∷ one) other p q moments = absurd p
+alike-of same (parts ∷ calls) [] other p q moments = absurd p
+alike-of same (parts ∷ calls) (a ∷ one) [] p q moments = absurd q
+alike-of same (parts ∷ calls) (a ∷ one) (b ∷ other) p q moments = (
   record {
+    conn = refl;
     call = same parts a.request b.request p.0 q.0;
     serial = one_serial a.request.serial b.request.serial (p.0.serial ∙ sym q.0.serial);
     wants_reply = p.0.wants_reply ∙ sym q.0.wants_reply;
+    moment = moments.0;
   },
-  alike-of same calls one other p.1 q.1,
+  alike-of same calls one other p.1 q.1 moments.1,
 )
-
--- they lead to one state
-step-alike : (state : State) (a b : TimedRequest) → Alike a b → step state (arrival the_connection a) ≡ step state (arrival the_connection b)
-step-alike state a b p = λ i.
-    let after = ran the_connection (plan_of (p.call i)) state in
-    with_delivered ((if p.wants_reply i then record { to = the_connection; out = message_of (p.serial i) after.answer } ∷ [] else []) ++ after.sends) after.state
 
 given_by-append : (state : State) (events more : List Event) → given_by the_connection state (events ++ more) ≡ given_by the_connection state events ++ given_by the_connection (replay state events) more
 given_by-append state [] more = refl
@@ -69,18 +59,43 @@ given_by-append state (event ∷ events) more =
 abbrev behind : State → List TimedRequest → List Event
 behind state more = taking the_connection state ++ turns the_connection (replay state (taking the_connection state)) more
 
-given-alike : (one other : List TimedRequest) (state : State) → AreAlike one other → given_by the_connection state (turns the_connection state one) ≡ given_by the_connection state (turns the_connection state other)
-given-alike [] [] state p = refl
-given-alike [] (b ∷ other) state p = absurd p
-given-alike (a ∷ one) [] state p = absurd p
-given-alike (a ∷ one) (b ∷ other) state p =
+given-alike : (one other : List TimedRequest) (state : State) → AreAllAlike one other → HaveSameFates one other
+    → given_by the_connection state (turns the_connection state one) ≡ given_by the_connection state (turns the_connection state other)
+given-alike [] [] state p fates = refl
+given-alike [] (b ∷ other) state p fates = absurd p
+given-alike (a ∷ one) [] state p fates = absurd p
+given-alike (a ∷ one) (b ∷ other) state p fates =
     let here = step state (arrival the_connection a) in
     let take = taking the_connection here in
     let next = replay here take in
     given_by-append here take (turns the_connection next one)
-    ∙ ap (λ l. given_by the_connection here take ++ l) (given-alike one other next p.1)
+    ∙ ap (λ l. given_by the_connection here take ++ l) (given-alike one other next p.1 fates.1)
     ∙ sym (given_by-append here take (turns the_connection next other))
-    ∙ ap (λ s. given_by the_connection s (behind s other)) (step-alike state a b p.0)
+    ∙ ap (λ s. given_by the_connection s (behind s other)) (step_alike state (recorded_of the_connection a) (recorded_of the_connection b) p.0 fates.0)
+
+-- ---- storings that end alike, since no device failed
+
+legal-front : (state : State) (events more : List Event) → Legal state (events ++ more) → Legal state events
+legal-front state [] more legal = tt
+legal-front state (event ∷ events) more legal = (legal.0, legal-front (step state event) events more legal.1)
+
+legal-behind : (state : State) (events more : List Event) → Legal state (events ++ more) → Legal (replay state events) more
+legal-behind state [] more legal = legal
+legal-behind state (event ∷ events) more legal = legal-behind (step state event) events more legal.1
+
+fates-agree : (one other : List TimedRequest) (state : State) → AreAllAlike one other → Legal state (turns the_connection state one) → Legal state (turns the_connection state other)
+    → AllFaultless one → AllFaultless other → HaveSameFates one other
+fates-agree [] other state p legal legal' faultless faultless' = tt
+fates-agree (a ∷ one) [] state p legal legal' faultless faultless' = tt
+fates-agree (a ∷ one) (b ∷ other) state p legal legal' faultless faultless' =
+    let first = recorded_of the_connection a in
+    let second = recorded_of the_connection b in
+    let same = fates_alike state first second p.0 legal.0 legal'.0 faultless.0 faultless'.0 in
+    let here = step state (arrival the_connection a) in
+    let take = taking the_connection here in
+    let next = replay here take in
+    let rest : Legal here (behind here other) = subst (λ s. Legal s (behind s other)) (sym (step_alike state first second p.0 same)) legal'.1 in
+    (same, fates-agree one other next p.1 (legal-behind here take (turns the_connection next one) legal.1) (legal-behind here take (turns the_connection next other) rest) faultless.1 faultless'.1)
 
 -- that the connection is gone gives nothing
 given-all : (contents : Contents) (asked : List TimedRequest) → given_by the_connection (opened_state contents) (events_of contents asked) ≡ given_by the_connection (joined contents) (turns the_connection (joined contents) asked)
@@ -88,11 +103,29 @@ given-all contents asked =
     let state = joined contents in
     given_by-append state (turns the_connection state asked) (event.Gone the_connection ∷ []) ∙ append-nil (given_by the_connection state (turns the_connection state asked))
 
-pub one-text : OneCall → (contents : Contents) (run : Run) (one other : List TimedRequest) (rest left : List ℕ) → AllServed run one rest → AllServed run other left → text_of contents run one ≡ text_of contents run other
-one-text same contents run one other rest left p q =
+-- the requests that were read from the same bytes are alike
+all-alike : OneCall → (run : Run) (one other : List TimedRequest) (rest left : List ℕ) → AllServed run one rest → AllServed run other left → HaveSameMoments one other → AreAllAlike one other
+all-alike same run one other rest left p q moments =
     let bytes : p.behind ≡ q.behind = let e = sym p.opened ∙ q.opened in cc in
     let stream = subst (λ l. Stream most_bytes l p.all.messages rest) bytes p.all.stream in
     let messages = (one_stream most_bytes q.behind rest left p.all.messages q.all.messages stream q.all.stream).0 in
     let are = subst (λ l. AreRequests (calls_in l) (requests_of one)) messages p.all.are in
-    let alike = alike-of same (calls_in q.all.messages) one other are q.all.are in
-    ap (λ outs. concat run.answers ++ spelled_behind 0 outs) (given-all contents one ∙ given-alike one other (joined contents) alike ∙ sym (given-all contents other))
+    alike-of same (calls_in q.all.messages) one other are q.all.are moments
+
+text-alike : (contents : Contents) (run : Run) (one other : List TimedRequest) → AreAllAlike one other → HaveSameFates one other → text_of contents run one ≡ text_of contents run other
+text-alike contents run one other alike fates =
+    ap (λ outs. concat run.answers ++ spelled_behind 0 outs) (given-all contents one ∙ given-alike one other (joined contents) alike fates ∙ sym (given-all contents other))
+
+pub one-text : OneCall → (contents : Contents) (run : Run) (one other : List TimedRequest) (rest left : List ℕ) → AllServed run one rest → AllServed run other left → HaveSameMoments one other
+    → HaveSameFates one other → text_of contents run one ≡ text_of contents run other
+one-text same contents run one other rest left p q moments fates = text-alike contents run one other (all-alike same run one other rest left p q moments) fates
+
+pub steady-text : OneCall → (contents : Contents) (run : Run) (one other : List TimedRequest) (rest left : List ℕ) → AllServed run one rest → AllServed run other left → HaveSameMoments one other
+    → Legal (opened_state contents) (events_of contents one) → Legal (opened_state contents) (events_of contents other) → AllFaultless one → AllFaultless other
+    → text_of contents run one ≡ text_of contents run other
+steady-text same contents run one other rest left p q moments legal legal' faultless faultless' =
+    let alike = all-alike same run one other rest left p q moments in
+    let start = joined contents in
+    let gone = event.Gone the_connection ∷ [] in
+    text-alike contents run one other alike (fates-agree one other start alike (legal-front start (turns the_connection start one) gone legal.1)
+    (legal-front start (turns the_connection start other) gone legal'.1) faultless faultless')

@@ -8,7 +8,7 @@ use Rattle.service_machine.specs.declared.event.Event.{Event}
 use Rattle.service_machine.specs.declared.event.Event.TheVariants as event
 use Rattle.service_tables.specs.Opened.{Contents, opened_state}
 use Rattle.service_tables.specs.State.{State}
-use Rattle.service_machine.specs.Step.{step}
+use Rattle.service_machine.specs.Step.{step, TakesMoment}
 use Rattle.connection_worker.specs.Salts.{salt_of}
 use Rattle.service_machine.specs.Single.{TimedRequest, turns}
 use Rattle.connection_worker.specs.Written.{written}
@@ -42,6 +42,16 @@ AreGivenFrom place give (value ∷ values) = (value ≡ give place) × AreGivenF
 abbrev pub HaveMoments : Option (ℕ → ℕ) → List TimedRequest → Type 0
 HaveMoments None asked = Unit {0}
 HaveMoments (Some coming) asked = AreGivenFrom 0 coming (map (λ (a : TimedRequest). a.now) asked)
+
+-- The requests of two runs came at the same moments, as far as what their calls lead to depends on the moment.
+abbrev pub HaveSameMoments : List TimedRequest → List TimedRequest → Type 0
+HaveSameMoments (one ∷ ones) (other ∷ others) = (TakesMoment one.request.call → one.now ≡ other.now) × HaveSameMoments ones others
+HaveSameMoments _ _ = Unit {0}
+
+-- the storings of two runs ended alike
+abbrev pub HaveSameFates : List TimedRequest → List TimedRequest → Type 0
+HaveSameFates (one ∷ ones) (other ∷ others) = (one.fates ≡ other.fates) × HaveSameFates ones others
+HaveSameFates _ _ = Unit {0}
 
 -- the salts of the requests are the first of the connection under this seed
 abbrev pub HaveSalts : List ℕ → List TimedRequest → Type 0

@@ -1,11 +1,11 @@
 -- One run over the standard streams: what was read, recorded and written, and why it ended.
-use Rattle.std.specs.Prelude.{◌≡◌, ℕ, List, Option, length}
+use Rattle.std.specs.Prelude.{◌≡◌, ℕ, Bool, IsTrue, List, Option, length}
 use Rattle.dbus_auth.specs.Handshake.{Run, handshake}
 use Rattle.service_tables.specs.Opened.{Contents, opened_state}
 use Rattle.service_machine.specs.Replay.{Legal}
 use Rattle.connection_worker.specs.declared.ending.End.{End}
 use Rattle.connection_worker.specs.Causes.{HasCause, HasWritten}
-use Rattle.service_machine.specs.Single.{TimedRequest}
+use Rattle.service_machine.specs.Single.{TimedRequest, AllFaultless}
 use Rattle.connection_worker.specs.Streams.{Input, Output, Took}
 use Rattle.keyring_program.specs.Events.{events_until, events_of, text_of, HaveMoments, HaveSalts}
 use Rattle.keyring_program.specs.ServerNumber.{guid}
@@ -18,14 +18,15 @@ handshake_run uid seed read = handshake uid (guid seed) read
 
 -- The run of the user's client under this seed, with a clock that returns these moments, over a service that starts with these
 -- collections and aliases: these bytes were read, and these requests in them recorded, each with a moment and a salt; their events
--- are legal from the service's start, and
+-- are legal from the service's start, no device failed in them if the service's disk is steady, and
 -- their outputs were written after the handshake's answers. The connection's end has its cause, and the status is that
 -- of the end.
-pub record Serves (uid : ℕ) (seed : List ℕ) (coming : Option (ℕ → ℕ)) (from to : Input) (sink after : Output) (contents : Contents) (status : Status) : Type 0 where
+pub record Serves (uid : ℕ) (seed : List ℕ) (coming : Option (ℕ → ℕ)) (from to : Input) (sink after : Output) (steady : Bool) (contents : Contents) (status : Status) : Type 0 where
   pub read : List ℕ
   pub took : Took from to read
   pub asked : List TimedRequest
   pub legal : Legal (opened_state contents) (events_of contents asked)
+  pub faultless : IsTrue steady → AllFaultless asked
   pub moments : HaveMoments coming asked
   pub salts : HaveSalts seed asked
   pub how : End

@@ -3,6 +3,7 @@ ghost use Rattle.std.specs.Prelude.{◌≡◌};
 ghost use Rattle.connection_worker.specs.Streams.{input_of, output_of};
 ghost use Rattle.service_history.specs.History.{opened_history};
 ghost use Rattle.service_tables.specs.Opened.{IsOpened, contents_of};
+ghost use Rattle.service_machine.specs.Fates.{is_steady};
 ghost use Rattle.keyring_program.specs.Serves.{Serves};
 
 use crate::server_number::guid_of;
@@ -35,6 +36,7 @@ pub fn serve_client<R: AllocGlobal + Wait, I: Source, O: Sink, C: Clock, F: Fold
         (input_of I.left I.faults I.is_steady input.new)
         (output_of O.written O.faults O.is_steady output.old)
         (output_of O.written O.faults O.is_steady output.new)
+        (is_steady F.is_steady F.Cell.is_steady service.disk)
         (contents_of service.history.state) result }
 {
     let mut desk = match LoneDesk::join(service) {

@@ -5,6 +5,7 @@ ghost use Rattle.kr_outside.specs.Host.{GivesOne, GivesOneAtMost};
 ghost use Rattle.kr_outside.specs.RenameDisk.{Image};
 ghost use Rattle.service_history.specs.History.{opened_history};
 ghost use Rattle.service_tables.specs.Opened.{IsOpened, contents_of};
+ghost use Rattle.service_machine.specs.Fates.{is_steady};
 ghost use Rattle.keyring_program.specs.Folder.{HasOpened};
 
 use kr_outside::{Host, OutsideRefused};
@@ -28,6 +29,8 @@ pub fn open_service<H: Host>(
         → H.told host.old path.now ≡ Some images
         → IfOk result (λ service. HasOpened H.Dir.Cell images
         (contents_of service.history.state)) }
+    ensures steady_disk { IfOk result (λ service.
+        is_steady H.Dir.is_steady H.Dir.Cell.is_steady service.disk ≡ H.is_steady host.old) }
 
     ensures cause { IsErrOf result OpenRefused.Folder
         → Rose (H.faults host.old) (H.faults host.new) ⊎ ¬ (IsTrue (H.is_steady host.old)) }

@@ -5,23 +5,36 @@ ghost use Rattle.std.specs.List.{concat};
 ghost use Rattle.dbus_auth.specs.Handshake.{Run};
 ghost use Rattle.connection_worker.specs.Causes.{AllServed};
 ghost use Rattle.connection_worker.specs.Replies.{replies_to};
-ghost use Rattle.service_machine.specs.Single.{TimedRequest};
+ghost use Rattle.service_machine.specs.Single.{TimedRequest, AllFaultless};
 ghost use Rattle.connection_worker.specs.Written.{spelled_behind};
-ghost use Rattle.keyring_program.specs.Events.{the_connection, joined, text_of};
-ghost use Rattle.service_tables.specs.Opened.{Contents};
+ghost use Rattle.keyring_program.specs.Events.{the_connection, joined, events_of, text_of, HaveSameMoments, HaveSameFates};
+ghost use Rattle.service_machine.specs.Replay.{Legal};
+ghost use Rattle.service_tables.specs.Opened.{Contents, opened_state};
 ghost use Rattle.keyring_program.specs.Serves.{handshake_run};
 
 use call_wire::a_message_is_one_request;
 use connection_worker::each_request_is_answered_at_once;
 
 /// What is written for the calls that were read is determined by the bytes that were read, the user,
-/// the seed and what the service starts with: runs over the same bytes that recorded each call in them
-/// write the same, whatever their moments were.
+/// the seed, what the service starts with, and how the storings of files ended: runs over the same
+/// bytes that recorded each call in them write the same, if their storings ended alike. So it is also
+/// determined without these if no device failed. A moment matters only if its call stores it.
 pub fn what_is_written_is_one()
-    ensures { (contents : Contents) (uid : ℕ) (seed read rest left : List ℕ)
+    ensures alike { (contents : Contents) (uid : ℕ) (seed read rest left : List ℕ)
         (one other : List TimedRequest)
         → AllServed (handshake_run uid seed read) one rest
         → AllServed (handshake_run uid seed read) other left
+        → HaveSameMoments one other → HaveSameFates one other
+        → text_of contents (handshake_run uid seed read) one
+        ≡ text_of contents (handshake_run uid seed read) other }
+    ensures faultless { (contents : Contents) (uid : ℕ) (seed read rest left : List ℕ)
+        (one other : List TimedRequest)
+        → AllServed (handshake_run uid seed read) one rest
+        → AllServed (handshake_run uid seed read) other left
+        → HaveSameMoments one other
+        → Legal (opened_state contents) (events_of contents one)
+        → Legal (opened_state contents) (events_of contents other)
+        → AllFaultless one → AllFaultless other
         → text_of contents (handshake_run uid seed read) one
         ≡ text_of contents (handshake_run uid seed read) other }
 {

@@ -66,7 +66,7 @@ pub fn run<R: AllocGlobal + Wait, I: Source, O: Sink, H: Host>(
         (H.faults host.old) (H.faults host.new) }
 
     // What was read, recorded and written, and why the run ended as it did; the service starts with what the
-    // folder has.
+    // folder has. Over a steady host no device failed in what was recorded.
     ensures served { (uid : ℕ) → IsStdio words.now uid → (result ≡ Status.FolderFault)
         ⊎ ((contents : Contents)
         × (HadFolder result → (folder : List ℕ) (images : List ℕ → Image)
@@ -76,7 +76,8 @@ pub fn run<R: AllocGlobal + Wait, I: Source, O: Sink, H: Host>(
         (input_of I.left I.faults I.is_steady input.old)
         (input_of I.left I.faults I.is_steady input.new)
         (output_of O.written O.faults O.is_steady output.old)
-        (output_of O.written O.faults O.is_steady output.new) contents result) }
+        (output_of O.written O.faults O.is_steady output.new)
+        (H.is_steady host.old) contents result) }
 
     // Over a host that never fails and streams that didn't, an open handshake and a stream of messages
     // after it are answered to their end.

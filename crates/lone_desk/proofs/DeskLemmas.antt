@@ -1,5 +1,5 @@
 -- What a service records, as a desk over it tells it.
-use Rattle.std.proofs.Common.{◌≡◌, ◌+◌, ◌<◌, ◌≤◌, Bool, true, false, [], Option, Some, None, Result, Ok, Err, OnOk, refl, ap, ◌∙◌, sym, subst, arith, inl, inr}
+use Rattle.std.proofs.Common.{◌≡◌, ◌+◌, ◌<◌, ◌≤◌, Bool, true, false, [], Option, Some, None, Result, Ok, Err, OnOk, IsTrue, refl, ap, ◌∙◌, sym, subst, arith, inl, inr}
 use Rattle.std.proofs.lemmas.List.{length_push}
 use Rattle.kr_base.specs.declared.ids.ConnId.{ConnId}
 use Rattle.service_tables.specs.declared.rows.DeskRow.{DeskRow}
@@ -10,21 +10,22 @@ use Rattle.service_machine.specs.declared.event.Output.TheVariants as output
 use Rattle.service_tables.specs.Connections.{desk_of}
 use Rattle.service_tables.specs.Limits.{most_events}
 use Rattle.service_tables.proofs.FitLemmas.{has-told, has-none}
+use Rattle.service_machine.specs.Fates.{with_fates, IsFaultless}
 use Rattle.service_machine.specs.Step.{step, output_of, Fits}
 use Rattle.service_machine.specs.declared.event.Arrival.{Arrival}
 use Rattle.secret_calls.specs.declared.taken.Refused.{Refused}
 use Rattle.secret_calls.specs.declared.taken.Refused.TheVariants as refused
-use Rattle.service_history.specs.History.{History, cut_where_due, with_event, Stores, given_for, taken_by, left_by, gone_by}
+use Rattle.service_history.specs.History.{History, cut_where_due, with_event, Stores, StoresRequest, given_for, taken_by, left_by, gone_by}
 use Rattle.service_history.specs.Windows.{total, is_due}
 use Rattle.service_desk.specs.Places.{Place, Looks, Extends}
 use Rattle.service_desk.specs.Views.{View, IsView, with_others, with_own}
 use Rattle.service_desk.specs.Calls.{Arrives, Leaves, Goes, Takes}
 use Rattle.service_desk.proofs.ViewLemmas.{view-others, view-own}
 
--- where the desk of a connection over a service with this history stands
-abbrev pub spot : ConnId → History → Place
-spot conn history = record {
-  told = record { conn = conn; state = history.state; count = total history.window; is_alone = true; is_steady = true; is_waiting = false };
+-- where the desk of a connection over a service with this history stands, whose disk is steady or not
+abbrev pub spot : ConnId → Bool → History → Place
+spot conn steady history = record {
+  told = record { conn = conn; state = history.state; count = total history.window; is_alone = true; is_steady = steady; is_waiting = false };
   has_seen = λ view. IsView history.state (total history.window) view;
 }
 
@@ -35,8 +36,8 @@ seen-none old view is =
     subst (λ n. IsView old.state n (with_others [] view)) none (view-others old.state (total old.window) view [] is tt)
 
 -- nothing was recorded
-pub looks : (conn : ConnId) (old : History) → Looks (spot conn old) (spot conn old)
-looks conn old = record {
+pub looks : (conn : ConnId) (steady : Bool) (old : History) → Looks (spot conn steady old) (spot conn steady old)
+looks conn steady old = record {
   between = [];
   alone = λ _. refl;
   legal = tt;
@@ -47,15 +48,16 @@ looks conn old = record {
 }
 
 -- one event was recorded
-pub extends : (conn : ConnId) (old new : History) (event : Event) (answer : Output) → Fits old.state event → answer ≡ output_of old.state event
-    → new.state ≡ step old.state event → total new.window ≡ total old.window + 1 → Extends (spot conn old) (spot conn new) event answer
-extends conn old new event answer fits answers state counted = record {
+pub extends : (conn : ConnId) (steady : Bool) (old new : History) (event : Event) (answer : Output) → Fits old.state event → (IsTrue steady → IsFaultless event) → answer ≡ output_of old.state event
+    → new.state ≡ step old.state event → total new.window ≡ total old.window + 1 → Extends (spot conn steady old) (spot conn steady new) event answer
+extends conn steady old new event answer fits faultless answers state counted = record {
   between = [];
   alone = λ _. refl;
   legal = tt;
   at = old.state;
   reached = refl;
   fits = fits;
+  faultless = faultless;
   answers = answers;
   state = state;
   count = omega (arith, counted);
@@ -70,8 +72,8 @@ pub total-with : (event : Event) (old : History) → total (with_event event old
 total-with event old = rw (length_push old.window.events event) (omega arith)
 
 -- and that is the whole history with one event more
-pub extends-with : (conn : ConnId) (old : History) (event : Event) → Fits old.state event → Extends (spot conn old) (spot conn (with_event event old)) event (output_of old.state event)
-extends-with conn old event fits = extends conn old (with_event event old) event (output_of old.state event) fits refl refl (total-with event old)
+pub extends-with : (conn : ConnId) (steady : Bool) (old : History) (event : Event) → Fits old.state event → (IsTrue steady → IsFaultless event) → Extends (spot conn steady old) (spot conn steady (with_event event old)) event (output_of old.state event)
+extends-with conn steady old event fits faultless = extends conn steady old (with_event event old) event (output_of old.state event) fits faultless refl refl (total-with event old)
 
 -- a cut changes neither the state nor the number of all events
 pub state-cut : (old : History) → (cut_where_due old).state ≡ old.state
@@ -91,51 +93,52 @@ pub counts-stored : (old new : History) (event : Event) → Stores old event new
 counts-stored old new event stores =
     ap (λ (h : History). total h.window) stores.appends ∙ total-with event (cut_where_due old) ∙ ap (λ n. n + 1) (total-cut old)
 
-pub arrives : (conn : ConnId) (old new : History) (arrival : Arrival) → Stores old (event.Arrive arrival) new → total old.window < most_events
-    → Arrives (spot conn old) (spot conn new) (event.Arrive arrival)
-arrives conn old new arrival stores left =
-    let came = event.Arrive arrival in
-    let counted : total new.window ≡ total old.window + 1 = counts-stored old new came stores in
+pub arrives : (conn : ConnId) (steady : Bool) (old new : History) (arrival : Arrival) → StoresRequest steady old arrival new → total old.window < most_events
+    → Arrives (spot conn steady old) (spot conn steady new) arrival
+arrives conn steady old new arrival so left =
+    let came = with_fates arrival so.fates in
+    let counted : total new.window ≡ total old.window + 1 = counts-stored old new came so.stores in
     record {
-      recorded = extends conn old new came (output.Arrived (record {})) stores.fits refl
-          (ap (λ (h : History). h.state) stores.appends ∙ ap (λ s. step s came) (state-cut old)) counted;
+      fates = so.fates;
+      recorded = extends conn steady old new came (output.Arrived (record {})) so.stores.fits so.faultless refl
+          (ap (λ (h : History). h.state) so.stores.appends ∙ ap (λ s. step s came) (state-cut old)) counted;
       counted = omega (arith, counted, left);
     }
 
-pub takes-some : (conn : ConnId) (old : History) (waits overrun leaving : Bool)
+pub takes-some : (conn : ConnId) (steady : Bool) (old : History) (waits overrun leaving : Bool)
     → Some (record { waits = waits; overrun = overrun; leaving = leaving }) ≡ desk_of conn old.state.connections.rows
-    → Takes (spot conn old) (spot conn (taken_by conn (Some (record { waits = waits; overrun = overrun; leaving = leaving })) old))
+    → Takes (spot conn steady old) (spot conn steady (taken_by conn (Some (record { waits = waits; overrun = overrun; leaving = leaving })) old))
     (given_for conn old.state (Some (record { waits = waits; overrun = overrun; leaving = leaving })))
 unfolding extends-with extends
-takes-some conn old true overrun leaving told = extends-with conn old (event.Take conn) (rw (← told) refl)
-takes-some conn old false true true told = (looks conn old, (true, sym told))
-takes-some conn old false true false told = (looks conn old, (false, sym told))
-takes-some conn old false false true told = (extends-with conn old (event.Gone conn) (has-told conn old.state.connections.rows _ told), sym told)
-takes-some conn old false false false told = (looks conn old, sym told, refl)
+takes-some conn steady old true overrun leaving told = extends-with conn steady old (event.Take conn) (rw (← told) refl) (λ _. tt)
+takes-some conn steady old false true true told = (looks conn steady old, (true, sym told))
+takes-some conn steady old false true false told = (looks conn steady old, (false, sym told))
+takes-some conn steady old false false true told = (extends-with conn steady old (event.Gone conn) (has-told conn old.state.connections.rows _ told) (λ _. tt), sym told)
+takes-some conn steady old false false false told = (looks conn steady old, sym told, refl)
 
-pub takes : (conn : ConnId) (old : History) (desk : Option DeskRow) → desk ≡ desk_of conn old.state.connections.rows
-    → Takes (spot conn old) (spot conn (taken_by conn desk old)) (given_for conn old.state desk)
-takes conn old None told = (looks conn old, has-none conn old.state.connections.rows told)
-takes conn old (Some desk) told = takes-some conn old desk.waits desk.overrun desk.leaving told
+pub takes : (conn : ConnId) (steady : Bool) (old : History) (desk : Option DeskRow) → desk ≡ desk_of conn old.state.connections.rows
+    → Takes (spot conn steady old) (spot conn steady (taken_by conn desk old)) (given_for conn old.state desk)
+takes conn steady old None told = (looks conn steady old, has-none conn old.state.connections.rows told)
+takes conn steady old (Some desk) told = takes-some conn steady old desk.waits desk.overrun desk.leaving told
 
-pub leaves-some : (conn : ConnId) (old : History) (waits overrun leaving : Bool)
+pub leaves-some : (conn : ConnId) (steady : Bool) (old : History) (waits overrun leaving : Bool)
     → Some (record { waits = waits; overrun = overrun; leaving = leaving }) ≡ desk_of conn old.state.connections.rows
-    → Leaves (spot conn old) (spot conn (left_by conn (Some (record { waits = waits; overrun = overrun; leaving = leaving })) old))
-leaves-some conn old waits overrun true told = inr (looks conn old, inr (waits, overrun, sym told))
-leaves-some conn old waits overrun false told = inl (extends-with conn old (event.Leave conn) (rw (← told) refl))
+    → Leaves (spot conn steady old) (spot conn steady (left_by conn (Some (record { waits = waits; overrun = overrun; leaving = leaving })) old))
+leaves-some conn steady old waits overrun true told = inr (looks conn steady old, inr (waits, overrun, sym told))
+leaves-some conn steady old waits overrun false told = inl (extends-with conn steady old (event.Leave conn) (rw (← told) refl) (λ _. tt))
 
-pub leaves : (conn : ConnId) (old : History) (desk : Option DeskRow) → desk ≡ desk_of conn old.state.connections.rows → Leaves (spot conn old) (spot conn (left_by conn desk old))
-leaves conn old None told = inr (looks conn old, inl (has-none conn old.state.connections.rows told))
-leaves conn old (Some desk) told = leaves-some conn old desk.waits desk.overrun desk.leaving told
+pub leaves : (conn : ConnId) (steady : Bool) (old : History) (desk : Option DeskRow) → desk ≡ desk_of conn old.state.connections.rows → Leaves (spot conn steady old) (spot conn steady (left_by conn desk old))
+leaves conn steady old None told = inr (looks conn steady old, inl (has-none conn old.state.connections.rows told))
+leaves conn steady old (Some desk) told = leaves-some conn steady old desk.waits desk.overrun desk.leaving told
 
-pub goes : (conn : ConnId) (old : History) (desk : Option DeskRow) → desk ≡ desk_of conn old.state.connections.rows → Goes (spot conn old) (spot conn (gone_by conn desk old))
-goes conn old None told = inr (looks conn old, has-none conn old.state.connections.rows told)
-goes conn old (Some desk) told = inl (extends-with conn old (event.Gone conn) (has-told conn old.state.connections.rows desk told))
+pub goes : (conn : ConnId) (steady : Bool) (old : History) (desk : Option DeskRow) → desk ≡ desk_of conn old.state.connections.rows → Goes (spot conn steady old) (spot conn steady (gone_by conn desk old))
+goes conn steady old None told = inr (looks conn steady old, has-none conn old.state.connections.rows told)
+goes conn steady old (Some desk) told = inl (extends-with conn steady old (event.Gone conn) (has-told conn old.state.connections.rows desk told) (λ _. tt))
 
 -- what the service says of a request that it recorded
-pub arrives-stored : (conn : ConnId) (old new : History) (arrival : Arrival) (result : Result Unit Refused) → OnOk result (Stores old (event.Arrive arrival) new)
-    → ((result ≡ Err refused.EventsSpent → ⊥) → most_events ≤ total old.window → ⊥) → OnOk result (Arrives (spot conn old) (spot conn new) (event.Arrive arrival))
-arrives-stored conn old new arrival (Ok done) stores left =
+pub arrives-stored : (conn : ConnId) (steady : Bool) (old new : History) (arrival : Arrival) (result : Result Unit Refused) → OnOk result (StoresRequest steady old arrival new)
+    → ((result ≡ Err refused.EventsSpent → ⊥) → most_events ≤ total old.window → ⊥) → OnOk result (Arrives (spot conn steady old) (spot conn steady new) arrival)
+arrives-stored conn steady old new arrival (Ok done) stores left =
     let not_spent : most_events ≤ total old.window → ⊥ = left (λ (spent : Ok done ≡ Err refused.EventsSpent). cc) in
-    arrives conn old new arrival stores (omega (arith, not_spent))
-arrives-stored conn old new arrival (Err why) stores left = tt
+    arrives conn steady old new arrival stores (omega (arith, not_spent))
+arrives-stored conn steady old new arrival (Err why) stores left = tt

@@ -1,19 +1,20 @@
 -- The desk over a service of one thread, as contracts see it.
-use Rattle.std.specs.Prelude.{true, false}
+use Rattle.std.specs.Prelude.{Bool, true, false}
+use Rattle.service_machine.specs.Fates.{is_steady}
 use Rattle.service_history.specs.Windows.{total}
 use Rattle.service_desk.specs.Places.{Told}
 use Rattle.service_desk.specs.Views.{View, IsView}
 use Rattle.lone_desk.specs.declared.lone.LoneDesk.{LoneDesk}
 
--- what it reports: the service's state, and how many events it has recorded; nobody else records any, no device is used, and
--- a call that takes doesn't wait
-abbrev pub told : {F S : Type 0} → LoneDesk F S → Told
-told desk = record {
+-- what it reports: the service's state, and how many events it has recorded; nobody else records any, it is steady if the disk
+-- of the service is, and a call that takes doesn't wait
+abbrev pub told : {F S : Type 0} → (F → Bool) → (S → Bool) → LoneDesk F S → Told
+told folder_steady slot_steady desk = record {
   conn = desk.conn;
   state = desk.service.history.state;
   count = total desk.service.history.window;
   is_alone = true;
-  is_steady = true;
+  is_steady = is_steady folder_steady slot_steady desk.service.disk;
   is_waiting = false;
 }
 

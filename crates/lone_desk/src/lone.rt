@@ -57,7 +57,7 @@ impl<F: Folder> Desk for LoneDesk<F> {
     ghost use Rattle.service_desk.proofs.ViewLemmas.{view-now};
     ghost use Rattle.lone_desk.specs.Lone.{told, has_seen};
 
-    ghost told = { told };
+    ghost told = { told F.is_steady F.Cell.is_steady };
 
     ghost has_seen = { has_seen };
 

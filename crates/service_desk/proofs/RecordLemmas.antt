@@ -5,13 +5,14 @@ use Rattle.std.proofs.lemmas.List.{map-append, length-map}
 use Rattle.service_tables.specs.State.{State}
 use Rattle.service_machine.specs.declared.event.Event.{Event}
 use Rattle.service_machine.specs.declared.event.Output.{Output}
+use Rattle.service_machine.specs.Fates.{IsFaultless}
 use Rattle.service_machine.specs.Step.{step, output_of}
 use Rattle.service_machine.specs.Replay.{replay, Legal}
 use Rattle.service_machine.proofs.ReplayLemmas.{replay-append}
 use Rattle.service_tables.proofs.EachLemmas.{each-append}
 use Rattle.service_desk.specs.Places.{Told, Place, IsSame, Looks, Extends}
 use Rattle.service_desk.specs.Views.{View, with_others, with_own}
-use Rattle.service_desk.specs.Records.{Seen, Others, Own, event_of, events_of, IsOwn, AreAnswered, with_seen, Records, of_others, of_own}
+use Rattle.service_desk.specs.Records.{Seen, Others, Own, event_of, events_of, IsOwn, IsOwnFaultless, AreAnswered, with_seen, Records, of_others, of_own}
 use Rattle.service_desk.proofs.ViewLemmas.{with-no-others}
 
 -- ---- events that were seen, one list after the other
@@ -31,6 +32,10 @@ with_seen-append (Own event answer ∷ seen) more view = with_seen-append seen m
 others-answered : (state : State) (events : List Event) → Legal state events → AreAnswered state (of_others events)
 others-answered state [] legal = tt
 others-answered state (event ∷ events) legal = (legal.0, others-answered (step state event) events legal.1)
+
+others-faultless : (events : List Event) → AllByRecursion IsOwnFaultless (of_others events)
+others-faultless [] = tt
+others-faultless (event ∷ events) = (tt, others-faultless events)
 
 others-events : (events : List Event) → events_of (of_others events) ≡ events
 others-events [] = refl
@@ -67,6 +72,7 @@ same-on a b c p q = record { conn = q.conn ∙ p.conn; alone = q.alone ∙ p.alo
 pub records-none : (place : Place) → Records place place []
 records-none place = record {
   alone = λ _. tt;
+  faultless = λ _. tt;
   answered = tt;
   state = refl;
   count = omega arith;
@@ -78,6 +84,7 @@ records-none place = record {
 pub records-more : (old mid new : Place) (seen more : List Seen) → Records old mid seen → Records mid new more → Records old new (seen ++ more)
 records-more old mid new seen more p q = record {
   alone = λ alone. each-append IsOwn seen more (p.alone alone) (q.alone (p.same.alone ∙ alone));
+  faultless = λ steady. each-append IsOwnFaultless seen more (p.faultless steady) (q.faultless (p.same.steady ∙ steady));
   answered = answered-append old.told.state seen more p.answered (rw (sym p.state) q.answered);
   state =
       q.state ∙ ap (λ s. replay s (events_of more)) p.state ∙ sym (replay-append old.told.state (events_of seen) (events_of more))
@@ -91,6 +98,7 @@ records-more old mid new seen more p q = record {
 pub looks-records : (old new : Place) → (looks : Looks old new) → Records old new (of_others looks.between)
 looks-records old new looks = record {
   alone = λ alone. rw (looks.alone alone) tt;
+  faultless = λ _. others-faultless looks.between;
   answered = others-answered old.told.state looks.between looks.legal;
   state = rw (others-events looks.between) looks.state;
   count = omega (arith, looks.count, length-map looks.between (λ event. Others event));
@@ -107,6 +115,7 @@ extends-records old new event answer extends =
     let here : extends.at ≡ replay old.told.state (events_of others) = rw (others-events extends.between) extends.reached in
     record {
       alone = λ alone. rw (extends.alone alone) (tt, tt);
+      faultless = λ steady. each-append IsOwnFaultless others own (others-faultless extends.between) (extends.faultless steady, tt);
       answered = answered-append old.told.state others own (others-answered old.told.state extends.between extends.legal) (rw (sym here) (extends.fits, extends.answers, tt));
       state =
           extends.state ∙ ap (λ s. step s event) here ∙ sym (replay-append old.told.state (events_of others) (event ∷ []))
@@ -142,6 +151,15 @@ own-answered state (event ∷ events) legal = (legal.0, refl, own-answered (step
 pub own-own : (state : State) (events : List Event) → AllByRecursion IsOwn (of_own state events)
 own-own state [] = tt
 own-own state (event ∷ events) = (tt, own-own (step state event) events)
+
+-- so none of its own has a fault if the desk is steady
+pub own-faultless : (state : State) (events : List Event) → AllByRecursion IsOwnFaultless (of_own state events) → AllByRecursion IsFaultless events
+own-faultless state [] are = tt
+own-faultless state (event ∷ events) are = (are.0, own-faultless (step state event) events are.1)
+
+pub faultless-own : (state : State) (events : List Event) → AllByRecursion IsFaultless events → AllByRecursion IsOwnFaultless (of_own state events)
+faultless-own state [] are = tt
+faultless-own state (event ∷ events) are = (are.0, faultless-own (step state event) events are.1)
 
 -- the state after events of its own, and their number
 pub own-state : (old new : Place) (events : List Event) → Records old new (of_own old.told.state events) → new.told.state ≡ replay old.told.state events

@@ -1,14 +1,16 @@
 -- What each call of a desk returns, and what it records. Each result has its cause in the state that the desk has seen.
-use Rattle.std.specs.Prelude.{◌≡◌, ◌<◌, ◌≤◌, ◌⊎◌, Bool, false, true, Some}
+use Rattle.std.specs.Prelude.{◌≡◌, ◌<◌, ◌≤◌, ◌⊎◌, Bool, false, true, List, Some}
 use Rattle.kr_base.specs.declared.ids.ConnId.{ConnId}
 use Rattle.secret_calls.specs.declared.taken.Refused.{Refused}
 use Rattle.secret_calls.specs.declared.taken.Refused.TheVariants as refused
 use Rattle.secret_calls.specs.declared.taken.Taken.{Taken}
 use Rattle.secret_calls.specs.declared.taken.Taken.TheVariants as taken
 use Rattle.service_tables.specs.State.{State}
-use Rattle.service_machine.specs.declared.event.Event.{Event}
+use Rattle.service_machine.specs.declared.event.Arrival.{Arrival}
 use Rattle.service_machine.specs.declared.event.Event.TheVariants as event
+use Rattle.service_machine.specs.declared.event.Fate.{Fate}
 use Rattle.service_machine.specs.declared.event.Output.TheVariants as output
+use Rattle.service_machine.specs.Fates.{with_fates}
 use Rattle.service_tables.specs.Connections.{desk_of}
 use Rattle.service_tables.specs.Limits.{most_events, IsSpent}
 use Rattle.service_machine.specs.Step.{IsMissing}
@@ -19,9 +21,10 @@ abbrev pub IsToldOf : ConnId → State → Bool → Bool → Bool → Type 0
 IsToldOf conn state waits overrun leaving =
     desk_of conn state.connections.rows ≡ Some (record { waits = waits; overrun = overrun; leaving = leaving })
 
--- the request was recorded, within the number of events that can be counted
-pub record Arrives (old new : Place) (event : Event) : Type 0 where
-  pub recorded : Extends old new event (output.Arrived (record {}))
+-- the request was recorded with how its storings ended, within the number of events that can be counted
+pub record Arrives (old new : Place) (arrival : Arrival) : Type 0 where
+  pub fates : List Fate
+  pub recorded : Extends old new (with_fates arrival fates) (output.Arrived (record {}))
   pub counted : new.told.count ≤ most_events
 
 -- why a request wasn't recorded: all the events that can be counted have been; otherwise the connection isn't there; or

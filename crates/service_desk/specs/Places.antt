@@ -4,6 +4,7 @@ use Rattle.kr_base.specs.declared.ids.ConnId.{ConnId}
 use Rattle.service_tables.specs.State.{State}
 use Rattle.service_machine.specs.declared.event.Event.{Event}
 use Rattle.service_machine.specs.declared.event.Output.{Output}
+use Rattle.service_machine.specs.Fates.{IsFaultless}
 use Rattle.service_machine.specs.Step.{step, output_of, Fits}
 use Rattle.service_machine.specs.Replay.{replay, Legal}
 use Rattle.service_desk.specs.Views.{View, with_others, with_own}
@@ -18,7 +19,7 @@ pub record Told : Type 0 where
   pub count : ℕ
   -- no events enter the history except those of its own calls
   pub is_alone : Bool
-  -- an event that one of its calls records contains no fault of a device
+  -- no event that one of its calls records contains a fault of a device
   pub is_steady : Bool
   -- a call of `take` waits until there is something to return
   pub is_waiting : Bool
@@ -58,6 +59,7 @@ pub record Extends (old new : Place) (event : Event) (answer : Output) : Type 0 
   pub at : State
   pub reached : at ≡ replay old.told.state between
   pub fits : Fits at event
+  pub faultless : IsTrue old.told.is_steady → IsFaultless event
   pub answers : answer ≡ output_of at event
   pub state : new.told.state ≡ step at event
   pub count : new.told.count ≡ old.told.count + length between + 1

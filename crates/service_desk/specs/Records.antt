@@ -6,6 +6,7 @@ use Rattle.service_tables.specs.State.{State}
 use Rattle.service_machine.specs.declared.event.Event.{Event}
 use Rattle.service_machine.specs.declared.event.Output.{Output}
 use Rattle.service_machine.specs.declared.event.Output.TheVariants as output
+use Rattle.service_machine.specs.Fates.{IsFaultless}
 use Rattle.service_machine.specs.Step.{step, output_of, Fits}
 use Rattle.service_machine.specs.Replay.{replay}
 use Rattle.service_desk.specs.Places.{Place, IsSame}
@@ -30,6 +31,11 @@ abbrev pub IsOwn : Seen → Type 0
 IsOwn (Others event) = ⊥
 IsOwn (Own event answer) = Unit {0}
 
+-- an event of the desk's own contains no fault of a device
+abbrev pub IsOwnFaultless : Seen → Type 0
+IsOwnFaultless (Others event) = Unit {0}
+IsOwnFaultless (Own event answer) = IsFaultless event
+
 -- Each event fits the state that those before it lead to, and the answer to each own one is that of the step from there.
 abbrev pub AreAnswered : State → List Seen → Type 0
 AreAnswered state [] = Unit {0}
@@ -45,6 +51,7 @@ with_seen (Own event answer ∷ more) view = with_seen more (with_own event view
 -- The calls of the desk, from the old place to the new one, recorded its own events among these, and saw those of others.
 pub record Records (old new : Place) (seen : List Seen) : Type 0 where
   pub alone : IsTrue old.told.is_alone → AllByRecursion IsOwn seen
+  pub faultless : IsTrue old.told.is_steady → AllByRecursion IsOwnFaultless seen
   pub answered : AreAnswered old.told.state seen
   pub state : new.told.state ≡ replay old.told.state (events_of seen)
   pub count : new.told.count ≡ old.told.count + length seen

@@ -4,24 +4,23 @@ ghost use Rattle.service_desk.specs.Calls.{Arrives, IsRefusal, Leaves, Takes, Go
 
 use crate::Desk;
 use secret_calls::{Refused, Request, Taken};
-use service_machine::Event;
 
 /// The desk of a connection's reader.
 pub trait ReadDesk: Desk {
     /// Records a request of the connection, at `now` in seconds since 1970, with random bytes in case a
-    /// key is derived.
+    /// key is derived, and how each file that it stored or removed ended.
     ///
     /// Refused with `EventsSpent` if all the events that can be counted have been recorded, then with
     /// `Gone` if the connection isn't there; `OutOfMemory` may come in place of any result.
     fn arrive(&mut self, request: Request, now: u64, salt: [u8; 8]) -> Result<(), Refused>
         ensures recorded { OnOk result (Arrives
             (place Self.told Self.has_seen self.old) (place Self.told Self.has_seen self.new)
-            (Event.Arrive (record {
+            (record {
               conn = (Self.told self.old).conn;
               request = request;
               now = now;
               salt = salt;
-            }))) }
+            })) }
         ensures looked { OnErr result (Looks
             (place Self.told Self.has_seen self.old) (place Self.told Self.has_seen self.new)) }
         ensures cause { IfErr result (λ refused. IsRefusal refused (Self.told self.new)) };

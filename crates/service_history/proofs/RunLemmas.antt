@@ -41,8 +41,8 @@ stored_follows old new event so =
     ] in
     subst (λ (h : History). Follows old.window h.window) (sym so.appends) (pass (is_due old.window) refl)
 
-pub recorded_follows : (old new : History) (came : Incoming) (answer : Output) → IsRecorded old came answer new → Follows old.window new.window
-recorded_follows old new came answer so = stored_follows old new so.event (record { fits = so.fits; appends = so.appends })
+pub recorded_follows : (steady : Bool) (old new : History) (came : Incoming) (answer : Output) → IsRecorded steady old came answer new → Follows old.window new.window
+recorded_follows steady old new came answer so = stored_follows old new so.event (record { fits = so.fits; appends = so.appends })
 
 pub take_goes : (conn : ConnId) (desk : Option DeskRow) (old : History) → GoesOn old.window (taken_by conn desk old).window
 take_goes conn None old = same-window old.window

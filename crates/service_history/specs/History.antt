@@ -1,17 +1,20 @@
 -- The service and its history, as contracts see it: the state, and the window whose events led to it.
-use Rattle.std.specs.Prelude.{◌≡◌, ◌+◌, ◌≤◌, ◌&&◌, not, if◌then◌else◌, Option, Some, None}
+use Rattle.std.specs.Prelude.{◌≡◌, ◌+◌, ◌≤◌, Bool, ◌&&◌, not, if◌then◌else◌, IsTrue, List, Option, Some, None}
 use Rattle.kr_base.specs.declared.ids.ConnId.{ConnId}
 use Rattle.secret_calls.specs.declared.taken.Taken.{Taken}
 use Rattle.secret_calls.specs.declared.taken.Taken.TheVariants as taken
 use Rattle.service_tables.specs.Disk.{DiskState}
 use Rattle.service_tables.specs.State.{State}
 use Rattle.service_tables.specs.declared.rows.DeskRow.{DeskRow}
+use Rattle.service_machine.specs.declared.event.Arrival.{Arrival}
+use Rattle.service_machine.specs.declared.event.Fate.{Fate}
 use Rattle.service_machine.specs.declared.event.Incoming.{Incoming}
 use Rattle.service_machine.specs.declared.event.Incoming.TheVariants as incoming
 use Rattle.service_machine.specs.declared.event.Event.{Event}
 use Rattle.service_machine.specs.declared.event.Event.TheVariants as event
 use Rattle.service_machine.specs.declared.event.Output.{Output}
 use Rattle.service_tables.specs.Connections.{waiting_for, desk_of}
+use Rattle.service_machine.specs.Fates.{with_fates, AreFaultless, IsFaultless}
 use Rattle.service_machine.specs.Machine.{Records}
 use Rattle.service_machine.specs.Step.{step, output_of, Fits}
 use Rattle.service_machine.specs.Replay.{replay, Legal}
@@ -59,11 +62,19 @@ pub record Stores (old : History) (event : Event) (new : History) : Type 0 where
   pub fits : Fits old.state event
   pub appends : new ≡ with_event event (cut_where_due old)
 
--- The event that came is recorded, after a cut if one is due, and answered as the step answers it.
-pub record IsRecorded (old : History) (came : Incoming) (answer : Output) (new : History) : Type 0 where
+-- This request is recorded, after a cut if one is due, with how its storings ended: none is a fault if all slots are steady.
+pub record StoresRequest (steady : Bool) (old : History) (arrival : Arrival) (new : History) : Type 0 where
+  pub fates : List Fate
+  pub stores : Stores old (with_fates arrival fates) new
+  pub faultless : IsTrue steady → AreFaultless fates
+
+-- The event that came is recorded, after a cut if one is due, and answered as the step answers it; it has no fault if all slots are
+-- steady.
+pub record IsRecorded (steady : Bool) (old : History) (came : Incoming) (answer : Output) (new : History) : Type 0 where
   pub event : Event
   pub records : Records came event
   pub fits : Fits old.state event
+  pub faultless : IsTrue steady → IsFaultless event
   pub answers : answer ≡ output_of old.state event
   pub appends : new ≡ with_event event (cut_where_due old)
 

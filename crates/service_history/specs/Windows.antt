@@ -28,7 +28,7 @@ is_lock_call _ = false
 
 -- whether an event is that a connection called Lock
 abbrev pub is_lock : Event → Bool
-is_lock (event.Arrive arrival) = is_lock_call arrival.request.call
+is_lock (event.Arrive came) = is_lock_call came.arrival.request.call
 is_lock _ = false
 
 -- a cut is due: the events are many, or cost much, or one is a call of Lock, so that no event keeps a secret of a collection that

@@ -1,6 +1,6 @@
 // What the definitions of histories and windows say together. Each law is the contract of a function
 // that does nothing.
-ghost use Rattle.std.specs.Prelude.{◌≡◌, ◌++◌, ◌∷◌, [], List, length};
+ghost use Rattle.std.specs.Prelude.{◌≡◌, ◌++◌, ◌∷◌, [], Bool, List, length};
 ghost use Rattle.service_machine.specs.declared.event.Event.{Event};
 ghost use Rattle.service_machine.specs.declared.event.Incoming.{Incoming};
 ghost use Rattle.service_machine.specs.declared.event.Output.{Output};
@@ -29,8 +29,8 @@ pub fn windows_are_one_history()
 pub fn calls_yield_windows_in_a_row()
     ensures stores { (old new : History) (event : Event) → Stores old event new
         → Follows old.window new.window }
-    ensures event { (old new : History) (came : Incoming) (answer : Output)
-        → IsRecorded old came answer new → Follows old.window new.window }
+    ensures event { (steady : Bool) (old new : History) (came : Incoming) (answer : Output)
+        → IsRecorded steady old came answer new → Follows old.window new.window }
     ensures take { (old : History) (conn : ConnId)
         → GoesOn old.window (taken_by conn (told conn old) old).window }
     ensures leave { (old : History) (conn : ConnId)

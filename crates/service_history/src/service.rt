@@ -4,10 +4,11 @@ ghost use Rattle.collection_table.specs.Entries.{rows_of};
 ghost use Rattle.service_tables.specs.Disk.{IsLoaded, FailedToLoad, disk_state};
 ghost use Rattle.service_tables.specs.Opened.{IsOpened};
 ghost use Rattle.service_tables.specs.Limits.{IsSpent};
+ghost use Rattle.service_machine.specs.Fates.{is_steady};
 ghost use Rattle.service_machine.specs.Machine.{IsOfNone, IsConnect};
 ghost use Rattle.service_machine.specs.Step.{IsMissing, IsCrowded};
 ghost use Rattle.service_history.specs.Windows.{total};
-ghost use Rattle.service_history.specs.History.{opened_history, IsHistory, Stores, IsRecorded, IsAsked, given_for, taken_by, left_by, gone_by, told};
+ghost use Rattle.service_history.specs.History.{opened_history, IsHistory, Stores, StoresRequest, IsRecorded, IsAsked, given_for, taken_by, left_by, gone_by, told};
 
 use crate::EventRefused;
 use crate::window::Window;
@@ -15,7 +16,7 @@ use kr_base::ConnId;
 use kr_outside::Folder;
 use secret_calls::{Refused, Taken};
 use service_machine::{
-    Arrival, Arrived, Disk, Event, Incoming, JoinRefused, Machine, OpenRefused, Output,
+    Arrival, Arrived, Disk, Event, Incoming, JoinRefused, Machine, OpenRefused, Output, Recorded,
 };
 use std::alloc::Global;
 use std::marker::Model;
@@ -61,6 +62,8 @@ impl<F: Folder> Service<F> {
             (F.is_honest folder) (F.is_steady folder))
             F.is_honest F.is_steady F.faults F.images F.may_leave F.made
             folder service.disk service.history.state) }
+        ensures steady { IfOk result (λ service.
+            is_steady F.is_steady F.Cell.is_steady service.disk ≡ F.is_steady folder) }
 
         // The folder is at fault only if it failed, and never if it is steady.
         ensures cause { IsErrOf result OpenRefused.Folder → FailedToLoad (IsAsFound F.Cell.seen
@@ -115,15 +118,19 @@ impl<F: Folder> Service<F> {
         Ok(conn)
     }
 
-    /// Records that a connection asks for something. A cut that is due is made first, as in `join`.
+    /// Records that a connection asks for something, and how each file that it stored or removed ended. A
+    /// cut that is due is made first, as in `join`.
     ///
     /// Refused with `EventsSpent` if all events that can be counted are recorded, then with `Gone` if
     /// the connection isn't there.
     pub fn arrive(&mut self, arrival: Arrival) -> Result<(), Refused>
-        ensures stores { OnOk result
-            (Stores self.old.history (Event.Arrive arrival) self.new.history) }
+        ensures stores { OnOk result (StoresRequest
+            (is_steady F.is_steady F.Cell.is_steady self.old.disk)
+            self.old.history arrival self.new.history) }
         ensures history { IsHistory self.new.history }
         ensures disk { self.new.disk ≡ self.old.disk }
+        ensures steady { is_steady F.is_steady F.Cell.is_steady self.new.disk
+            ≡ is_steady F.is_steady F.Cell.is_steady self.old.disk }
 
         // Each refusal has its cause, and the first in order is returned; nothing has changed then.
         ensures spent { IsErrOf result Refused.EventsSpent
@@ -142,10 +149,11 @@ impl<F: Folder> Service<F> {
         let Ok(next) = self.window.prepare(&self.machine) else {
             return Err(Refused::OutOfMemory);
         };
-        let Ok(()) = self.machine.arrive(arrival.conn, &arrival.request) else {
+        let Ok(fates) = self.machine.arrive(&arrival) else {
             return Err(Refused::OutOfMemory);
         };
-        self.window.commit(next, Event::Arrive(arrival));
+        let event = Event::Arrive(Recorded { arrival, fates });
+        self.window.commit(next, event);
         Ok(())
     }
 
@@ -159,9 +167,12 @@ impl<F: Folder> Service<F> {
         requires { IsAsked event }
 
         ensures recorded { IfOk result (λ answer.
-            IsRecorded self.old.history event answer self.new.history) }
+            IsRecorded (is_steady F.is_steady F.Cell.is_steady self.old.disk)
+            self.old.history event answer self.new.history) }
         ensures history { IsHistory self.new.history }
         ensures disk { self.new.disk ≡ self.old.disk }
+        ensures steady { is_steady F.is_steady F.Cell.is_steady self.new.disk
+            ≡ is_steady F.is_steady F.Cell.is_steady self.old.disk }
 
         // Each refusal has its cause, and the first in order is returned; nothing has changed then.
         ensures spent { IsErrOf result EventRefused.EventsSpent

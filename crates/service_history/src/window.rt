@@ -57,7 +57,7 @@ fn cost_of(event: &Event) -> u64
     ensures { result ≡ cost_of event.now }
 {
     match event {
-        Event::Arrive(arrival) => EVENT_COST + arrival.request.length as u64,
+        Event::Arrive(came) => EVENT_COST + came.arrival.request.length as u64,
         _ => EVENT_COST,
     }
 }
@@ -67,7 +67,9 @@ fn is_lock(event: &Event) -> bool
     ensures { result ≡ is_lock event.now }
 {
     match event {
-        Event::Arrive(arrival) => matches!(&arrival.request.call, Ok(Call::Lock { objects: _ })),
+        Event::Arrive(came) => {
+            matches!(&came.arrival.request.call, Ok(Call::Lock { objects: _ }))
+        }
         _ => false,
     }
 }

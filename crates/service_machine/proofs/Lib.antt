@@ -1,5 +1,7 @@
+pub mod EventLemmas
 pub mod LockLemmas
 pub mod ReplayLemmas
 pub mod RunLemmas
 pub mod SmallLemmas
 pub mod SoundLemmas
+pub mod SteadyLemmas

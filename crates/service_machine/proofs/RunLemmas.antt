@@ -1,7 +1,7 @@
 -- What a plan leaves alone, whatever it does.
 use Rattle.std.proofs.Common.{◌≡◌, true, false, List, [], ◌∷◌, ◌++◌, refl, ap, ◌∙◌, append-nil}
 use Rattle.kr_base.specs.declared.ids.ConnId.{ConnId}
-use Rattle.secret_calls.specs.declared.call.Request.{Request}
+use Rattle.service_machine.specs.declared.event.Recorded.{Recorded}
 use Rattle.service_tables.specs.State.{State}
 use Rattle.service_machine.specs.Plan.{Change, Open_session, Close_session, Lock_collection, Plan, Ends, After}
 use Rattle.service_machine.specs.Run.{asked, performed, performed_all, sent_all, Ran, run, limited}
@@ -34,9 +34,10 @@ sends-limited (Ends answer []) ran = refl
 sends-limited (Ends answer (change ∷ changes)) ran = refl
 sends-limited (After changes next) ran = refl
 
-pub connections-served : (caller : ConnId) (request : Request) (state : State) → (served caller request state).state.connections ≡ state.connections
-connections-served caller request state =
-    let plan = plan_of request.call (asked caller state) in
+pub connections-served : (came : Recorded) (state : State) → (served came state).state.connections ≡ state.connections
+connections-served came state =
+    let caller = came.arrival.conn in
+    let plan = plan_of came.arrival.request.call (asked caller state) in
     ap (λ (s : State). s.connections) (state-limited plan (run caller plan state)) ∙ connections-run caller plan state
 
 -- no change sends anything
@@ -51,31 +52,34 @@ silent-run caller (Ends answer changes) state = silent-all caller changes state
 silent-run caller (After changes next) state =
     rw (silent-all caller changes state) (silent-run caller (next (asked caller (performed_all caller changes state))) (performed_all caller changes state))
 
-silent-served : (caller : ConnId) (request : Request) (state : State) → (served caller request state).sends ≡ []
-silent-served caller request state =
-    let plan = plan_of request.call (asked caller state) in
+silent-served : (came : Recorded) (state : State) → (served came state).sends ≡ []
+silent-served came state =
+    let caller = came.arrival.conn in
+    let plan = plan_of came.arrival.request.call (asked caller state) in
     sends-limited plan (run caller plan state) ∙ silent-run caller plan state
 
 -- so a request puts out its reply alone
-pub put_out-served : (caller : ConnId) (request : Request) (state : State)
-    → put_out caller request (served caller request state) ≡ replies caller request (served caller request state).answer
-put_out-served caller request state =
-    let reply = replies caller request (served caller request state).answer in
-    ap (λ sends. reply ++ sends) (silent-served caller request state) ∙ append-nil reply
+pub put_out-served : (came : Recorded) (state : State)
+    → put_out came.arrival.conn came.arrival.request (served came state) ≡ replies came.arrival.conn came.arrival.request (served came state).answer
+put_out-served came state =
+    let reply = replies came.arrival.conn came.arrival.request (served came state).answer in
+    ap (λ sends. reply ++ sends) (silent-served came state) ∙ append-nil reply
 
 -- ---- what a request leads to
 
 -- one that wants no reply leads to what its row does
-pub arrived-silent : (caller : ConnId) (request : Request) (state : State) → request.wants_reply ≡ false → arrived caller request state ≡ (served caller request state).state
-arrived-silent caller request state quiet =
-    let none : replies caller request (served caller request state).answer ≡ [] = rw quiet refl in
-    ap (λ sent. with_delivered sent (served caller request state).state) (put_out-served caller request state ∙ none)
+pub arrived-silent : (came : Recorded) (state : State) → came.arrival.request.wants_reply ≡ false → arrived came state ≡ (served came state).state
+arrived-silent came state quiet =
+    let none : replies came.arrival.conn came.arrival.request (served came state).answer ≡ [] = rw quiet refl in
+    ap (λ sent. with_delivered sent (served came state).state) (put_out-served came state ∙ none)
 
 -- the reply to one that wants it waits, unless too much would wait
-pub arrived-replied : (caller : ConnId) (request : Request) (state : State) → request.wants_reply ≡ true
-    → arrived caller request state
-    ≡ with_rows (changed caller (with_out (message_of request.serial (served caller request state).answer)) (served caller request state).state.connections.rows) (served caller request state).state
-arrived-replied caller request state asks =
-    let out = message_of request.serial (served caller request state).answer in
-    let one : replies caller request (served caller request state).answer ≡ record { to = caller; out = out } ∷ [] = rw asks refl in
-    ap (λ sent. with_delivered sent (served caller request state).state) (put_out-served caller request state ∙ one)
+pub arrived-replied : (came : Recorded) (state : State) → came.arrival.request.wants_reply ≡ true
+    → arrived came state
+    ≡ with_rows (changed came.arrival.conn (with_out (message_of came.arrival.request.serial (served came state).answer)) (served came state).state.connections.rows) (served came state).state
+arrived-replied came state asks =
+    let caller = came.arrival.conn in
+    let request = came.arrival.request in
+    let out = message_of request.serial (served came state).answer in
+    let one : replies caller request (served came state).answer ≡ record { to = caller; out = out } ∷ [] = rw asks refl in
+    ap (λ sent. with_delivered sent (served came state).state) (put_out-served came state ∙ one)

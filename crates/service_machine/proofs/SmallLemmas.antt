@@ -29,6 +29,7 @@ use Rattle.service_machine.specs.Run.{asked, filled, run, bounded, limited}
 use Rattle.service_machine.specs.ServiceCalls.{is_plain, is_small, locks}
 use Rattle.service_machine.specs.SessionCalls.{with_session}
 use Rattle.service_tables.specs.State.{State}
+use Rattle.service_machine.specs.declared.event.Recorded.{Recorded}
 use Rattle.service_machine.specs.Step.{plan_of, message_of, served}
 
 -- the caller can open a session: it has fewer than it may have, and a number is left
@@ -129,10 +130,11 @@ message-small request (Ok body) small = return-waits request.serial 1 body (omeg
 message-small request (Err name) small = error-short request.serial 1 name
 
 -- the answer to a request, and its reply
-pub answer-small : (caller : ConnId) (request : Request) (state : State) → IsSmall (served caller request state).answer
-answer-small caller request state =
-    let plan = plan_of request.call (asked caller state) in
-    small-limited caller plan state (plan-small caller state request.call)
+pub answer-small : (came : Recorded) (state : State) → IsSmall (served came state).answer
+answer-small came state =
+    let caller = came.arrival.conn in
+    let call = came.arrival.request.call in
+    small-limited caller (plan_of call (asked caller state)) state (plan-small caller state call)
 
-pub reply-small : (caller : ConnId) (request : Request) (state : State) → size_of (message_of request.serial (served caller request state).answer) ≤ most_waiting
-reply-small caller request state = message-small request (served caller request state).answer (answer-small caller request state)
+pub reply-small : (came : Recorded) (state : State) → size_of (message_of came.arrival.request.serial (served came state).answer) ≤ most_waiting
+reply-small came state = message-small came.arrival.request (served came state).answer (answer-small came state)

@@ -38,6 +38,7 @@ use Rattle.service_machine.specs.Plan.{Change, Open_session, Close_session, Lock
 use Rattle.service_machine.specs.Run.{asked, performed, performed_all, filled, Ran, run, bounded, limited, secret_returned}
 use Rattle.service_machine.specs.ServiceCalls.{is_plain, is_small, lock, locks, get_secrets}
 use Rattle.service_machine.specs.SessionCalls.{with_session}
+use Rattle.service_machine.specs.declared.event.Recorded.{Recorded}
 use Rattle.service_machine.specs.Step.{with_rows, with_delivered, plan_of, message_of, served, put_out, puts_out, step, Fits}
 use Rattle.service_machine.specs.Replay.{replay, Legal}
 use Rattle.service_tables.specs.Sound.{CanWait, WaitsWell, AreOpened, AreSoundCollections, IsSound}
@@ -269,19 +270,23 @@ replies-wait true sent waits = (waits, tt)
 replies-wait false sent waits = tt
 
 -- the reply to a request, and all that it puts out
-pub reply-waits : (caller : ConnId) (request : Request) (state : State) → IsSound state → CanWait (record { to = caller; out = message_of request.serial (served caller request state).answer })
-reply-waits caller request state sound =
+pub reply-waits : (came : Recorded) (state : State) → IsSound state → CanWait (record { to = came.arrival.conn; out = message_of came.arrival.request.serial (served came state).answer })
+reply-waits came state sound =
+    let caller = came.arrival.conn in
+    let request = came.arrival.request in
     let plan = plan_of request.call (asked caller state) in
-    message-waits caller request (served caller request state).answer
-    (typed-limited plan (run caller plan state) (typed-run caller plan state (may-run caller state request.call sound))) (answer-small caller request state)
+    message-waits caller request (served came state).answer
+    (typed-limited plan (run caller plan state) (typed-run caller plan state (may-run caller state request.call sound))) (answer-small came state)
 
-served-waits : (caller : ConnId) (request : Request) (state : State) → IsSound state → AllByRecursion CanWait (put_out caller request (served caller request state))
-served-waits caller request state sound = rw (put_out-served caller request state) (replies-wait request.wants_reply _ (reply-waits caller request state sound))
+served-waits : (came : Recorded) (state : State) → IsSound state → AllByRecursion CanWait (put_out came.arrival.conn came.arrival.request (served came state))
+served-waits came state sound = rw (put_out-served came state) (replies-wait came.arrival.request.wants_reply _ (reply-waits came state sound))
 
-sound-served : (caller : ConnId) (request : Request) (state : State) → has caller state.connections.rows ≡ true → IsSound state → IsSound (served caller request state).state
-sound-served caller request state there sound =
-    let plan = plan_of request.call (asked caller state) in
-    rw (state-limited plan (run caller plan state)) (sound-run caller plan state there (may-run caller state request.call sound) sound)
+sound-served : (came : Recorded) (state : State) → has came.arrival.conn state.connections.rows ≡ true → IsSound state → IsSound (served came state).state
+sound-served came state there sound =
+    let caller = came.arrival.conn in
+    let call = came.arrival.request.call in
+    let plan = plan_of call (asked caller state) in
+    rw (state-limited plan (run caller plan state)) (sound-run caller plan state there (may-run caller state call sound) sound)
 
 -- ---- an event, a list of events
 
@@ -298,11 +303,11 @@ sound_step state (event.Connect conn) sound fits = record {
   sessions = sessions-among state.connections.rows (joined conn state.connections).rows (λ owner there. has-push owner state.connections.rows (new_row conn) there) state.sessions sound.sessions;
   collections = sound.collections;
 }
-sound_step state (event.Arrive arrival) sound fits =
-    let ran = served arrival.conn arrival.request state in
-    sound-delivered (put_out arrival.conn arrival.request ran)
-    (each-weaker CanWait (λ sent. HasSpelling sent.out) (λ sent waits. waits.spelled) (put_out arrival.conn arrival.request ran) (served-waits arrival.conn arrival.request state sound))
-    ran.state (sound-served arrival.conn arrival.request state fits sound)
+sound_step state (event.Arrive came) sound fits =
+    let ran = served came state in
+    let out = put_out came.arrival.conn came.arrival.request ran in
+    sound-delivered out (each-weaker CanWait (λ sent. HasSpelling sent.out) (λ sent waits. waits.spelled) out (served-waits came state sound))
+    ran.state (sound-served came state fits.0 sound)
 sound_step state (event.Leave conn) sound fits = sound-changed conn left (λ row. refl) (λ row well. record { within = well.within; spelled = well.spelled }) state sound
 sound_step state (event.Take conn) sound fits = sound-changed conn emptied (λ row. refl) (λ row well. record { within = omega arith; spelled = tt }) state sound
 sound_step state (event.Gone conn) sound fits = record {
@@ -318,7 +323,7 @@ sound_replay state (event ∷ events) sound legal = sound_replay (step state eve
 -- what an event puts out can wait
 pub waits_step : (state : State) (event : Event) → IsSound state → Fits state event → AllByRecursion CanWait (puts_out state event)
 waits_step state (event.Connect conn) sound fits = tt
-waits_step state (event.Arrive arrival) sound fits = served-waits arrival.conn arrival.request state sound
+waits_step state (event.Arrive came) sound fits = served-waits came state sound
 waits_step state (event.Leave conn) sound fits = tt
 waits_step state (event.Take conn) sound fits = tt
 waits_step state (event.Gone conn) sound fits = tt

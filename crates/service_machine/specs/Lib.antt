@@ -1,4 +1,5 @@
 pub mod CollectionCalls
+pub mod Fates
 pub mod ItemCalls
 pub mod Machine
 pub mod Plan

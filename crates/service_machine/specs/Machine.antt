@@ -23,7 +23,7 @@ rows_from connections sessions collections aliases = record {
 -- the event is the incoming one; a connection that joins gets a number
 abbrev pub Records : Incoming → Event → Type 0
 Records incoming.Connect (event.Connect conn) = Unit {0}
-Records (incoming.Arrive came) (event.Arrive arrival) = arrival ≡ came
+Records (incoming.Arrive arrival) (event.Arrive came) = came.arrival ≡ arrival
 Records (incoming.Leave conn) (event.Leave conn') = conn' ≡ conn
 Records (incoming.Take conn) (event.Take conn') = conn' ≡ conn
 Records (incoming.Gone conn) (event.Gone conn') = conn' ≡ conn

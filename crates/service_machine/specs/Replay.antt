@@ -28,7 +28,7 @@ event_cost = 64
 -- what an event costs of the memory that stored events take
 abbrev pub cost_of : Event → ℕ
 cost_of (event.Connect conn) = event_cost
-cost_of (event.Arrive arrival) = event_cost + arrival.request.length
+cost_of (event.Arrive came) = event_cost + came.arrival.request.length
 cost_of (event.Leave conn) = event_cost
 cost_of (event.Take conn) = event_cost
 cost_of (event.Gone conn) = event_cost

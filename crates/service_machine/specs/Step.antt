@@ -14,12 +14,15 @@ use Rattle.secret_calls.specs.declared.serial.Serial.{Serial}
 use Rattle.secret_calls.specs.Calls.{error_of}
 use Rattle.session_table.specs.Sessions.{abandoned}
 use Rattle.service_tables.specs.declared.rows.ConnRow.{ConnRow}
+use Rattle.service_machine.specs.declared.event.Arrival.{Arrival}
 use Rattle.service_machine.specs.declared.event.Event.{Event}
 use Rattle.service_machine.specs.declared.event.Event.TheVariants as event
 use Rattle.service_machine.specs.declared.event.Output.{Output}
 use Rattle.service_machine.specs.declared.event.Output.TheVariants as output
+use Rattle.service_machine.specs.declared.event.Recorded.{Recorded}
 use Rattle.service_machine.specs.CollectionCalls.{search_collection}
 use Rattle.service_tables.specs.Connections.{joined, has, changed, without, left, emptied, waiting_for, desk_of, Sent, delivered}
+use Rattle.service_machine.specs.Fates.{AreNone}
 use Rattle.service_machine.specs.ItemCalls.{get_secret}
 use Rattle.service_tables.specs.Limits.{most_connections, last_connection}
 use Rattle.service_machine.specs.Plan.{Questions, Plan, refused}
@@ -61,8 +64,8 @@ replies caller request answer =
     else []
 
 -- what a request leads to, in a state
-abbrev pub served : ConnId → Request → State → Ran
-served caller request state = ran caller (plan_of request.call) state
+abbrev pub served : Recorded → State → Ran
+served came state = ran came.arrival.conn (plan_of came.arrival.request.call) state
 
 -- what a request puts out: its reply, and then what its changes send
 abbrev pub put_out : ConnId → Request → Ran → List Sent
@@ -71,7 +74,7 @@ put_out caller request ran = replies caller request ran.answer ++ ran.sends
 -- what an event puts out
 abbrev pub puts_out : State → Event → List Sent
 puts_out state (event.Connect conn) = []
-puts_out state (event.Arrive arrival) = put_out arrival.conn arrival.request (served arrival.conn arrival.request state)
+puts_out state (event.Arrive came) = put_out came.arrival.conn came.arrival.request (served came state)
 puts_out state (event.Leave conn) = []
 puts_out state (event.Take conn) = []
 puts_out state (event.Gone conn) = []
@@ -81,13 +84,13 @@ abbrev pub with_delivered : List Sent → State → State
 with_delivered sent state = with_rows (delivered sent state.connections.rows) state
 
 -- the state after a request
-abbrev pub arrived : ConnId → Request → State → State
-arrived conn request state = with_delivered (put_out conn request (served conn request state)) (served conn request state).state
+abbrev pub arrived : Recorded → State → State
+arrived came state = with_delivered (put_out came.arrival.conn came.arrival.request (served came state)) (served came state).state
 
 -- the state after an event
 abbrev pub step : State → Event → State
 step state (event.Connect conn) = record state { connections = joined conn state.connections }
-step state (event.Arrive arrival) = arrived arrival.conn arrival.request state
+step state (event.Arrive came) = arrived came state
 step state (event.Leave conn) = with_rows (changed conn left state.connections.rows) state
 step state (event.Take conn) = with_rows (changed conn emptied state.connections.rows) state
 step state (event.Gone conn) = with_rows (without conn state.connections.rows) (record state { sessions = abandoned conn state.sessions })
@@ -95,7 +98,7 @@ step state (event.Gone conn) = with_rows (without conn state.connections.rows) (
 -- what an event answers
 abbrev pub output_of : State → Event → Output
 output_of state (event.Connect conn) = output.Joined conn
-output_of state (event.Arrive arrival) = output.Arrived (record {})
+output_of state (event.Arrive came) = output.Arrived (record {})
 output_of state (event.Leave conn) = output.Left
 output_of state (event.Take conn) = output.Taken (waiting_for conn state.connections.rows)
 output_of state (event.Gone conn) = output.Gone
@@ -112,10 +115,26 @@ IsCrowded state = (most_connections ≤ length state.connections.rows) ⊎ (last
 abbrev pub CanJoin : State → Type 0
 CanJoin state = (length state.connections.rows < most_connections) × (state.connections.next < last_connection)
 
+-- a request has as many fates as its row of the table of calls asks to store files: no row does so far
+abbrev pub AreFatesOf : Recorded → State → Type 0
+AreFatesOf came state = AreNone came.fates
+
+-- what a call leads to depends on the moment at which it came: no row stores the moment so far
+abbrev pub TakesMoment : Result Call CallFault → Type 0
+TakesMoment call = ⊥
+
+-- Two requests that differ in nothing on which their steps depend, except in how their storings end.
+pub record AreAlike (one other : Arrival) : Type 0 where
+  pub conn : one.conn ≡ other.conn
+  pub call : one.request.call ≡ other.request.call
+  pub serial : one.request.serial ≡ other.request.serial
+  pub wants_reply : one.request.wants_reply ≡ other.request.wants_reply
+  pub moment : TakesMoment one.request.call → one.now ≡ other.now
+
 -- the event can happen in the state
 abbrev pub Fits : State → Event → Type 0
 Fits state (event.Connect conn) = (conn.0 ≡ state.connections.next) × (length state.connections.rows < most_connections) × (state.connections.next < last_connection)
-Fits state (event.Arrive arrival) = IsTrue (has arrival.conn state.connections.rows)
+Fits state (event.Arrive came) = IsTrue (has came.arrival.conn state.connections.rows) × AreFatesOf came state
 Fits state (event.Leave conn) = IsSomeAnd (desk_of conn state.connections.rows) (λ desk. desk.leaving ≡ false)
 Fits state (event.Take conn) = IsSomeAnd (desk_of conn state.connections.rows) (λ desk. desk.waits ≡ true)
 Fits state (event.Gone conn) = IsTrue (has conn state.connections.rows)

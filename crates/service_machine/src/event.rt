@@ -21,6 +21,26 @@ pub struct Arrival {
     pub salt: [u8; 8],
 }
 
+/// How one storing of a file, or one removal of it, ended.
+#[derive(Clone, Copy, Debug, Drop, PartialEq, Eq)]
+pub enum Fate {
+    /// The file was replaced, or removed.
+    Stored,
+    /// A call of the device failed before the file could change.
+    Before,
+    /// A call of the device failed, and the file may have changed or not.
+    Unsure,
+}
+
+/// A request as it is recorded.
+#[derive(Drop)]
+pub struct Recorded {
+    /// The request.
+    pub arrival: Arrival,
+    /// How each file that it stored or removed ended, in order.
+    pub fates: Items<Fate>,
+}
+
 /// What may happen to the service.
 #[derive(Drop)]
 pub enum Incoming {
@@ -42,7 +62,7 @@ pub enum Event {
     /// A connection joined, and got this number.
     Connect(ConnId),
     /// A connection asked for something.
-    Arrive(Arrival),
+    Arrive(Recorded),
     /// A connection asked no more.
     Leave(ConnId),
     /// A connection took what waited for it.

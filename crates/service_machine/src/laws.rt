@@ -3,7 +3,10 @@
 ghost use Rattle.std.specs.Prelude.{◌≡◌, ◌++◌, ◌∷◌, [], List};
 ghost use Rattle.std.specs.List.{AllByRecursion};
 ghost use Rattle.service_machine.specs.declared.event.Event.{Event};
-ghost use Rattle.service_machine.specs.Step.{step, puts_out, output_of, Fits};
+ghost use Rattle.service_machine.specs.declared.event.Event.TheVariants as Event;
+ghost use Rattle.service_machine.specs.declared.event.Recorded.{Recorded};
+ghost use Rattle.service_machine.specs.Fates.{AreFaultless};
+ghost use Rattle.service_machine.specs.Step.{step, puts_out, output_of, AreAlike, Fits};
 ghost use Rattle.service_machine.specs.Replay.{replay, Legal, outputs};
 ghost use Rattle.service_tables.specs.Sound.{AreSoundCollections, CanWait, IsSound};
 ghost use Rattle.service_tables.specs.Opened.{Contents, opened_state};
@@ -26,6 +29,18 @@ pub fn steps_keep_the_rows_sound()
 pub fn outputs_can_wait()
     ensures { (state : State) (event : Event) → IsSound state → Fits state event
         → AllByRecursion CanWait (puts_out state event) }
+{}
+
+/// Two requests that are alike lead from one state to one state if their storings ended alike; and these
+/// do if no device failed.
+#[tactic(auto, using(crate::proofs::EventLemmas::step_alike, crate::proofs::EventLemmas::fates_alike))]
+pub fn alike_requests_lead_to_one_state()
+    ensures step { (state : State) (one other : Recorded) → AreAlike one.arrival other.arrival
+        → one.fates ≡ other.fates
+        → step state (Event.Arrive one) ≡ step state (Event.Arrive other) }
+    ensures fates { (state : State) (one other : Recorded) → AreAlike one.arrival other.arrival
+        → Fits state (Event.Arrive one) → Fits state (Event.Arrive other)
+        → AreFaultless one.fates → AreFaultless other.fates → one.fates ≡ other.fates }
 {}
 
 /// One list behind another leads on from where the first one led, is legal where both are, and answers

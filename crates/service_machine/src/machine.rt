@@ -3,18 +3,19 @@ ghost use Rattle.collection_table.specs.Entries.{rows_of as collections_of};
 ghost use Rattle.folder_store.specs.Ring.{IsAsFound};
 ghost use Rattle.service_tables.specs.Connections.{has, waiting_for, desk_of};
 ghost use Rattle.service_tables.specs.Disk.{IsLoaded, FailedToLoad, disk_state};
+ghost use Rattle.service_machine.specs.Fates.{with_fates, AreFaultless, IsFaultless, is_steady};
 ghost use Rattle.service_machine.specs.Machine.{Records, IsDue, IsOfNone, IsConnect, TakesMemory};
 ghost use Rattle.service_tables.specs.Opened.{IsOpened};
 ghost use Rattle.service_machine.specs.Run.{ran};
 ghost use Rattle.service_tables.specs.Sound.{AreSoundCollections};
-ghost use Rattle.service_machine.specs.Step.{step, output_of, arrived, plan_of, message_of, IsMissing, IsCrowded, CanJoin, Fits};
+ghost use Rattle.service_machine.specs.Step.{step, output_of, plan_of, message_of, IsMissing, IsCrowded, CanJoin, Fits};
 
 use crate::answer::{Answer, bounded};
-use crate::{ApplyRefused, Arrived, Event, Incoming, Output};
+use crate::{ApplyRefused, Arrival, Arrived, Event, Fate, Incoming, Output, Recorded};
 use kr_base::{ConnId, OutOfMemory};
 use kr_items::Items;
 use kr_outside::Folder;
-use secret_calls::{Body, Call, CallFault, Out, Request, Serial};
+use secret_calls::{Body, Call, CallFault, Out, Serial};
 use service_tables::{Connections, DeskRow, Disk, OpenRefused, Rows};
 use session_table::SessionTable;
 use std::alloc::Global;
@@ -45,6 +46,8 @@ impl<F: Folder> Machine<F> {
             (F.is_honest folder) (F.is_steady folder))
             F.is_honest F.is_steady F.faults F.images F.may_leave F.made
             folder (disk_of machine) (rows_of machine)) }
+        ensures steady { IfOk result (λ machine.
+            is_steady F.is_steady F.Cell.is_steady (disk_of machine) ≡ F.is_steady folder) }
 
         // The folder is at fault only if it failed, and never if it is steady.
         ensures cause { IsErrOf result OpenRefused.Folder → FailedToLoad (IsAsFound F.Cell.seen
@@ -85,7 +88,11 @@ impl<F: Folder> Machine<F> {
             rows_of self.new ≡ step (rows_of self.old) answer.1) }
         ensures output { IfOk result (λ answer.
             answer.0 ≡ output_of (rows_of self.old) answer.1) }
+        ensures faultless { IsTrue (is_steady F.is_steady F.Cell.is_steady (disk_of self.old))
+            → IfOk result (λ answer. IsFaultless answer.1) }
         ensures disk { disk_of self.new ≡ disk_of self.old }
+        ensures steady { is_steady F.is_steady F.Cell.is_steady (disk_of self.new)
+            ≡ is_steady F.is_steady F.Cell.is_steady (disk_of self.old) }
 
         // Each refusal has its cause, and changes nothing.
         ensures no_connection { IsErrOf result ApplyRefused.NoConnection
@@ -106,8 +113,9 @@ impl<F: Folder> Machine<F> {
             }
             Incoming::Arrive(arrival) => {
                 self.there(arrival.conn)?;
-                self.arrive(arrival.conn, &arrival.request)?;
-                Ok((Output::Arrived(Arrived {}), Event::Arrive(arrival)))
+                let fates = self.arrive(&arrival)?;
+                let event = Event::Arrive(Recorded { arrival, fates });
+                Ok((Output::Arrived(Arrived {}), event))
             }
             Incoming::Leave(conn) => {
                 self.there(conn)?;
@@ -166,20 +174,31 @@ impl<F: Folder> Machine<F> {
         self.connections.join()
     }
 
-    /// Answers the request of a connection that is there; the reply waits for it.
-    pub fn arrive(&mut self, conn: ConnId, request: &Request) -> Result<(), OutOfMemory>
-        requires { has conn (rows_of self.old).connections.rows ≡ true }
-        ensures arrived { OnOk result
-            (rows_of self.new ≡ arrived conn request.now (rows_of self.old)) }
+    /// Answers the request of a connection that is there, for which the reply waits, and returns how each
+    /// file that it stored or removed ended. No row stores one so far.
+    pub fn arrive(&mut self, arrival: &Arrival) -> Result<Items<Fate>, OutOfMemory>
+        requires { has arrival.now.conn (rows_of self.old).connections.rows ≡ true }
+        ensures fits { IfOk result (λ fates.
+            Fits (rows_of self.old) (with_fates arrival.entry.now fates)) }
+        ensures stepped { IfOk result (λ fates.
+            rows_of self.new ≡ step (rows_of self.old) (with_fates arrival.entry.now fates)) }
+        ensures faultless { IsTrue (is_steady F.is_steady F.Cell.is_steady (disk_of self.old))
+            → IfOk result AreFaultless }
         ensures disk { disk_of self.new ≡ disk_of self.old }
+        ensures steady { is_steady F.is_steady F.Cell.is_steady (disk_of self.new)
+            ≡ is_steady F.is_steady F.Cell.is_steady (disk_of self.old) }
         ensures unchanged { OnErr result (rows_of self.new ≡ rows_of self.old) }
     {
+        let conn = arrival.conn;
+        let request = &arrival.request;
         self.connections.reserve(conn)?;
         let answer = self.call(conn, &request.call)?;
-        if request.wants_reply {
-            self.connections.push(conn, message(request.serial, answer));
+        let fates = Items::empty(self.alloc);
+        if !request.wants_reply {
+            return Ok(fates);
         }
-        Ok(())
+        self.connections.push(conn, message(request.serial, answer));
+        Ok(fates)
     }
 
     // Performs the row of a call. The connection's room stays.

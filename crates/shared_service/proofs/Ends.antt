@@ -1,16 +1,20 @@
 -- A call that recorded one event or none, from the turn to the view of its pass.
-use Rattle.std.proofs.Common.{◌≡◌, ℕ, ◌+◌, ◌<◌, Bool, true, false, List, [], ◌∷◌, ◌++◌, length, Option, Some, None, Result, Ok, Err, IfOk, OnErr, refl, sym, ap, ◌∙◌, subst, arith, length-append}
+use Rattle.std.proofs.Common.{◌≡◌, ℕ, ◌+◌, ◌<◌, Bool, true, false, List, [], ◌∷◌, ◌++◌, length, Option, Some, None, Result, Ok, Err, IfOk, OnOk, OnErr, refl, sym, ap, ◌∙◌, subst, arith, length-append}
 use Rattle.std.proofs.lemmas.List.{length_push}
 use Rattle.kr_base.specs.declared.ids.ConnId.{ConnId}
 use Rattle.service_tables.specs.State.{State}
 use Rattle.service_tables.specs.declared.rows.DeskRow.{DeskRow}
+use Rattle.secret_calls.specs.declared.taken.Refused.{Refused}
+use Rattle.service_machine.specs.declared.event.Arrival.{Arrival}
 use Rattle.service_machine.specs.declared.event.Event.{Event}
 use Rattle.service_machine.specs.declared.event.Event.TheVariants as event
+use Rattle.service_machine.specs.declared.event.Fate.{Fate}
+use Rattle.service_machine.specs.Fates.{with_fates}
 use Rattle.service_tables.specs.Connections.{desk_of}
 use Rattle.service_machine.specs.Step.{Fits}
 use Rattle.service_machine.specs.Replay.{Legal}
 use Rattle.service_tables.proofs.FitLemmas.{has-told}
-use Rattle.service_history.specs.History.{History, IsHistory, Stores, cut_where_due, with_event, given_for, taken_by, left_by, gone_by}
+use Rattle.service_history.specs.History.{History, IsHistory, Stores, StoresRequest, cut_where_due, with_event, given_for, taken_by, left_by, gone_by}
 use Rattle.service_history.specs.Windows.{total, is_due}
 use Rattle.service_desk.specs.Views.{View, ArePlaces, with_others, with_own}
 use Rattle.service_desk.proofs.ViewLemmas.{places-below, places-push}
@@ -18,10 +22,10 @@ use Rattle.shared_turn.specs.Passes as turn
 use Rattle.shared_turn.specs.Places.{longer}
 use Rattle.shared_turn.proofs.Histories.{longer-is}
 use Rattle.shared_turn.proofs.Seating.{some-is}
-use Rattle.shared_service.specs.Ends.{IsEnd, StandsFor}
+use Rattle.shared_service.specs.Ends.{IsEnd, IsAsSteady, StandsFor}
 use Rattle.shared_service.specs.Tries.{after_take}
-use Rattle.shared_service.specs.Passes.{start_or, view_of, IsIdle}
-use Rattle.shared_service.specs.Standing.{Stands, newest}
+use Rattle.shared_service.specs.Passes.{start_or, steady_or, view_of, IsIdle}
+use Rattle.shared_service.specs.Standing.{Start, Stands, newest}
 use Rattle.shared_service.proofs.Standing.{total-stands, state-stands, stands-with, stands-due, newest-due, newest-push}
 
 -- the history with this event, if there is one
@@ -42,7 +46,7 @@ Went service (Some event) new =
     × ((start : State) (before : ℕ) (log : List Event) → Stands service start before log → Stands new start before (log ++ event ∷ []))
 
 -- the pass after it recorded the event, if any, and passed the turn on
-abbrev pub ended : Option Event → turn.View State Event → turn.View State Event
+abbrev pub ended : Option Event → turn.View Start Event → turn.View Start Event
 ended None pass = turn.outside pass
 ended (Some event) pass = turn.recorded event pass
 
@@ -67,16 +71,16 @@ gone_event conn (Some desk) = Some (event.Gone conn)
 total-with : (event : Event) (service : History) → total (with_event event service).window ≡ total service.window + 1
 total-with event service = rw (length_push service.window.events event) (omega arith)
 
-module _ (old pass : turn.View State Event) (between : List Event) (is : pass ≡ turn.inside between old) (idle : IsIdle old) (service : History)
-    (found : (start : State) → old.start ≡ Some start → Stands service start old.before pass.seen) where
-  abbrev begun : State
+module _ (old pass : turn.View Start Event) (between : List Event) (is : pass ≡ turn.inside between old) (idle : IsIdle old) (service : History)
+    (found : (start : Start) → old.start ≡ Some start → Stands service start.state old.before pass.seen) where
+  abbrev begun : Start
   begun = idle.start.0
 
   -- the service as it was found
-  pub found-is : Stands service begun old.before (old.seen ++ between)
-  found-is = subst (λ (p : turn.View State Event). Stands service begun old.before p.seen) is (found begun idle.start.1)
+  pub found-is : Stands service begun.state old.before (old.seen ++ between)
+  found-is = subst (λ (p : turn.View Start Event). Stands service begun.state old.before p.seen) is (found begun idle.start.1)
 
-  start-is : start_or old.start ≡ begun
+  start-is : start_or old.start ≡ begun.state
   start-is = ap start_or idle.start.1
 
   -- the same in the view of the pass
@@ -84,28 +88,28 @@ module _ (old pass : turn.View State Event) (between : List Event) (is : pass �
   stands-view = subst (λ (s : State). Stands service s old.before (old.seen ++ between)) (sym start-is) found-is
 
   few : pass.before + length pass.seen < 18446744073709551615
-  few = subst (λ (p : turn.View State Event). p.before + length p.seen < 18446744073709551615) (sym is)
-      (let all = total-stands begun old.before (old.seen ++ between) service found-is in let counted = found-is.kept.counted in omega (arith, all, counted))
+  few = subst (λ (p : turn.View Start Event). p.before + length p.seen < 18446744073709551615) (sym is)
+      (let all = total-stands begun.state old.before (old.seen ++ between) service found-is in let counted = found-is.kept.counted in omega (arith, all, counted))
 
-  stands-for : (new : History) (more : List Event) → Stands new begun old.before ((old.seen ++ between) ++ more) → StandsFor new pass more
-  stands-for new more stands = subst (λ (p : turn.View State Event). StandsFor new p more) (sym is)
-      (λ start at. subst (λ (s : State). Stands new s old.before ((old.seen ++ between) ++ more)) (some-is begun start (sym idle.start.1 ∙ at)) stands)
+  stands-for : (new : History) (more : List Event) → Stands new begun.state old.before ((old.seen ++ between) ++ more) → StandsFor new pass more
+  stands-for new more stands = subst (λ (p : turn.View Start Event). StandsFor new p more) (sym is)
+      (λ start at. subst (λ (s : Start). Stands new s.state old.before ((old.seen ++ between) ++ more)) (some-is begun start (sym idle.start.1 ∙ at)) stands)
 
   pub end-some : (event : Option Event) (new : History) (count : ℕ) → Went service event new → count ≡ total service.window → IsEnd new count pass
   end-some None new count same counted = record {
     few = few;
-    none = λ _. subst (λ (p : turn.View State Event). (start : State) → p.start ≡ Some start → Stands new start p.before p.seen) (sym is)
-        (λ start at. subst (λ (z : History × State). Stands z.0 z.1 old.before (old.seen ++ between)) (λ i. (sym same i, some-is begun start (sym idle.start.1 ∙ at) i)) found-is);
+    none = λ _. subst (λ (p : turn.View Start Event). (start : Start) → p.start ≡ Some start → Stands new start.state p.before p.seen) (sym is)
+        (λ start at. subst (λ (z : History × Start). Stands z.0 z.1.state old.before (old.seen ++ between)) (λ i. (sym same i, some-is begun start (sym idle.start.1 ∙ at) i)) found-is);
     one = λ not. absurd (not (ap (λ (h : History). total h.window) same ∙ sym counted));
   }
   end-some (Some event) new count went counted = record {
     few = few;
     none = λ equal. let more = went.0 in absurd (omega (arith, equal, more, counted));
-    one = λ _. (event, went.1, stands-for new (event ∷ []) (went.2 begun old.before (old.seen ++ between) found-is));
+    one = λ _. (event, went.1, stands-for new (event ∷ []) (went.2 begun.state old.before (old.seen ++ between) found-is));
   }
 
   -- the pass as it is then
-  pub ended-some : (event : Option Event) (new : History) (count : ℕ) (last : turn.View State Event) → Went service event new → count ≡ total service.window
+  pub ended-some : (event : Option Event) (new : History) (count : ℕ) (last : turn.View Start Event) → Went service event new → count ≡ total service.window
       → (total new.window ≡ count → last ≡ turn.outside pass) → ((one : Event) → (total new.window ≡ count → ⊥) → newest new.window.events ≡ one ∷ [] → last ≡ turn.recorded one pass)
       → last ≡ ended event (turn.inside between old)
   ended-some None new count last same counted none one = none (ap (λ (h : History). total h.window) same ∙ sym counted) ∙ ap turn.outside is
@@ -137,16 +141,30 @@ module _ (old pass : turn.View State Event) (between : List Event) (is : pass �
   table-some None = refl
   table-some (Some event) = refl
 
-  -- the pass after the call: it is idle, of the same service, and its view has the event
-  pub done : (event : Option Event) (new : History) (count : ℕ) (last : turn.View State Event) → FitsSome service event → Went service event new → count ≡ total service.window
+  start-some : (event : Option Event) → (ended event (turn.inside between old)).start ≡ old.start
+  start-some None = refl
+  start-some (Some event) = refl
+
+  -- the pass after the call: it is idle, of the same service, its view has the event, and its run began as it did
+  pub done : (event : Option Event) (new : History) (count : ℕ) (last : turn.View Start Event) → FitsSome service event → Went service event new → count ≡ total service.window
       → (total new.window ≡ count → last ≡ turn.outside pass) → ((one : Event) → (total new.window ≡ count → ⊥) → newest new.window.events ≡ one ∷ [] → last ≡ turn.recorded one pass)
-      → IsIdle last × (last.table ≡ old.table) × (view_of last ≡ viewed event (with_others between (view_of old)))
+      → IsIdle last × (last.table ≡ old.table) × (view_of last ≡ viewed event (with_others between (view_of old))) × (steady_or last.start ≡ steady_or old.start)
   done event new count last fits same counted none one =
       let is-last = ended-some event new count last same counted none one in (
         subst IsIdle (sym is-last) (idle-some event fits),
-        ap (λ (p : turn.View State Event). p.table) is-last ∙ table-some event,
+        ap (λ (p : turn.View Start Event). p.table) is-last ∙ table-some event,
         ap view_of is-last ∙ view-some event,
+        ap (λ (p : turn.View Start Event). steady_or p.start) is-last ∙ ap steady_or (start-some event),
       )
+
+-- the disk that was found is as steady as it was where the run of the pass began, and a disk that is as steady as that one is, too
+module _ (old pass : turn.View Start Event) (between : List Event) (is : pass ≡ turn.inside between old) (idle : IsIdle old) (steady : Bool)
+    (found : (start : Start) → old.start ≡ Some start → steady ≡ start.steady) where
+  pub steady-found : steady ≡ steady_or old.start
+  steady-found = found idle.start.0 idle.start.1 ∙ sym (ap steady_or idle.start.1)
+
+  pub steady-still : (now : Bool) → now ≡ steady → IsAsSteady now pass
+  steady-still now same = λ start at. same ∙ found start (sym (ap (λ (p : turn.View Start Event). p.start) is) ∙ at)
 
 -- one more event, after a cut if one was due
 pub went-with : (service new : History) (event : Option Event) → FitsSome service event → new ≡ with_some event service → IsHistory new → Went service event new
@@ -183,6 +201,17 @@ pub went-if : {T F : Type 0} (event : T → Event) (service new : History) (resu
     → Went service (event_if event result) new
 went-if event service new (Ok value) stores same kept = went-due service new (event value) stores kept
 went-if event service new (Err fault) stores same kept = same
+
+-- how the storings of a request ended that was recorded; none did if it wasn't
+abbrev pub fates_if : (steady : Bool) (service : History) (arrival : Arrival) (new : History) (result : Result (Unit {0}) Refused)
+    → OnOk result (StoresRequest steady service arrival new) → List Fate
+fates_if steady service arrival new (Ok done) stores = stores.fates
+fates_if steady service arrival new (Err fault) stores = []
+
+pub stores-if : (steady : Bool) (service : History) (arrival : Arrival) (new : History) (result : Result (Unit {0}) Refused) → (stores : OnOk result (StoresRequest steady service arrival new))
+    → IfOk result (λ _. Stores service (with_fates arrival (fates_if steady service arrival new result stores)) new)
+stores-if steady service arrival new (Ok done) stores = stores.stores
+stores-if steady service arrival new (Err fault) stores = tt
 
 -- what the calls record is with_some of their events, which fit
 left-bool : (conn : ConnId) (service : History) (waits overrun leaving : Bool)
@@ -250,13 +279,13 @@ after-taken conn state view None = refl
 after-taken conn state view (Some desk) = after-bool conn state view desk.waits desk.overrun desk.leaving
 
 -- a pass that took over what another one knows is idle if both were
-pub met-idle : (old other met : turn.View State Event) → IsIdle old → IsIdle other → turn.IsMet old other met → IsIdle met
+pub met-idle : (old other met : turn.View Start Event) → IsIdle old → IsIdle other → turn.IsMet old other met → IsIdle met
 met-idle old other met idle idle-other gathered =
     let same : start_or other.start ≡ start_or old.start = ap start_or (sym gathered.start) in
-    let seen : met.seen ≡ longer old.seen other.seen = ap (λ (p : turn.View State Event). p.seen) gathered.is in record {
-      start = (idle.start.0, ap (λ (p : turn.View State Event). p.start) gathered.is ∙ idle.start.1);
-      outside = ap (λ (p : turn.View State Event). p.has_turn) gathered.is ∙ idle.outside;
-      legal = subst (λ (p : turn.View State Event). Legal (start_or p.start) p.seen) (sym gathered.is)
+    let seen : met.seen ≡ longer old.seen other.seen = ap (λ (p : turn.View Start Event). p.seen) gathered.is in record {
+      start = (idle.start.0, ap (λ (p : turn.View Start Event). p.start) gathered.is ∙ idle.start.1);
+      outside = ap (λ (p : turn.View Start Event). p.has_turn) gathered.is ∙ idle.outside;
+      legal = subst (λ (p : turn.View Start Event). Legal (start_or p.start) p.seen) (sym gathered.is)
           (longer-is (Legal (start_or old.start)) old.seen other.seen idle.legal (subst (λ (s : State). Legal s other.seen) same idle-other.legal));
       places = same-places 0 (length met.seen) met.own gathered.places;
     }

@@ -5,18 +5,11 @@ use mathlib.Core.HLevel.{×_prop, Unit-prop}
 use Rattle.std.proofs.Props.{props}
 use Rattle.service_tables.specs.State.{State}
 use Rattle.service_machine.specs.declared.event.Event.{Event}
-use Rattle.service_machine.specs.declared.event.Event.TheVariants as event
-use Rattle.service_machine.specs.Step.{step, Fits}
+use Rattle.service_machine.specs.Step.{step}
+use Rattle.service_machine.proofs.EventLemmas.{fits-prop}
 use Rattle.service_machine.specs.Replay.{Legal}
 use Rattle.service_desk.specs.Views.{View, ArePlaces, IsView}
 use Rattle.shared_service.specs.Passes.{state_of, count_of}
-
-fits-prop : (state : State) (event : Event) → IsProp (Fits state event)
-fits-prop state (event.Connect conn) = Prim.hlevel props
-fits-prop state (event.Arrive arrival) = Prim.hlevel props
-fits-prop state (event.Leave conn) = Prim.hlevel props
-fits-prop state (event.Take conn) = Prim.hlevel props
-fits-prop state (event.Gone conn) = Prim.hlevel props
 
 events-prop : (state : State) (events : List Event) → IsProp (Legal state events)
 events-prop state [] = Unit-prop

@@ -1,5 +1,5 @@
 -- What a pass is: the service that it belongs to, and its view of that service's history.
-use Rattle.std.specs.Prelude.{◌≡◌, ℕ, ◌+◌, true, false, [], length, Option, Some, None}
+use Rattle.std.specs.Prelude.{◌≡◌, ℕ, ◌+◌, Bool, true, false, [], length, Option, Some, None}
 use Rattle.atomic_table.specs.Seated.{TableId}
 use Rattle.kr_base.specs.declared.ids.ConnId.{ConnId}
 use Rattle.service_tables.specs.State.{State}
@@ -15,36 +15,43 @@ use Rattle.service_machine.specs.declared.event.JoinRefused.{JoinRefused}
 use Rattle.service_machine.specs.declared.event.JoinRefused.TheVariants as join
 use Rattle.shared_turn.specs.Passes as turn
 use Rattle.shared_turn.specs.Places.{StartsWith, longer, merged}
+use Rattle.shared_service.specs.Standing.{Start}
 
--- a pass, as contracts see it
+-- a pass, as contracts see it: the service that it belongs to, whether the disk of that is steady, and its view
 pub record Seen : Type 0 where
   pub table : TableId
+  pub steady : Bool
   pub view : View
 
 -- the start, if there is one; a service without anything stands for none
-abbrev pub start_or : Option State → State
+abbrev pub start_or : Option Start → State
 start_or None = opened_state (record { collections = []; aliases = [] })
-start_or (Some start) = start
+start_or (Some start) = start.state
+
+-- whether the disk is steady, if there is a start
+abbrev pub steady_or : Option Start → Bool
+steady_or None = false
+steady_or (Some start) = start.steady
 
 -- the view of a turn's pass
-abbrev pub view_of : turn.View State Event → View
+abbrev pub view_of : turn.View Start Event → View
 view_of pass = record { start = start_or pass.start; before = pass.before; seen = pass.seen; own = pass.own }
 
 -- the same, with the service that it belongs to
-abbrev pub seen_of : turn.View State Event → Seen
-seen_of pass = record { table = pass.table; view = view_of pass }
+abbrev pub seen_of : turn.View Start Event → Seen
+seen_of pass = record { table = pass.table; steady = steady_or pass.start; view = view_of pass }
 
 -- What is true of a pass between two calls: it doesn't have the turn, what it has seen is legal from its start, and its own places are
 -- among that.
-pub record IsIdle (pass : turn.View State Event) : Type 0 where
-  pub start : (start : State) × (pass.start ≡ Some start)
+pub record IsIdle (pass : turn.View Start Event) : Type 0 where
+  pub start : (start : Start) × (pass.start ≡ Some start)
   pub outside : pass.has_turn ≡ false
   pub legal : Legal (start_or pass.start) pass.seen
   pub places : ArePlaces 0 (length pass.seen) pass.own
 
 -- the first pass of a service: it has seen the stored events, and none of them is its own
-abbrev pub opened : TableId → Window → Seen
-opened table window = record { table = table; view = record { start = window.base; before = window.era; seen = window.events; own = [] } }
+abbrev pub opened : TableId → Bool → Window → Seen
+opened table steady window = record { table = table; steady = steady; view = record { start = window.base; before = window.era; seen = window.events; own = [] } }
 
 -- a pass that has seen the same, and recorded nothing
 abbrev pub noted : Seen → Seen
@@ -58,13 +65,14 @@ state_of view = replay view.start view.seen
 abbrev pub count_of : View → ℕ
 count_of view = view.before + length view.seen
 
--- What is known of a desk on a shared service, given its view: others record events too, and a call of `take` waits.
-abbrev pub told : ConnId → View → Told
-told conn view = record { conn = conn; state = state_of view; count = count_of view; is_alone = false; is_steady = true; is_waiting = true }
+-- What is known of a desk on a shared service, given whether the disk of that is steady, and its view: others record events too, and a
+-- call of `take` waits.
+abbrev pub told : ConnId → Bool → View → Told
+told conn steady view = record { conn = conn; state = state_of view; count = count_of view; is_alone = false; is_steady = steady; is_waiting = true }
 
 -- where such a desk is; what it has seen is exactly its view
-abbrev pub spot : ConnId → View → Place
-spot conn view = record { told = told conn view; has_seen = λ other. other ≡ view }
+abbrev pub spot : ConnId → Bool → View → Place
+spot conn steady view = record { told = told conn steady view; has_seen = λ other. other ≡ view }
 
 -- the refusal's cause, in what the pass has seen
 abbrev pub HasCause : JoinRefused → View → Type 0
@@ -73,13 +81,14 @@ HasCause join.TooManyConnections view = IsCrowded (state_of view)
 HasCause join.OutOfMemory view = Unit {0}
 
 -- Why no connection could join, according to the state that the pass has seen by then; nothing was recorded.
-abbrev pub IsRefused : JoinRefused → View → View → Type 0
-IsRefused refused old new = ((conn : ConnId) → Looks (spot conn old) (spot conn new)) × HasCause refused new
+abbrev pub IsRefused : Bool → JoinRefused → View → View → Type 0
+IsRefused steady refused old new = ((conn : ConnId) → Looks (spot conn steady old) (spot conn steady new)) × HasCause refused new
 
 -- Both belong to one run. The pass also knows what the other one did: it has seen the longer of the two histories, of which each had seen a
 -- beginning, and the places of both are its own, each once.
 pub record IsGathered (old other new : Seen) : Type 0 where
   pub start : old.view.start ≡ other.view.start
+  pub steady : old.steady ≡ other.steady
   pub before : old.view.before ≡ other.view.before
   pub is : new ≡ record old { view = record old.view { seen = longer old.view.seen other.view.seen; own = merged old.view.own other.view.own } }
   pub starts : StartsWith new.view.seen old.view.seen

@@ -1,9 +1,10 @@
 -- What a service is in a run: the history since the run's start led to it.
-use Rattle.std.specs.Prelude.{◌≡◌, ℕ, ◌+◌, ◌≤◌, List, [], ◌∷◌, length, take, drop}
+use Rattle.std.specs.Prelude.{◌≡◌, ℕ, ◌+◌, ◌≤◌, Bool, List, [], ◌∷◌, length, take, drop}
 use Rattle.service_tables.specs.State.{State}
 use Rattle.service_machine.specs.declared.event.Event.{Event}
 use Rattle.service_machine.specs.Replay.{replay, Legal}
-use Rattle.service_history.specs.History.{History, IsHistory}
+use Rattle.service_machine.specs.Fates.{is_steady}
+use Rattle.service_history.specs.History.{History, ServiceState, IsHistory}
 
 -- The run began with this state, after this many events, and this is its history since then. The service keeps the
 -- events since its last cut; those before it led to its base. So a cut doesn't change the history.
@@ -15,6 +16,20 @@ pub record Stands (service : History) (start : State) (before : ℕ) (log : List
   pub era : service.window.era ≡ before + cut
   pub base : service.window.base ≡ replay start (take cut log)
   pub events : service.window.events ≡ drop cut log
+
+-- where a run begins: the state, and whether the disk is steady
+pub record Start : Type 0 where
+  pub state : State
+  pub steady : Bool
+
+-- a run that begins with this service, at its last cut
+abbrev pub start_of : {F S : Type 0} → (F → Bool) → (S → Bool) → ServiceState F S → Start
+start_of folder_steady slot_steady service = record { state = service.history.window.base; steady = is_steady folder_steady slot_steady service.disk }
+
+-- The service is what the history led to, and its disk is steady exactly if it was at the start.
+pub record IsLedTo {F S : Type 0} (folder_steady : F → Bool) (slot_steady : S → Bool) (service : ServiceState F S) (start : Start) (before : ℕ) (log : List Event) : Type 0 where
+  pub history : Stands service.history start.state before log
+  pub steady : is_steady folder_steady slot_steady service.disk ≡ start.steady
 
 -- the last of some events, alone in a list
 abbrev pub newest : List Event → List Event

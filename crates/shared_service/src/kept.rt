@@ -4,21 +4,22 @@ use service_machine::{Event, Machine};
 use shared_turn::Chronicle;
 use std::marker::Model;
 
-/// The state of a service at a moment. It exists for contracts alone, which see the state: no code makes
-/// one.
+/// The state of a service at a moment, and whether its disk is steady. It exists for contracts alone,
+/// which see these two: no code makes one.
 #[derive(Drop)]
 pub struct Moment<F: Folder> {
     machine: Machine<F>,
+    steady: bool,
 }
 
 impl<F: Folder> Model for Moment<F> {
-    ghost use Rattle.service_tables.specs.State.{State};
+    ghost use Rattle.shared_service.specs.Standing.{Start};
 
-    ghost Value = { State };
+    ghost Value = { Start };
 
     ghost use Rattle.service_machine.specs.Rows.{rows_of};
 
-    ghost view = { λ m. rows_of m.machine };
+    ghost view = { λ m. record { state = rows_of m.machine; steady = m.steady } };
 }
 
 /// The service that threads use by turns.
@@ -28,19 +29,19 @@ pub struct Kept<F: Folder> {
 }
 
 impl<F: Folder> Chronicle for Kept<F> {
-    ghost use Rattle.shared_service.specs.Standing.{Stands, newest};
+    ghost use Rattle.shared_service.specs.Standing.{start_of, IsLedTo, newest};
 
     type Start = Moment<F>;
 
     type Event = Event;
 
-    ghost start = { λ kept. kept.service.history.window.base };
+    ghost start = { λ kept. start_of F.is_steady F.Cell.is_steady kept.service };
 
     ghost before = { λ kept. kept.service.history.window.era };
 
     ghost events = { λ kept. kept.service.history.window.events };
 
-    ghost stands = { λ kept. Stands kept.service.history };
+    ghost stands = { λ kept. IsLedTo F.is_steady F.Cell.is_steady kept.service };
 
     ghost newest = { λ kept. newest kept.service.history.window.events };
 }

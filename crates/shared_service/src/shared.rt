@@ -1,6 +1,7 @@
 ghost use Rattle.std.specs.Prelude.{◌≡◌, ◌+◌, ◌∷◌, [], true, IfOk, OnOk, OnErr, IfErr};
 ghost use Rattle.service_machine.specs.declared.event.Event.{Event};
 ghost use Rattle.service_machine.specs.declared.event.Event.TheVariants as event;
+ghost use Rattle.service_machine.specs.Fates.{is_steady};
 ghost use Rattle.service_history.specs.History.{IsHistory};
 ghost use Rattle.service_history.specs.Windows.{total};
 ghost use Rattle.service_machine.specs.declared.event.Output.TheVariants as output;
@@ -8,7 +9,7 @@ ghost use Rattle.service_desk.specs.Places.{Looks, Extends};
 ghost use Rattle.service_desk.specs.Calls.{Arrives, IsRefusal, Leaves, Takes, Goes};
 ghost use Rattle.shared_turn.specs.Passes.{outside, recorded};
 ghost use Rattle.shared_service.specs.Standing.{newest};
-ghost use Rattle.shared_service.specs.Ends.{IsEnd};
+ghost use Rattle.shared_service.specs.Ends.{IsEnd, IsAsSteady};
 ghost use Rattle.shared_service.specs.Passes.{opened, noted, spot, told, IsRefused, IsGathered};
 ghost use Rattle.shared_service.specs.Tries.{Tries, IsClosed};
 
@@ -54,7 +55,8 @@ impl<F: Folder> SharedService<F> {
         alloc: Global,
         service: Service<F>,
     ) -> Result<(SharedService<F>, Pass<F>), OutOfMemory>
-        ensures { IfOk result (λ both. both.1 ≡ opened both.0 service.history.window) }
+        ensures { IfOk result (λ both. both.1 ≡ opened both.0
+            (is_steady F.is_steady F.Cell.is_steady service.disk) service.history.window) }
     {
         let count = total(&service);
         let (turn, inner) = Turn::open(alloc, Kept { service }, count)?;
@@ -66,6 +68,8 @@ impl<F: Folder> SharedService<F> {
         requires table { inner.old.table ≡ self.now }
         requires inside { inner.old.has_turn ≡ true }
         requires ended { IsEnd kept.service.history count inner.old }
+        requires steady { IsAsSteady (is_steady F.is_steady F.Cell.is_steady kept.service.disk)
+            inner.old }
         ensures same { total kept.service.history.window ≡ count → inner.new ≡ outside inner.old }
         ensures recorded { (event : Event) → (total kept.service.history.window ≡ count → ⊥)
             → newest kept.service.history.window.events ≡ event ∷ []
@@ -83,7 +87,9 @@ impl<F: Folder> SharedService<F> {
     pub fn leave<R: Wait>(&self, rt: &R, pass: &mut Pass<F>, conn: ConnId)
         requires table { pass.old.table ≡ self.now }
         ensures same { pass.new.table ≡ pass.old.table }
-        ensures left { Leaves (spot conn pass.old.view) (spot conn pass.new.view) }
+        ensures steady { pass.new.steady ≡ pass.old.steady }
+        ensures left { Leaves (spot conn pass.old.steady pass.old.view)
+            (spot conn pass.old.steady pass.new.view) }
     {
         let mut kept = self.turn.enter(rt, &mut pass.inner);
         let count = total(&kept.service);
@@ -95,7 +101,9 @@ impl<F: Folder> SharedService<F> {
     pub fn gone<R: Wait>(&self, rt: &R, pass: &mut Pass<F>, conn: ConnId)
         requires table { pass.old.table ≡ self.now }
         ensures same { pass.new.table ≡ pass.old.table }
-        ensures gone { Goes (spot conn pass.old.view) (spot conn pass.new.view) }
+        ensures steady { pass.new.steady ≡ pass.old.steady }
+        ensures gone { Goes (spot conn pass.old.steady pass.old.view)
+            (spot conn pass.old.steady pass.new.view) }
     {
         let mut kept = self.turn.enter(rt, &mut pass.inner);
         let count = total(&kept.service);
@@ -107,6 +115,7 @@ impl<F: Folder> SharedService<F> {
     fn try_take<R: Wait>(&self, rt: &R, pass: &mut Pass<F>, conn: ConnId) -> (Taken, u64)
         requires table { pass.old.table ≡ self.now }
         ensures same { pass.new.table ≡ pass.old.table }
+        ensures steady { pass.new.steady ≡ pass.old.steady }
         ensures tried { Tries conn pass.old.view result.0 pass.new.view }
     {
         let mut kept = self.turn.enter(rt, &mut pass.inner);
@@ -122,7 +131,9 @@ impl<F: Folder> SharedService<F> {
     pub fn take<R: Wait>(&self, rt: &R, pass: &mut Pass<F>, conn: ConnId) -> Taken
         requires table { pass.old.table ≡ self.now }
         ensures same { pass.new.table ≡ pass.old.table }
-        ensures taken { Takes (spot conn pass.old.view) (spot conn pass.new.view) result }
+        ensures steady { pass.new.steady ≡ pass.old.steady }
+        ensures taken { Takes (spot conn pass.old.steady pass.old.view)
+            (spot conn pass.old.steady pass.new.view) result }
     {
         for _ in rt.forever() {
             let (taken, count) = self.try_take(rt, pass, conn);
@@ -150,12 +161,14 @@ impl<F: Folder> SharedService<F> {
     ) -> Result<(), Refused>
         requires table { pass.old.table ≡ self.now }
         ensures same { pass.new.table ≡ pass.old.table }
+        ensures steady { pass.new.steady ≡ pass.old.steady }
         ensures recorded { OnOk result (Arrives
-            (spot conn pass.old.view) (spot conn pass.new.view)
-            (event.Arrive (record { conn = conn; request = request; now = now; salt = salt }))) }
+            (spot conn pass.old.steady pass.old.view) (spot conn pass.old.steady pass.new.view)
+            (record { conn = conn; request = request; now = now; salt = salt })) }
         ensures looked { OnErr result (Looks
-            (spot conn pass.old.view) (spot conn pass.new.view)) }
-        ensures cause { IfErr result (λ refused. IsRefusal refused (told conn pass.new.view)) }
+            (spot conn pass.old.steady pass.old.view) (spot conn pass.old.steady pass.new.view)) }
+        ensures cause { IfErr result (λ refused.
+            IsRefusal refused (told conn pass.old.steady pass.new.view)) }
     {
         let arrival = Arrival {
             conn,
@@ -174,11 +187,12 @@ impl<F: Folder> SharedService<F> {
     fn connect<R: Wait>(&self, rt: &R, pass: &mut Pass<F>) -> Result<ConnId, JoinRefused>
         requires table { pass.old.table ≡ self.now }
         ensures same { pass.new.table ≡ pass.old.table }
+        ensures steady { pass.new.steady ≡ pass.old.steady }
         ensures joined { IfOk result (λ conn. Extends
-            (spot conn pass.old.view) (spot conn pass.new.view)
+            (spot conn pass.old.steady pass.old.view) (spot conn pass.old.steady pass.new.view)
             (event.Connect conn) (output.Joined conn)) }
         ensures refused { IfErr result (λ refused.
-            IsRefused refused pass.old.view pass.new.view) }
+            IsRefused pass.old.steady refused pass.old.view pass.new.view) }
     {
         let mut kept = self.turn.enter(rt, &mut pass.inner);
         let count = total(&kept.service);
@@ -200,13 +214,15 @@ impl<F: Folder> SharedService<F> {
     ) -> Result<(ConnId, Pass<F>, Pass<F>), JoinRefused>
         requires table { pass.old.table ≡ self.now }
         ensures same { pass.new.table ≡ pass.old.table }
+        ensures steady { pass.new.steady ≡ pass.old.steady }
         ensures joined { IfOk result (λ joined. Extends
-            (spot joined.0 pass.old.view) (spot joined.0 pass.new.view)
+            (spot joined.0 pass.old.steady pass.old.view)
+            (spot joined.0 pass.old.steady pass.new.view)
             (event.Connect joined.0) (output.Joined joined.0)) }
         ensures passes { IfOk result (λ joined.
             (joined.1 ≡ noted pass.new) × (joined.2 ≡ noted pass.new)) }
         ensures refused { IfErr result (λ refused.
-            IsRefused refused pass.old.view pass.new.view) }
+            IsRefused pass.old.steady refused pass.old.view pass.new.view) }
     {
         let conn = self.connect(rt, pass)?;
         let reader = self.note(pass);
@@ -239,7 +255,8 @@ impl<F: Folder> SharedService<F> {
     /// passed on, so a later call waits forever.
     pub fn close<R: Wait>(&self, rt: &R, mut pass: Pass<F>) -> Service<F>
         requires table { pass.table ≡ self.now }
-        ensures { IsClosed pass.view result.history }
+        ensures closed { IsClosed pass.view result.history }
+        ensures steady { is_steady F.is_steady F.Cell.is_steady result.disk ≡ pass.steady }
     {
         let kept = self.turn.enter(rt, &mut pass.inner);
         let Kept { service } = kept;

@@ -1,4 +1,4 @@
-use Rattle.std.proofs.Common.{refl}
+use Rattle.std.proofs.Common.{[], refl}
 use Rattle.service_desk.specs.Places.{place}
 use Rattle.connection_worker.proofs.ServingLemmas.{has-arrived, has-asked, spent-before}
 use Rattle.connection_worker.proofs.serving.ask.Goals as goal
@@ -9,9 +9,9 @@ returns-in-Ok g c =
     let desk = g.D.Desk in
     let old = place desk.told desk.has_seen c.args.desk.now in
     let new = place desk.told desk.has_seen c.arrive.new.self in (
-      record { request = c.args.request; now = c.now-now.result; salt = c.next.result },
+      record { request = c.args.request; now = c.now-now.result; salt = c.next.result; fates = c.in-Ok.ensures.recorded.fates },
       refl,
-      has-arrived old new _ _ _ c.next.new.self _ c.requires.alone c.in-Ok.ensures.recorded c.now-now.ensures.first c.next.ensures.salt
+      has-arrived old new _ _ _ c.next.new.self _ c.requires.alone c.in-Ok.ensures.recorded.recorded c.now-now.ensures.first c.next.ensures.salt
           (λ i. record { key = c.next.ensures.key i; stream = c.next.ensures.stream i; place = c.next.ensures.place i }),
     )
 
@@ -21,7 +21,7 @@ returns-in-Err-EventsSpent g c =
     let desk = g.D.Desk in
     let old = place desk.told desk.has_seen c.args.desk.now in
     let new = place desk.told desk.has_seen c.arrive.new.self in (
-      record { request = c.args.request; now = c.now-now.result; salt = c.next.result },
+      record { request = c.args.request; now = c.now-now.result; salt = c.next.result; fates = [] },
       refl,
       has-asked old new _ _ _ c.next.new.self _ c.requires.alone c.in-Err-EventsSpent.ensures.looked c.now-now.ensures.first c.next.ensures.salt
           (λ i. record { key = c.next.ensures.key i; stream = c.next.ensures.stream i; place = c.next.ensures.place i }),
@@ -34,7 +34,7 @@ returns-in-Err-OutOfMemory g c =
     let desk = g.D.Desk in
     let old = place desk.told desk.has_seen c.args.desk.now in
     let new = place desk.told desk.has_seen c.arrive.new.self in (
-      record { request = c.args.request; now = c.now-now.result; salt = c.next.result },
+      record { request = c.args.request; now = c.now-now.result; salt = c.next.result; fates = [] },
       refl,
       has-asked old new _ _ _ c.next.new.self _ c.requires.alone c.in-Err-OutOfMemory.ensures.looked c.now-now.ensures.first c.next.ensures.salt
           (λ i. record { key = c.next.ensures.key i; stream = c.next.ensures.stream i; place = c.next.ensures.place i }),

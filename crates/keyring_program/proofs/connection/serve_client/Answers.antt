@@ -1,4 +1,4 @@
-use Rattle.std.proofs.Common.{◌≡◌, ℕ, ◌+◌, ◌∙◌, ap, subst}
+use Rattle.std.proofs.Common.{◌≡◌, ℕ, ◌+◌, sym, ◌∙◌, ap, subst}
 use Rattle.rand_chacha.specs.ChaCha.{key_of}
 use Rattle.kr_base.specs.declared.ids.ConnId.{ConnId}
 use Rattle.dbus_auth.specs.Exchange.{Exchange}
@@ -26,8 +26,9 @@ returns g c =
     let to = input_of g.I.Source.left g.I.Source.faults g.I.Source.is_steady c.one_thread-end.new.input in
     let sink = output_of g.O.Sink.written g.O.Sink.faults g.O.Sink.is_steady c.args.output.now in
     let behind = output_of g.O.Sink.written g.O.Sink.faults g.O.Sink.is_steady c.one_thread-end.new.output in
-    let old = world told has_seen g.C.Clock.coming desk c.args.clock.now c.new-salts.result in
-    let new = world told has_seen g.C.Clock.coming c.one_thread-end.new.desk c.one_thread-end.new.clock c.one_thread-end.new.salts in
+    let known = told g.F.Folder.is_steady g.F.Cell.Slot.is_steady in
+    let old = world known has_seen g.C.Clock.coming desk c.args.clock.now c.new-salts.result in
+    let new = world known has_seen g.C.Clock.coming c.one_thread-end.new.desk c.one_thread-end.new.clock c.one_thread-end.new.salts in
     let contents : Contents = contents_of c.args.service.history.state in
     let fits : Fits (opened_state contents) (event.Connect desk.conn) = subst (λ (s : State). Fits s (event.Connect desk.conn)) c.requires.starts c.in-Ok.ensures.fits in
     let conn = first-connection contents desk.conn fits in
@@ -41,10 +42,10 @@ returns g c =
     let name = ap (λ (e : Exchange). e.guid) c.new-auth.ensures ∙ c.guid_of.ensures in
     let served = subst (λ u. IsServed u (guid c.args.seed) from to sink behind old new c.one_thread-end.result) uid
     (subst (λ n. IsServed c.new-auth.result.uid n from to sink behind old new c.one_thread-end.result) name c.one_thread-end.ensures) in
-    rw c.of_end.ensures (serves contents c.args.uid c.args.seed from to sink behind old new c.one_thread-end.result conn state count salting served)
+    rw (c.of_end.ensures, sym c.in-Ok.ensures.disk) (serves contents c.args.uid c.args.seed from to sink behind old new c.one_thread-end.result conn state count salting served)
 
 -- there was no memory for the joining
 pub returns-in-Err-OutOfMemory : goal.returns-in-Err-OutOfMemory
 returns-in-Err-OutOfMemory g c =
     serves-none (contents_of c.args.service.history.state) c.args.uid c.args.seed (g.C.Clock.coming c.args.clock.now) (input_of g.I.Source.left g.I.Source.faults g.I.Source.is_steady c.args.input.now)
-    (output_of g.O.Sink.written g.O.Sink.faults g.O.Sink.is_steady c.args.output.now)
+    (output_of g.O.Sink.written g.O.Sink.faults g.O.Sink.is_steady c.args.output.now) _

@@ -13,6 +13,10 @@ returns-in-Ok-clause-opened g c images honest told =
       starts = ap contents_of is.starts;
     }) c.open.ensures.loaded
 
+-- what it loaded is as steady as the host
+pub returns-in-Ok-clause-steady_disk : goal.returns-in-Ok-clause-steady_disk
+returns-in-Ok-clause-steady_disk g c = IfOk-weaker c.open.result _ _ (λ service is. is ∙ c.in-Ok.ensures.steady_folder) c.open.ensures.steady
+
 -- a steady host's folder is steady, and never at fault
 pub returns-in-Ok-clause-cause : goal.returns-in-Ok-clause-cause
 returns-in-Ok-clause-cause g c is = inr (λ steady. c.open.ensures.never (c.in-Ok.ensures.steady_folder ∙ steady) is)

@@ -24,7 +24,7 @@ returns-in_default-clause-complete g c uid bytes words whole told steady input o
 -- the folder is open
 pub returns-in-Ok-clause-usage : goal.returns-in-Ok-clause-usage
 returns-in-Ok-clause-usage g c = (
-  λ usage. absurd (never-usage c.in-Some.uid c.args.seed _ _ _ _ _ _ c.serve_client.result c.serve_client.ensures usage),
+  λ usage. absurd (never-usage c.in-Some.uid c.args.seed _ _ _ _ _ _ _ c.serve_client.result c.serve_client.ensures usage),
   λ off. absurd (off c.in-Some.uid c.in-Some.ensures.is),
 )
 
@@ -38,13 +38,13 @@ returns-in-Ok-clause-served g c uid words =
       contents_of c.in-Ok.service.history.state,
       λ had folder images here honest told.
           (c.in-Ok.ensures.opened images honest (rw (one_folder c.args.words.now c.in-Some.folder.now folder c.in-Some.uid uid c.in-Some.ensures here) told)),
-      rw (one_user c.args.words.now uid c.in-Some.uid words c.in-Some.ensures.is, sym (c.clock-clock.ensures.told ∙ c.open_service.ensures.coming)) c.serve_client.ensures,
+      rw (one_user c.args.words.now uid c.in-Some.uid words c.in-Some.ensures.is, sym (c.clock-clock.ensures.told ∙ c.open_service.ensures.coming), sym c.in-Ok.ensures.steady_disk) c.serve_client.ensures,
     )
 
 pub returns-in-Ok-clause-complete : goal.returns-in-Ok-clause-complete
 returns-in-Ok-clause-complete g c uid bytes words whole told steady input output =
     let serves = rw (one_user c.args.words.now c.in-Some.uid uid c.in-Some.ensures.is words) at c.serve_client.ensures in
-    complete uid c.args.seed bytes _ _ _ _ _ _ c.serve_client.result serves whole told input output
+    complete uid c.args.seed bytes _ _ _ _ _ _ _ c.serve_client.result serves whole told input output
 
 -- it isn't
 pub returns-in-Err-Folder-clause-usage : goal.returns-in-Err-Folder-clause-usage
@@ -61,5 +61,5 @@ returns-in-Err-OutOfMemory-clause-served g c uid words =
       nothing,
       λ had. absurd had,
       serves-none nothing uid c.args.seed (g.H.Host.coming c.args.host.now)
-          (input_of g.I.Source.left g.I.Source.faults g.I.Source.is_steady c.args.input.now) (output_of g.O.Sink.written g.O.Sink.faults g.O.Sink.is_steady c.args.output.now),
+          (input_of g.I.Source.left g.I.Source.faults g.I.Source.is_steady c.args.input.now) (output_of g.O.Sink.written g.O.Sink.faults g.O.Sink.is_steady c.args.output.now) _,
     )

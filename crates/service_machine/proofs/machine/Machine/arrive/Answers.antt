@@ -1,6 +1,7 @@
-use Rattle.std.proofs.Common.{◌≡◌, ap, sym, ◌∙◌}
+use Rattle.std.proofs.Common.{◌≡◌, [], ap, sym, ◌∙◌}
 use Rattle.secret_calls.specs.declared.out.Out.{Out}
 use Rattle.service_tables.specs.Connections.{changed, with_out}
+use Rattle.service_machine.specs.declared.event.Recorded.{Recorded}
 use Rattle.service_machine.specs.Rows.{rows_of}
 use Rattle.service_tables.specs.State.{State}
 use Rattle.service_machine.specs.Step.{message_of, served, with_rows}
@@ -8,27 +9,27 @@ use Rattle.service_machine.proofs.RunLemmas.{arrived-replied, arrived-silent}
 use Rattle.service_machine.proofs.machine.Machine.arrive.Goals as goal
 
 -- room for the reply changes no row, and after it the row of the call is performed; its reply waits
-pub returns-then-request-clause-arrived : goal.returns-then-request-clause-arrived
-returns-then-request-clause-arrived g c =
-    let conn = c.args.conn in
-    let request = c.args.request.now in
+pub returns-clause-stepped : goal.returns-clause-stepped
+returns-clause-stepped g c =
+    let conn = c.args.arrival.now.conn in
+    let request = c.args.arrival.now.request in
+    let came : Recorded = record { arrival = c.args.arrival.now; fates = [] } in
     let old = rows_of c.args.self.now in
     let called = rows_of c.call.new.self in
     let same : rows_of (record c.args.self.now { connections = c.reserve.new.self }) ≡ old =
     λ i. record old { connections = record { rows = c.reserve.ensures.unchanged i; next = c.reserve.ensures.next i } } in
-    let state : called ≡ (served conn request old).state = c.in_ok-answer.ensures.state ∙ ap (λ (s : State). (served conn request s).state) same in
-    let out : c.message.result ≡ message_of request.serial (served conn request old).answer =
-    c.message.ensures ∙ ap (message_of request.serial) (c.in_ok-answer.ensures.answer ∙ ap (λ (s : State). (served conn request s).answer) same) in
+    let state : called ≡ (served came old).state = c.in_ok-answer.ensures.state ∙ ap (λ (s : State). (served came s).state) same in
+    let out : c.message.result ≡ message_of request.serial (served came old).answer =
+    c.message.ensures ∙ ap (message_of request.serial) (c.in_ok-answer.ensures.answer ∙ ap (λ (s : State). (served came s).answer) same) in
     (λ i. record called { connections = record { rows = c.push.ensures.rows i; next = c.push.ensures.next i } })
     ∙ ap (λ (o : Out). with_rows (changed conn (with_out o) called.connections.rows) called) out
-    ∙ ap (λ (s : State). with_rows (changed conn (with_out (message_of request.serial (served conn request old).answer)) s.connections.rows) s) state
-    ∙ sym (arrived-replied conn request old c.if-request.true)
+    ∙ ap (λ (s : State). with_rows (changed conn (with_out (message_of request.serial (served came old).answer)) s.connections.rows) s) state
+    ∙ sym (arrived-replied came old c.if-not-request.false)
 
-pub returns-else-request-clause-arrived : goal.returns-else-request-clause-arrived
-returns-else-request-clause-arrived g c =
-    let conn = c.args.conn in
-    let request = c.args.request.now in
+pub returns-then-not-request-clause-stepped : goal.returns-then-not-request-clause-stepped
+returns-then-not-request-clause-stepped g c =
+    let came : Recorded = record { arrival = c.args.arrival.now; fates = [] } in
     let old = rows_of c.args.self.now in
     let same : rows_of (record c.args.self.now { connections = c.reserve.new.self }) ≡ old =
     λ i. record old { connections = record { rows = c.reserve.ensures.unchanged i; next = c.reserve.ensures.next i } } in
-    c.in_ok-answer.ensures.state ∙ ap (λ (s : State). (served conn request s).state) same ∙ sym (arrived-silent conn request old c.if-request.false)
+    c.in_ok-answer.ensures.state ∙ ap (λ (s : State). (served came s).state) same ∙ sym (arrived-silent came old c.if-not-request.true)

@@ -5,3 +5,7 @@ invariant_of-self-clause-legal g c = c.has_seen_a_history.ensures.legal
 
 pub invariant_of-self-clause-places : goal.invariant_of-self-clause-places
 invariant_of-self-clause-places g c = c.has_seen_a_history.ensures.places
+
+-- the pass is as steady as before
+pub returns : goal.returns
+returns g c = rw c.take-taken.ensures.steady c.take-taken.ensures.taken
