@@ -75,7 +75,7 @@ def rattle_program(folder, name, text, lines, more="", proofs=None):
     laid_out(folder, lines)
     own = folder / "crates" / name
     for path, file in {"src/main.rt": text, **{f"proofs/{it}": proof for it, proof in (proofs or {}).items()}}.items():
-        (own / path).parent.mkdir(parents=True)
+        (own / path).parent.mkdir(parents=True, exist_ok=True)
         (own / path).write_text(file)
     with open(folder / "crates.txt", "a") as listed:
         listed.write(f"{name}: " + " ".join(line.partition(":")[0] for line in lines) + more + "\n")

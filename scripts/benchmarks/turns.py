@@ -1,19 +1,18 @@
-"""What the turn of a service that threads share costs, without and with contention, against a mutex of the C library round work
-that takes as long; and whether a take that waits uses the processor."""
+"""What the turn of a service that threads share costs, without and with contention, against a mutex of the C library
+around work that takes as long; and whether a `take` that waits uses the processor."""
 import os, time
-from benchmarks.shared import best, c_program, lines_of, rattle_program, run
+from benchmarks.shared import ROOT, best, c_program, lines_of, rattle_program, run
 
-TURNS_PROGRAM = """//! Threads that bring requests to one service: `alone`, to the service itself; `shared`, by a desk each; `waits`, one that takes
-//! what another brings two seconds later.
+TURNS_PROGRAM = """//! Threads that bring requests to one service: `alone`, to the service itself; `shared`, by a desk each; `waits`, one
+//! that takes what another brings two seconds later.
 #![tactic(auto)]
 
 ghost use Rattle.std.specs.Prelude.{◌≡◌, IfSome};
 ghost use Rattle.std.specs.Arc.{arc_value};
 
-use kr_base::ConnId;
-use secret_calls::{Call, Request};
+use kr_memory_disk::MemoryFolder;
+use secret_calls::{Call, Request, Serial};
 use service_desk::{ReadDesk, WriteDesk};
-use service_history::Service;
 use service_machine::Arrival;
 use shared_service::{Pass, SharedDesk, SharedService};
 use std::alloc::Global;
@@ -23,17 +22,26 @@ use std::thread;
 use std::thread::Threads;
 use std::time::{Clock, Duration};
 
+type Service = service_history::Service<MemoryFolder>;
+
+type Shared = Arc<SharedService<MemoryFolder>, Global>;
+
 fn ping(wants_reply: bool) -> Request {
     Request {
-        serial: 1,
+        serial: Serial { number: 1 },
         wants_reply,
         length: 128,
         call: Ok(Call::Ping),
     }
 }
 
+fn opened(alloc: Global) -> Option<Service> {
+    let folder = MemoryFolder::new(alloc, Vec::new(alloc));
+    Service::open(alloc, folder).ok()
+}
+
 fn alone(alloc: Global, count: u64) -> Option<usize> {
-    let mut service = Service::open(alloc);
+    let mut service = opened(alloc)?;
     let conn = service.join().ok()?;
     for _ in 0..count {
         service.arrive(Arrival { conn, request: ping(false), now: 0, salt: [0; 8] }).ok()?;
@@ -41,10 +49,10 @@ fn alone(alloc: Global, count: u64) -> Option<usize> {
     Some(service.events().len())
 }
 
-fn shared(alloc: Global) -> Option<(Arc<SharedService, Global>, Pass)>
+fn shared(alloc: Global) -> Option<(Shared, Pass<MemoryFolder>)>
     ensures { IfSome result (λ both. both.1.table ≡ arc_value both.0) }
 {
-    let (service, pass) = SharedService::open(alloc, Service::open(alloc)).ok()?;
+    let (service, pass) = SharedService::open(alloc, opened(alloc)?).ok()?;
     let service = Arc::new(alloc, service).ok()?;
     Some((service, pass))
 }
@@ -55,7 +63,7 @@ fn asks<D: ReadDesk>(desk: &mut D, count: u64) {
     }
 }
 
-fn reader<R: Wait + Copy>(rt: R, service: &Arc<SharedService, Global>, pass: &mut Pass) -> Option<SharedDesk<R>>
+fn reader<R: Wait + Copy>(rt: R, service: &Shared, pass: &mut Pass<MemoryFolder>) -> Option<SharedDesk<R, MemoryFolder>>
     requires { pass.old.table ≡ arc_value service.now }
     ensures { pass.new.table ≡ pass.old.table }
 {
@@ -63,7 +71,7 @@ fn reader<R: Wait + Copy>(rt: R, service: &Arc<SharedService, Global>, pass: &mu
     Some(SharedDesk::new(rt, Arc::try_clone(service).ok()?, reader, conn))
 }
 
-fn readers<R: Wait + Copy + Drop>(rt: R, alloc: Global, service: &Arc<SharedService, Global>, pass: &mut Pass, threads: usize) -> Option<Vec<SharedDesk<R>>>
+fn readers<R: Wait + Copy + Drop>(rt: R, alloc: Global, service: &Shared, pass: &mut Pass<MemoryFolder>, threads: usize) -> Option<Vec<SharedDesk<R, MemoryFolder>>>
     requires { pass.old.table ≡ arc_value service.now }
     ensures { pass.new.table ≡ pass.old.table }
 {
@@ -122,13 +130,31 @@ fn main(rt: HostRuntime) {
 }
 """
 
-# the pass is of the same service after each turn of the loop
 READERS_PROOF = """use Rattle.std.proofs.Common.{◌≡◌}
 use Rattle.turns_bench.proofs.readers.Given as goal
 
 -- the pass is of the same service
 abbrev pub invariant-loop : goal.invariant-loop
 invariant-loop g l = l.pass.table ≡ l.initial.pass.table
+"""
+
+TOGETHER_PROOF = """use denote.Exit.{yes}
+use denote.Param.Send.{arg_send, param_send}
+use Rattle.turns_bench.proofs.Sends.{desk-send}
+use Rattle.turns_bench.proofs.together.Goals as goal
+
+-- a desk may go to another thread
+pub for_each_mut-requires-send-T : goal.for_each_mut-requires-send-T
+for_each_mut-requires-send-T g c κs within = param_send _ _ (arg_send _ yes _ (desk-send _ c.type_bounds.send-R))
+"""
+
+WAITS_PROOF = """use denote.Param.Send.{sendable}
+use Rattle.turns_bench.proofs.Sends.{desk-send}
+use Rattle.turns_bench.proofs.waits.Goals as goal
+
+-- the desk that takes may go to another thread
+pub join-requires-send-F : goal.join-requires-send-F
+join-requires-send-F g c κs within = search (desk-send, sendable) depth 40 fits 20000
 """
 
 # as many threads as told, each of which takes the mutex as often as told and works as many rounds while it holds it
@@ -161,6 +187,14 @@ int main(int argc, char **argv) {
 EVENTS = 400000
 
 
+def proofs():
+    """The program's own proof files. What may be sent to another thread is proved as tests_threads proves it."""
+    lemmas = ROOT / "crates/tests_threads/proofs"
+    files = {str(it.relative_to(lemmas)): it.read_text().replace("Rattle.tests_threads.", "Rattle.turns_bench.")
+             for it in (lemmas / "Lib.antt", lemmas / "Sends.antt", *sorted((lemmas / "Sends").glob("*.antt")))}
+    return {**files, "readers/Invariants.antt": READERS_PROOF, "together/Answers.antt": TOGETHER_PROOF, "waits/Answers.antt": WAITS_PROOF}
+
+
 def quickest(words, rounds=5):
     """The least seconds of the clock that a run took."""
     least = None
@@ -173,9 +207,7 @@ def quickest(words, rounds=5):
 
 
 def measure(folder):
-    ours = rattle_program(folder, "turns_bench", TURNS_PROGRAM, lines_of(
-        ["kr_base", "kr_items", "session_table", "secret_calls", "service_machine", "service_history", "service_desk", "shared_turn",
-         "shared_service"]), " atomic_table", {"readers/Invariants.antt": READERS_PROOF})
+    ours = rattle_program(folder, "turns_bench", TURNS_PROGRAM, lines_of(["kr_memory_disk", "shared_service"]), " atomic_table", proofs())
     mutex = c_program(folder, "mutex", MUTEX_C, "-lpthread")
     alone, shared = best([ours, "alone", 1, EVENTS])[0], best([ours, "shared", 1, EVENTS])[0]
     unlocked, locked = best([mutex, 1, 20 * EVENTS, 0, 0])[0] / 20, best([mutex, 1, 20 * EVENTS, 0, 1])[0] / 20

@@ -1,0 +1,29 @@
+-- What of secret_calls may be sent to another thread.
+use denote.Param.Send.{IsSend, sendable}
+use Rattle.secret_calls.specs.contracts.call.Call as Call
+use Rattle.secret_calls.specs.contracts.call.Request as Request
+use Rattle.secret_calls.specs.contracts.out.Body as Body
+use Rattle.secret_calls.specs.contracts.out.Out as Out
+use Rattle.secret_calls.specs.contracts.secret.ItemSecret as ItemSecret
+use Rattle.secret_calls.specs.contracts.secret.ReturnedSecret as ReturnedSecret
+use Rattle.tests_threads.proofs.Sends.KrBase.{Attributes-send, Bytes-send, Stem-send, Text-send}
+use Rattle.tests_threads.proofs.Sends.KrItems.{Items-send}
+use Rattle.tests_threads.proofs.Sends.KrNames.{ObjectName-field-send, ObjectName-send}
+
+Call-send : IsSend Call.the_row
+Call-send = search (Text-send, Stem-send, Attributes-send, ObjectName-send, ObjectName-field-send, Items-send, sendable) depth 40 fits 20000
+
+pub Request-send : IsSend (Request.the_field).row
+Request-send = search (Call-send, sendable) depth 40
+
+ReturnedSecret-send : IsSend (ReturnedSecret.the_field).row
+ReturnedSecret-send = search (Bytes-send, Text-send, sendable) depth 40
+
+ItemSecret-send : IsSend ItemSecret.the_row
+ItemSecret-send = search (Text-send, ReturnedSecret-send, sendable) depth 40
+
+Body-send : IsSend (Body.the_field).row
+Body-send = search (Text-send, ReturnedSecret-send, ItemSecret-send, Items-send, sendable) depth 40 fits 20000
+
+pub Out-send : IsSend Out.the_row
+Out-send = search (Body-send, sendable) depth 40

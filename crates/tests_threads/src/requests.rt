@@ -1,0 +1,25 @@
+// The requests that the threads bring.
+
+use secret_calls::{Call, Request, Serial};
+use service_desk::ReadDesk;
+
+// A Ping with this serial. A reply to it may be wanted.
+fn ping(number: u32, wants_reply: bool) -> Option<Request> {
+    if number == 0 {
+        return None;
+    }
+    Some(Request {
+        serial: Serial { number },
+        wants_reply,
+        length: 128,
+        call: Ok(Call::Ping),
+    })
+}
+
+/// Brings one more request, and returns whether it was recorded.
+pub fn asks<D: ReadDesk>(desk: &mut D, serial: u32, wants_reply: bool) -> bool {
+    match ping(serial, wants_reply) {
+        Some(request) => desk.arrive(request, 0, [0; 8]).is_ok(),
+        None => false,
+    }
+}
