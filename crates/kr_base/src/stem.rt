@@ -16,6 +16,9 @@ use std::fmt;
 use std::hash::{Hash, Hasher};
 use std::marker::Model;
 
+/// The most bytes of a stem.
+const STEM_LIMIT: usize = 243;
+
 /// A collection's stem: the name of its file without `.keyring`. It has 1 to 243 bytes and contains
 /// no `/`. A contract sees the list of its bytes.
 #[derive(Drop)]
@@ -36,7 +39,7 @@ fn is_stem(text: &str) -> bool
     ensures yes { OnTrue result (IsStem text.now) }
     ensures no { OnFalse result (IsNoStem text.now) }
 {
-    if text.is_empty() || text.len() > 243 {
+    if text.is_empty() || text.len() > STEM_LIMIT {
         return false;
     }
     !text.as_bytes().contains(&b'/') && !text.as_bytes().contains(&0)

@@ -9,7 +9,7 @@ use Rattle.std.proofs.lemmas.Bool.{eqb-true}
 use Rattle.std.proofs.lemmas.Bool.Decides.{nat_tests, Decides-like, Decides-not, Decides-and, Decides-ltb, Decides-by_and}
 use Rattle.std.proofs.lemmas.Map.Views.{Contains-from_any, list_any-from_Contains}
 use Rattle.std.proofs.lemmas.Str.{IsUtf8-from_is_utf8, is_utf8-from_IsUtf8}
-use Rattle.kr_base.specs.Stem.{IsStem}
+use Rattle.kr_base.specs.Stem.{stem_limit, IsStem}
 use Rattle.kr_names.specs.declared.object_name.ObjectName.{ObjectName}
 use Rattle.kr_names.specs.declared.object_name.ObjectName.TheVariants.{Nothing, Service, Agent, Collection, Item, Alias, Session, Prompt}
 use Rattle.kr_names.specs.Escape.{is_path_byte}
@@ -31,7 +31,7 @@ stem_Decides bytes =
     (λ is. (is.text.utf8, (is.text.no_zero, (is.some, (is.fits, is.no_slash)))))
     (Decides-and _ _ (λ e. IsUtf8-from_is_utf8 bytes e, λ is. is_utf8-from_IsUtf8 bytes is)
     (Decides-and _ _ (Decides-not _ (has_Decides 0 bytes))
-    (Decides-and _ _ (Decides-ltb 0 (length bytes)) (Decides-and _ _ (le_Decides (length bytes) 243) (Decides-not _ (has_Decides 47 bytes))))))
+    (Decides-and _ _ (Decides-ltb 0 (length bytes)) (Decides-and _ _ (le_Decides (length bytes) stem_limit) (Decides-not _ (has_Decides 47 bytes))))))
 
 alias_Decides : (bytes : List ℕ) → Decides (is_alias bytes) (IsAliasName bytes)
 alias_Decides bytes =

@@ -4,6 +4,7 @@ use Rattle.std.specs.Prelude.{ℕ, ◌^◌, ◌&&◌, ◌==◌, not, nat_eq, nat
 use Rattle.std.specs.List.{list_all, list_any}
 use Rattle.std.specs.Str.{bytes_eq, is_utf8}
 use Rattle.std.specs.Str.Parse.{digits_value}
+use Rattle.kr_base.specs.Stem.{stem_limit}
 use Rattle.kr_names.specs.declared.object_name.ObjectName.{ObjectName}
 use Rattle.kr_names.specs.declared.object_name.ObjectName.TheVariants.{Nothing, Service, Agent, Collection, Item, Alias, Session, Prompt}
 use Rattle.kr_names.specs.Escape.{is_path_byte, unescaped}
@@ -11,7 +12,7 @@ use Rattle.kr_names.specs.Path.{alias_limit, path_text}
 
 -- whether the bytes are a stem
 abbrev pub is_stem : List ℕ → Bool
-is_stem bytes = is_utf8 bytes && (not (list_any (nat_eq 0) bytes) && (nat_lt 0 (length bytes) && (nat_le (length bytes) 243 && not (list_any (nat_eq 47) bytes))))
+is_stem bytes = is_utf8 bytes && (not (list_any (nat_eq 0) bytes) && (nat_lt 0 (length bytes) && (nat_le (length bytes) stem_limit && not (list_any (nat_eq 47) bytes))))
 
 -- whether the bytes are the name of an alias
 abbrev pub is_alias : List ℕ → Bool
