@@ -12,6 +12,7 @@ use std::alloc::{AllocError, Global};
 use std::marker::Model;
 use std::snapshot::Snapshot;
 use std::sync::Wait;
+use std::sync::atomic::{AtomicU64, Ordering};
 
 // Word 0: the events of the run.
 const EVENTS: usize = 0;
@@ -22,10 +23,17 @@ const DRAWN: usize = 1;
 // Word 2: the ticket that is served.
 const SERVED: usize = 2;
 
+// How often a thread sleeps before it draws a ticket although others have the turn or wait for it.
+const PATIENCE: u32 = 16;
+
 /// A value that threads use by turns. A contract sees which table it is.
 #[derive(Drop)]
 pub struct Turn<C: Chronicle> {
     board: Board<C>,
+    // The ticket at the end of whose turn a thread that sleeps without a ticket is woken.
+    wakes_after: AtomicU64,
+    // How many threads sleep until another event is recorded.
+    awaiting: AtomicU64,
 }
 
 impl<C: Chronicle> Model for Turn<C> {
@@ -56,26 +64,51 @@ impl<C: Chronicle> Turn<C> {
         slots.push(Some(value)).unwrap();
         let words = [count, 0, 0];
         match Table::new(alloc, &words, slots, &key) {
-            Ok((board, place)) => Ok((Turn { board }, Pass { place })),
+            Ok((board, place)) => {
+                let turn = Turn {
+                    board,
+                    wakes_after: AtomicU64::new(0),
+                    awaiting: AtomicU64::new(0),
+                };
+                Ok((turn, Pass { place }))
+            }
             Err(_) => Err(AllocError),
         }
     }
 
-    // Draws the next ticket. Once the last ticket is drawn there is no other, and it tries forever.
+    // Sleeps without a ticket while this one is served.
+    fn sleep_through<R: Wait>(&self, rt: &R, served: u64) {
+        self.wakes_after.store(served, Ordering::SeqCst);
+        self.board
+            .shared
+            .park(rt, SERVED, (served % (1 << 32)) as u32);
+    }
+
+    // Draws the next ticket when no thread has one, or after it has slept often. If it slept, the end of its
+    // turn wakes another thread, since only one is woken at a time. Once the last ticket is drawn there is
+    // no other, and it tries forever.
     fn draw<R: Wait>(&self, rt: &R, place: &mut Place<C>) -> u64
         requires table { place.old.table_id ≡ self.now }
         requires known { IsWithoutTicket place.old.me.0 }
         ensures same { (place.new.table_id ≡ place.old.table_id) × (place.new.id ≡ place.old.id) }
         ensures drawn { place.new.me ≡ with_ticket result place.old.me }
     {
+        let mut slept = 0;
         for _ in rt.forever() {
+            let served = self.board.shared.peek(SERVED);
             let next = self.board.shared.peek(DRAWN);
-            if next < u64::MAX {
+            if next != served && slept < PATIENCE {
+                self.sleep_through(rt, served);
+                slept += 1;
+            } else if next < u64::MAX {
                 let found = self
                     .board
                     .shared
                     .compare_exchange::<Draw>(place, DRAWN, next, next + 1);
                 if found == next {
+                    if slept > 0 {
+                        self.wakes_after.store(next, Ordering::SeqCst);
+                    }
                     return next;
                 }
             }
@@ -107,15 +140,20 @@ impl<C: Chronicle> Turn<C> {
         unreachable!()
     }
 
-    // Passes the turn on. The value is back in its slot.
+    // Passes the turn on, and wakes a thread that sleeps, or all of them if one has the next ticket. The
+    // value is back in its slot.
     fn hand(&self, place: &mut Place<C>)
         requires table { place.old.table_id ≡ self.now }
         requires ready { (value : C) × HasSlot C.stands value place.old.me }
         ensures same { (place.new.table_id ≡ place.old.table_id) × (place.new.id ≡ place.old.id) }
         ensures handed { place.new.me ≡ without_turn place.old.me }
     {
-        self.board.shared.fetch_add::<Hand>(place, SERVED, 1);
-        self.board.shared.wake_all(SERVED);
+        let served = self.board.shared.fetch_add::<Hand>(place, SERVED, 1);
+        if self.board.shared.peek(DRAWN) != served.wrapping_add(1) {
+            self.board.shared.wake_all(SERVED);
+        } else if self.wakes_after.load(Ordering::SeqCst) == served {
+            self.board.shared.wake_one(SERVED);
+        }
     }
 
     /// Gives back the value, in which one more event was recorded, and passes the turn on. All
@@ -134,8 +172,10 @@ impl<C: Chronicle> Turn<C> {
         self.board
             .shared
             .fetch_add::<Count<C>>(&mut pass.place, EVENTS, 1);
-        self.board.shared.wake_all(EVENTS);
         self.hand(&mut pass.place);
+        if self.awaiting.load(Ordering::SeqCst) > 0 {
+            self.board.shared.wake_all(EVENTS);
+        }
     }
 
     /// Gives back the value, in which nothing more was recorded, and passes the turn on.
@@ -154,9 +194,11 @@ impl<C: Chronicle> Turn<C> {
     /// Sleeps while the run has exactly `count` events, as far as the lower 32 bits of the number
     /// show. It may also return for no reason.
     pub fn sleep<R: Wait>(&self, rt: &R, count: u64) {
+        self.awaiting.fetch_add(1, Ordering::SeqCst);
         self.board
             .shared
             .park(rt, EVENTS, (count % (1 << 32)) as u32);
+        self.awaiting.fetch_sub(1, Ordering::SeqCst);
     }
 
     /// A new pass, which has seen the same and recorded nothing.
