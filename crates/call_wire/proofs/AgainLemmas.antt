@@ -79,6 +79,12 @@ body_is (body.Objects objects) fits =
       spelled = ((refl, paths_fit 63 objects fits.typed few.0, refl), tt);
       arrays = all_short (values_of (body.Objects objects)) 0 fits.short;
     }
+body_is (body.Made item) fits =
+    let few = all_within array_limit (values_of (body.Made item)) 0 fits.short in
+    record { listed = refl; spelled = (path_fits 64 item fits.typed few.0, (no_object_fits, tt)); arrays = refl }
+body_is (body.Object object) fits =
+    let few = all_within array_limit (values_of (body.Object object)) 0 fits.short in
+    record { listed = refl; spelled = (path_fits 64 object fits.typed few.0, tt); arrays = refl }
 body_is (body.Secret secret) fits =
     let few = all_within array_limit (values_of (body.Secret secret)) 0 fits.short in
     record {
@@ -135,12 +141,14 @@ array_in (Ty.entry key t) elements = body.Secrets (secrets_in elements)
 array_in t elements = body.Objects (texts_in elements)
 
 abbrev one_in : Val → Body
+one_in (Val.text b text) = body.Object text
 one_in (Val.array t elements) = array_in t elements
 one_in (Val.struct fields) = body.Secret (secret_of fields)
 one_in value = body.Empty
 
 abbrev two_in : Val → Val → Body
 two_in (Val.variant value) other = body.Session (session_in other)
+two_in (Val.text b text) other = body.Made text
 two_in (Val.array t elements) (Val.array u others) = body.Found (texts_in elements) (texts_in others)
 two_in (Val.array t elements) other = body.Locked (texts_in elements)
 two_in value other = body.Empty
@@ -171,6 +179,8 @@ body_again (body.Found unlocked locked) typed =
     ap (λ u. body.Found u (texts_in (path_values locked))) (texts_again unlocked) ∙ ap (body.Found unlocked) (texts_again locked)
 body_again (body.Locked objects) typed = ap body.Locked (texts_again objects)
 body_again (body.Objects objects) typed = ap body.Objects (texts_again objects)
+body_again (body.Made item) typed = refl
+body_again (body.Object object) typed = refl
 body_again (body.Secret secret) typed = ap body.Secret (secret_again secret typed)
 body_again (body.Secrets secrets) typed = ap body.Secrets (secrets_again secrets typed)
 
@@ -188,6 +198,7 @@ which text =
     if bytes_eq text (error_text name.UnknownMethod) then name.UnknownMethod else
     if bytes_eq text (error_text name.InvalidArgs) then name.InvalidArgs else
     if bytes_eq text (error_text name.LimitsExceeded) then name.LimitsExceeded else
+    if bytes_eq text (error_text name.IOError) then name.IOError else
     if bytes_eq text (error_text name.IsLocked) then name.IsLocked else
     if bytes_eq text (error_text name.NoSession) then name.NoSession else name.NoSuchObject
 
@@ -205,6 +216,7 @@ named name.UnknownInterface = record { plain = plain_literal (error_text name.Un
 named name.UnknownMethod = record { plain = plain_literal (error_text name.UnknownMethod) refl; short = omega arith; formed = refl; alone = refl }
 named name.InvalidArgs = record { plain = plain_literal (error_text name.InvalidArgs) refl; short = omega arith; formed = refl; alone = refl }
 named name.LimitsExceeded = record { plain = plain_literal (error_text name.LimitsExceeded) refl; short = omega arith; formed = refl; alone = refl }
+named name.IOError = record { plain = plain_literal (error_text name.IOError) refl; short = omega arith; formed = refl; alone = refl }
 named name.IsLocked = record { plain = plain_literal (error_text name.IsLocked) refl; short = omega arith; formed = refl; alone = refl }
 named name.NoSession = record { plain = plain_literal (error_text name.NoSession) refl; short = omega arith; formed = refl; alone = refl }
 named name.NoSuchObject = record { plain = plain_literal (error_text name.NoSuchObject) refl; short = omega arith; formed = refl; alone = refl }
@@ -225,6 +237,8 @@ fields_short (out.Return to (body.Session session)) serial = omega arith
 fields_short (out.Return to (body.Found unlocked locked)) serial = omega arith
 fields_short (out.Return to (body.Locked objects)) serial = omega arith
 fields_short (out.Return to (body.Objects objects)) serial = omega arith
+fields_short (out.Return to (body.Made item)) serial = omega arith
+fields_short (out.Return to (body.Object object)) serial = omega arith
 fields_short (out.Return to (body.Secret secret)) serial = omega arith
 fields_short (out.Return to (body.Secrets secrets)) serial = omega arith
 fields_short (out.Error to name.NotSupported) serial = omega arith
@@ -233,6 +247,7 @@ fields_short (out.Error to name.UnknownInterface) serial = omega arith
 fields_short (out.Error to name.UnknownMethod) serial = omega arith
 fields_short (out.Error to name.InvalidArgs) serial = omega arith
 fields_short (out.Error to name.LimitsExceeded) serial = omega arith
+fields_short (out.Error to name.IOError) serial = omega arith
 fields_short (out.Error to name.IsLocked) serial = omega arith
 fields_short (out.Error to name.NoSession) serial = omega arith
 fields_short (out.Error to name.NoSuchObject) serial = omega arith

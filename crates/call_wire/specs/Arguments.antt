@@ -1,6 +1,8 @@
 -- How the arguments of calls are read: what their values contain (D-Bus Specification, "Type System"), and what that means to the
--- service (Secret Service API draft 0.2, "Attributes"). Each reading is None if a value isn't of the expected type.
-use Rattle.std.specs.Prelude.{ℕ, ◌&&◌, Bool, true, false, List, [], ◌∷◌, map, Option, Some, None, Result, Err, option_map, option_and_then, unwrap_or}
+-- service (Secret Service API draft 0.2, "Attributes" and "Secrets"). Each reading is None if a value isn't of the expected type.
+use Rattle.std.specs.Prelude.{ℕ, ◌==◌, not, ◌&&◌, Bool, true, false, List, [], ◌∷◌, map, Option, Some, None, Result, Err, option_map, option_and_then, unwrap_or}
+use Rattle.std.specs.Option.{option_or}
+use Rattle.std.specs.Str.{bytes_eq}
 use Rattle.kr_base.specs.declared.ids.SessionId.{SessionId}
 use Rattle.kr_base.specs.declared.attributes.AttrValue.{AttrValue}
 use Rattle.kr_base.specs.declared.attributes.AttrValue.TheVariants as value
@@ -10,9 +12,11 @@ use Rattle.kr_names.specs.declared.object_name.ObjectName.TheVariants as name
 use Rattle.kr_names.specs.Naming.{name_of_path}
 use Rattle.dbus_types.specs.declared.complete_type.BasicType.{BasicType}
 use Rattle.dbus_types.specs.declared.complete_type.BasicType.TheVariants as basics
+use Rattle.dbus_types.specs.Known.{is_variant}
 use Rattle.dbus_types.specs.Types.{Ty}
 use Rattle.dbus_types.specs.Values.{Val, Vals}
-use Rattle.dbus_framing.specs.Headers.{where_is, path_in, string_in}
+use Rattle.dbus_framing.specs.Headers.{where_is, path_in, string_in, held_in, parts_in}
+use Rattle.secret_calls.specs.declared.secret.Secret.{Secret}
 use Rattle.secret_calls.specs.declared.call.Call.{Call}
 use Rattle.secret_calls.specs.declared.call.CallFault.{CallFault}
 use Rattle.secret_calls.specs.declared.call.CallFault.TheVariants as fault
@@ -26,15 +30,36 @@ without_arguments call (Vals.more value values) = Err fault.InvalidArgs
 
 -- ---- what values contain
 
+-- whether a value of type `b` is true
+abbrev pub truth_in : Val → Option Bool
+truth_in (Val.number basics.Boolean bit) = Some (not (bit == 0))
+truth_in _ = None
+
+-- the bytes in a value of type `ay`
+abbrev pub bytes_in : Val → Option (List ℕ)
+bytes_in (Val.bytes bytes) = Some bytes
+bytes_in _ = None
+
 -- the key and the value of an entry
 abbrev pub entry_in : Val → Option (Val × Val)
 entry_in (Val.entry key held) = Some (key, held)
 entry_in _ = None
 
--- the type of elements of this kind: `o` or `{ss}`
+-- the values, if there are exactly three
+abbrev pub three_of : Vals → Option (Val × Val × Val)
+three_of (Vals.more first (Vals.more second (Vals.more third Vals.end))) = Some (first, second, third)
+three_of _ = None
+
+-- the values, if there are exactly four
+abbrev pub four_of : Vals → Option (Val × Val × Val × Val)
+four_of (Vals.more first (Vals.more second (Vals.more third (Vals.more fourth Vals.end)))) = Some (first, second, third, fourth)
+four_of _ = None
+
+-- the type of elements of this kind: `o`, `{ss}` or `{sv}`
 abbrev pub type_of_element : ElementType → Ty
 type_of_element element.Path = Ty.basic basics.ObjectPath
 type_of_element element.TextPair = Ty.entry basics.String (Ty.basic basics.String)
+type_of_element element.Property = Ty.entry basics.String Ty.variant
 
 -- whether a basic type is `s`
 abbrev pub is_string : BasicType → Bool
@@ -56,10 +81,16 @@ abbrev pub is_text_pair : Ty → Bool
 is_text_pair (Ty.entry key held) = is_string key && is_text_type held
 is_text_pair other = false
 
+-- whether a type is `{sv}`
+abbrev pub is_property : Ty → Bool
+is_property (Ty.entry key held) = is_string key && is_variant held
+is_property other = false
+
 -- whether a type is that of elements of this kind
 abbrev pub is_element : ElementType → Ty → Bool
 is_element element.Path t = is_path_type t
 is_element element.TextPair t = is_text_pair t
+is_element element.Property t = is_property t
 
 -- the elements of an array, if they are of this kind
 abbrev pub elements_in : ElementType → Val → Option Vals
@@ -120,3 +151,38 @@ attributes_among elements = option_map attributes_of (all_in text_pair_in elemen
 -- the attributes in a value of type `a{ss}`
 abbrev pub attributes_in : Val → Option (List (List ℕ × AttrValue))
 attributes_in value = option_and_then attributes_among (elements_in element.TextPair value)
+
+-- ---- properties, `a{sv}`
+
+-- the value of an entry of a dict, if its key is this name
+abbrev pub value_for : List ℕ → Val × Val → Option Val
+value_for wanted pair = option_and_then (λ key. option_and_then (λ held. where_is (bytes_eq key wanted) held) (held_in pair.1)) (string_in pair.0)
+
+-- the same for a value `{sv}`
+abbrev pub value_named : List ℕ → Val → Option Val
+value_named wanted value = option_and_then (value_for wanted) (entry_in value)
+
+-- the value of the property with this name; of two entries with one key the later counts
+abbrev pub property : List ℕ → Vals → Option Val
+property wanted Vals.end = None
+property wanted (Vals.more first rest) = option_or (property wanted rest) (value_named wanted first)
+
+-- ---- secrets, `(oayays)`
+
+-- the session's path, the value and the content type; the parameters are dropped
+abbrev pub kept_parts : Val × Val × Val × Val → Option (List ℕ × List ℕ × List ℕ)
+kept_parts fields =
+    option_and_then (λ path. option_and_then (λ parameters. option_and_then (λ bytes. option_map (λ content. (path, bytes, content))
+    (string_in fields.3)) (bytes_in fields.2)) (bytes_in fields.1)) (path_in fields.0)
+
+-- the same for a struct
+abbrev pub secret_parts_in : Val → Option (List ℕ × List ℕ × List ℕ)
+secret_parts_in value = option_and_then kept_parts (option_and_then four_of (parts_in value))
+
+-- the secret with these parts
+abbrev pub secret_of : List ℕ × List ℕ × List ℕ → Secret
+secret_of parts = record { session = session_named parts.0; value = parts.1; content = parts.2 }
+
+-- the secret in a value of type `(oayays)`
+abbrev pub secret_in : Val → Option Secret
+secret_in value = option_map secret_of (secret_parts_in value)

@@ -9,7 +9,7 @@ use Rattle.secret_calls.specs.declared.call.Call.{Call}
 use Rattle.secret_calls.specs.declared.call.Call.TheVariants as call
 use Rattle.secret_calls.specs.declared.call.CallFault.{CallFault}
 use Rattle.secret_calls.specs.declared.call.CallFault.TheVariants as fault
-use Rattle.call_wire.specs.Arguments.{session_in}
+use Rattle.call_wire.specs.Arguments.{without_arguments, session_in, secret_in}
 
 -- the name of the interface
 abbrev pub interface : List ℕ
@@ -20,7 +20,20 @@ abbrev pub item_of : Option ObjectName → Option (List ℕ × ItemId)
 item_of (Some (name.Item stem item)) = Some (stem, item)
 item_of object = None
 
+-- the deletion of the item
+abbrev pub deleted : Option ObjectName → Result Call CallFault
+deleted object = ok_or (option_map (λ it. call.DeleteItem it.0 it.1) (item_of object)) fault.InvalidArgs
+
+-- Delete, which takes no arguments
+abbrev pub delete : Option ObjectName → Vals → Result Call CallFault
+delete object values = without_arguments (deleted object) values
+
 -- GetSecret, with the session
 abbrev pub get_secret : Option ObjectName → Vals → Result Call CallFault
 get_secret object values =
     ok_or (option_and_then (λ it. option_map (λ session. call.GetSecret it.0 it.1 session) (option_and_then session_in (one_of values))) (item_of object)) fault.InvalidArgs
+
+-- SetSecret, with the secret
+abbrev pub set_secret : Option ObjectName → Vals → Result Call CallFault
+set_secret object values =
+    ok_or (option_and_then (λ it. option_map (λ secret. call.SetSecret it.0 it.1 secret) (option_and_then secret_in (one_of values))) (item_of object)) fault.InvalidArgs

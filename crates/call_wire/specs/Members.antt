@@ -39,7 +39,11 @@ members =
     record { interface = interface.Service; name = codes "Lock"; arguments = codes "ao"; method = method.Lock } ∷
     record { interface = interface.Service; name = codes "GetSecrets"; arguments = codes "aoo"; method = method.GetSecrets } ∷
     record { interface = interface.Collection; name = codes "SearchItems"; arguments = codes "a{ss}"; method = method.SearchCollection } ∷
+    record { interface = interface.Collection; name = codes "CreateItem"; arguments = codes "a{sv}(oayays)b"; method = method.CreateItem } ∷
+    record { interface = interface.Collection; name = codes "Delete"; arguments = []; method = method.DeleteCollection } ∷
+    record { interface = interface.Item; name = codes "Delete"; arguments = []; method = method.DeleteItem } ∷
     record { interface = interface.Item; name = codes "GetSecret"; arguments = codes "o"; method = method.GetSecret } ∷
+    record { interface = interface.Item; name = codes "SetSecret"; arguments = codes "(oayays)"; method = method.SetSecret } ∷
     record { interface = interface.Session; name = codes "Close"; arguments = []; method = method.CloseSession } ∷
     record { interface = interface.Peer; name = codes "Ping"; arguments = []; method = method.Ping } ∷ []
 
@@ -90,6 +94,10 @@ call_with method.SearchItems object values = service.search_items values
 call_with method.Lock object values = service.lock values
 call_with method.GetSecrets object values = service.get_secrets values
 call_with method.SearchCollection object values = collection.search_items object values
+call_with method.CreateItem object values = collection.create_item object values
+call_with method.DeleteCollection object values = collection.delete object values
+call_with method.DeleteItem object values = item.delete object values
 call_with method.GetSecret object values = item.get_secret object values
+call_with method.SetSecret object values = item.set_secret object values
 call_with method.CloseSession object values = session.close object values
 call_with method.Ping object values = peer.ping values

@@ -21,7 +21,10 @@ mod writing;
 pub use arguments::{are_listed, held_in, string_in, two_in};
 pub use laws::{a_message_is_one_request, what_is_sent_is_read_again};
 pub use reading::call_of;
-pub use values::{ElementType, elements_in, entry_in, one_in, path_in};
+pub use values::{
+    ElementType, bytes_in, elements_in, entry_in, four_in, one_in, parts_in, path_in, three_in,
+    truth_in,
+};
 pub use writing::message_of;
 
 /// No memory was left for a call. It is the only refusal that may come at any time.

@@ -1,17 +1,19 @@
-// What values mean to the service: objects, sessions and attributes (Secret Service API, "Attributes";
-// docs/SERVICE.md, "Names and paths"). Each reader returns None if a value isn't of the expected type.
-ghost use Rattle.std.specs.Prelude.{◌≡◌, IfOk, option_map};
-ghost use Rattle.dbus_types.specs.ValueViews.{value_of, value_as, each_as};
+// What values mean to the service: objects, sessions, attributes, properties and secrets (Secret Service API,
+// "Attributes", "Secrets"; docs/SERVICE.md, "Names and paths"). Each reader returns None if a value isn't of the
+// expected type.
+ghost use Rattle.std.specs.Prelude.{◌≡◌, IfOk, option_and_then, option_map};
+ghost use Rattle.dbus_types.specs.ValueViews.{value_of, values_of, value_as, each_as};
 ghost use Rattle.dbus_framing.specs.Headers.{path_in, string_in};
-ghost use Rattle.call_wire.specs.Arguments.{entry_in, type_of_element, elements_in, all_in, named, object_in, objects_in, session_named, session_in, text_pair_in, attributes_among, attributes_in};
+ghost use Rattle.call_wire.specs.Arguments.{entry_in, type_of_element, elements_in, all_in, named, object_in, objects_in, session_named, session_in, text_pair_in, attributes_among, attributes_in, value_for, value_named, property, four_of, kept_parts, secret_parts_in, secret_of, secret_in};
 
 use crate::OutOfMemory;
-use crate::arguments::string_in;
-use crate::values::{ElementType, elements_in, entry_in, path_in};
+use crate::arguments::{held_in, string_in};
+use crate::values::{ElementType, bytes_in, elements_in, entry_in, four_in, parts_in, path_in};
 use dbus_types::{ObjectPath, Value};
-use kr_base::{Attributes, SessionId, Text};
+use kr_base::{Attributes, Bytes, SessionId, Text};
 use kr_items::Items;
 use kr_names::{ObjectName, parse_path};
+use secret_calls::Secret;
 use std::alloc::Global;
 
 // The object that a path names.
@@ -115,6 +117,70 @@ pub fn attributes_in(alloc: Global, value: &Value) -> Result<Option<Attributes>,
 {
     match elements_in(value, ElementType::TextPair) {
         Some(entries) => attributes_among(alloc, entries),
+        None => Ok(None),
+    }
+}
+
+// The value of an entry, if its key is this name.
+fn value_named<'a>(entry: &'a Value, wanted: &str) -> Option<&'a Value>
+    ensures { option_map (λ held. value_of held.now) result
+        ≡ value_named wanted.now (value_as (type_of_element (ElementType.Property)) entry.now) }
+{
+    let (key, held) = entry_in(entry)?;
+    let key = string_in(key)?;
+    let held = held_in(held)?;
+    if key.as_str() != wanted {
+        return None;
+    }
+    Some(held)
+}
+
+/// The value of the property with this name, among the entries of a dict. Of two entries with one key
+/// the later counts.
+pub fn property<'a>(entries: &'a [Value], wanted: &str) -> Option<&'a Value>
+    ensures { option_map (λ held. value_of held.now) result ≡ property wanted.now
+        (each_as (type_of_element (ElementType.Property)) entries.now) }
+{
+    let mut found = None;
+    for entry in entries {
+        if let Some(held) = value_named(entry, wanted) {
+            found = Some(held);
+        }
+    }
+    found
+}
+
+// The parts of a secret that are kept: its session's path, its value and its content type.
+fn kept_parts(fields: &[Value]) -> Option<(&ObjectPath, &Bytes, &Text)>
+    ensures { option_map (λ parts. (parts.0.now, parts.1.now, parts.2.now)) result
+        ≡ option_and_then kept_parts (four_of (values_of fields.now)) }
+{
+    let (path, parameters, bytes, content) = four_in(fields)?;
+    let path = path_in(path)?;
+    let _ = bytes_in(parameters)?;
+    let bytes = bytes_in(bytes)?;
+    let content = string_in(content)?;
+    Some((path, bytes, content))
+}
+
+// The same for a struct.
+fn secret_parts_in(value: &Value) -> Option<(&ObjectPath, &Bytes, &Text)>
+    ensures { option_map (λ parts. (parts.0.now, parts.1.now, parts.2.now)) result
+        ≡ secret_parts_in (value_of value.now) }
+{
+    kept_parts(parts_in(value)?)
+}
+
+/// The secret in a struct. Its parameters are dropped.
+pub fn secret_in(alloc: Global, value: &Value) -> Result<Option<Secret>, OutOfMemory>
+    ensures { IfOk result (λ secret. secret ≡ secret_in (value_of value.now)) }
+{
+    match secret_parts_in(value) {
+        Some((path, value, content)) => Ok(Some(Secret {
+            session: session_named(alloc, path)?,
+            value: value.copy()?,
+            content: content.copy()?,
+        })),
         None => Ok(None),
     }
 }

@@ -40,8 +40,16 @@ pub enum Method {
     GetSecrets,
     /// `Collection.SearchItems`.
     SearchCollection,
+    /// `Collection.CreateItem`.
+    CreateItem,
+    /// `Collection.Delete`.
+    DeleteCollection,
+    /// `Item.Delete`.
+    DeleteItem,
     /// `Item.GetSecret`.
     GetSecret,
+    /// `Item.SetSecret`.
+    SetSecret,
     /// `Session.Close`.
     CloseSession,
     /// `Peer.Ping`.
@@ -94,10 +102,34 @@ const MEMBERS: &[Row] = &[
         method: Method::SearchCollection,
     },
     Row {
+        interface: Interface::Collection,
+        name: "CreateItem",
+        arguments: "a{sv}(oayays)b",
+        method: Method::CreateItem,
+    },
+    Row {
+        interface: Interface::Collection,
+        name: "Delete",
+        arguments: "",
+        method: Method::DeleteCollection,
+    },
+    Row {
+        interface: Interface::Item,
+        name: "Delete",
+        arguments: "",
+        method: Method::DeleteItem,
+    },
+    Row {
         interface: Interface::Item,
         name: "GetSecret",
         arguments: "o",
         method: Method::GetSecret,
+    },
+    Row {
+        interface: Interface::Item,
+        name: "SetSecret",
+        arguments: "(oayays)",
+        method: Method::SetSecret,
     },
     Row {
         interface: Interface::Session,
@@ -242,7 +274,11 @@ pub fn call_with(
         Method::Lock => service::lock(alloc, values),
         Method::GetSecrets => service::get_secrets(alloc, values),
         Method::SearchCollection => collection::search_items(alloc, object, values),
+        Method::CreateItem => collection::create_item(alloc, object, values),
+        Method::DeleteCollection => collection::delete(object, values),
+        Method::DeleteItem => item::delete(object, values),
         Method::GetSecret => item::get_secret(alloc, object, values),
+        Method::SetSecret => item::set_secret(alloc, object, values),
         Method::CloseSession => Ok(session::close(object, values)),
         Method::Ping => Ok(peer::ping(values)),
     }

@@ -5,10 +5,10 @@ ghost use Rattle.dbus_types.specs.declared.complete_type.BasicType.TheVariants a
 ghost use Rattle.dbus_types.specs.Types.{Ty};
 ghost use Rattle.dbus_types.specs.Views.{type_of};
 ghost use Rattle.dbus_types.specs.ValueViews.{value_of, values_of, value_as, each_as};
-ghost use Rattle.dbus_framing.specs.Headers.{path_in, one_of};
-ghost use Rattle.call_wire.specs.Arguments.{entry_in, type_of_element, is_string, is_path_type, is_text_type, is_text_pair, is_element, elements_in};
+ghost use Rattle.dbus_framing.specs.Headers.{path_in, parts_in, one_of};
+ghost use Rattle.call_wire.specs.Arguments.{truth_in, bytes_in, entry_in, three_of, four_of, type_of_element, is_string, is_path_type, is_text_type, is_text_pair, is_property, is_element, elements_in};
 
-use dbus_types::{BasicType, CompleteType, ObjectPath, Value};
+use dbus_types::{BasicType, CompleteType, ObjectPath, Value, is_variant};
 use kr_base::Bytes;
 
 /// The type of the elements of an array that is an argument.
@@ -18,6 +18,8 @@ pub enum ElementType {
     Path,
     /// `{ss}`.
     TextPair,
+    /// `{sv}`.
+    Property,
 }
 
 /// The path in a value of type `o`.
@@ -35,6 +37,29 @@ pub fn path_in(value: &Value) -> Option<&ObjectPath>
     }
 }
 
+/// Whether a value of type `b` is true.
+pub fn truth_in(value: &Value) -> Option<bool>
+    ensures { result ≡ truth_in (value_of value.now) }
+{
+    match value {
+        Value::Boolean(truth) => Some(*truth),
+        _ => None,
+    }
+}
+
+/// The bytes in a value of type `ay`.
+pub fn bytes_in(value: &Value) -> Option<&Bytes>
+    ensures { option_copied result ≡ bytes_in (value_of value.now) }
+{
+    match value {
+        Value::Bytes(bytes) => {
+            let bytes: &Bytes = bytes;
+            Some(bytes)
+        }
+        _ => None,
+    }
+}
+
 /// The key and the value of an entry of a dict whose keys are of type `s`.
 pub fn entry_in(value: &Value) -> Option<(&Value, &Value)>
     ensures { (t : Ty) → option_map
@@ -47,6 +72,13 @@ pub fn entry_in(value: &Value) -> Option<(&Value, &Value)>
     }
 }
 
+/// The fields of a struct that isn't inside an array.
+pub fn parts_in(value: &Value) -> Option<&[Value]>
+    ensures { option_map (λ parts. values_of parts.now) result ≡ parts_in (value_of value.now) }
+{
+    value.fields()
+}
+
 /// The value, if there is exactly one.
 pub fn one_in(values: &[Value]) -> Option<&Value>
     ensures { option_map (λ one. value_of one.now) result ≡ one_of (values_of values.now) }
@@ -55,6 +87,40 @@ pub fn one_in(values: &[Value]) -> Option<&Value>
     match more.split_first() {
         Some(_) => None,
         None => Some(first),
+    }
+}
+
+/// The values, if there are exactly three.
+pub fn three_in(values: &[Value]) -> Option<(&Value, &Value, &Value)>
+    ensures { option_map
+        (λ three. (value_of three.0.now, value_of three.1.now, value_of three.2.now)) result
+        ≡ three_of (values_of values.now) }
+{
+    let (first, others) = values.split_first()?;
+    let (second, others) = others.split_first()?;
+    let (third, more) = others.split_first()?;
+    match more.split_first() {
+        Some(_) => None,
+        None => Some((first, second, third)),
+    }
+}
+
+/// The values, if there are exactly four.
+pub fn four_in(values: &[Value]) -> Option<(&Value, &Value, &Value, &Value)>
+    ensures { option_map (λ four. (
+      value_of four.0.now,
+      value_of four.1.now,
+      value_of four.2.now,
+      value_of four.3.now,
+    )) result ≡ four_of (values_of values.now) }
+{
+    let (first, others) = values.split_first()?;
+    let (second, others) = others.split_first()?;
+    let (third, others) = others.split_first()?;
+    let (fourth, more) = others.split_first()?;
+    match more.split_first() {
+        Some(_) => None,
+        None => Some((first, second, third, fourth)),
     }
 }
 
@@ -97,12 +163,23 @@ fn is_text_pair(complete_type: &CompleteType) -> bool
     }
 }
 
+// Whether the type is `{sv}`.
+fn is_property(complete_type: &CompleteType) -> bool
+    ensures { result ≡ is_property (type_of complete_type.now) }
+{
+    match complete_type {
+        CompleteType::DictEntry(key, held) => is_string(*key) && is_variant(held),
+        _ => false,
+    }
+}
+
 fn is_element(wanted: ElementType, complete_type: &CompleteType) -> bool
     ensures { result ≡ is_element wanted (type_of complete_type.now) }
 {
     match wanted {
         ElementType::Path => is_path_type(complete_type),
         ElementType::TextPair => is_text_pair(complete_type),
+        ElementType::Property => is_property(complete_type),
     }
 }
 

@@ -93,9 +93,9 @@ pub counts-stored : (old new : History) (event : Event) → Stores old event new
 counts-stored old new event stores =
     ap (λ (h : History). total h.window) stores.appends ∙ total-with event (cut_where_due old) ∙ ap (λ n. n + 1) (total-cut old)
 
-pub arrives : (conn : ConnId) (steady : Bool) (old new : History) (arrival : Arrival) → StoresRequest steady old arrival new → total old.window < most_events
+pub arrives : (conn : ConnId) (steady : Bool) (stored : Event → Type 0) (old new : History) (arrival : Arrival) → StoresRequest steady stored old arrival new → total old.window < most_events
     → Arrives (spot conn steady old) (spot conn steady new) arrival
-arrives conn steady old new arrival so left =
+arrives conn steady stored old new arrival so left =
     let came = with_fates arrival so.fates in
     let counted : total new.window ≡ total old.window + 1 = counts-stored old new came so.stores in
     record {
@@ -136,9 +136,10 @@ goes conn steady old None told = inr (looks conn steady old, has-none conn old.s
 goes conn steady old (Some desk) told = inl (extends-with conn steady old (event.Gone conn) (has-told conn old.state.connections.rows desk told) (λ _. tt))
 
 -- what the service says of a request that it recorded
-pub arrives-stored : (conn : ConnId) (steady : Bool) (old new : History) (arrival : Arrival) (result : Result Unit Refused) → OnOk result (StoresRequest steady old arrival new)
+pub arrives-stored : (conn : ConnId) (steady : Bool) (stored : Event → Type 0) (old new : History) (arrival : Arrival) (result : Result Unit Refused)
+    → OnOk result (StoresRequest steady stored old arrival new)
     → ((result ≡ Err refused.EventsSpent → ⊥) → most_events ≤ total old.window → ⊥) → OnOk result (Arrives (spot conn steady old) (spot conn steady new) arrival)
-arrives-stored conn steady old new arrival (Ok done) stores left =
+arrives-stored conn steady stored old new arrival (Ok done) stores left =
     let not_spent : most_events ≤ total old.window → ⊥ = left (λ (spent : Ok done ≡ Err refused.EventsSpent). cc) in
-    arrives conn steady old new arrival stores (omega (arith, not_spent))
-arrives-stored conn steady old new arrival (Err why) stores left = tt
+    arrives conn steady stored old new arrival stores (omega (arith, not_spent))
+arrives-stored conn steady stored old new arrival (Err why) stores left = tt

@@ -34,6 +34,8 @@ head-short to serial (body.Session session) = omega arith
 head-short to serial (body.Found unlocked locked) = omega arith
 head-short to serial (body.Locked objects) = omega arith
 head-short to serial (body.Objects objects) = omega arith
+head-short to serial (body.Made item) = omega arith
+head-short to serial (body.Object object) = omega arith
 head-short to serial (body.Secret secret) = omega arith
 head-short to serial (body.Secrets secrets) = omega arith
 
@@ -52,6 +54,7 @@ error-short to serial name.UnknownInterface = omega arith
 error-short to serial name.UnknownMethod = omega arith
 error-short to serial name.InvalidArgs = omega arith
 error-short to serial name.LimitsExceeded = omega arith
+error-short to serial name.IOError = omega arith
 error-short to serial name.IsLocked = omega arith
 error-short to serial name.NoSession = omega arith
 error-short to serial name.NoSuchObject = omega arith

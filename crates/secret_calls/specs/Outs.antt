@@ -28,6 +28,7 @@ error_text name.UnknownInterface = codes "org.freedesktop.DBus.Error.UnknownInte
 error_text name.UnknownMethod = codes "org.freedesktop.DBus.Error.UnknownMethod"
 error_text name.InvalidArgs = codes "org.freedesktop.DBus.Error.InvalidArgs"
 error_text name.LimitsExceeded = codes "org.freedesktop.DBus.Error.LimitsExceeded"
+error_text name.IOError = codes "org.freedesktop.DBus.Error.IOError"
 error_text name.IsLocked = codes "org.freedesktop.Secret.Error.IsLocked"
 error_text name.NoSession = codes "org.freedesktop.Secret.Error.NoSession"
 error_text name.NoSuchObject = codes "org.freedesktop.Secret.Error.NoSuchObject"
@@ -79,6 +80,8 @@ values_of (body.Session session) =
 values_of (body.Found unlocked locked) = Vals.more (paths_value unlocked) (Vals.more (paths_value locked) Vals.end)
 values_of (body.Locked objects) = Vals.more (paths_value objects) (Vals.more no_object Vals.end)
 values_of (body.Objects objects) = Vals.more (paths_value objects) Vals.end
+values_of (body.Made item) = Vals.more (Val.text basics.ObjectPath item) (Vals.more no_object Vals.end)
+values_of (body.Object object) = Vals.more (Val.text basics.ObjectPath object) Vals.end
 values_of (body.Secret secret) = Vals.more (secret_value secret) Vals.end
 values_of (body.Secrets secrets) = Vals.more (secrets_value secrets) Vals.end
 
@@ -128,6 +131,8 @@ AreTyped (body.Session session) = session.0 < 2 ^ 64
 AreTyped (body.Found unlocked locked) = ArePaths unlocked × ArePaths locked
 AreTyped (body.Locked objects) = ArePaths objects
 AreTyped (body.Objects objects) = ArePaths objects
+AreTyped (body.Made item) = IsTrue (is_object_path item)
+AreTyped (body.Object object) = IsTrue (is_object_path object)
 AreTyped (body.Secret secret) = IsSecret secret
 AreTyped (body.Secrets secrets) = AreSecrets secrets
 

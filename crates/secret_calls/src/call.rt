@@ -1,5 +1,6 @@
 ghost use Rattle.std.specs.Prelude.{◌≡◌};
 
+use crate::secret::Secret;
 use crate::{ErrorName, Serial};
 use kr_base::{Attributes, ItemId, SessionId, Stem, Text};
 use kr_items::Items;
@@ -46,6 +47,31 @@ pub enum Call {
         /// The attributes to search for.
         wanted: Attributes,
     },
+    /// `Collection.CreateItem`.
+    CreateItem {
+        /// The collection, or an alias that names it.
+        collection: ObjectName,
+        /// The label, which is empty if none is given.
+        label: Text,
+        /// The attributes, which are empty if none are given.
+        attributes: Attributes,
+        /// The secret.
+        secret: Secret,
+        /// Whether to replace an item with these attributes.
+        replace: bool,
+    },
+    /// `Collection.Delete`.
+    DeleteCollection {
+        /// The collection, or an alias that names it.
+        collection: ObjectName,
+    },
+    /// `Item.Delete`.
+    DeleteItem {
+        /// The stem of the item's collection.
+        stem: Stem,
+        /// The item's number.
+        item: ItemId,
+    },
     /// `Item.GetSecret`.
     GetSecret {
         /// The stem of the item's collection.
@@ -54,6 +80,15 @@ pub enum Call {
         item: ItemId,
         /// The session to encode the secret with.
         session: Option<SessionId>,
+    },
+    /// `Item.SetSecret`.
+    SetSecret {
+        /// The stem of the item's collection.
+        stem: Stem,
+        /// The item's number.
+        item: ItemId,
+        /// The new secret.
+        secret: Secret,
     },
 }
 

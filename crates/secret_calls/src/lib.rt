@@ -17,7 +17,7 @@ mod taken;
 
 pub use call::{Call, CallFault, Request};
 pub use out::{Body, ErrorName, Out};
-pub use secret::{ItemSecret, ReturnedSecret, secret_is_typed};
+pub use secret::{ItemSecret, ReturnedSecret, Secret, secret_is_typed};
 pub use serial::Serial;
 pub use size::{body_size, size_of_out};
 pub use taken::{Refused, Taken};

@@ -5,7 +5,9 @@ ghost use Rattle.secret_calls.specs.Outs.{values_of, header_of, spelled};
 
 use crate::Serial;
 use crate::copies::{copied_secrets, copied_texts};
-use crate::returns::{put_found, put_locked, put_objects, put_secret, put_secrets, put_session};
+use crate::returns::{
+    put_found, put_locked, put_made, put_object, put_objects, put_secret, put_secrets, put_session,
+};
 use crate::secret::{ItemSecret, ReturnedSecret};
 use dbus_marshal::{Put, PutValues};
 use dbus_sending::{Header, put_message};
@@ -28,6 +30,8 @@ pub enum ErrorName {
     InvalidArgs,
     /// A limit of the service is reached.
     LimitsExceeded,
+    /// A keyring file can't be written or removed.
+    IOError,
     /// The collection is locked.
     IsLocked,
     /// The caller has no such session.
@@ -50,6 +54,7 @@ impl ErrorName {
             ErrorName::UnknownMethod => "org.freedesktop.DBus.Error.UnknownMethod",
             ErrorName::InvalidArgs => "org.freedesktop.DBus.Error.InvalidArgs",
             ErrorName::LimitsExceeded => "org.freedesktop.DBus.Error.LimitsExceeded",
+            ErrorName::IOError => "org.freedesktop.DBus.Error.IOError",
             ErrorName::IsLocked => "org.freedesktop.Secret.Error.IsLocked",
             ErrorName::NoSession => "org.freedesktop.Secret.Error.NoSession",
             ErrorName::NoSuchObject => "org.freedesktop.Secret.Error.NoSuchObject",
@@ -76,6 +81,10 @@ pub enum Body {
     Locked(Items<Text>),
     /// Of Collection.SearchItems, `ao`: the matching items.
     Objects(Items<Text>),
+    /// Of CreateItem, `oo`: the item, and the prompt.
+    Made(Text),
+    /// Of Collection.Delete and Item.Delete, `o`: the prompt.
+    Object(Text),
     /// Of GetSecret, `(oayays)`.
     Secret(ReturnedSecret),
     /// Of GetSecrets, `a{o(oayays)}`: items with their secrets.
@@ -102,6 +111,14 @@ impl Body {
             Body::Objects(objects) => {
                 let objects = copied_texts(alloc, objects.as_slice())?;
                 Ok(Body::Objects(objects))
+            }
+            Body::Made(item) => {
+                let item = item.copy()?;
+                Ok(Body::Made(item))
+            }
+            Body::Object(object) => {
+                let object = object.copy()?;
+                Ok(Body::Object(object))
             }
             Body::Secret(secret) => {
                 let secret = secret.copy()?;
@@ -132,6 +149,8 @@ impl Body {
             } => "aoao",
             Body::Locked(_) => "aoo",
             Body::Objects(_) => "ao",
+            Body::Made(_) => "oo",
+            Body::Object(_) => "o",
             Body::Secret(_) => "(oayays)",
             Body::Secrets(_) => "a{o(oayays)}",
         }
@@ -152,6 +171,8 @@ impl PutValues for Body {
             }
             Body::Locked(objects) => put_locked(out, objects.as_slice()),
             Body::Objects(objects) => put_objects(out, objects.as_slice()),
+            Body::Made(item) => put_made(out, item),
+            Body::Object(object) => put_object(out, object),
             Body::Secret(secret) => put_secret(out, secret),
             Body::Secrets(secrets) => put_secrets(out, secrets.as_slice()),
         }

@@ -92,6 +92,23 @@ pub fn put_objects<P: Put>(out: &mut P, objects: &[Text]) -> Result<(), P::Refus
     put_paths(out, objects)
 }
 
+/// Writes the values that CreateItem returns.
+pub fn put_made<P: Put>(out: &mut P, item: &Text) -> Result<(), P::Refused>
+    ensures { (before : List ℕ) → P.stands out.old before
+        → OnOk result (P.stands out.new (puts before (values_of (Body.Made item.now)))) }
+{
+    put_path(out, item.as_bytes())?;
+    put_path(out, NO_OBJECT.as_bytes())
+}
+
+/// Writes the value that a Delete returns.
+pub fn put_object<P: Put>(out: &mut P, object: &Text) -> Result<(), P::Refused>
+    ensures { (before : List ℕ) → P.stands out.old before
+        → OnOk result (P.stands out.new (puts before (values_of (Body.Object object.now)))) }
+{
+    put_path(out, object.as_bytes())
+}
+
 // Writes a secret.
 fn put_secret_value<P: Put>(out: &mut P, secret: &ReturnedSecret) -> Result<(), P::Refused>
     ensures { (before : List ℕ) → P.stands out.old before

@@ -1,11 +1,22 @@
-// Secrets, as returns have them (Secret Service API, "Secrets"): `(oayays)`, the session that encodes the secret, the
-// parameters of its algorithm, the value and the content type.
+// Secrets, in the arguments of calls and in returns (Secret Service API, "Secrets"): `(oayays)`, the session that
+// encodes the secret, the parameters of its algorithm, the value and the content type.
 ghost use Rattle.std.specs.Prelude.{◌≡◌, ◌<◌, ◌^◌, IfOk};
 ghost use Rattle.kr_base.specs.Text.{IsText};
 ghost use Rattle.dbus_marshal.specs.Wire.{AreBytes};
 ghost use Rattle.secret_calls.specs.Outs.{IsSecret};
 
 use kr_base::{Bytes, OutOfMemory, SessionId, Text};
+
+/// A secret in the arguments of a call. Its parameters are dropped, since `plain` has none.
+#[derive(Drop)]
+pub struct Secret {
+    /// The session, or None if the path given isn't a session's.
+    pub session: Option<SessionId>,
+    /// The value.
+    pub value: Bytes,
+    /// The content type.
+    pub content: Text,
+}
 
 /// A secret in a return. Its parameters are empty.
 #[derive(PartialEq, Eq, Drop)]

@@ -8,7 +8,7 @@ use Rattle.secret_calls.specs.declared.taken.Taken.TheVariants as taken
 use Rattle.service_tables.specs.State.{State}
 use Rattle.service_machine.specs.declared.event.Arrival.{Arrival}
 use Rattle.service_machine.specs.declared.event.Event.TheVariants as event
-use Rattle.service_machine.specs.declared.event.Fate.{Fate}
+use Rattle.service_tables.specs.declared.fate.Fate.{Fate}
 use Rattle.service_machine.specs.declared.event.Output.TheVariants as output
 use Rattle.service_machine.specs.Fates.{with_fates}
 use Rattle.service_tables.specs.Connections.{desk_of}

@@ -1,14 +1,20 @@
 -- One more event of a history, and a cut.
-use Rattle.std.proofs.Common.{◌+◌, ◌≤◌, [], ◌∷◌, ap, ◌∙◌, sym, arith}
+use Rattle.std.proofs.Common.{◌≡◌, ◌+◌, ◌≤◌, Bool, IsTrue, List, [], ◌∷◌, ap, ◌∙◌, subst, sym, arith}
 use Rattle.std.proofs.lemmas.List.{length_push}
 use Rattle.service_tables.specs.State.{State}
+use Rattle.service_tables.specs.declared.fate.Fate.{Fate}
+use Rattle.service_machine.specs.declared.event.Arrival.{Arrival}
 use Rattle.service_machine.specs.declared.event.Event.{Event}
+use Rattle.service_machine.specs.declared.event.Event.TheVariants as event
+use Rattle.service_machine.specs.declared.event.Incoming.TheVariants as incoming
+use Rattle.service_machine.specs.Fates.{IsFaultless, with_fates}
+use Rattle.service_machine.specs.Machine.{Records}
 use Rattle.service_machine.specs.Step.{step, Fits}
 use Rattle.service_tables.specs.Sound.{IsSound}
 use Rattle.service_machine.proofs.ReplayLemmas.{replay-append, Legal-append}
 use Rattle.service_machine.proofs.SoundLemmas.{sound_step, sound_replay}
 use Rattle.service_history.specs.Limits.{most_counted}
-use Rattle.service_history.specs.History.{History, IsHistory, cut, with_event}
+use Rattle.service_history.specs.History.{History, IsHistory, Stores, StoresRequest, cut, cut_where_due, with_event}
 use Rattle.service_history.specs.Windows.{total}
 use Rattle.service_history.specs.Room.{room}
 use Rattle.service_history.proofs.RoomLemmas.{room-few}
@@ -38,3 +44,29 @@ history-cut history is = record {
   replayed = is.replayed;
   counted = omega (arith, is.counted);
 }
+
+-- ---- a request that was recorded
+
+-- the event is that of a request, with these fates
+record IsRequest (arrival : Arrival) (event : Event) : Type 0 where
+  pub fates : List Fate
+  pub same : event ≡ with_fates arrival fates
+
+request : (arrival : Arrival) (event : Event) → Records (incoming.Arrive arrival) event → IsRequest arrival event
+request arrival (event.Connect conn) records = absurd records
+request arrival (event.Arrive came) records = record { fates = came.fates; same = λ i. event.Arrive (record { arrival = records i; fates = came.fates }) }
+request arrival (event.Leave conn) records = absurd records
+request arrival (event.Take conn) records = absurd records
+request arrival (event.Gone conn) records = absurd records
+
+pub requested : (steady : Bool) (stored : Event → Type 0) (old new : History) (arrival : Arrival) (event : Event) → Records (incoming.Arrive arrival) event → Fits old.state event
+    → new ≡ with_event event (cut_where_due old) → (IsTrue steady → IsFaultless event) → stored event → StoresRequest steady stored old arrival new
+requested steady stored old new arrival event records fits appends faultless disk =
+    let is = request arrival event records in
+    let its : Stores old event new = record { fits = fits; appends = appends } in
+    record {
+      fates = is.fates;
+      stores = subst (λ e. Stores old e new) is.same its;
+      faultless = λ holds. subst IsFaultless is.same (faultless holds);
+      disk = subst stored is.same disk;
+    }

@@ -1,5 +1,5 @@
 -- What a service keeps, at its start and after one more event.
-use Rattle.std.proofs.Common.{◌≡◌, ◌+◌, ◌<◌, ◌≤◌, true, false, Option, Some, None, refl, ap, ◌∙◌, sym, subst, arith}
+use Rattle.std.proofs.Common.{◌≡◌, ◌+◌, ◌<◌, ◌≤◌, true, false, cond, Option, Some, None, refl, ap, ◌∙◌, sym, subst, arith}
 use Rattle.kr_base.specs.declared.ids.ConnId.{ConnId}
 use Rattle.service_machine.specs.declared.event.Event.{Event}
 use Rattle.service_machine.specs.declared.event.Event.TheVariants as event
@@ -13,7 +13,7 @@ use Rattle.service_machine.specs.Step.{step, Fits}
 use Rattle.service_tables.proofs.FitLemmas.{has-told}
 use Rattle.service_machine.proofs.SoundLemmas.{sound_start}
 use Rattle.service_history.specs.Limits.{most_counted}
-use Rattle.service_history.specs.History.{IsHistory}
+use Rattle.service_history.specs.History.{IsHistory, cut, cut_where_due, with_event}
 use Rattle.service_history.specs.Inside.{Held, IsReady, chosen, in_window, IsKept}
 use Rattle.service_history.specs.Room.{room}
 use Rattle.service_history.specs.Windows.{Window, total, stored, begun, next_window}
@@ -88,3 +88,17 @@ kept-event state window held (Some next) event new history same ready left fits 
     let cuts : next.window ≡ next_window window = ready.1.begins ∙ ap (begun (total window)) history.replayed in
     let begins : IsHistory (in_window state next.window) = subst (λ (w : Window). IsHistory (in_window state w)) (sym cuts) (history-cut (in_window state window) history) in
     kept-push state next new event begins fits (omega (arith, ap total ready.1.begins, left, behind)) (omega (arith, ready.1.room, behind)) stores less
+
+-- it is appended, after a cut if one is due
+pub appended : (state after : State) (window : Window) (held : Held) (next : Option Held) (event : Event) (new : Held) → IsHistory (in_window state window) → held.window ≡ window
+    → IsReady window state held.spare next → after ≡ step state event → new.window ≡ stored event (chosen held next).window
+    → in_window after new.window ≡ with_event event (cut_where_due (in_window state window))
+appended state after window held None event new history same ready stepped stores =
+    let goes_on : cut_where_due (in_window state window) ≡ in_window state window = ap (λ due. cond due (cut (in_window state window)) (in_window state window)) ready.0 in
+    let its : new.window ≡ stored event window = stores ∙ ap (stored event) same in
+    (λ i. in_window (stepped i) (its i)) ∙ sym (ap (with_event event) goes_on)
+appended state after window held (Some next) event new history same ready stepped stores =
+    let cuts : next.window ≡ next_window window = ready.1.begins ∙ ap (begun (total window)) history.replayed in
+    let is_cut : cut_where_due (in_window state window) ≡ cut (in_window state window) = ap (λ due. cond due (cut (in_window state window)) (in_window state window)) ready.0 in
+    let its : new.window ≡ stored event (next_window window) = stores ∙ ap (stored event) cuts in
+    (λ i. in_window (stepped i) (its i)) ∙ sym (ap (with_event event) is_cut)

@@ -13,7 +13,7 @@ use Rattle.service_tables.specs.State.{State}
 use Rattle.service_history.specs.History.{History, opened_history, cut_where_due, with_event, Stores, IsRecorded, taken_by, left_by, gone_by}
 use Rattle.service_history.specs.Limits.{most_stored, most_cost}
 use Rattle.service_history.specs.Runs.{GoesOn, Follows, AreCalls, windows_of}
-use Rattle.service_history.specs.Windows.{Window, is_due, is_lock, first_window, next_window, Begins, AreInRow, AreWindows}
+use Rattle.service_history.specs.Windows.{Window, is_due, may_hide, first_window, next_window, Begins, AreInRow, AreWindows}
 
 -- ---- one call
 
@@ -28,7 +28,7 @@ choice window true x y p q = p
 choice window false x y p q = q
 
 -- a cut is due only where there are events
-cut-some : (events : List Event) → (nat_le most_stored (length events) || (nat_le most_cost (cost events) || list_any is_lock events)) ≡ true → 0 < length events
+cut-some : (events : List Event) → (nat_le most_stored (length events) || (nat_le most_cost (cost events) || list_any may_hide events)) ≡ true → 0 < length events
 cut-some [] due = let no : ⊥ = cc in absurd no
 cut-some (event ∷ events) due = omega arith
 

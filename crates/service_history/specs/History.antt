@@ -1,13 +1,14 @@
 -- The service and its history, as contracts see it: the state, and the window whose events led to it.
-use Rattle.std.specs.Prelude.{◌≡◌, ◌+◌, ◌≤◌, Bool, ◌&&◌, not, if◌then◌else◌, IsTrue, List, Option, Some, None}
+use Rattle.std.specs.Prelude.{◌≡◌, ℕ, ◌+◌, ◌≤◌, Bool, ◌&&◌, not, if◌then◌else◌, IsTrue, List, Option, Some, None}
 use Rattle.kr_base.specs.declared.ids.ConnId.{ConnId}
+use Rattle.kr_outside.specs.RenameDisk.{Image}
 use Rattle.secret_calls.specs.declared.taken.Taken.{Taken}
 use Rattle.secret_calls.specs.declared.taken.Taken.TheVariants as taken
 use Rattle.service_tables.specs.Disk.{DiskState}
 use Rattle.service_tables.specs.State.{State}
 use Rattle.service_tables.specs.declared.rows.DeskRow.{DeskRow}
 use Rattle.service_machine.specs.declared.event.Arrival.{Arrival}
-use Rattle.service_machine.specs.declared.event.Fate.{Fate}
+use Rattle.service_tables.specs.declared.fate.Fate.{Fate}
 use Rattle.service_machine.specs.declared.event.Incoming.{Incoming}
 use Rattle.service_machine.specs.declared.event.Incoming.TheVariants as incoming
 use Rattle.service_machine.specs.declared.event.Event.{Event}
@@ -15,6 +16,7 @@ use Rattle.service_machine.specs.declared.event.Event.TheVariants as event
 use Rattle.service_machine.specs.declared.event.Output.{Output}
 use Rattle.service_tables.specs.Connections.{waiting_for, desk_of}
 use Rattle.service_machine.specs.Fates.{with_fates, AreFaultless, IsFaultless}
+use Rattle.service_machine.specs.Stored.{StoresEvent}
 use Rattle.service_machine.specs.Machine.{Records}
 use Rattle.service_machine.specs.Step.{step, output_of, Fits}
 use Rattle.service_machine.specs.Replay.{replay, Legal}
@@ -62,13 +64,19 @@ pub record Stores (old : History) (event : Event) (new : History) : Type 0 where
   pub fits : Fits old.state event
   pub appends : new ≡ with_event event (cut_where_due old)
 
--- This request is recorded, after a cut if one is due, with how its storings ended: none is a fault if all slots are steady.
-pub record StoresRequest (steady : Bool) (old : History) (arrival : Arrival) (new : History) : Type 0 where
+-- What an event does to the disk of a service: each storing that it asks for is one of the disk, and nothing else changes.
+pub record StoresOn {F S : Type 0} (is_honest is_steady : S → Bool) (faults moment : S → ℕ) (left_since : S → ℕ → Image → Type 0) (may_leave : S → Image → Type 0) (old new : ServiceState F S) (event : Event) : Type 0 where
+  pub did : StoresEvent is_honest is_steady faults moment left_since may_leave event old.history.state old.disk new.disk
+
+-- This request is recorded, after a cut if one is due, with how its storings ended, of which none is a fault if the disk is steady; and
+-- this is what they did to the disk.
+pub record StoresRequest (steady : Bool) (stored : Event → Type 0) (old : History) (arrival : Arrival) (new : History) : Type 0 where
   pub fates : List Fate
   pub stores : Stores old (with_fates arrival fates) new
   pub faultless : IsTrue steady → AreFaultless fates
+  pub disk : stored (with_fates arrival fates)
 
--- The event that came is recorded, after a cut if one is due, and answered as the step answers it; it has no fault if all slots are
+-- The event that came is recorded, after a cut if one is due, and answered as the step answers it; it has no fault if the disk is
 -- steady.
 pub record IsRecorded (steady : Bool) (old : History) (came : Incoming) (answer : Output) (new : History) : Type 0 where
   pub event : Event
@@ -77,6 +85,11 @@ pub record IsRecorded (steady : Bool) (old : History) (came : Incoming) (answer 
   pub faultless : IsTrue steady → IsFaultless event
   pub answers : answer ≡ output_of old.state event
   pub appends : new ≡ with_event event (cut_where_due old)
+
+-- the same, and this is what it did to the disk
+pub record RecordsOn (steady : Bool) (stored : Event → Type 0) (old : History) (came : Incoming) (answer : Output) (new : History) : Type 0 where
+  pub recorded : IsRecorded steady old came answer new
+  pub disk : stored recorded.event
 
 -- the same without a cut
 pub record IsAppended (old : History) (came : Incoming) (answer : Output) (new : History) : Type 0 where

@@ -1,4 +1,4 @@
--- What a window and a service keep besides what contracts see: the cost of the stored events, whether one is a call of Lock, and
+-- What a window and a service keep besides what contracts see: the cost of the stored events, whether one may have hidden a secret, and
 -- the room for those that are sure to come.
 use Rattle.std.specs.Prelude.{◌≡◌, ◌+◌, ◌-◌, ◌≤◌, ℕ, Bool, true, false, min, List, length, Vec, vec_len, vec_capacity, Option, Some, None}
 use Rattle.std.specs.List.{list_any}
@@ -11,7 +11,7 @@ use Rattle.service_machine.specs.Replay.{cost}
 use Rattle.service_history.specs.History.{History, ServiceState, IsHistory}
 use Rattle.service_history.specs.Limits.{most_counted}
 use Rattle.service_history.specs.Room.{room, enough}
-use Rattle.service_history.specs.Windows.{Window, total, is_due, is_lock, begun}
+use Rattle.service_history.specs.Windows.{Window, total, is_due, may_hide, begun}
 
 -- a window, and for how many further events there is room in it
 pub record Held : Type 0 where
@@ -25,10 +25,10 @@ held_of era base events = record {
   spare = vec_capacity events - vec_len events;
 }
 
--- the cost is that of the events, it is known whether one is a call of Lock, and they are counted
+-- the cost is that of the events, it is known whether one may have hidden a secret, and they are counted
 pub record AreStored (era : ℕ) (events : List Event) (counted : ℕ) (locks : Bool) : Type 0 where
   pub costs : counted ≡ min (cost events) 18446744073709551615
-  pub locked : locks ≡ list_any is_lock events
+  pub locked : locks ≡ list_any may_hide events
   pub few : era + length events ≤ most_counted
 
 -- the window after one, as it begins from this state, with room for an event and all that are sure to come after it

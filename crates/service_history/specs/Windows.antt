@@ -1,6 +1,6 @@
 -- A run's history in windows. A window is an era, the number of the run's events before it; a base, the state that
 -- these led to; and the events since then. A cut ends one window, and the next one follows.
-use Rattle.std.specs.Prelude.{◌≡◌, ℕ, ◌+◌, ◌<◌, Bool, true, false, ◌||◌, nat_le, List, [], ◌∷◌, ◌++◌, length, Result, Ok}
+use Rattle.std.specs.Prelude.{◌≡◌, ℕ, ◌+◌, ◌<◌, Bool, true, false, ◌||◌, nat_le, nat_lt, List, [], ◌∷◌, ◌++◌, length, Result, Ok}
 use Rattle.std.specs.List.{flat_map, list_any}
 use Rattle.secret_calls.specs.declared.call.Call.{Call}
 use Rattle.secret_calls.specs.declared.call.Call.TheVariants as call
@@ -26,15 +26,16 @@ abbrev pub is_lock_call : Result Call CallFault → Bool
 is_lock_call (Ok (call.Lock objects)) = true
 is_lock_call _ = false
 
--- whether an event is that a connection called Lock
-abbrev pub is_lock : Event → Bool
-is_lock (event.Arrive came) = is_lock_call came.arrival.request.call
-is_lock _ = false
+-- whether an event may be the last one in which a secret is there: a call of Lock, or a request that asked the disk, which replaced or
+-- removed what a file had, or may have
+abbrev pub may_hide : Event → Bool
+may_hide (event.Arrive came) = is_lock_call came.arrival.request.call || nat_lt 0 (length came.fates)
+may_hide _ = false
 
--- a cut is due: the events are many, or cost much, or one is a call of Lock, so that no event keeps a secret of a collection that
--- was locked
+-- a cut is due: the events are many, or cost much, or one may have hidden a secret, so that no event keeps one that was locked, replaced
+-- or removed
 abbrev pub is_due : Window → Bool
-is_due window = nat_le most_stored (length window.events) || (nat_le most_cost (cost window.events) || list_any is_lock window.events)
+is_due window = nat_le most_stored (length window.events) || (nat_le most_cost (cost window.events) || list_any may_hide window.events)
 
 -- the window with one more event
 abbrev pub stored : Event → Window → Window

@@ -1,22 +1,26 @@
-ghost use Rattle.std.specs.Prelude.{◌≡◌, ◌≢◌, [], IsTrue, IfOk, OnOk, OnErr, IsErrOf, Err};
+ghost use Rattle.std.specs.Prelude.{◌≡◌, ◌≢◌, ◌<◌, ◌≤◌, [], IsTrue, IfOk, IfSome, OnOk, OnErr, IsErrOf, Err};
+ghost use Rattle.kr_base.specs.Attributes.{value_at};
+ghost use Rattle.service_tables.specs.Slots.{LeavesKnown, file_at};
 ghost use Rattle.folder_store.specs.Ring.{IsAsFound};
-ghost use Rattle.collection_table.specs.Entries.{rows_of};
+ghost use Rattle.collection_table.specs.Entries.{rows_of as collections_of};
 ghost use Rattle.service_tables.specs.Disk.{IsLoaded, FailedToLoad, disk_state};
 ghost use Rattle.service_tables.specs.Opened.{IsOpened};
-ghost use Rattle.service_tables.specs.Limits.{IsSpent};
+ghost use Rattle.service_tables.specs.Limits.{IsSpent, most_events};
 ghost use Rattle.service_machine.specs.Fates.{is_steady};
+ghost use Rattle.service_machine.specs.Rows.{rows_of};
+ghost use Rattle.service_history.specs.Inside.{IsReady};
 ghost use Rattle.service_machine.specs.Machine.{IsOfNone, IsConnect};
 ghost use Rattle.service_machine.specs.Step.{IsMissing, IsCrowded};
 ghost use Rattle.service_history.specs.Windows.{total};
-ghost use Rattle.service_history.specs.History.{opened_history, IsHistory, Stores, StoresRequest, IsRecorded, IsAsked, given_for, taken_by, left_by, gone_by, told};
+ghost use Rattle.service_history.specs.History.{opened_history, IsHistory, Stores, StoresOn, StoresRequest, RecordsOn, IsAsked, given_for, taken_by, left_by, gone_by, told};
 
 use crate::EventRefused;
 use crate::window::Window;
-use kr_base::ConnId;
+use kr_base::{ConnId, Stem};
 use kr_outside::Folder;
 use secret_calls::{Refused, Taken};
 use service_machine::{
-    Arrival, Arrived, Disk, Event, Incoming, JoinRefused, Machine, OpenRefused, Output, Recorded,
+    Arrival, Arrived, Disk, Event, Incoming, JoinRefused, Machine, OpenRefused, Output,
 };
 use std::alloc::Global;
 use std::marker::Model;
@@ -80,7 +84,7 @@ impl<F: Folder> Service<F> {
     /// The folder, with its collections and aliases. It takes no memory.
     pub fn into_disk(self) -> Disk<F>
         ensures disk { disk_state result ≡ self.disk }
-        ensures collections { rows_of result.collections.entries
+        ensures collections { collections_of result.collections.entries
             ≡ self.history.state.collections }
     {
         self.machine.into_disk()
@@ -126,9 +130,10 @@ impl<F: Folder> Service<F> {
     pub fn arrive(&mut self, arrival: Arrival) -> Result<(), Refused>
         ensures stores { OnOk result (StoresRequest
             (is_steady F.is_steady F.Cell.is_steady self.old.disk)
+            (StoresOn F.Cell.is_honest F.Cell.is_steady F.Cell.faults F.Cell.moment
+            F.Cell.left_since F.Cell.may_leave self.old self.new)
             self.old.history arrival self.new.history) }
         ensures history { IsHistory self.new.history }
-        ensures disk { self.new.disk ≡ self.old.disk }
         ensures steady { is_steady F.is_steady F.Cell.is_steady self.new.disk
             ≡ is_steady F.is_steady F.Cell.is_steady self.old.disk }
 
@@ -139,20 +144,13 @@ impl<F: Folder> Service<F> {
             → ¬ IsSpent (total self.old.history.window) }
         ensures gone { IsErrOf result Refused.Gone → IsMissing arrival.conn self.old.history.state }
         ensures unchanged { OnErr result (self.new.history ≡ self.old.history) }
+        ensures disk { OnErr result (self.new.disk ≡ self.old.disk) }
     {
-        if self.window.total() >= LIMIT {
-            return Err(Refused::EventsSpent);
-        }
-        if !self.machine.has(arrival.conn) {
-            return Err(Refused::Gone);
-        }
-        let Ok(next) = self.window.prepare(&self.machine) else {
+        let next = admitted(&self.machine, &mut self.window, arrival.conn)?;
+        let Ok(answer) = self.machine.apply(Incoming::Arrive(arrival)) else {
             return Err(Refused::OutOfMemory);
         };
-        let Ok(fates) = self.machine.arrive(&arrival) else {
-            return Err(Refused::OutOfMemory);
-        };
-        let event = Event::Arrive(Recorded { arrival, fates });
+        let (_, event) = answer;
         self.window.commit(next, event);
         Ok(())
     }
@@ -167,10 +165,11 @@ impl<F: Folder> Service<F> {
         requires { IsAsked event }
 
         ensures recorded { IfOk result (λ answer.
-            IsRecorded (is_steady F.is_steady F.Cell.is_steady self.old.disk)
+            RecordsOn (is_steady F.is_steady F.Cell.is_steady self.old.disk)
+            (StoresOn F.Cell.is_honest F.Cell.is_steady F.Cell.faults F.Cell.moment
+            F.Cell.left_since F.Cell.may_leave self.old self.new)
             self.old.history event answer self.new.history) }
         ensures history { IsHistory self.new.history }
-        ensures disk { self.new.disk ≡ self.old.disk }
         ensures steady { is_steady F.is_steady F.Cell.is_steady self.new.disk
             ≡ is_steady F.is_steady F.Cell.is_steady self.old.disk }
 
@@ -185,6 +184,7 @@ impl<F: Folder> Service<F> {
         ensures crowded { IsErrOf result EventRefused.TooManyConnections
             → IsCrowded self.old.history.state }
         ensures unchanged { OnErr result (self.new.history ≡ self.old.history) }
+        ensures disk { OnErr result (self.new.disk ≡ self.old.disk) }
     {
         match event {
             Incoming::Connect => Ok(Output::Joined(self.join()?)),
@@ -258,6 +258,16 @@ impl<F: Folder> Service<F> {
         self.window.push(Event::Gone(conn));
     }
 
+    /// While no call runs, a crash leaves of a collection's file what is known of it: its image, or one of
+    /// the two that it may have if it is in doubt. It does nothing.
+    pub fn untouched(&self, stem: &Stem)
+        ensures { IfSome (value_at stem.now self.now.disk.slots) (LeavesKnown
+            F.Cell.is_honest F.Cell.moment F.Cell.left_since
+            (file_at stem.now self.now.history.state.collections)) }
+    {
+        self.machine.untouched(stem);
+    }
+
     /// The events since the last cut, in order.
     pub fn events(&self) -> &[Event]
         ensures value { result.now ≡ self.now.history.window.events }
@@ -273,4 +283,31 @@ impl<F: Folder> Service<F> {
     {
         self.window.era()
     }
+}
+
+// Makes the room for an event of a connection that is there, in the next window if a cut is due.
+fn admitted<F: Folder>(
+    machine: &Machine<F>,
+    window: &mut Window<F>,
+    conn: ConnId,
+) -> Result<Option<Window<F>>, Refused>
+    ensures ready { IfOk result (λ next.
+        IsReady window.old.window (rows_of machine.now) window.new.spare next) }
+    ensures left { OnOk result (total window.old.window < most_events) }
+    ensures same { window.new.window ≡ window.old.window }
+    ensures spare { window.old.spare ≤ window.new.spare }
+    ensures spent { IsErrOf result Refused.EventsSpent → IsSpent (total window.old.window) }
+    ensures not_spent { result ≢ Err Refused.EventsSpent → ¬ IsSpent (total window.old.window) }
+    ensures gone { IsErrOf result Refused.Gone → IsMissing conn (rows_of machine.now) }
+{
+    if window.total() >= LIMIT {
+        return Err(Refused::EventsSpent);
+    }
+    if !machine.has(conn) {
+        return Err(Refused::Gone);
+    }
+    let Ok(next) = window.prepare(machine) else {
+        return Err(Refused::OutOfMemory);
+    };
+    Ok(next)
 }

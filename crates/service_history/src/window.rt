@@ -3,7 +3,7 @@ ghost use Rattle.service_machine.specs.Rows.{rows_of};
 ghost use Rattle.service_machine.specs.Replay.{cost_of};
 ghost use Rattle.service_history.specs.Limits.{most_counted};
 ghost use Rattle.service_history.specs.Room.{enough};
-ghost use Rattle.service_history.specs.Windows.{begun, total, is_due, is_lock, stored};
+ghost use Rattle.service_history.specs.Windows.{begun, total, is_due, may_hide, stored};
 ghost use Rattle.service_history.specs.Inside.{IsNext, IsReady, chosen};
 
 use kr_base::OutOfMemory;
@@ -62,13 +62,14 @@ fn cost_of(event: &Event) -> u64
     }
 }
 
-// Whether a stored event is a call of Lock.
-fn is_lock(event: &Event) -> bool
-    ensures { result ≡ is_lock event.now }
+// Whether a stored event is a call of Lock, or stored or removed a file.
+fn may_hide(event: &Event) -> bool
+    ensures { result ≡ may_hide event.now }
 {
     match event {
         Event::Arrive(came) => {
-            matches!(&came.arrival.request.call, Ok(Call::Lock { objects: _ }))
+            let locks = matches!(&came.arrival.request.call, Ok(Call::Lock { objects: _ }));
+            locks || came.fates.len() > 0
         }
         _ => false,
     }
@@ -164,7 +165,7 @@ impl<F: Folder> Window<F> {
         ensures spare { self.old.spare ≤ self.new.spare + 1 }
     {
         self.cost = self.cost.saturating_add(cost_of(&event));
-        self.locks = self.locks || is_lock(&event);
+        self.locks = self.locks || may_hide(&event);
         self.events.push(event).unwrap();
     }
 

@@ -1,4 +1,5 @@
 pub mod EventLemmas
+pub mod LeadsLemmas
 pub mod LockLemmas
 pub mod ReplayLemmas
 pub mod RunLemmas

@@ -6,6 +6,7 @@ use Rattle.kr_base.specs.declared.ids.ConnId.{ConnId}
 use Rattle.kr_base.specs.declared.ids.ItemId.{ItemId}
 use Rattle.kr_base.specs.declared.ids.SessionId.{SessionId}
 use Rattle.collection_table.specs.Rows.{has_item, is_open}
+use Rattle.dbus_marshal.specs.Wire.{number_bytes}
 use Rattle.secret_calls.specs.declared.call.Call.{Call}
 use Rattle.secret_calls.specs.declared.call.Call.TheVariants as call
 use Rattle.secret_calls.specs.declared.call.CallFault.{CallFault}
@@ -17,20 +18,23 @@ use Rattle.secret_calls.specs.declared.out.ErrorName.TheVariants as name
 use Rattle.secret_calls.specs.Outs.{spelled_body, most_waiting}
 use Rattle.secret_calls.proofs.SizeLemmas.{error-short, return-waits, session-short}
 use Rattle.session_table.specs.Sessions.{rows_of, is_full, owns, most_sessions, last_session}
-use Rattle.service_machine.specs.CollectionCalls.{on_collection}
+use Rattle.service_machine.specs.declared.event.Recorded.{Recorded}
+use Rattle.service_machine.specs.CollectionCalls.{by_fate, if_open, made, no_prompt, on_collection, secret_stored, storing, storing_secret}
 use Rattle.service_tables.specs.Connections.{size_of}
 use Rattle.service_machine.specs.ItemCalls.{get_secret, secret_if_open}
-use Rattle.service_tables.specs.Limits.{most_body}
+use Rattle.service_tables.specs.Limits.{most_body, most_content}
 use Rattle.service_tables.specs.Objects.{collection_named, is_there, item_paths, once, paths_of}
 use Rattle.service_tables.specs.Opened.{contents_of}
 use Rattle.service_tables.specs.Reading.{asked_collections}
-use Rattle.service_machine.specs.Plan.{Change, Open_session, Close_session, Secret_of, Plan, Ends, After, refused, answered, given}
-use Rattle.service_machine.specs.Run.{asked, filled, run, bounded, limited}
+use Rattle.service_tables.specs.Storing.{Brought, Edit, Add_item, Set_secret, Remove_item, storable_edit}
+use Rattle.service_tables.specs.declared.fate.Fate.{Fate}
+use Rattle.service_tables.specs.declared.fate.Fate.TheVariants as fate
+use Rattle.service_machine.specs.Plan.{Change, Open_session, Close_session, Demand, Store, Erase, Secret_of, Plan, Ends, After, Asks, refused, answered, given}
+use Rattle.service_machine.specs.Run.{asked, filled, led, run, bounded}
 use Rattle.service_machine.specs.ServiceCalls.{is_plain, is_small, locks}
 use Rattle.service_machine.specs.SessionCalls.{with_session}
 use Rattle.service_tables.specs.State.{State}
-use Rattle.service_machine.specs.declared.event.Recorded.{Recorded}
-use Rattle.service_machine.specs.Step.{plan_of, message_of, served}
+use Rattle.service_machine.specs.Step.{brought_by, plan_of, message_of, served}
 
 -- the caller can open a session: it has fewer than it may have, and a number is left
 pub not-full : (few spent : Bool) → (few || spent) ≡ false → (few ≡ false) × (spent ≡ false)
@@ -42,11 +46,6 @@ abbrev pub IsSmall : Result Body ErrorName → Type 0
 IsSmall (Ok body) = length (spelled_body body) ≤ most_body
 IsSmall (Err name) = Unit {0}
 
--- a plan's answer isn't too large, if the plan changes something
-abbrev StaysSmall : ConnId → Plan → State → Type 0
-StaysSmall caller (Ends answer []) state = Unit {0}
-StaysSmall caller plan state = IsSmall (run caller plan state).answer
-
 small-bounded : (answer : Result Body ErrorName) → IsSmall (bounded answer)
 small-bounded (Ok body) =
     let pass : (b : Bool) → nat_le (length (spelled_body body)) most_body ≡ b → IsSmall (cond b (Ok body) (Err name.LimitsExceeded)) =
@@ -54,73 +53,135 @@ small-bounded (Ok body) =
     pass (nat_le (length (spelled_body body)) most_body) refl
 small-bounded (Err name) = tt
 
-small-limited : (caller : ConnId) (plan : Plan) (state : State) → StaysSmall caller plan state → IsSmall (limited plan (run caller plan state)).answer
-small-limited caller (Ends answer []) state small = small-bounded (filled state answer)
-small-limited caller (Ends answer (change ∷ changes)) state small = small
-small-limited caller (After changes next) state small = small
+module _ (caller : ConnId) (brought : Brought) (fates : List Fate) where
+  -- a plan's answer isn't too large, if the plan changes something
+  abbrev StaysSmall : Plan → State → Type 0
+  StaysSmall (Ends answer []) state = Unit {0}
+  StaysSmall plan state = IsSmall (run caller brought plan fates state).answer
 
--- ---- the table of calls
+  small-limited : (plan : Plan) (state : State) → StaysSmall plan state → IsSmall (led caller brought plan fates state).answer
+  small-limited (Ends answer []) state small = small-bounded (filled state answer)
+  small-limited (Ends answer (change ∷ changes)) state small = small
+  small-limited (After changes next) state small = small
+  small-limited (Asks demand next) state small = small
 
-opened-small : (caller : ConnId) (state : State) (plain : Bool)
-    → StaysSmall caller (cond plain (cond (is_full caller state.sessions) (refused name.LimitsExceeded) (answered (body.Session (record { 0 = state.sessions.next })) (Open_session ∷ []))) (refused name.NotSupported)) state
-opened-small caller state false = tt
-opened-small caller state true =
-    let pass : (full : Bool) → is_full caller state.sessions ≡ full
-    → StaysSmall caller (cond full (refused name.LimitsExceeded) (answered (body.Session (record { 0 = state.sessions.next })) (Open_session ∷ []))) state =
-    elim [
-      | true ↦ λ is. tt
-      | false ↦ λ is.
-          let room = not-full (nat_le most_sessions (length (rows_of caller state.sessions.rows))) (nat_le last_session state.sessions.next) is in
-          let number : state.sessions.next < 2 ^ 64 = omega (arith, leb-false last_session state.sessions.next room.1) in
-          omega (arith, session-short (record { 0 = state.sessions.next }) number)
-    ] in
-    pass (is_full caller state.sessions) refl
+  -- ---- the table of calls
 
-closed-small : (caller : ConnId) (session : SessionId) (state : State) (owns : Bool) → StaysSmall caller (cond owns (answered body.Empty (Close_session session ∷ [])) (refused name.NoSession)) state
-closed-small caller session state true = omega arith
-closed-small caller session state false = tt
+  opened-small : (state : State) (plain : Bool)
+      → StaysSmall (cond plain (cond (is_full caller state.sessions) (refused name.LimitsExceeded) (answered (body.Session (record { 0 = state.sessions.next })) (Open_session ∷ []))) (refused name.NotSupported)) state
+  opened-small state false = tt
+  opened-small state true =
+      let pass : (full : Bool) → is_full caller state.sessions ≡ full
+      → StaysSmall (cond full (refused name.LimitsExceeded) (answered (body.Session (record { 0 = state.sessions.next })) (Open_session ∷ []))) state =
+      elim [
+        | true ↦ λ is. tt
+        | false ↦ λ is.
+            let room = not-full (nat_le most_sessions (length (rows_of caller state.sessions.rows))) (nat_le last_session state.sessions.next) is in
+            let number : state.sessions.next < 2 ^ 64 = omega (arith, leb-false last_session state.sessions.next room.1) in
+            omega (arith, session-short (record { 0 = state.sessions.next }) number)
+      ] in
+      pass (is_full caller state.sessions) refl
 
-answered-small : (caller : ConnId) (body : Body) (changes : List Change) (state : State) (small : Bool) → is_small body ≡ small
-    → StaysSmall caller (cond small (answered body changes) (refused name.LimitsExceeded)) state
-answered-small caller body changes state false is = tt
-answered-small caller body [] state true is = tt
-answered-small caller body (change ∷ changes) state true is = leb-true (length (spelled_body body)) most_body is
+  closed-small : (session : SessionId) (state : State) (owns : Bool) → StaysSmall (cond owns (answered body.Empty (Close_session session ∷ [])) (refused name.NoSession)) state
+  closed-small session state true = omega arith
+  closed-small session state false = tt
 
-session-small : (caller : ConnId) (session : Option SessionId) (next : SessionId → Plan) (state : State) → ((own : SessionId) → StaysSmall caller (next own) state)
-    → StaysSmall caller (with_session session (asked caller state) next) state
-session-small caller None next state small = tt
-session-small caller (Some session) next state small =
-    let pass : (b : Bool) → StaysSmall caller (cond b (next session) (refused name.NoSession)) state = elim [ true ↦ small session | false ↦ tt ] in
-    pass (owns caller session state.sessions)
+  answered-small : (body : Body) (changes : List Change) (state : State) (small : Bool) → is_small body ≡ small
+      → StaysSmall (cond small (answered body changes) (refused name.LimitsExceeded)) state
+  answered-small body changes state false is = tt
+  answered-small body [] state true is = tt
+  answered-small body (change ∷ changes) state true is = leb-true (length (spelled_body body)) most_body is
 
-open-small : (caller : ConnId) (session : SessionId) (stem : List ℕ) (item : ItemId) (state : State) → StaysSmall caller (secret_if_open stem item (asked caller state) session) state
-open-small caller session stem item state =
-    let pass : (b : Bool) → StaysSmall caller (cond b (given (Secret_of session stem item)) (refused name.IsLocked)) state = elim [ true ↦ tt | false ↦ tt ] in
-    pass (is_open stem state.collections)
+  session-small : (session : Option SessionId) (next : SessionId → Plan) (state : State) → ((own : SessionId) → StaysSmall (next own) state)
+      → StaysSmall (with_session session (asked caller brought state) next) state
+  session-small None next state small = tt
+  session-small (Some session) next state small =
+      let pass : (b : Bool) → StaysSmall (cond b (next session) (refused name.NoSession)) state = elim [ true ↦ small session | false ↦ tt ] in
+      pass (owns caller session state.sessions)
 
-secret-small : (caller : ConnId) (stem : List ℕ) (item : ItemId) (session : Option SessionId) (state : State) → StaysSmall caller (get_secret stem item session (asked caller state)) state
-secret-small caller stem item session state =
-    let pass : (b : Bool) → StaysSmall caller (cond b (with_session session (asked caller state) (secret_if_open stem item (asked caller state))) (refused name.NoSuchObject)) state =
-    elim [ true ↦ session-small caller session (secret_if_open stem item (asked caller state)) state (λ own. open-small caller own stem item state) | false ↦ tt ] in
-    pass (has_item stem item.0 state.collections)
+  open-small : (session : SessionId) (stem : List ℕ) (item : ItemId) (state : State) → StaysSmall (secret_if_open stem item (asked caller brought state) session) state
+  open-small session stem item state =
+      let pass : (b : Bool) → StaysSmall (cond b (given (Secret_of session stem item)) (refused name.IsLocked)) state = elim [ true ↦ tt | false ↦ tt ] in
+      pass (is_open stem state.collections)
 
-collection-small : (caller : ConnId) (wanted : List (List ℕ × AttrValue)) (state : State) (named : Option (List ℕ))
-    → StaysSmall caller (on_collection named (λ stem. answered (body.Objects (item_paths stem ((asked caller state).collections.found_in stem wanted))) [])) state
-collection-small caller wanted state None = tt
-collection-small caller wanted state (Some stem) = tt
+  secret-small : (stem : List ℕ) (item : ItemId) (session : Option SessionId) (state : State) → StaysSmall (get_secret stem item session (asked caller brought state)) state
+  secret-small stem item session state =
+      let pass : (b : Bool) → StaysSmall (cond b (with_session session (asked caller brought state) (secret_if_open stem item (asked caller brought state))) (refused name.NoSuchObject)) state =
+      elim [ true ↦ session-small session (secret_if_open stem item (asked caller brought state)) state (λ own. open-small own stem item state) | false ↦ tt ] in
+      pass (has_item stem item.0 state.collections)
 
-plan-small : (caller : ConnId) (state : State) (call : Result Call CallFault) → StaysSmall caller (plan_of call (asked caller state)) state
-plan-small caller state (Err fault) = tt
-plan-small caller state (Ok call.Ping) = tt
-plan-small caller state (Ok (call.OpenSession algorithm)) = opened-small caller state (is_plain algorithm)
-plan-small caller state (Ok (call.CloseSession session)) = closed-small caller session state ((asked caller state).sessions.owns session)
-plan-small caller state (Ok (call.SearchItems wanted)) = tt
-plan-small caller state (Ok (call.Lock objects)) =
-    let paths = paths_of (once (filter (is_there (asked_collections (contents_of state))) objects)) in
-    answered-small caller (body.Locked paths) (locks objects (asked caller state)) state (is_small (body.Locked paths)) refl
-plan-small caller state (Ok (call.GetSecrets items session)) = session-small caller session _ state (λ own. tt)
-plan-small caller state (Ok (call.SearchCollection collection wanted)) = collection-small caller wanted state (collection_named (asked_collections (contents_of state)) collection)
-plan-small caller state (Ok (call.GetSecret stem item session)) = secret-small caller stem item session state
+  collection-small : (wanted : List (List ℕ × AttrValue)) (state : State) (named : Option (List ℕ))
+      → StaysSmall (on_collection named (λ stem. answered (body.Objects (item_paths stem ((asked caller brought state).collections.found_in stem wanted))) [])) state
+  collection-small wanted state None = tt
+  collection-small wanted state (Some stem) = tt
+
+  -- what is answered once the disk was asked
+  answered-by : (body : Body) (demand : Demand) (state : State) → length (spelled_body body) ≤ most_body → (these : List Fate) → IsSmall (run caller brought (Asks demand (by_fate body)) these state).answer
+  answered-by body demand state small [] = tt
+  answered-by body demand state small (fate.Stored ∷ more) = small
+  answered-by body demand state small (fate.Before ∷ more) = tt
+  answered-by body demand state small (fate.Unsure ∷ more) = tt
+
+  fate-small : (body : Body) (demand : Demand) (state : State) → length (spelled_body body) ≤ most_body → StaysSmall (Asks demand (by_fate body)) state
+  fate-small body demand state small = answered-by body demand state small fates
+
+  stored-small : (stem : List ℕ) (edit : Edit) (returned : ItemId → Body) (state : State) (item : Option ItemId) → StaysSmall (storing stem edit returned item) state
+  stored-small stem edit returned state None = tt
+  stored-small stem edit returned state (Some item) =
+      let pass : (b : Bool) → is_small (returned item) ≡ b → StaysSmall (cond b (Asks (Store stem edit) (by_fate (returned item))) (refused name.LimitsExceeded)) state =
+      elim [ true ↦ λ is. fate-small (returned item) (Store stem edit) state (leb-true (length (spelled_body (returned item))) most_body is) | false ↦ λ is. tt ] in
+      pass (is_small (returned item)) refl
+
+  if-small : (b : Bool) (plan : Plan) (state : State) (error : ErrorName) → StaysSmall plan state → StaysSmall (cond b plan (refused error)) state
+  if-small true plan state error small = small
+  if-small false plan state error small = tt
+
+  kept-small : (session : Option SessionId) (stem content : List ℕ) (edit : Edit) (returned : ItemId → Body) (state : State)
+      → StaysSmall (secret_stored session stem content edit returned (asked caller brought state)) state
+  kept-small session stem content edit returned state =
+      session-small session _ state
+      (λ own. if-small (is_open stem state.collections) (storing_secret content stem edit returned (asked caller brought state)) state name.IsLocked
+      (if-small (nat_le (length content) most_content) (storing stem edit returned (storable_edit brought state.collections stem edit)) state name.LimitsExceeded
+      (stored-small stem edit returned state (storable_edit brought state.collections stem edit))))
+
+  created-small : (edit : Edit) (session : Option SessionId) (content : List ℕ) (state : State) (named : Option (List ℕ))
+      → StaysSmall (on_collection named (λ stem. secret_stored session stem content edit (made stem) (asked caller brought state))) state
+  created-small edit session content state None = tt
+  created-small edit session content state (Some stem) = kept-small session stem content edit (made stem) state
+
+  prompt-small : length (spelled_body no_prompt) ≤ most_body
+  unfolding number_bytes
+  prompt-small = omega arith
+
+  erased-small : (state : State) (named : Option (List ℕ))
+      → StaysSmall (on_collection named (λ stem. if_open stem (asked caller brought state) (Asks (Erase stem) (by_fate no_prompt)))) state
+  erased-small state None = tt
+  erased-small state (Some stem) =
+      if-small (is_open stem state.collections) (Asks (Erase stem) (by_fate no_prompt)) state name.IsLocked (fate-small no_prompt (Erase stem) state prompt-small)
+
+  plan-small : (state : State) (call : Result Call CallFault) → StaysSmall (plan_of call (asked caller brought state)) state
+  plan-small state (Err fault) = tt
+  plan-small state (Ok call.Ping) = tt
+  plan-small state (Ok (call.OpenSession algorithm)) = opened-small state (is_plain algorithm)
+  plan-small state (Ok (call.CloseSession session)) = closed-small session state ((asked caller brought state).sessions.owns session)
+  plan-small state (Ok (call.SearchItems wanted)) = tt
+  plan-small state (Ok (call.Lock objects)) =
+      let paths = paths_of (once (filter (is_there (asked_collections (contents_of state))) objects)) in
+      answered-small (body.Locked paths) (locks objects (asked caller brought state)) state (is_small (body.Locked paths)) refl
+  plan-small state (Ok (call.GetSecrets items session)) = session-small session _ state (λ own. tt)
+  plan-small state (Ok (call.SearchCollection collection wanted)) = collection-small wanted state (collection_named (asked_collections (contents_of state)) collection)
+  plan-small state (Ok (call.GetSecret stem item session)) = secret-small stem item session state
+  plan-small state (Ok (call.CreateItem collection label attributes secret replace)) =
+      created-small (Add_item label attributes secret.content replace) secret.session secret.content state (collection_named (asked_collections (contents_of state)) collection)
+  plan-small state (Ok (call.DeleteCollection collection)) = erased-small state (collection_named (asked_collections (contents_of state)) collection)
+  plan-small state (Ok (call.DeleteItem stem item)) =
+      let edit = Remove_item item in
+      let given = storable_edit brought state.collections stem edit in
+      if-small (has_item stem item.0 state.collections) (if_open stem (asked caller brought state) (storing stem edit (λ _. no_prompt) given)) state name.NoSuchObject
+      (if-small (is_open stem state.collections) (storing stem edit (λ _. no_prompt) given) state name.IsLocked (stored-small stem edit (λ _. no_prompt) state given))
+  plan-small state (Ok (call.SetSecret stem item secret)) =
+      if-small (has_item stem item.0 state.collections) (secret_stored secret.session stem secret.content (Set_secret item secret.content) (λ _. body.Empty) (asked caller brought state)) state
+      name.NoSuchObject (kept-small secret.session stem secret.content (Set_secret item secret.content) (λ _. body.Empty) state)
 
 -- ---- the reply
 
@@ -133,8 +194,8 @@ message-small request (Err name) small = error-short request.serial 1 name
 pub answer-small : (came : Recorded) (state : State) → IsSmall (served came state).answer
 answer-small came state =
     let caller = came.arrival.conn in
-    let call = came.arrival.request.call in
-    small-limited caller (plan_of call (asked caller state)) state (plan-small caller state call)
+    let brought = brought_by came.arrival in
+    small-limited caller brought came.fates (plan_of came.arrival.request.call (asked caller brought state)) state (plan-small caller brought came.fates state came.arrival.request.call)
 
 pub reply-small : (came : Recorded) (state : State) → size_of (message_of came.arrival.request.serial (served came state).answer) ≤ most_waiting
 reply-small came state = message-small came.arrival.request (served came state).answer (answer-small came state)

@@ -1,5 +1,5 @@
 -- Each event keeps a sound state sound.
-use Rattle.std.proofs.Common.{◌≡◌, ℕ, ◌^◌, ◌<◌, ◌==◌, Bool, true, false, ◌&&◌, not, nat_le, cond, List, Result, Ok, Err, [], ◌∷◌, length, filter, map, Option, Some, None, refl, ap, subst, ◌∙◌, arith, inl, inr}
+use Rattle.std.proofs.Common.{◌≡◌, ℕ, ◌^◌, ◌<◌, ◌==◌, Bool, true, false, ◌&&◌, not, nat_le, cond, IfSome, List, Result, Ok, Err, [], ◌∷◌, length, filter, map, Option, Some, None, refl, ap, sym, subst, ◌∙◌, arith, inl, inr}
 use Rattle.std.specs.List.{AllByRecursion, filter_map, list_any}
 use Rattle.std.proofs.lemmas.Bool.{eqb-true, or_cases, leb-false}
 use Rattle.kr_base.specs.declared.ids.ConnId.{ConnId}
@@ -7,6 +7,7 @@ use Rattle.kr_base.specs.declared.attributes.AttrValue.{AttrValue}
 use Rattle.kr_base.specs.declared.ids.ItemId.{ItemId}
 use Rattle.kr_base.specs.declared.ids.SessionId.{SessionId}
 use Rattle.kr_names.specs.declared.object_name.ObjectName.{ObjectName}
+use Rattle.kr_names.specs.declared.object_name.ObjectName.TheVariants as object
 use Rattle.kr_names.specs.Path.{IsName}
 use Rattle.collection_table.specs.Rows.{has_item, is_open}
 use Rattle.session_table.specs.declared.row.SessionRow.{SessionRow}
@@ -21,31 +22,35 @@ use Rattle.secret_calls.specs.declared.out.ErrorName.TheVariants as name
 use Rattle.secret_calls.proofs.SizeLemmas.{empty-fits, error-short, return-waits}
 use Rattle.secret_calls.specs.declared.secret.ReturnedSecret.{ReturnedSecret}
 use Rattle.secret_calls.specs.Outs.{spelled_body, AreTyped, HasSpelling}
-use Rattle.session_table.specs.Sessions.{is_of, owns, rows_of, is_full, opened, most_sessions, last_session}
+use Rattle.session_table.specs.Sessions.{is_of, owns, rows_of, is_full, most_sessions, last_session}
 use Rattle.service_tables.specs.State.{State}
 use Rattle.service_tables.specs.declared.rows.ConnRow.{ConnRow}
 use Rattle.service_tables.specs.declared.rows.ConnRows.{ConnRows}
 use Rattle.service_machine.specs.declared.event.Event.{Event}
 use Rattle.service_machine.specs.declared.event.Event.TheVariants as event
 use Rattle.service_tables.specs.Connections.{new_row, joined, has, changed, left, emptied, size_of, with_out, Sent}
-use Rattle.service_tables.specs.Limits.{most_body}
-use Rattle.service_machine.specs.CollectionCalls.{on_collection}
+use Rattle.service_tables.specs.Limits.{most_body, most_content}
+use Rattle.service_machine.specs.declared.event.Recorded.{Recorded}
+use Rattle.service_machine.specs.CollectionCalls.{by_fate, if_open, made, no_prompt, on_collection, secret_stored, storing, storing_secret}
 use Rattle.service_machine.specs.ItemCalls.{get_secret, secret_if_open}
 use Rattle.service_tables.specs.Objects.{collection_around, collection_named, is_open_item, is_there, item_paths, once, paths_of}
 use Rattle.service_tables.specs.Opened.{Contents, contents_of, opened_state}
 use Rattle.service_tables.specs.Reading.{asked_collections, secret_of}
-use Rattle.service_machine.specs.Plan.{Change, Open_session, Close_session, Lock_collection, Secret_of, Plan, Ends, After, refused, answered, given}
-use Rattle.service_machine.specs.Run.{asked, performed, performed_all, filled, Ran, run, bounded, limited, secret_returned}
+use Rattle.service_machine.specs.Plan.{Change, Open_session, Close_session, Lock_collection, Demand, Store, Erase, Secret_of, Plan, Ends, After, Asks, refused, answered, given}
+use Rattle.service_machine.specs.Run.{asked, demanded, performed, performed_all, filled, Ran, run, bounded, limited, secret_returned}
 use Rattle.service_machine.specs.ServiceCalls.{is_plain, is_small, lock, locks, get_secrets}
 use Rattle.service_machine.specs.SessionCalls.{with_session}
-use Rattle.service_machine.specs.declared.event.Recorded.{Recorded}
-use Rattle.service_machine.specs.Step.{with_rows, with_delivered, plan_of, message_of, served, put_out, puts_out, step, Fits}
+use Rattle.service_machine.specs.Step.{HasTypes, with_rows, with_delivered, brought_by, plan_of, message_of, served, put_out, puts_out, step, value_in, Fits, FitsRequest}
 use Rattle.service_machine.specs.Replay.{replay, Legal}
-use Rattle.service_tables.specs.Sound.{CanWait, WaitsWell, AreOpened, AreSoundCollections, IsSound}
-use Rattle.service_tables.proofs.CollectionLemmas.{found-in-paths, found-locked, found-unlocked, named-paths, once-each, open-named, secret-typed, secrets-typed, sound-locked, there-named}
+use Rattle.service_tables.specs.Storing.{AreEditTypes, Brought, Edit, Add_item, Set_secret, Remove_item, storable_edit}
+use Rattle.service_tables.specs.declared.fate.Fate.{Fate}
+use Rattle.service_tables.specs.declared.fate.Fate.TheVariants as fate
+use Rattle.service_tables.specs.Sound.{AreSecretTypes, CanWait, WaitsWell, AreOpened, AreSoundCollections, IsSound}
+use Rattle.service_tables.proofs.CollectionLemmas.{path-of, found-in-paths, found-locked, found-unlocked, named-paths, once-each, open-named, secret-typed, secrets-typed, sound-locked, there-named}
 use Rattle.service_tables.proofs.EachLemmas.{each-weaker}
+use Rattle.service_tables.proofs.StoredLemmas.{sound-erased, sound-stored, storable-named}
 use Rattle.service_machine.proofs.SmallLemmas.{IsSmall, answer-small, not-full}
-use Rattle.service_machine.proofs.RunLemmas.{connections-performed, connections-all, state-limited, put_out-served}
+use Rattle.service_machine.proofs.RunLemmas.{connections-performed, connections-all, plan_for, state-limited, put_out-served}
 use Rattle.service_tables.proofs.TableLemmas.{KeepsNumber, has-changed, connections-changed, sessions-among, keeps-with_out, well-with_out, has-push, connections-joined, connections-without, sessions-opened, sessions-fewer, sessions-without}
 
 pub sound-changed : (conn : ConnId) (change : ConnRow → ConnRow) → KeepsNumber change → ((row : ConnRow) → WaitsWell row → WaitsWell (change row)) → (state : State) → IsSound state
@@ -84,11 +89,31 @@ abbrev pub IsTypedAnswer : Result Body ErrorName → Type 0
 IsTypedAnswer (Ok body) = AreTyped body
 IsTypedAnswer (Err name) = Unit {0}
 
--- each change of a plan is allowed, and the values of its answer are of their types
-abbrev pub MayRun : ConnId → Plan → State → Type 0
-MayRun caller (Ends answer changes) state = AreAllowed caller changes state × IsTypedAnswer (filled state answer)
-MayRun caller (After changes next) state =
-    AreAllowed caller changes state × MayRun caller (next (asked caller (performed_all caller changes state))) (performed_all caller changes state)
+-- what a plan asks of the disk has its types
+abbrev pub IsTypedDemand : Brought → Demand → Type 0
+IsTypedDemand brought (Store stem edit) = (brought.now < 2 ^ 64) × AreEditTypes brought.value edit
+IsTypedDemand brought (Erase stem) = Unit {0}
+
+-- each change of a plan is allowed, and what it asks of the disk and the values of its answer are of their types
+abbrev pub MayRun : ConnId → Brought → Plan → List Fate → State → Type 0
+MayRun caller brought (Ends answer changes) fates state = AreAllowed caller changes state × IsTypedAnswer (filled state answer)
+MayRun caller brought (After changes next) fates state =
+    AreAllowed caller changes state × MayRun caller brought (next (asked caller brought (performed_all caller changes state))) fates (performed_all caller changes state)
+MayRun caller brought (Asks demand next) [] state = Unit {0}
+MayRun caller brought (Asks demand next) (fate ∷ fates) state = IsTypedDemand brought demand × MayRun caller brought (next fate) fates (demanded brought demand fate state)
+
+-- what a demand leaves of a sound state
+sound-demanded : (brought : Brought) (demand : Demand) (some : Fate) (state : State) → IsTypedDemand brought demand → IsSound state → IsSound (demanded brought demand some state)
+sound-demanded brought (Store stem edit) some state typed sound = record {
+  connections = sound.connections;
+  sessions = sound.sessions;
+  collections = sound-stored brought.now typed.0 edit brought.value typed.1 stem some state.collections sound.collections;
+}
+sound-demanded brought (Erase stem) some state typed sound = record {
+  connections = sound.connections;
+  sessions = sound.sessions;
+  collections = sound-erased stem some state.collections sound.collections;
+}
 
 sound-performed : (caller : ConnId) (change : Change) (state : State) → has caller state.connections.rows ≡ true → IsAllowed caller change state → IsSound state
     → IsSound (performed caller change state)
@@ -118,15 +143,22 @@ sound-all caller (change ∷ changes) state there allowed sound =
     sound-all caller changes (performed caller change state) (ap (λ (c : ConnRows). has caller c.rows) (connections-performed caller change state) ∙ there) allowed.1
     (sound-performed caller change state there allowed.0 sound)
 
-sound-run : (caller : ConnId) (plan : Plan) (state : State) → has caller state.connections.rows ≡ true → MayRun caller plan state → IsSound state → IsSound (run caller plan state).state
-sound-run caller (Ends answer changes) state there may sound = sound-all caller changes state there may.0 sound
-sound-run caller (After changes next) state there may sound =
+sound-run : (caller : ConnId) (brought : Brought) (plan : Plan) (fates : List Fate) (state : State) → has caller state.connections.rows ≡ true → MayRun caller brought plan fates state → IsSound state
+    → IsSound (run caller brought plan fates state).state
+sound-run caller brought (Ends answer changes) fates state there may sound = sound-all caller changes state there may.0 sound
+sound-run caller brought (After changes next) fates state there may sound =
     let mid = performed_all caller changes state in
-    sound-run caller (next (asked caller mid)) mid (ap (λ (c : ConnRows). has caller c.rows) (connections-all caller changes state) ∙ there) may.1 (sound-all caller changes state there may.0 sound)
+    sound-run caller brought (next (asked caller brought mid)) fates mid (ap (λ (c : ConnRows). has caller c.rows) (connections-all caller changes state) ∙ there) may.1 (sound-all caller changes state there may.0 sound)
+sound-run caller brought (Asks demand next) [] state there may sound = sound
+sound-run caller brought (Asks demand next) (some ∷ fates) state there may sound =
+    sound-run caller brought (next some) fates (demanded brought demand some state) there may.1 (sound-demanded brought demand some state may.0 sound)
 
-typed-run : (caller : ConnId) (plan : Plan) (state : State) → MayRun caller plan state → IsTypedAnswer (run caller plan state).answer
-typed-run caller (Ends answer changes) state may = may.1
-typed-run caller (After changes next) state may = typed-run caller (next (asked caller (performed_all caller changes state))) (performed_all caller changes state) may.1
+typed-run : (caller : ConnId) (brought : Brought) (plan : Plan) (fates : List Fate) (state : State) → MayRun caller brought plan fates state → IsTypedAnswer (run caller brought plan fates state).answer
+typed-run caller brought (Ends answer changes) fates state may = may.1
+typed-run caller brought (After changes next) fates state may =
+    typed-run caller brought (next (asked caller brought (performed_all caller changes state))) fates (performed_all caller changes state) may.1
+typed-run caller brought (Asks demand next) [] state may = tt
+typed-run caller brought (Asks demand next) (some ∷ fates) state may = typed-run caller brought (next some) fates (demanded brought demand some state) may.1
 
 typed-bounded : (answer : Result Body ErrorName) → IsTypedAnswer answer → IsTypedAnswer (bounded answer)
 typed-bounded (Ok body) typed =
@@ -138,121 +170,195 @@ typed-limited : (plan : Plan) (ran : Ran) → IsTypedAnswer ran.answer → IsTyp
 typed-limited (Ends answer []) ran typed = typed-bounded ran.answer typed
 typed-limited (Ends answer (change ∷ changes)) ran typed = typed
 typed-limited (After changes next) ran typed = typed
+typed-limited (Asks demand next) ran typed = typed
 
--- ---- the table of calls
+module _ (caller : ConnId) (brought : Brought) (fates : List Fate) where
+  -- ---- the table of calls
 
-opened-may : (caller : ConnId) (state : State) (plain : Bool)
-    → MayRun caller (cond plain (cond (is_full caller state.sessions) (refused name.LimitsExceeded) (answered (body.Session (record { 0 = state.sessions.next })) (Open_session ∷ []))) (refused name.NotSupported)) state
-opened-may caller state false = (tt, tt)
-opened-may caller state true =
-    let pass : (full : Bool) → is_full caller state.sessions ≡ full
-    → MayRun caller (cond full (refused name.LimitsExceeded) (answered (body.Session (record { 0 = state.sessions.next })) (Open_session ∷ []))) state =
-    elim [
-      | true ↦ λ is. (tt, tt)
-      | false ↦ λ is.
-          let room = not-full (nat_le most_sessions (length (rows_of caller state.sessions.rows))) (nat_le last_session state.sessions.next) is in
-          ((is, tt), omega (arith, leb-false last_session state.sessions.next room.1))
-    ] in
-    pass (is_full caller state.sessions) refl
+  opened-may : (state : State) (plain : Bool)
+      → MayRun caller brought (cond plain (cond (is_full caller state.sessions) (refused name.LimitsExceeded) (answered (body.Session (record { 0 = state.sessions.next })) (Open_session ∷ []))) (refused name.NotSupported)) fates state
+  opened-may state false = (tt, tt)
+  opened-may state true =
+      let pass : (full : Bool) → is_full caller state.sessions ≡ full
+      → MayRun caller brought (cond full (refused name.LimitsExceeded) (answered (body.Session (record { 0 = state.sessions.next })) (Open_session ∷ []))) fates state =
+      elim [
+        | true ↦ λ is. (tt, tt)
+        | false ↦ λ is.
+            let room = not-full (nat_le most_sessions (length (rows_of caller state.sessions.rows))) (nat_le last_session state.sessions.next) is in
+            ((is, tt), omega (arith, leb-false last_session state.sessions.next room.1))
+      ] in
+      pass (is_full caller state.sessions) refl
 
-closed-may : (caller : ConnId) (session : SessionId) (state : State) (owns : Bool) → MayRun caller (cond owns (answered body.Empty (Close_session session ∷ [])) (refused name.NoSession)) state
-closed-may caller session state true = ((tt, tt), tt)
-closed-may caller session state false = (tt, tt)
+  closed-may : (session : SessionId) (state : State) (owns : Bool) → MayRun caller brought (cond owns (answered body.Empty (Close_session session ∷ [])) (refused name.NoSession)) fates state
+  closed-may session state true = ((tt, tt), tt)
+  closed-may session state false = (tt, tt)
 
--- any collections may be locked
-locks-allowed : (caller : ConnId) (stems : List (List ℕ)) (state : State) → AreAllowed caller (map Lock_collection stems) state
-locks-allowed caller [] state = tt
-locks-allowed caller (stem ∷ stems) state = (tt, locks-allowed caller stems (performed caller (Lock_collection stem) state))
+  -- any collections may be locked
+  locks-allowed : (stems : List (List ℕ)) (state : State) → AreAllowed caller (map Lock_collection stems) state
+  locks-allowed [] state = tt
+  locks-allowed (stem ∷ stems) state = (tt, locks-allowed stems (performed caller (Lock_collection stem) state))
 
-small-may : (caller : ConnId) (body : Body) (changes : List Change) (state : State) → AreAllowed caller changes state → AreTyped body → (small : Bool)
-    → MayRun caller (cond small (answered body changes) (refused name.LimitsExceeded)) state
-small-may caller body changes state allowed typed false = (tt, tt)
-small-may caller body changes state allowed typed true = (allowed, typed)
+  small-may : (body : Body) (changes : List Change) (state : State) → AreAllowed caller changes state → AreTyped body → (small : Bool)
+      → MayRun caller brought (cond small (answered body changes) (refused name.LimitsExceeded)) fates state
+  small-may body changes state allowed typed false = (tt, tt)
+  small-may body changes state allowed typed true = (allowed, typed)
 
-lock-may : (caller : ConnId) (objects : List ObjectName) (state : State) → IsSound state → MayRun caller (lock objects (asked caller state)) state
-lock-may caller objects state sound =
-    let there = once (filter (is_there (asked_collections (contents_of state))) objects) in
-    let paths = named-paths there (once-each IsName (is_there (asked_collections (contents_of state))) (there-named (contents_of state) sound.collections) objects) in
-    small-may caller (body.Locked (paths_of there)) (locks objects (asked caller state)) state
-    (locks-allowed caller (filter_map (collection_around (asked_collections (contents_of state))) objects) state) paths (is_small (body.Locked (paths_of there)))
+  lock-may : (objects : List ObjectName) (state : State) → IsSound state → MayRun caller brought (lock objects (asked caller brought state)) fates state
+  lock-may objects state sound =
+      let there = once (filter (is_there (asked_collections (contents_of state))) objects) in
+      let paths = named-paths there (once-each IsName (is_there (asked_collections (contents_of state))) (there-named (contents_of state) sound.collections) objects) in
+      small-may (body.Locked (paths_of there)) (locks objects (asked caller brought state)) state
+      (locks-allowed (filter_map (collection_around (asked_collections (contents_of state))) objects) state) paths (is_small (body.Locked (paths_of there)))
 
--- a session that is owned has a number of its type
-and-second : (a b : Bool) → (a && b) ≡ true → b ≡ true
-and-second true b is = is
-and-second false b is = absurd (let no : false ≡ true = is in cc)
+  -- a session that is owned has a number of its type
+  and-second : (a b : Bool) → (a && b) ≡ true → b ≡ true
+  and-second true b is = is
+  and-second false b is = absurd (let no : false ≡ true = is in cc)
 
-owned-given : (caller : ConnId) (session : SessionId) (next : ℕ) (rows : List SessionRow) → AreOpened next rows → list_any (is_of caller session) rows ≡ true → session.0 < next
-owned-given caller session next [] all there = absurd (let no : false ≡ true = there in cc)
-owned-given caller session next (row ∷ rows) all there =
-    elim (or_cases (is_of caller session row) (list_any (is_of caller session) rows) there) [
-      | inl here ↦ subst (λ n. n < next) (eqb-true row.session.0 session.0 (and-second (row.owner.0 == caller.0) (row.session.0 == session.0) here)) all.0
-      | inr later ↦ owned-given caller session next rows all.1 later
-    ]
+  owned-given : (session : SessionId) (next : ℕ) (rows : List SessionRow) → AreOpened next rows → list_any (is_of caller session) rows ≡ true → session.0 < next
+  owned-given session next [] all there = absurd (let no : false ≡ true = there in cc)
+  owned-given session next (row ∷ rows) all there =
+      elim (or_cases (is_of caller session row) (list_any (is_of caller session) rows) there) [
+        | inl here ↦ subst (λ n. n < next) (eqb-true row.session.0 session.0 (and-second (row.owner.0 == caller.0) (row.session.0 == session.0) here)) all.0
+        | inr later ↦ owned-given session next rows all.1 later
+      ]
 
-owned-small : (caller : ConnId) (session : SessionId) (state : State) → IsSound state → owns caller session state.sessions ≡ true → session.0 < 2 ^ 64
-owned-small caller session state sound is = omega (arith, owned-given caller session state.sessions.next state.sessions.rows sound.sessions.opened is, sound.sessions.numbered)
+  owned-small : (session : SessionId) (state : State) → IsSound state → owns caller session state.sessions ≡ true → session.0 < 2 ^ 64
+  owned-small session state sound is = omega (arith, owned-given session state.sessions.next state.sessions.rows sound.sessions.opened is, sound.sessions.numbered)
 
--- what is done with a session of the caller may be done
-session-may : (caller : ConnId) (session : Option SessionId) (next : SessionId → Plan) (state : State)
-    → ((own : SessionId) → owns caller own state.sessions ≡ true → MayRun caller (next own) state) → MayRun caller (with_session session (asked caller state) next) state
-session-may caller None next state may = (tt, tt)
-session-may caller (Some session) next state may =
-    let pass : (b : Bool) → owns caller session state.sessions ≡ b → MayRun caller (cond b (next session) (refused name.NoSession)) state =
-    elim [ true ↦ λ is. may session is | false ↦ λ is. (tt, tt) ] in
-    pass (owns caller session state.sessions) refl
+  -- what is done with a session of the caller may be done
+  session-may : (session : Option SessionId) (next : SessionId → Plan) (state : State)
+      → ((own : SessionId) → owns caller own state.sessions ≡ true → MayRun caller brought (next own) fates state) → MayRun caller brought (with_session session (asked caller brought state) next) fates state
+  session-may None next state may = (tt, tt)
+  session-may (Some session) next state may =
+      let pass : (b : Bool) → owns caller session state.sessions ≡ b → MayRun caller brought (cond b (next session) (refused name.NoSession)) fates state =
+      elim [ true ↦ λ is. may session is | false ↦ λ is. (tt, tt) ] in
+      pass (owns caller session state.sessions) refl
 
-secrets-may : (caller : ConnId) (items : List ObjectName) (session : Option SessionId) (state : State) → IsSound state → MayRun caller (get_secrets items session (asked caller state)) state
-secrets-may caller items session state sound =
-    session-may caller session _ state
-    (λ own is. (
-      tt,
-      secrets-typed own state.collections (once (filter (is_open_item (asked_collections (contents_of state))) items)) (owned-small caller own state sound is) sound.collections
-          (once-each IsName (is_open_item (asked_collections (contents_of state))) (open-named (contents_of state) sound.collections) items),
-    ))
+  secrets-may : (items : List ObjectName) (session : Option SessionId) (state : State) → IsSound state → MayRun caller brought (get_secrets items session (asked caller brought state)) fates state
+  secrets-may items session state sound =
+      session-may session _ state
+      (λ own is. (
+        tt,
+        secrets-typed own state.collections (once (filter (is_open_item (asked_collections (contents_of state))) items)) (owned-small own state sound is) sound.collections
+            (once-each IsName (is_open_item (asked_collections (contents_of state))) (open-named (contents_of state) sound.collections) items),
+      ))
 
-returned-typed : (session : SessionId) (state : State) (stem : List ℕ) (item : ItemId) → session.0 < 2 ^ 64 → IsSound state → IsTypedAnswer (secret_returned (secret_of session state.collections stem item))
-returned-typed session state stem item small sound =
-    let pass : (o : Option ReturnedSecret) → secret_of session state.collections stem item ≡ o → IsTypedAnswer (secret_returned o) =
-    elim [
-      | None ↦ λ is. tt
-      | Some secret ↦ λ is. secret-typed session state.collections stem item secret small sound.collections is
-    ] in
-    pass (secret_of session state.collections stem item) refl
+  returned-typed : (session : SessionId) (state : State) (stem : List ℕ) (item : ItemId) → session.0 < 2 ^ 64 → IsSound state → IsTypedAnswer (secret_returned (secret_of session state.collections stem item))
+  returned-typed session state stem item small sound =
+      let pass : (o : Option ReturnedSecret) → secret_of session state.collections stem item ≡ o → IsTypedAnswer (secret_returned o) =
+      elim [
+        | None ↦ λ is. tt
+        | Some secret ↦ λ is. secret-typed session state.collections stem item secret small sound.collections is
+      ] in
+      pass (secret_of session state.collections stem item) refl
 
-open-may : (caller : ConnId) (session : SessionId) (stem : List ℕ) (item : ItemId) (state : State) → session.0 < 2 ^ 64 → IsSound state
-    → MayRun caller (secret_if_open stem item (asked caller state) session) state
-open-may caller session stem item state small sound =
-    let pass : (b : Bool) → MayRun caller (cond b (given (Secret_of session stem item)) (refused name.IsLocked)) state =
-    elim [ true ↦ (tt, returned-typed session state stem item small sound) | false ↦ (tt, tt) ] in
-    pass (is_open stem state.collections)
+  open-may : (session : SessionId) (stem : List ℕ) (item : ItemId) (state : State) → session.0 < 2 ^ 64 → IsSound state
+      → MayRun caller brought (secret_if_open stem item (asked caller brought state) session) fates state
+  open-may session stem item state small sound =
+      let pass : (b : Bool) → MayRun caller brought (cond b (given (Secret_of session stem item)) (refused name.IsLocked)) fates state =
+      elim [ true ↦ (tt, returned-typed session state stem item small sound) | false ↦ (tt, tt) ] in
+      pass (is_open stem state.collections)
 
-secret-may : (caller : ConnId) (stem : List ℕ) (item : ItemId) (session : Option SessionId) (state : State) → IsSound state → MayRun caller (get_secret stem item session (asked caller state)) state
-secret-may caller stem item session state sound =
-    let pass : (b : Bool) → MayRun caller (cond b (with_session session (asked caller state) (secret_if_open stem item (asked caller state))) (refused name.NoSuchObject)) state =
-    elim [
-      | true ↦ session-may caller session (secret_if_open stem item (asked caller state)) state
-          (λ own is. open-may caller own stem item state (owned-small caller own state sound is) sound)
-      | false ↦ (tt, tt)
-    ] in
-    pass (has_item stem item.0 state.collections)
+  secret-may : (stem : List ℕ) (item : ItemId) (session : Option SessionId) (state : State) → IsSound state → MayRun caller brought (get_secret stem item session (asked caller brought state)) fates state
+  secret-may stem item session state sound =
+      let pass : (b : Bool) → MayRun caller brought (cond b (with_session session (asked caller brought state) (secret_if_open stem item (asked caller brought state))) (refused name.NoSuchObject)) fates state =
+      elim [
+        | true ↦ session-may session (secret_if_open stem item (asked caller brought state)) state
+            (λ own is. open-may own stem item state (owned-small own state sound is) sound)
+        | false ↦ (tt, tt)
+      ] in
+      pass (has_item stem item.0 state.collections)
 
-collection-may : (caller : ConnId) (wanted : List (List ℕ × AttrValue)) (state : State) → IsSound state → (named : Option (List ℕ))
-    → MayRun caller (on_collection named (λ stem. answered (body.Objects (item_paths stem ((asked caller state).collections.found_in stem wanted))) [])) state
-collection-may caller wanted state sound None = (tt, tt)
-collection-may caller wanted state sound (Some stem) = (tt, found-in-paths stem wanted state.collections sound.collections)
+  collection-may : (wanted : List (List ℕ × AttrValue)) (state : State) → IsSound state → (named : Option (List ℕ))
+      → MayRun caller brought (on_collection named (λ stem. answered (body.Objects (item_paths stem ((asked caller brought state).collections.found_in stem wanted))) [])) fates state
+  collection-may wanted state sound None = (tt, tt)
+  collection-may wanted state sound (Some stem) = (tt, found-in-paths stem wanted state.collections sound.collections)
 
--- each row's plan may be run
-pub may-run : (caller : ConnId) (state : State) (call : Result Call CallFault) → IsSound state → MayRun caller (plan_of call (asked caller state)) state
-may-run caller state (Err fault) sound = (tt, tt)
-may-run caller state (Ok call.Ping) sound = (tt, tt)
-may-run caller state (Ok (call.OpenSession algorithm)) sound = opened-may caller state (is_plain algorithm)
-may-run caller state (Ok (call.CloseSession session)) sound = closed-may caller session state ((asked caller state).sessions.owns session)
-may-run caller state (Ok (call.SearchItems wanted)) sound =
-    (tt, (found-unlocked wanted state.collections sound.collections, found-locked wanted state.collections sound.collections))
-may-run caller state (Ok (call.Lock objects)) sound = lock-may caller objects state sound
-may-run caller state (Ok (call.GetSecrets items session)) sound = secrets-may caller items session state sound
-may-run caller state (Ok (call.SearchCollection collection wanted)) sound = collection-may caller wanted state sound (collection_named (asked_collections (contents_of state)) collection)
-may-run caller state (Ok (call.GetSecret stem item session)) sound = secret-may caller stem item session state sound
+  -- what is answered once the disk was asked
+  by-fate-may : (body : Body) (some : Fate) (more : List Fate) (state : State) → AreTyped body → MayRun caller brought (by_fate body some) more state
+  by-fate-may body fate.Stored more state typed = (tt, typed)
+  by-fate-may body fate.Before more state typed = (tt, tt)
+  by-fate-may body fate.Unsure more state typed = (tt, tt)
+
+  asks-may : (demand : Demand) (body : Body) (these : List Fate) (state : State) → IsTypedDemand brought demand → AreTyped body → MayRun caller brought (Asks demand (by_fate body)) these state
+  asks-may demand body [] state given typed = tt
+  asks-may demand body (some ∷ more) state given typed = (given, by-fate-may body some more (demanded brought demand some state) typed)
+
+  if-may : (b : Bool) (plan : Plan) (error : ErrorName) (state : State) → MayRun caller brought plan fates state → MayRun caller brought (cond b plan (refused error)) fates state
+  if-may true plan error state may = may
+  if-may false plan error state may = (tt, tt)
+
+  stored-may : (stem : List ℕ) (edit : Edit) (returned : ItemId → Body) (item : Option ItemId) (state : State) → IsTypedDemand brought (Store stem edit) → IfSome item (λ made. AreTyped (returned made))
+      → MayRun caller brought (storing stem edit returned item) fates state
+  stored-may stem edit returned None state given typed = (tt, tt)
+  stored-may stem edit returned (Some item) state given typed =
+      if-may (is_small (returned item)) (Asks (Store stem edit) (by_fate (returned item))) name.LimitsExceeded state (asks-may (Store stem edit) (returned item) fates state given typed)
+
+  kept-may : (session : Option SessionId) (stem content : List ℕ) (edit : Edit) (returned : ItemId → Body) (state : State) → IsTypedDemand brought (Store stem edit)
+      → IfSome (storable_edit brought state.collections stem edit) (λ made. AreTyped (returned made)) → MayRun caller brought (secret_stored session stem content edit returned (asked caller brought state)) fates state
+  kept-may session stem content edit returned state given typed =
+      let item = storable_edit brought state.collections stem edit in
+      session-may session _ state
+      (λ own is. if-may (is_open stem state.collections) (storing_secret content stem edit returned (asked caller brought state)) name.IsLocked state
+      (if-may (nat_le (length content) most_content) (storing stem edit returned item) name.LimitsExceeded state (stored-may stem edit returned item state given typed)))
+
+  -- the path of an item that can be stored
+  made-typed : (stem : List ℕ) (edit : Edit) (state : State) → IsSound state → IsTypedDemand brought (Store stem edit) → IfSome (storable_edit brought state.collections stem edit) (λ item. AreTyped (made stem item))
+  made-typed stem edit state sound given =
+      let pass : (o : Option ItemId) → storable_edit brought state.collections stem edit ≡ o → IfSome o (λ item. AreTyped (made stem item)) =
+      elim [
+        | None ↦ λ is. tt
+        | Some item ↦ λ is.
+            path-of (object.Item stem item) (storable-named brought.now given.0 edit brought.value given.1 stem state.collections item sound.collections is)
+      ] in
+      pass (storable_edit brought state.collections stem edit) refl
+
+  prompt-typed : AreTyped no_prompt
+  prompt-typed = path-of object.Nothing tt
+
+  -- whatever is answered, it is typed
+  each-typed : {A : Type 0} (o : Option A) (P : A → Type 0) → ((x : A) → P x) → IfSome o P
+  each-typed None P all = tt
+  each-typed (Some x) P all = all x
+
+  created-may : (edit : Edit) (session : Option SessionId) (content : List ℕ) (state : State) → IsSound state → (brought.now < 2 ^ 64) × AreEditTypes brought.value edit → (named : Option (List ℕ))
+      → MayRun caller brought (on_collection named (λ stem. secret_stored session stem content edit (made stem) (asked caller brought state))) fates state
+  created-may edit session content state sound given None = (tt, tt)
+  created-may edit session content state sound given (Some stem) = kept-may session stem content edit (made stem) state given (made-typed stem edit state sound given)
+
+  erased-may : (state : State) (named : Option (List ℕ)) → MayRun caller brought (on_collection named (λ stem. if_open stem (asked caller brought state) (Asks (Erase stem) (by_fate no_prompt)))) fates state
+  erased-may state None = (tt, tt)
+  erased-may state (Some stem) = if-may (is_open stem state.collections) (Asks (Erase stem) (by_fate no_prompt)) name.IsLocked state (asks-may (Erase stem) no_prompt fates state tt prompt-typed)
+
+  -- each row's plan may be run
+  pub may-run : (state : State) (call : Result Call CallFault) → IsSound state → brought.now < 2 ^ 64 → HasTypes call → brought.value ≡ value_in call
+      → MayRun caller brought (plan_of call (asked caller brought state)) fates state
+  may-run state (Err fault) sound small types same = (tt, tt)
+  may-run state (Ok call.Ping) sound small types same = (tt, tt)
+  may-run state (Ok (call.OpenSession algorithm)) sound small types same = opened-may state (is_plain algorithm)
+  may-run state (Ok (call.CloseSession session)) sound small types same = closed-may session state ((asked caller brought state).sessions.owns session)
+  may-run state (Ok (call.SearchItems wanted)) sound small types same =
+      (tt, (found-unlocked wanted state.collections sound.collections, found-locked wanted state.collections sound.collections))
+  may-run state (Ok (call.Lock objects)) sound small types same = lock-may objects state sound
+  may-run state (Ok (call.GetSecrets items session)) sound small types same = secrets-may items session state sound
+  may-run state (Ok (call.SearchCollection collection wanted)) sound small types same = collection-may wanted state sound (collection_named (asked_collections (contents_of state)) collection)
+  may-run state (Ok (call.GetSecret stem item session)) sound small types same = secret-may stem item session state sound
+  may-run state (Ok (call.CreateItem collection label attributes secret replace)) sound small types same =
+      created-may (Add_item label attributes secret.content replace) secret.session secret.content state sound
+      (small, (types.0, subst (λ value. AreSecretTypes value secret.content) (sym same) types.1)) (collection_named (asked_collections (contents_of state)) collection)
+  may-run state (Ok (call.DeleteCollection collection)) sound small types same = erased-may state (collection_named (asked_collections (contents_of state)) collection)
+  may-run state (Ok (call.DeleteItem stem item)) sound small types same =
+      let edit = Remove_item item in
+      let given = storable_edit brought state.collections stem edit in
+      if-may (has_item stem item.0 state.collections) (if_open stem (asked caller brought state) (storing stem edit (λ _. no_prompt) given)) name.NoSuchObject state
+      (if-may (is_open stem state.collections) (storing stem edit (λ _. no_prompt) given) name.IsLocked state
+      (stored-may stem edit (λ _. no_prompt) given state (small, tt) (each-typed given _ (λ made. prompt-typed))))
+  may-run state (Ok (call.SetSecret stem item secret)) sound small types same =
+      let edit = Set_secret item secret.content in
+      if-may (has_item stem item.0 state.collections) (secret_stored secret.session stem secret.content edit (λ _. body.Empty) (asked caller brought state)) name.NoSuchObject state
+      (kept-may secret.session stem secret.content edit (λ _. body.Empty) state (small, subst (λ value. AreSecretTypes value secret.content) (sym same) types)
+      (each-typed (storable_edit brought state.collections stem edit) _ (λ made. tt)))
 
 -- ---- what a request puts out
 
@@ -269,24 +375,29 @@ replies-wait : (wanted : Bool) (sent : Sent) → CanWait sent → AllByRecursion
 replies-wait true sent waits = (waits, tt)
 replies-wait false sent waits = tt
 
+-- a request that fits may be run
+came-may : (came : Recorded) (state : State) → IsSound state → FitsRequest came state → MayRun came.arrival.conn (brought_by came.arrival) (plan_for came state) came.fates state
+came-may came state sound fits = may-run came.arrival.conn (brought_by came.arrival) came.fates state came.arrival.request.call sound fits.moment fits.types refl
+
 -- the reply to a request, and all that it puts out
-pub reply-waits : (came : Recorded) (state : State) → IsSound state → CanWait (record { to = came.arrival.conn; out = message_of came.arrival.request.serial (served came state).answer })
-reply-waits came state sound =
+pub reply-waits : (came : Recorded) (state : State) → IsSound state → FitsRequest came state
+    → CanWait (record { to = came.arrival.conn; out = message_of came.arrival.request.serial (served came state).answer })
+reply-waits came state sound fits =
     let caller = came.arrival.conn in
-    let request = came.arrival.request in
-    let plan = plan_of request.call (asked caller state) in
-    message-waits caller request (served came state).answer
-    (typed-limited plan (run caller plan state) (typed-run caller plan state (may-run caller state request.call sound))) (answer-small came state)
+    let brought = brought_by came.arrival in
+    let plan = plan_for came state in
+    message-waits caller came.arrival.request (served came state).answer
+    (typed-limited plan (run caller brought plan came.fates state) (typed-run caller brought plan came.fates state (came-may came state sound fits))) (answer-small came state)
 
-served-waits : (came : Recorded) (state : State) → IsSound state → AllByRecursion CanWait (put_out came.arrival.conn came.arrival.request (served came state))
-served-waits came state sound = rw (put_out-served came state) (replies-wait came.arrival.request.wants_reply _ (reply-waits came state sound))
+served-waits : (came : Recorded) (state : State) → IsSound state → FitsRequest came state → AllByRecursion CanWait (put_out came.arrival.conn came.arrival.request (served came state))
+served-waits came state sound fits = rw (put_out-served came state) (replies-wait came.arrival.request.wants_reply _ (reply-waits came state sound fits))
 
-sound-served : (came : Recorded) (state : State) → has came.arrival.conn state.connections.rows ≡ true → IsSound state → IsSound (served came state).state
-sound-served came state there sound =
+sound-served : (came : Recorded) (state : State) → IsSound state → has came.arrival.conn state.connections.rows ≡ true → FitsRequest came state → IsSound (served came state).state
+sound-served came state sound there fits =
     let caller = came.arrival.conn in
-    let call = came.arrival.request.call in
-    let plan = plan_of call (asked caller state) in
-    rw (state-limited plan (run caller plan state)) (sound-run caller plan state there (may-run caller state call sound) sound)
+    let brought = brought_by came.arrival in
+    let plan = plan_for came state in
+    rw (state-limited plan (run caller brought plan came.fates state)) (sound-run caller brought plan came.fates state there (came-may came state sound fits) sound)
 
 -- ---- an event, a list of events
 
@@ -305,9 +416,9 @@ sound_step state (event.Connect conn) sound fits = record {
 }
 sound_step state (event.Arrive came) sound fits =
     let ran = served came state in
-    let out = put_out came.arrival.conn came.arrival.request ran in
-    sound-delivered out (each-weaker CanWait (λ sent. HasSpelling sent.out) (λ sent waits. waits.spelled) out (served-waits came state sound))
-    ran.state (sound-served came state fits.0 sound)
+    let sent = put_out came.arrival.conn came.arrival.request ran in
+    sound-delivered sent (each-weaker CanWait (λ sent. HasSpelling sent.out) (λ sent waits. waits.spelled) sent (served-waits came state sound fits.1))
+    ran.state (sound-served came state sound fits.0 fits.1)
 sound_step state (event.Leave conn) sound fits = sound-changed conn left (λ row. refl) (λ row well. record { within = well.within; spelled = well.spelled }) state sound
 sound_step state (event.Take conn) sound fits = sound-changed conn emptied (λ row. refl) (λ row well. record { within = omega arith; spelled = tt }) state sound
 sound_step state (event.Gone conn) sound fits = record {
@@ -323,7 +434,7 @@ sound_replay state (event ∷ events) sound legal = sound_replay (step state eve
 -- what an event puts out can wait
 pub waits_step : (state : State) (event : Event) → IsSound state → Fits state event → AllByRecursion CanWait (puts_out state event)
 waits_step state (event.Connect conn) sound fits = tt
-waits_step state (event.Arrive came) sound fits = served-waits came state sound
+waits_step state (event.Arrive came) sound fits = served-waits came state sound fits.1
 waits_step state (event.Leave conn) sound fits = tt
 waits_step state (event.Take conn) sound fits = tt
 waits_step state (event.Gone conn) sound fits = tt

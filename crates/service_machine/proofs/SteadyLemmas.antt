@@ -1,18 +1,33 @@
--- A disk that was loaded is steady exactly if its folder is.
-use Rattle.std.proofs.Common.{◌≡◌, ℕ, Bool, true, false, List, [], ◌∷◌, ◌++◌, map, refl, ap, ◌∙◌}
+-- A disk that was loaded is steady exactly if its folder is; storings keep it as steady as it was, and over a steady one none has a fault.
+use Rattle.std.proofs.Common.{◌≡◌, ℕ, Bool, true, false, ◌&&◌, List, [], ◌∷◌, map, Option, Some, None, refl, ap, sym, ◌∙◌}
 use Rattle.std.specs.List.{AllByRecursion, list_all}
 use Rattle.std.proofs.lemmas.List.Elements.{All-from_recursion, recursion_from_All}
 use Rattle.std.proofs.lemmas.List.Sorted.{All-permutation}
+use Rattle.std.specs.Option.{option_or}
+use Rattle.std.proofs.lemmas.Option.{none-some}
+use Rattle.kr_base.specs.Attributes.{is_name, value_at}
+use Rattle.kr_base.specs.declared.ids.ConnId.{ConnId}
 use Rattle.kr_outside.specs.RenameDisk.{Image}
 use Rattle.folder_store.specs.Aliases.{alias_slot}
 use Rattle.folder_store.specs.declared.opening.LeftAlone.{LeftAlone}
 use Rattle.folder_store.specs.Names.{aliases}
 use Rattle.folder_store.specs.Ring.{RingState, HandsBack, nothing, with_ring, alone}
-use Rattle.collection_table.specs.Entries.{loaded_from}
+use Rattle.collection_table.specs.Entries.{loaded_from, slots_of}
 use Rattle.service_tables.proofs.EachLemmas.{each-append}
-use Rattle.service_tables.specs.Disk.{DiskState, slots_of, IsLoaded}
+use Rattle.service_tables.specs.Disk.{DiskState, IsLoaded}
 use Rattle.service_tables.specs.State.{State}
-use Rattle.service_machine.specs.Fates.{is_steady}
+use Rattle.collection_table.specs.Rows.{Rows}
+use Rattle.service_tables.specs.declared.fate.Fate.{Fate}
+use Rattle.service_tables.specs.Slots.{IsFault, StoresAt, are_steady}
+use Rattle.service_tables.specs.Storing.{Brought}
+use Rattle.service_machine.specs.Fates.{AreFaultless, is_steady}
+use Rattle.service_machine.specs.Plan.{Plan, Ends, After, Asks}
+use Rattle.service_machine.specs.Run.{AreFates, AreNone, asked, demanded, performed_all, rows_asked, stem_of}
+use Rattle.service_machine.specs.Stored.{StoresOf}
+
+and-both : (a b : Bool) → (a && b) ≡ true → (a ≡ true) × (b ≡ true)
+and-both true b is = (refl, is)
+and-both false b is = absurd (let no : false ≡ true = is in cc)
 
 module _ {S : Type 0} (found : Image → S → Type 0) (slot_steady : S → Bool) (each : (image : Image) (slot : S) → found image slot → slot_steady slot ≡ true) where
   abbrev IsSteadyRing : RingState S → Type 0
@@ -61,7 +76,76 @@ loaded-steady {F} {S} found is_honest folder_steady faults images may_leave made
           ∙ all-files found slot_steady as_found is.loaded.left_alone.items (files-steady found slot_steady as_found (images folder) is.loads.rest is.loads.taken is.loaded.left_alone.items is.loads.handed) in
           let last : slot_steady (alias_slot disk.aliases) ≡ true =
           ap (λ (d : DiskState F S). slot_steady (alias_slot d.aliases)) is.kept ∙ as_found (images folder aliases) (alias_slot is.loaded.aliases) is.loads.alias_found in
-          rw (here, slots, files, last) refl
+          let spare : list_all (λ (slot : List ℕ × S). slot_steady slot.1) disk.spare ≡ true = ap (λ (d : DiskState F S). list_all (λ (slot : List ℕ × S). slot_steady slot.1) d.spare) is.kept in
+          rw (here, slots, spare, files, last) refl
       | false ↦ λ unsteady. let here : folder_steady disk.folder ≡ false = is.steady.same ∙ unsteady in rw here refl
     ] in
     pass (folder_steady folder) refl
+
+none-faultless : (fates : List Fate) → AreNone fates → AreFaultless fates
+none-faultless [] none = tt
+none-faultless (some ∷ fates) none = absurd none
+
+-- ---- a storing keeps the disk as steady as it was, and over a steady one it has no fault
+
+module _ {F S : Type 0} (is_honest slot_steady : S → Bool) (faults moment : S → ℕ) (left_since : S → ℕ → Image → Type 0) (may_leave : S → Image → Type 0) (folder_steady : F → Bool) where
+  abbrev whole : DiskState F S → Bool
+  whole disk = is_steady folder_steady slot_steady disk
+
+  abbrev At : List ℕ → Fate → Rows → Rows → DiskState F S → DiskState F S → Type 0
+  At stem some before after old new = StoresAt is_honest slot_steady faults moment left_since may_leave stem some before after old new
+
+  at-steady : (stem : List ℕ) (some : Fate) (before after : Rows) (old new : DiskState F S) → At stem some before after old new → whole new ≡ whole old
+  at-steady stem some before after old new at =
+      ap whole at.rest
+      ∙ ap (λ b. folder_steady old.folder && (b && (list_all (λ (file : LeftAlone S). slot_steady file.slot) old.left_alone && slot_steady (alias_slot old.aliases)))) at.all_steady
+
+  -- a slot among steady ones is steady
+  among : (stem : List ℕ) (slot : S) (slots : List (List ℕ × S)) → list_all (λ (s : List ℕ × S). slot_steady s.1) slots ≡ true → value_at stem slots ≡ Some slot → slot_steady slot ≡ true
+  among stem slot [] all is = absurd (none-some slot is)
+  among stem slot (e ∷ more) all is =
+      let both = and-both (slot_steady e.1) (list_all (λ (s : List ℕ × S). slot_steady s.1) more) all in
+      let pass : (b : Bool) → is_name stem e.0 ≡ b → slot_steady slot ≡ true =
+      elim [
+        | true ↦ λ here. let found : Some e.1 ≡ Some slot = rw here at is in let same : e.1 ≡ slot = cc in ap slot_steady (sym same) ∙ both.0
+        | false ↦ λ off. among stem slot more both.1 (rw off at is)
+      ] in
+      pass (is_name stem e.0) refl
+
+  at-never : (stem : List ℕ) (some : Fate) (before after : Rows) (old new : DiskState F S) → At stem some before after old new → whole old ≡ true → IsFault some → ⊥
+  at-never stem some before after old new at steady fault =
+      let inner = and-both (folder_steady old.folder) (are_steady slot_steady old && (list_all (λ (file : LeftAlone S). slot_steady file.slot) old.left_alone && slot_steady (alias_slot old.aliases))) steady in
+      let slots = and-both (are_steady slot_steady old) (list_all (λ (file : LeftAlone S). slot_steady file.slot) old.left_alone && slot_steady (alias_slot old.aliases)) inner.1 in
+      let each = and-both (list_all (λ (s : List ℕ × S). slot_steady s.1) old.slots) (list_all (λ (s : List ℕ × S). slot_steady s.1) old.spare) slots.0 in
+      let pass : (o : Option S) → value_at stem old.slots ≡ o → option_or o (value_at stem old.spare) ≡ Some at.was → slot_steady at.was ≡ true =
+      elim [
+        | None ↦ λ none is. among stem at.was old.spare each.1 is
+        | Some slot ↦ λ there is. among stem at.was old.slots each.0 (there ∙ is)
+      ] in
+      at.stores.never (pass (value_at stem old.slots) refl at.slot) fault
+
+  abbrev Of : ConnId → Brought → Plan → List Fate → State → DiskState F S → DiskState F S → Type 0
+  Of caller brought plan fates state old new = StoresOf is_honest slot_steady faults moment left_since may_leave caller brought plan fates state old new
+
+  pub stores-steady : (caller : ConnId) (brought : Brought) (plan : Plan) (fates : List Fate) (state : State) (old new : DiskState F S) → Of caller brought plan fates state old new → whole new ≡ whole old
+  stores-steady caller brought (Ends answer changes) fates state old new stores = ap whole stores
+  stores-steady caller brought (After changes next) fates state old new stores =
+      let after = performed_all caller changes state in
+      stores-steady caller brought (next (asked caller brought after)) fates after old new stores
+  stores-steady caller brought (Asks demand next) [] state old new stores = absurd stores
+  stores-steady caller brought (Asks demand next) (some ∷ fates) state old new (mid, at, rest) =
+      stores-steady caller brought (next some) fates (demanded brought demand some state) mid new rest
+      ∙ at-steady (stem_of demand) some state.collections (rows_asked brought demand some state.collections) old mid at
+
+  pub stores-faultless : (caller : ConnId) (brought : Brought) (plan : Plan) (fates : List Fate) (state : State) (old new : DiskState F S) → AreFates caller brought plan fates state
+      → Of caller brought plan fates state old new → whole old ≡ true → AreFaultless fates
+  stores-faultless caller brought (Ends answer changes) fates state old new are stores steady = none-faultless fates are
+  stores-faultless caller brought (After changes next) fates state old new are stores steady =
+      let after = performed_all caller changes state in
+      stores-faultless caller brought (next (asked caller brought after)) fates after old new are stores steady
+  stores-faultless caller brought (Asks demand next) [] state old new are stores steady = absurd stores
+  stores-faultless caller brought (Asks demand next) (some ∷ fates) state old new are (mid, at, rest) steady = (
+    at-never (stem_of demand) some state.collections (rows_asked brought demand some state.collections) old mid at steady,
+    stores-faultless caller brought (next some) fates (demanded brought demand some state) mid new are rest
+        (at-steady (stem_of demand) some state.collections (rows_asked brought demand some state.collections) old mid at ∙ steady),
+  )

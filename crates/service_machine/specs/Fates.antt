@@ -1,28 +1,17 @@
 -- How the storings of an event ended, and what is true of them if no device fails.
-use Rattle.std.specs.Prelude.{Bool, ◌&&◌, List, [], ◌∷◌}
+use Rattle.std.specs.Prelude.{Bool, ◌&&◌, List}
 use Rattle.std.specs.List.{AllByRecursion, list_all}
 use Rattle.folder_store.specs.Aliases.{alias_slot}
 use Rattle.service_tables.specs.Disk.{DiskState}
+use Rattle.service_tables.specs.Slots.{IsFault, are_steady}
 use Rattle.service_machine.specs.declared.event.Arrival.{Arrival}
 use Rattle.service_machine.specs.declared.event.Event.{Event}
 use Rattle.service_machine.specs.declared.event.Event.TheVariants as event
-use Rattle.service_machine.specs.declared.event.Fate.{Fate}
-use Rattle.service_machine.specs.declared.event.Fate.TheVariants as fate
+use Rattle.service_tables.specs.declared.fate.Fate.{Fate}
 
 -- the event of a request whose storings ended so
 abbrev pub with_fates : Arrival → List Fate → Event
 with_fates arrival fates = event.Arrive (record { arrival = arrival; fates = fates })
-
--- there are none
-abbrev pub AreNone : List Fate → Type 0
-AreNone [] = Unit {0}
-AreNone (fate ∷ fates) = ⊥
-
--- a call of a device failed
-abbrev pub IsFault : Fate → Type 0
-IsFault fate.Stored = ⊥
-IsFault fate.Before = Unit {0}
-IsFault fate.Unsure = Unit {0}
 
 -- none of these is a fault
 abbrev pub AreFaultless : List Fate → Type 0
@@ -39,5 +28,5 @@ IsFaultless (event.Gone conn) = Unit {0}
 -- whether the folder is steady, and each slot that was made of it
 abbrev pub is_steady : {F S : Type 0} → (F → Bool) → (S → Bool) → DiskState F S → Bool
 is_steady folder_steady slot_steady disk =
-    folder_steady disk.folder && (list_all (λ slot. slot_steady slot.1) disk.slots
+    folder_steady disk.folder && (are_steady slot_steady disk
     && (list_all (λ file. slot_steady file.slot) disk.left_alone && slot_steady (alias_slot disk.aliases)))

@@ -3,7 +3,10 @@
 use Rattle.std.specs.Prelude.{ℕ, if◌then◌else◌, List, Option}
 use Rattle.kr_base.specs.declared.ids.ItemId.{ItemId}
 use Rattle.kr_base.specs.declared.ids.SessionId.{SessionId}
+use Rattle.secret_calls.specs.declared.out.Body.TheVariants as body
 use Rattle.secret_calls.specs.declared.out.ErrorName.TheVariants as name
+use Rattle.service_tables.specs.Storing.{Set_secret, Remove_item}
+use Rattle.service_machine.specs.CollectionCalls.{if_open, no_prompt, secret_stored, storing}
 use Rattle.service_machine.specs.Plan.{Questions, Plan, Secret_of, refused, given}
 use Rattle.service_machine.specs.SessionCalls.{with_session}
 
@@ -16,4 +19,18 @@ abbrev pub get_secret : List ℕ → ItemId → Option SessionId → Questions �
 get_secret stem item session asked =
     if asked.collections.has_item stem item
     then with_session session asked (secret_if_open stem item asked)
+    else refused name.NoSuchObject
+
+-- Delete: the item is removed
+abbrev pub delete_item : List ℕ → ItemId → Questions → Plan
+delete_item stem item asked =
+    if asked.collections.has_item stem item
+    then if_open stem asked (storing stem (Remove_item item) (λ _. no_prompt) (asked.storable stem (Remove_item item)))
+    else refused name.NoSuchObject
+
+-- SetSecret: the item gets another secret
+abbrev pub set_secret : List ℕ → ItemId → Option SessionId → List ℕ → Questions → Plan
+set_secret stem item session content asked =
+    if asked.collections.has_item stem item
+    then secret_stored session stem content (Set_secret item content) (λ _. body.Empty) asked
     else refused name.NoSuchObject

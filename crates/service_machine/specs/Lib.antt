@@ -10,3 +10,4 @@ pub mod ServiceCalls
 pub mod SessionCalls
 pub mod Single
 pub mod Step
+pub mod Stored

@@ -7,7 +7,9 @@ use Rattle.kr_base.specs.declared.ids.SessionId.{SessionId}
 use Rattle.kr_names.specs.declared.object_name.ObjectName.{ObjectName}
 use Rattle.secret_calls.specs.declared.out.Body.{Body}
 use Rattle.secret_calls.specs.declared.out.ErrorName.{ErrorName}
+use Rattle.service_tables.specs.declared.fate.Fate.{Fate}
 use Rattle.service_tables.specs.Questions.{CollectionQuestions}
+use Rattle.service_tables.specs.Storing.{Edit}
 
 -- what a row may ask of the sessions, about its caller
 pub record SessionQuestions : Type 0 where
@@ -18,10 +20,19 @@ pub record SessionQuestions : Type 0 where
   -- the number that the next session gets
   pub next : ℕ
 
--- what a row may ask: a record for each table
+-- what a row may ask: a record for each table, and what can be stored
 pub record Questions : Type 0 where
   pub sessions : SessionQuestions
   pub collections : CollectionQuestions
+  -- the item that an edit of an unlocked collection would make, change or remove, if the edit keeps within all limits
+  pub storable : List ℕ → Edit → Option ItemId
+
+-- what a row may ask of the disk
+pub data Demand : Type 0 where
+  -- the content of the collection of the stem is edited, and stored
+  Store : (stem : List ℕ) → (edit : Edit) → Demand
+  -- the file of the collection of the stem is removed, and the collection with it
+  Erase : (stem : List ℕ) → Demand
 
 -- what a row may change
 pub data Change : Type 0 where
@@ -48,10 +59,12 @@ pub data Answer : Type 0 where
   -- an error
   Refuses : (name : ErrorName) → Answer
 
--- A plan answers and changes something; or it changes something, and goes on by what it asks of the state in between.
+-- A plan answers and changes something; or it changes something, and goes on by what it asks of the state in between; or it asks
+-- something of the disk, and goes on by how that ended.
 pub data Plan : Type 0 where
   Ends : (answer : Answer) → (changes : List Change) → Plan
   After : (changes : List Change) → (next : Questions → Plan) → Plan
+  Asks : (demand : Demand) → (next : Fate → Plan) → Plan
 
 -- an error, with nothing changed
 abbrev pub refused : ErrorName → Plan

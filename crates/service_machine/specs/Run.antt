@@ -2,7 +2,6 @@
 use Rattle.std.specs.Prelude.{ℕ, nat_le, if◌then◌else◌, List, [], ◌∷◌, ◌++◌, length, Option, Some, None, Result, Ok, Err}
 use Rattle.std.specs.List.{filter_map}
 use Rattle.kr_base.specs.declared.ids.ConnId.{ConnId}
-use Rattle.kr_base.specs.declared.ids.SessionId.{SessionId}
 use Rattle.collection_table.specs.Entries.{changed}
 use Rattle.collection_table.specs.Rows as collections
 use Rattle.secret_calls.specs.declared.out.Body.{Body}
@@ -16,7 +15,9 @@ use Rattle.service_tables.specs.Connections.{Sent}
 use Rattle.service_tables.specs.Limits.{most_body}
 use Rattle.service_tables.specs.Opened.{contents_of}
 use Rattle.service_tables.specs.Reading.{asked_collections, item_secret, secret_of}
-use Rattle.service_machine.specs.Plan.{SessionQuestions, Questions, Change, Open_session, Close_session, Lock_collection, Gift, Secret_of, Secrets_of, Answer, Returns, Gives, Refuses, Plan, Ends, After}
+use Rattle.service_tables.specs.Storing.{Brought, change_of, rows_erased, rows_stored, storable_edit}
+use Rattle.service_tables.specs.declared.fate.Fate.{Fate}
+use Rattle.service_machine.specs.Plan.{SessionQuestions, Questions, Demand, Store, Erase, Change, Open_session, Close_session, Lock_collection, Gift, Secret_of, Secrets_of, Answer, Returns, Gives, Refuses, Plan, Ends, After, Asks}
 use Rattle.service_tables.specs.State.{State}
 
 -- ---- what is asked
@@ -29,9 +30,13 @@ asked_sessions caller state = record {
   next = state.sessions.next;
 }
 
--- the answers to a caller's questions
-abbrev pub asked : ConnId → State → Questions
-asked caller state = record { sessions = asked_sessions caller state; collections = asked_collections (contents_of state) }
+-- the answers to a caller's questions, for a request that brings this
+abbrev pub asked : ConnId → Brought → State → Questions
+asked caller brought state = record {
+  sessions = asked_sessions caller state;
+  collections = asked_collections (contents_of state);
+  storable = storable_edit brought state.collections;
+}
 
 -- ---- what is changed
 
@@ -56,6 +61,22 @@ sent_by caller (Lock_collection stem) state = []
 abbrev pub sent_all : ConnId → List Change → State → List Sent
 sent_all caller [] state = []
 sent_all caller (change ∷ changes) state = sent_by caller change state ++ sent_all caller changes (performed caller change state)
+
+-- ---- what is stored
+
+-- the collections after something was asked of the disk, by how that ended
+abbrev pub rows_asked : Brought → Demand → Fate → collections.Rows → collections.Rows
+rows_asked brought (Store stem edit) fate rows = rows_stored stem (change_of brought.value edit) brought.now fate rows
+rows_asked brought (Erase stem) fate rows = rows_erased stem fate rows
+
+-- the state after it
+abbrev pub demanded : Brought → Demand → Fate → State → State
+demanded brought demand fate state = record state { collections = rows_asked brought demand fate state.collections }
+
+-- the stem of the collection whose file is stored or removed
+abbrev pub stem_of : Demand → List ℕ
+stem_of (Store stem edit) = stem
+stem_of (Erase stem) = stem
 
 -- ---- what is answered
 
@@ -85,16 +106,31 @@ pub record Ran : Type 0 where
 abbrev pub sending : List Sent → Ran → Ran
 sending sends ran = record ran { sends = sends ++ ran.sends }
 
--- a caller's plan, from a state on
-abbrev pub run : ConnId → Plan → State → Ran
-run caller (Ends answer changes) state = record {
+-- A caller's plan, from a state on, with how each storing ended that it asks for. No event has fewer fates than its plan asks for.
+abbrev pub run : ConnId → Brought → Plan → List Fate → State → Ran
+run caller brought (Ends answer changes) fates state = record {
   answer = filled state answer;
   state = performed_all caller changes state;
   sends = sent_all caller changes state;
 }
-run caller (After changes next) state =
+run caller brought (After changes next) fates state =
     sending (sent_all caller changes state)
-    (run caller (next (asked caller (performed_all caller changes state))) (performed_all caller changes state))
+    (run caller brought (next (asked caller brought (performed_all caller changes state))) fates (performed_all caller changes state))
+run caller brought (Asks demand next) [] state = record { answer = Err name.IOError; state = state; sends = [] }
+run caller brought (Asks demand next) (fate ∷ fates) state = run caller brought (next fate) fates (demanded brought demand fate state)
+
+-- there are none
+abbrev pub AreNone : List Fate → Type 0
+AreNone [] = Unit {0}
+AreNone (fate ∷ fates) = ⊥
+
+-- there is one fate for each storing that a plan asks for, from a state on
+abbrev pub AreFates : ConnId → Brought → Plan → List Fate → State → Type 0
+AreFates caller brought (Ends answer changes) fates state = AreNone fates
+AreFates caller brought (After changes next) fates state =
+    AreFates caller brought (next (asked caller brought (performed_all caller changes state))) fates (performed_all caller changes state)
+AreFates caller brought (Asks demand next) [] state = ⊥
+AreFates caller brought (Asks demand next) (fate ∷ fates) state = AreFates caller brought (next fate) fates (demanded brought demand fate state)
 
 -- LimitsExceeded in place of a return whose body is too large
 abbrev pub bounded : Result Body ErrorName → Result Body ErrorName
@@ -106,6 +142,14 @@ abbrev pub limited : Plan → Ran → Ran
 limited (Ends answer []) ran = record ran { answer = bounded ran.answer }
 limited _ ran = ran
 
+-- what a plan leads to that a row of the table of calls is
+abbrev pub led : ConnId → Brought → Plan → List Fate → State → Ran
+led caller brought plan fates state = limited plan (run caller brought plan fates state)
+
 -- what a row of the table of calls leads to
-abbrev pub ran : ConnId → (Questions → Plan) → State → Ran
-ran caller row state = limited (row (asked caller state)) (run caller (row (asked caller state)) state)
+abbrev pub ran : ConnId → Brought → (Questions → Plan) → List Fate → State → Ran
+ran caller brought row fates state = led caller brought (row (asked caller brought state)) fates state
+
+-- there is one fate for each storing that the row asks for
+abbrev pub AreFatesOf : ConnId → Brought → (Questions → Plan) → List Fate → State → Type 0
+AreFatesOf caller brought row fates state = AreFates caller brought (row (asked caller brought state)) fates state

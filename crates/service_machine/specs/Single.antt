@@ -4,16 +4,16 @@ use Rattle.std.specs.List.{AllByRecursion}
 use Rattle.kr_base.specs.declared.ids.ConnId.{ConnId}
 use Rattle.secret_calls.specs.declared.call.Request.{Request}
 use Rattle.service_tables.specs.State.{State}
+use Rattle.service_tables.specs.declared.fate.Fate.{Fate}
 use Rattle.service_machine.specs.declared.event.Event.{Event}
 use Rattle.service_machine.specs.declared.event.Event.TheVariants as event
-use Rattle.service_machine.specs.declared.event.Fate.{Fate}
 use Rattle.service_machine.specs.declared.event.Recorded.{Recorded}
 use Rattle.service_tables.specs.Connections.{waiting_for}
 use Rattle.service_machine.specs.Fates.{AreFaultless}
 use Rattle.service_machine.specs.Step.{step}
 use Rattle.service_machine.specs.Replay.{replay}
 
--- a request as it is recorded: with the moment at which it came, its salt, and how each file that it stored or removed ended
+-- a request as it is recorded: with the moment at which it came, its salt, and how each storing ended that it asked for
 pub record TimedRequest : Type 0 where
   pub request : Request
   pub now : ℕ

@@ -1,6 +1,6 @@
 -- One event of the service, as a step from rows to rows. What an event puts out stands beside what becomes of it,
 -- so that laws can speak of the outputs before the limit on what waits.
-use Rattle.std.specs.Prelude.{◌≡◌, ◌<◌, ◌≤◌, ◌⊎◌, true, false, if◌then◌else◌, IsTrue, IsSomeAnd, List, [], ◌∷◌, ◌++◌, length, Result, Ok, Err}
+use Rattle.std.specs.Prelude.{◌≡◌, ℕ, ◌^◌, ◌<◌, ◌≤◌, ◌⊎◌, true, false, if◌then◌else◌, IsTrue, IsSomeAnd, List, [], ◌∷◌, ◌++◌, length, Result, Ok, Err}
 use Rattle.kr_base.specs.declared.ids.ConnId.{ConnId}
 use Rattle.secret_calls.specs.declared.call.Call.{Call}
 use Rattle.secret_calls.specs.declared.call.Call.TheVariants as call
@@ -14,19 +14,20 @@ use Rattle.secret_calls.specs.declared.serial.Serial.{Serial}
 use Rattle.secret_calls.specs.Calls.{error_of}
 use Rattle.session_table.specs.Sessions.{abandoned}
 use Rattle.service_tables.specs.declared.rows.ConnRow.{ConnRow}
+use Rattle.service_tables.specs.Storing.{Add_item, Brought}
+use Rattle.service_tables.specs.Sound.{AreItemTypes, AreSecretTypes}
 use Rattle.service_machine.specs.declared.event.Arrival.{Arrival}
+use Rattle.service_machine.specs.declared.event.Recorded.{Recorded}
 use Rattle.service_machine.specs.declared.event.Event.{Event}
 use Rattle.service_machine.specs.declared.event.Event.TheVariants as event
 use Rattle.service_machine.specs.declared.event.Output.{Output}
 use Rattle.service_machine.specs.declared.event.Output.TheVariants as output
-use Rattle.service_machine.specs.declared.event.Recorded.{Recorded}
-use Rattle.service_machine.specs.CollectionCalls.{search_collection}
+use Rattle.service_machine.specs.CollectionCalls.{search_collection, create_item, delete_collection}
 use Rattle.service_tables.specs.Connections.{joined, has, changed, without, left, emptied, waiting_for, desk_of, Sent, delivered}
-use Rattle.service_machine.specs.Fates.{AreNone}
-use Rattle.service_machine.specs.ItemCalls.{get_secret}
+use Rattle.service_machine.specs.ItemCalls.{get_secret, delete_item, set_secret}
 use Rattle.service_tables.specs.Limits.{most_connections, last_connection}
 use Rattle.service_machine.specs.Plan.{Questions, Plan, refused}
-use Rattle.service_machine.specs.Run.{Ran, ran}
+use Rattle.service_machine.specs.Run.{Ran, ran, AreFatesOf}
 use Rattle.service_machine.specs.ServiceCalls.{open_session, search_items, lock, get_secrets}
 use Rattle.service_machine.specs.SessionCalls.{ping, close_session}
 use Rattle.service_tables.specs.State.{State}
@@ -44,7 +45,12 @@ row_of (call.SearchItems wanted) asked = search_items wanted asked
 row_of (call.Lock objects) asked = lock objects asked
 row_of (call.GetSecrets items session) asked = get_secrets items session asked
 row_of (call.SearchCollection collection wanted) asked = search_collection collection wanted asked
+row_of (call.CreateItem collection label attributes secret replace) asked =
+    create_item collection (Add_item label attributes secret.content replace) secret.session secret.content asked
+row_of (call.DeleteCollection collection) asked = delete_collection collection asked
+row_of (call.DeleteItem stem item) asked = delete_item stem item asked
 row_of (call.GetSecret stem item session) asked = get_secret stem item session asked
+row_of (call.SetSecret stem item secret) asked = set_secret stem item secret.session secret.content asked
 
 -- a call's row; the fault of a message is answered first
 abbrev pub plan_of : Result Call CallFault → Questions → Plan
@@ -63,9 +69,23 @@ replies caller request answer =
     then record { to = caller; out = message_of request.serial answer } ∷ []
     else []
 
--- what a request leads to, in a state
+-- the value of the secret that a call brings, which no row sees
+abbrev pub value_in : Result Call CallFault → List ℕ
+value_in (Ok (call.CreateItem collection label attributes secret replace)) = secret.value
+value_in (Ok (call.SetSecret stem item secret)) = secret.value
+value_in _ = []
+
+-- what a call brings that came at this moment
+abbrev pub brought_with : ℕ → Result Call CallFault → Brought
+brought_with now given = record { now = now; value = value_in given }
+
+-- what a request brings besides its call
+abbrev pub brought_by : Arrival → Brought
+brought_by arrival = brought_with arrival.now arrival.request.call
+
+-- what a request leads to, in a state, with how each storing ended that it asked for
 abbrev pub served : Recorded → State → Ran
-served came state = ran came.arrival.conn (plan_of came.arrival.request.call) state
+served came state = ran came.arrival.conn (brought_by came.arrival) (plan_of came.arrival.request.call) came.fates state
 
 -- what a request puts out: its reply, and then what its changes send
 abbrev pub put_out : ConnId → Request → Ran → List Sent
@@ -115,13 +135,25 @@ IsCrowded state = (most_connections ≤ length state.connections.rows) ⊎ (last
 abbrev pub CanJoin : State → Type 0
 CanJoin state = (length state.connections.rows < most_connections) × (state.connections.next < last_connection)
 
--- a request has as many fates as its row of the table of calls asks to store files: no row does so far
-abbrev pub AreFatesOf : Recorded → State → Type 0
-AreFatesOf came state = AreNone came.fates
+-- the arguments of a call have their types
+abbrev pub HasTypes : Result Call CallFault → Type 0
+HasTypes (Ok (call.CreateItem collection label attributes secret replace)) = AreItemTypes label attributes × AreSecretTypes secret.value secret.content
+HasTypes (Ok (call.SetSecret stem item secret)) = AreSecretTypes secret.value secret.content
+HasTypes _ = Unit {0}
 
--- what a call leads to depends on the moment at which it came: no row stores the moment so far
+-- A request can be recorded with these fates: its moment and the arguments of its call have their types, and there is one fate for each
+-- storing that it asks for.
+pub record FitsRequest (came : Recorded) (state : State) : Type 0 where
+  pub moment : came.arrival.now < 2 ^ 64
+  pub types : HasTypes came.arrival.request.call
+  pub fates : AreFatesOf came.arrival.conn (brought_by came.arrival) (plan_of came.arrival.request.call) came.fates state
+
+-- what a call leads to depends on the moment at which it came: it may store the moment
 abbrev pub TakesMoment : Result Call CallFault → Type 0
-TakesMoment call = ⊥
+TakesMoment (Ok (call.CreateItem collection label attributes secret replace)) = Unit {0}
+TakesMoment (Ok (call.DeleteItem stem item)) = Unit {0}
+TakesMoment (Ok (call.SetSecret stem item secret)) = Unit {0}
+TakesMoment _ = ⊥
 
 -- Two requests that differ in nothing on which their steps depend, except in how their storings end.
 pub record AreAlike (one other : Arrival) : Type 0 where
@@ -134,7 +166,7 @@ pub record AreAlike (one other : Arrival) : Type 0 where
 -- the event can happen in the state
 abbrev pub Fits : State → Event → Type 0
 Fits state (event.Connect conn) = (conn.0 ≡ state.connections.next) × (length state.connections.rows < most_connections) × (state.connections.next < last_connection)
-Fits state (event.Arrive came) = IsTrue (has came.arrival.conn state.connections.rows) × AreFatesOf came state
+Fits state (event.Arrive came) = IsTrue (has came.arrival.conn state.connections.rows) × FitsRequest came state
 Fits state (event.Leave conn) = IsSomeAnd (desk_of conn state.connections.rows) (λ desk. desk.leaving ≡ false)
 Fits state (event.Take conn) = IsSomeAnd (desk_of conn state.connections.rows) (λ desk. desk.waits ≡ true)
 Fits state (event.Gone conn) = IsTrue (has conn state.connections.rows)

@@ -1,10 +1,11 @@
 // The calls of the interface Collection.
-ghost use Rattle.std.specs.Prelude.{◌≡◌, IfOk, map};
+ghost use Rattle.std.specs.Prelude.{◌≡◌, [], IfOk, map};
 ghost use Rattle.kr_base.specs.declared.ids.ConnId.{ConnId};
 ghost use Rattle.service_machine.specs.CollectionCalls.{search_collection};
 ghost use Rattle.service_tables.specs.Connections.{Sent};
 ghost use Rattle.service_machine.specs.Plan.{Lock_collection};
 ghost use Rattle.service_machine.specs.Rows.{rows_of, disk_of};
+ghost use Rattle.service_tables.specs.Storing.{Brought};
 ghost use Rattle.service_machine.specs.Run.{performed, performed_all, ran};
 
 use crate::Machine;
@@ -24,11 +25,12 @@ impl<F: Folder> Machine<F> {
         collection: &ObjectName,
         wanted: &Attributes,
     ) -> Result<Answer, OutOfMemory>
-        ensures answer { IfOk result (λ answer. answer
-            ≡ (ran conn (search_collection collection.now wanted.now)
-            (rows_of self.now)).answer) }
-        ensures state { rows_of self.now
-            ≡ (ran conn (search_collection collection.now wanted.now) (rows_of self.now)).state }
+        ensures answer { IfOk result (λ answer. (brought : Brought)
+            → answer ≡ (ran conn brought (search_collection collection.now wanted.now)
+            [] (rows_of self.now)).answer) }
+        ensures state { (brought : Brought) → rows_of self.now
+            ≡ (ran conn brought (search_collection collection.now wanted.now) []
+            (rows_of self.now)).state }
     {
         let _ = conn;
         let Some(stem) = self.disk.collection_named(collection) else {

@@ -5,6 +5,7 @@ ghost use Rattle.service_machine.specs.declared.event.JoinRefused.TheVariants as
 use kr_base::ConnId;
 use kr_items::Items;
 use secret_calls::{Out, Request};
+use service_tables::Fate;
 use std::alloc::AllocError;
 use thiserror::Error;
 
@@ -21,23 +22,12 @@ pub struct Arrival {
     pub salt: [u8; 8],
 }
 
-/// How one storing of a file, or one removal of it, ended.
-#[derive(Clone, Copy, Debug, Drop, PartialEq, Eq)]
-pub enum Fate {
-    /// The file was replaced, or removed.
-    Stored,
-    /// A call of the device failed before the file could change.
-    Before,
-    /// A call of the device failed, and the file may have changed or not.
-    Unsure,
-}
-
 /// A request as it is recorded.
 #[derive(Drop)]
 pub struct Recorded {
     /// The request.
     pub arrival: Arrival,
-    /// How each file that it stored or removed ended, in order.
+    /// How each storing or removal of a file ended that the request led to, in order.
     pub fates: Items<Fate>,
 }
 

@@ -1,7 +1,8 @@
 // The calls of the interface Item.
-ghost use Rattle.std.specs.Prelude.{◌≡◌, IfOk};
+ghost use Rattle.std.specs.Prelude.{◌≡◌, [], IfOk};
 ghost use Rattle.service_machine.specs.ItemCalls.{get_secret};
 ghost use Rattle.service_machine.specs.Rows.{rows_of};
+ghost use Rattle.service_tables.specs.Storing.{Brought};
 ghost use Rattle.service_machine.specs.Run.{ran, secret_returned};
 
 use crate::Machine;
@@ -29,10 +30,11 @@ impl<F: Folder> Machine<F> {
         item: ItemId,
         session: Option<SessionId>,
     ) -> Result<Answer, OutOfMemory>
-        ensures answer { IfOk result (λ answer. answer
-            ≡ (ran conn (get_secret stem.now item session) (rows_of self.now)).answer) }
-        ensures state { rows_of self.now
-            ≡ (ran conn (get_secret stem.now item session) (rows_of self.now)).state }
+        ensures answer { IfOk result (λ answer. (brought : Brought)
+            → answer ≡ (ran conn brought (get_secret stem.now item session) []
+            (rows_of self.now)).answer) }
+        ensures state { (brought : Brought) → rows_of self.now
+            ≡ (ran conn brought (get_secret stem.now item session) [] (rows_of self.now)).state }
     {
         if !self.disk.collections.has_item(stem, item) {
             return Ok(Err(ErrorName::NoSuchObject));

@@ -16,13 +16,9 @@ mod laws;
 mod machine;
 mod service;
 mod session;
+mod storing;
 
-pub use event::{
-    ApplyRefused, Arrival, Arrived, Event, Fate, Incoming, JoinRefused, Output, Recorded,
-};
-pub use laws::{
-    alike_requests_lead_to_one_state, lists_of_events_go_on, outputs_can_wait,
-    steps_keep_the_rows_sound,
-};
+pub use event::{ApplyRefused, Arrival, Arrived, Event, Incoming, JoinRefused, Output, Recorded};
+pub use laws::{lists_of_events_go_on, outputs_can_wait, steps_keep_the_rows_sound};
 pub use machine::Machine;
-pub use service_tables::{ConnRow, ConnRows, DeskRow, Disk, OpenRefused, Rows};
+pub use service_tables::{ConnRow, ConnRows, DeskRow, Disk, Fate, OpenRefused, Rows};

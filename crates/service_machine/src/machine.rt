@@ -1,22 +1,29 @@
-ghost use Rattle.std.specs.Prelude.{◌≡◌, [], true, false, IsTrue, IfOk, OnOk, OnErr, IsErrOf};
+ghost use Rattle.std.specs.Prelude.{◌≡◌, ◌<◌, ◌^◌, [], Some, Ok, true, false, IsTrue, IfOk, IfSome, OnOk, OnErr, IsErrOf, vec_capacity};
+ghost use Rattle.kr_base.specs.Attributes.{value_at};
 ghost use Rattle.collection_table.specs.Entries.{rows_of as collections_of};
+ghost use Rattle.service_tables.specs.Slots.{LeavesKnown, file_at};
 ghost use Rattle.folder_store.specs.Ring.{IsAsFound};
 ghost use Rattle.service_tables.specs.Connections.{has, waiting_for, desk_of};
 ghost use Rattle.service_tables.specs.Disk.{IsLoaded, FailedToLoad, disk_state};
 ghost use Rattle.service_machine.specs.Fates.{with_fates, AreFaultless, IsFaultless, is_steady};
 ghost use Rattle.service_machine.specs.Machine.{Records, IsDue, IsOfNone, IsConnect, TakesMemory};
 ghost use Rattle.service_tables.specs.Opened.{IsOpened};
-ghost use Rattle.service_machine.specs.Run.{ran};
+ghost use Rattle.service_tables.specs.Storing.{Brought};
+ghost use Rattle.service_machine.specs.Run.{asked, ran};
 ghost use Rattle.service_tables.specs.Sound.{AreSoundCollections};
-ghost use Rattle.service_machine.specs.Step.{step, output_of, plan_of, message_of, IsMissing, IsCrowded, CanJoin, Fits};
+ghost use Rattle.service_machine.specs.Step.{step, output_of, brought_by, brought_with, plan_of, row_of, message_of, replies, with_delivered, IsMissing, IsCrowded, CanJoin, HasTypes, Fits};
+ghost use Rattle.service_machine.specs.Stored.{Leads, StoresEvent, StoresNothing, fates_of};
 
 use crate::answer::{Answer, bounded};
-use crate::{ApplyRefused, Arrival, Arrived, Event, Fate, Incoming, Output, Recorded};
-use kr_base::{ConnId, OutOfMemory};
+use crate::storing::{Done, refused, unstored};
+use crate::{ApplyRefused, Arrival, Arrived, Event, Incoming, Output, Recorded};
+use kr_base::{ConnId, OutOfMemory, Stem};
 use kr_items::Items;
 use kr_outside::Folder;
-use secret_calls::{Body, Call, CallFault, Out, Serial};
-use service_tables::{Connections, DeskRow, Disk, OpenRefused, Rows};
+use secret_calls::{Body, Call, CallFault, Out, Request, Serial};
+use service_tables::{
+    Connections, DeskRow, Disk, Fate, OpenRefused, Rows, known_item, known_secret,
+};
 use session_table::SessionTable;
 use std::alloc::Global;
 
@@ -88,9 +95,11 @@ impl<F: Folder> Machine<F> {
             rows_of self.new ≡ step (rows_of self.old) answer.1) }
         ensures output { IfOk result (λ answer.
             answer.0 ≡ output_of (rows_of self.old) answer.1) }
+        ensures disk { IfOk result (λ answer. StoresEvent F.Cell.is_honest F.Cell.is_steady
+            F.Cell.faults F.Cell.moment F.Cell.left_since F.Cell.may_leave answer.1
+            (rows_of self.old) (disk_of self.old) (disk_of self.new)) }
         ensures faultless { IsTrue (is_steady F.is_steady F.Cell.is_steady (disk_of self.old))
             → IfOk result (λ answer. IsFaultless answer.1) }
-        ensures disk { disk_of self.new ≡ disk_of self.old }
         ensures steady { is_steady F.is_steady F.Cell.is_steady (disk_of self.new)
             ≡ is_steady F.is_steady F.Cell.is_steady (disk_of self.old) }
 
@@ -101,7 +110,8 @@ impl<F: Folder> Machine<F> {
         ensures full { IsErrOf result ApplyRefused.TooManyConnections
             → IsCrowded (rows_of self.old) }
         ensures memory { IsErrOf result ApplyRefused.OutOfMemory → TakesMemory event }
-        ensures unchanged { OnErr result (rows_of self.new ≡ rows_of self.old) }
+        ensures unchanged { OnErr result ((rows_of self.new ≡ rows_of self.old)
+            × (disk_of self.new ≡ disk_of self.old)) }
     {
         match event {
             Incoming::Connect => {
@@ -114,8 +124,10 @@ impl<F: Folder> Machine<F> {
             Incoming::Arrive(arrival) => {
                 self.there(arrival.conn)?;
                 let fates = self.arrive(&arrival)?;
-                let event = Event::Arrive(Recorded { arrival, fates });
-                Ok((Output::Arrived(Arrived {}), event))
+                Ok((
+                    Output::Arrived(Arrived {}),
+                    Event::Arrive(Recorded { arrival, fates }),
+                ))
             }
             Incoming::Leave(conn) => {
                 self.there(conn)?;
@@ -174,64 +186,133 @@ impl<F: Folder> Machine<F> {
         self.connections.join()
     }
 
-    /// Answers the request of a connection that is there, for which the reply waits, and returns how each
-    /// file that it stored or removed ended. No row stores one so far.
+    /// Answers the request of a connection that is there; the reply waits for it. It returns how each
+    /// storing of a file ended that the request asked for. All memory is taken before the first call of a
+    /// device.
     pub fn arrive(&mut self, arrival: &Arrival) -> Result<Items<Fate>, OutOfMemory>
         requires { has arrival.now.conn (rows_of self.old).connections.rows ≡ true }
         ensures fits { IfOk result (λ fates.
             Fits (rows_of self.old) (with_fates arrival.entry.now fates)) }
         ensures stepped { IfOk result (λ fates.
             rows_of self.new ≡ step (rows_of self.old) (with_fates arrival.entry.now fates)) }
+        ensures disk { IfOk result (λ fates. StoresEvent F.Cell.is_honest F.Cell.is_steady
+            F.Cell.faults F.Cell.moment F.Cell.left_since F.Cell.may_leave
+            (with_fates arrival.entry.now fates)
+            (rows_of self.old) (disk_of self.old) (disk_of self.new)) }
         ensures faultless { IsTrue (is_steady F.is_steady F.Cell.is_steady (disk_of self.old))
             → IfOk result AreFaultless }
-        ensures disk { disk_of self.new ≡ disk_of self.old }
         ensures steady { is_steady F.is_steady F.Cell.is_steady (disk_of self.new)
             ≡ is_steady F.is_steady F.Cell.is_steady (disk_of self.old) }
-        ensures unchanged { OnErr result (rows_of self.new ≡ rows_of self.old) }
+        ensures unchanged { OnErr result ((rows_of self.new ≡ rows_of self.old)
+            × (disk_of self.new ≡ disk_of self.old)) }
     {
-        let conn = arrival.conn;
-        let request = &arrival.request;
-        self.connections.reserve(conn)?;
-        let answer = self.call(conn, &request.call)?;
-        let fates = Items::empty(self.alloc);
-        if !request.wants_reply {
-            return Ok(fates);
+        known_request(arrival);
+        self.connections.reserve(arrival.conn)?;
+        let fates = Vec::with_capacity(self.alloc, 1)?;
+        let (answer, fate) = self.call(arrival)?.into_parts();
+        self.reply(arrival.conn, &arrival.request, answer);
+        Ok(Items::new(with_fate(fates, fate)))
+    }
+
+    // The reply to a request waits for its connection, if it is wanted. It takes no memory.
+    fn reply(&mut self, conn: ConnId, request: &Request, answer: Answer)
+        requires { self.old.connections.ready ≡ Some conn.0 }
+        ensures rows { rows_of self.new
+            ≡ with_delivered (replies conn request.now answer) (rows_of self.old) }
+        ensures disk { disk_of self.new ≡ disk_of self.old }
+    {
+        if request.wants_reply {
+            self.connections.push(conn, message(request.serial, answer));
         }
-        self.connections.push(conn, message(request.serial, answer));
-        Ok(fates)
+    }
+
+    // Performs the row of a request's call, or answers the fault of its message. The connection's room
+    // stays.
+    fn call(&mut self, arrival: &Arrival) -> Result<Done, OutOfMemory>
+        ensures leads { IfOk result (Leads F.Cell.is_honest F.Cell.is_steady F.Cell.faults
+            F.Cell.moment F.Cell.left_since F.Cell.may_leave arrival.entry.now.conn
+            (brought_by arrival.entry.now)
+            (plan_of arrival.entry.now.request.call
+            (asked arrival.entry.now.conn (brought_by arrival.entry.now) (rows_of self.old)))
+            (rows_of self.old) (rows_of self.new) (disk_of self.old) (disk_of self.new)) }
+        ensures room { self.new.connections ≡ self.old.connections }
+        ensures unchanged { OnErr result ((rows_of self.new ≡ rows_of self.old)
+            × (disk_of self.new ≡ disk_of self.old)) }
+    {
+        match &arrival.request.call {
+            Ok(call) => self.perform(arrival.conn, call, arrival.now),
+            Err(fault) => Ok(refused(fault.error())),
+        }
     }
 
     // Performs the row of a call. The connection's room stays.
-    fn call(&mut self, conn: ConnId, call: &Result<Call, CallFault>) -> Result<Answer, OutOfMemory>
-        ensures answer { IfOk result (λ answer.
-            answer ≡ (ran conn (plan_of call.now) (rows_of self.old)).answer) }
-        ensures state { OnOk result (rows_of self.new
-            ≡ (ran conn (plan_of call.now) (rows_of self.old)).state) }
+    fn perform(&mut self, conn: ConnId, call: &Call, now: u64) -> Result<Done, OutOfMemory>
+        ensures leads { IfOk result (Leads F.Cell.is_honest F.Cell.is_steady F.Cell.faults
+            F.Cell.moment F.Cell.left_since F.Cell.may_leave conn (brought_with now (Ok call.now))
+            (row_of call.now (asked conn (brought_with now (Ok call.now)) (rows_of self.old)))
+            (rows_of self.old) (rows_of self.new) (disk_of self.old) (disk_of self.new)) }
+        ensures room { self.new.connections ≡ self.old.connections }
+        ensures unchanged { OnErr result ((rows_of self.new ≡ rows_of self.old)
+            × (disk_of self.new ≡ disk_of self.old)) }
+    {
+        match call {
+            Call::CreateItem {
+                collection,
+                label,
+                attributes,
+                secret,
+                replace,
+            } => self.create_item(conn, collection, label, attributes, secret, *replace, now),
+            Call::DeleteCollection { collection } => self.delete_collection(conn, collection),
+            Call::DeleteItem { stem, item } => self.delete_item(conn, stem, *item, now),
+            Call::SetSecret { stem, item, secret } => {
+                self.set_secret(conn, stem, *item, secret, now)
+            }
+            _ => Ok(unstored(self.ask(conn, call)?)),
+        }
+    }
+
+    // Performs the row of a call that stores nothing. The connection's room stays.
+    fn ask(&mut self, conn: ConnId, call: &Call) -> Result<Answer, OutOfMemory>
+        requires { StoresNothing (Ok call.now) }
+        ensures quiet { StoresNothing (Ok call.now) }
+        ensures answer { IfOk result (λ answer. (brought : Brought)
+            → answer ≡ (ran conn brought (row_of call.now) [] (rows_of self.old)).answer) }
+        ensures state { OnOk result ((brought : Brought) → rows_of self.new
+            ≡ (ran conn brought (row_of call.now) [] (rows_of self.old)).state) }
         ensures room { self.new.connections ≡ self.old.connections }
         ensures disk { disk_of self.new ≡ disk_of self.old }
         ensures unchanged { OnErr result (rows_of self.new ≡ rows_of self.old) }
     {
         match call {
-            Err(fault) => Ok(Err(fault.error())),
-            Ok(Call::Ping) => Ok(bounded(Ok(Body::Empty))),
-            Ok(Call::OpenSession { algorithm }) => self.open_session(conn, algorithm),
-            Ok(Call::CloseSession { session }) => Ok(self.close_session(conn, *session)),
-            Ok(Call::SearchItems { wanted }) => self.search_items(conn, wanted),
-            Ok(Call::Lock { objects }) => self.lock(conn, objects.as_slice()),
-            Ok(Call::GetSecrets { items, session }) => {
+            Call::Ping => Ok(bounded(Ok(Body::Empty))),
+            Call::OpenSession { algorithm } => self.open_session(conn, algorithm),
+            Call::CloseSession { session } => Ok(self.close_session(conn, *session)),
+            Call::SearchItems { wanted } => self.search_items(conn, wanted),
+            Call::Lock { objects } => self.lock(conn, objects.as_slice()),
+            Call::GetSecrets { items, session } => {
                 self.get_secrets(conn, items.as_slice(), *session)
             }
-            Ok(Call::SearchCollection { collection, wanted }) => {
+            Call::SearchCollection { collection, wanted } => {
                 self.search_collection(conn, collection, wanted)
             }
-            Ok(
-                Call::GetSecret {
-                    stem,
-                    item,
-                    session,
-                },
-            ) => self.get_secret(conn, stem, *item, *session),
+            Call::GetSecret {
+                stem,
+                item,
+                session,
+            } => self.get_secret(conn, stem, *item, *session),
+            _ => unreachable!(),
         }
+    }
+
+    /// While no call runs, a crash leaves of a collection's file what is known of it: its image, or one of
+    /// the two that it may have if it is in doubt. It does nothing.
+    pub fn untouched(&self, stem: &Stem)
+        ensures { IfSome (value_at stem.now (disk_of self.now).slots) (LeavesKnown
+            F.Cell.is_honest F.Cell.moment F.Cell.left_since
+            (file_at stem.now (rows_of self.now).collections)) }
+    {
+        self.disk.untouched(stem);
     }
 
     /// Marks that a connection asks no more. It takes no memory.
@@ -280,6 +361,42 @@ impl<F: Folder> Machine<F> {
             connections: self.connections.rows()?,
             sessions: self.sessions.rows()?,
         })
+    }
+}
+
+// The fates with one more, if there is one. It takes no memory.
+fn with_fate(fates: Vec<Fate>, fate: Option<Fate>) -> Vec<Fate>
+    requires empty { fates.items ≡ [] }
+    requires room { 0 < vec_capacity fates }
+    ensures { result.items ≡ fates_of fate }
+{
+    let mut fates = fates;
+    if let Some(fate) = fate {
+        fates.push(fate).unwrap();
+    }
+    fates
+}
+
+// What the types of a request's moment and of its call's arguments guarantee. It does nothing.
+fn known_request(arrival: &Arrival)
+    ensures moment { arrival.entry.now.now < 2 ^ 64 }
+    ensures types { HasTypes arrival.entry.now.request.call }
+{
+    let _moment = arrival.now;
+    match &arrival.request.call {
+        Ok(
+            Call::CreateItem {
+                label,
+                attributes,
+                secret,
+                ..
+            },
+        ) => {
+            known_item(label, attributes);
+            known_secret(&secret.value, &secret.content);
+        }
+        Ok(Call::SetSecret { secret, .. }) => known_secret(&secret.value, &secret.content),
+        _ => {}
     }
 }
 

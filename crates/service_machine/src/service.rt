@@ -1,6 +1,7 @@
 // The calls of the interface Service.
-ghost use Rattle.std.specs.Prelude.{◌≡◌, IfOk, OnOk, OnErr};
+ghost use Rattle.std.specs.Prelude.{◌≡◌, [], IfOk, OnOk, OnErr};
 ghost use Rattle.service_machine.specs.Rows.{rows_of, disk_of};
+ghost use Rattle.service_tables.specs.Storing.{Brought};
 ghost use Rattle.service_machine.specs.Run.{ran};
 ghost use Rattle.service_machine.specs.ServiceCalls.{is_plain, open_session, search_items, lock, get_secrets};
 
@@ -29,10 +30,12 @@ impl<F: Folder> Machine<F> {
         conn: ConnId,
         algorithm: &Text,
     ) -> Result<Answer, OutOfMemory>
-        ensures answer { IfOk result (λ answer.
-            answer ≡ (ran conn (open_session algorithm.now) (rows_of self.old)).answer) }
-        ensures state { OnOk result (rows_of self.new
-            ≡ (ran conn (open_session algorithm.now) (rows_of self.old)).state) }
+        ensures answer { IfOk result (λ answer. (brought : Brought)
+            → answer ≡ (ran conn brought (open_session algorithm.now) []
+            (rows_of self.old)).answer) }
+        ensures state { OnOk result ((brought : Brought)
+            → rows_of self.new
+            ≡ (ran conn brought (open_session algorithm.now) [] (rows_of self.old)).state) }
         ensures room { self.new.connections ≡ self.old.connections }
         ensures disk { disk_of self.new ≡ disk_of self.old }
         ensures unchanged { OnErr result (rows_of self.new ≡ rows_of self.old) }
@@ -53,10 +56,10 @@ impl<F: Folder> Machine<F> {
         conn: ConnId,
         wanted: &Attributes,
     ) -> Result<Answer, OutOfMemory>
-        ensures answer { IfOk result (λ answer.
-            answer ≡ (ran conn (search_items wanted.now) (rows_of self.now)).answer) }
-        ensures state { rows_of self.now
-            ≡ (ran conn (search_items wanted.now) (rows_of self.now)).state }
+        ensures answer { IfOk result (λ answer. (brought : Brought)
+            → answer ≡ (ran conn brought (search_items wanted.now) [] (rows_of self.now)).answer) }
+        ensures state { (brought : Brought) → rows_of self.now
+            ≡ (ran conn brought (search_items wanted.now) [] (rows_of self.now)).state }
     {
         let _ = conn;
         let found = self.disk.collections.search(wanted)?;
@@ -74,10 +77,11 @@ impl<F: Folder> Machine<F> {
         conn: ConnId,
         objects: &[ObjectName],
     ) -> Result<Answer, OutOfMemory>
-        ensures answer { IfOk result (λ answer.
-            answer ≡ (ran conn (lock objects.now) (rows_of self.old)).answer) }
-        ensures state { OnOk result (rows_of self.new
-            ≡ (ran conn (lock objects.now) (rows_of self.old)).state) }
+        ensures answer { IfOk result (λ answer. (brought : Brought)
+            → answer ≡ (ran conn brought (lock objects.now) [] (rows_of self.old)).answer) }
+        ensures state { OnOk result ((brought : Brought)
+            → rows_of self.new
+            ≡ (ran conn brought (lock objects.now) [] (rows_of self.old)).state) }
         ensures room { self.new.connections ≡ self.old.connections }
         ensures disk { disk_of self.new ≡ disk_of self.old }
         ensures unchanged { OnErr result (rows_of self.new ≡ rows_of self.old) }
@@ -99,10 +103,11 @@ impl<F: Folder> Machine<F> {
         items: &[ObjectName],
         session: Option<SessionId>,
     ) -> Result<Answer, OutOfMemory>
-        ensures answer { IfOk result (λ answer.
-            answer ≡ (ran conn (get_secrets items.now session) (rows_of self.now)).answer) }
-        ensures state { rows_of self.now
-            ≡ (ran conn (get_secrets items.now session) (rows_of self.now)).state }
+        ensures answer { IfOk result (λ answer. (brought : Brought)
+            → answer ≡ (ran conn brought (get_secrets items.now session) []
+            (rows_of self.now)).answer) }
+        ensures state { (brought : Brought) → rows_of self.now
+            ≡ (ran conn brought (get_secrets items.now session) [] (rows_of self.now)).state }
     {
         let Some(session) = session else {
             return Ok(Err(ErrorName::NoSession));

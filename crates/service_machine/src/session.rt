@@ -1,6 +1,7 @@
 // The calls of the interface Session.
-ghost use Rattle.std.specs.Prelude.{◌≡◌};
+ghost use Rattle.std.specs.Prelude.{◌≡◌, []};
 ghost use Rattle.service_machine.specs.Rows.{rows_of, disk_of};
+ghost use Rattle.service_tables.specs.Storing.{Brought};
 ghost use Rattle.service_machine.specs.Run.{ran};
 ghost use Rattle.service_machine.specs.SessionCalls.{close_session};
 
@@ -13,9 +14,10 @@ use secret_calls::{Body, ErrorName};
 impl<F: Folder> Machine<F> {
     /// Performs the row of Close.
     pub(crate) fn close_session(&mut self, conn: ConnId, session: SessionId) -> Answer
-        ensures answer { result ≡ (ran conn (close_session session) (rows_of self.old)).answer }
-        ensures state { rows_of self.new
-            ≡ (ran conn (close_session session) (rows_of self.old)).state }
+        ensures answer { (brought : Brought) → result
+            ≡ (ran conn brought (close_session session) [] (rows_of self.old)).answer }
+        ensures state { (brought : Brought) → rows_of self.new
+            ≡ (ran conn brought (close_session session) [] (rows_of self.old)).state }
         ensures room { self.new.connections ≡ self.old.connections }
         ensures disk { disk_of self.new ≡ disk_of self.old }
     {

@@ -26,7 +26,7 @@ use Rattle.keyring_seal.specs.Arranged.{Row, row_number}
 use Rattle.collection_store.specs.Reading.{content_at, found, item_at}
 use Rattle.collection_store.specs.State.{Held}
 use Rattle.collection_table.specs.declared.matches.Matches.{Matches}
-use Rattle.collection_table.specs.Entries.{Entries, changed, closed}
+use Rattle.collection_table.specs.Entries.{changed}
 use Rattle.collection_table.specs.Rows as collections
 use Rattle.collection_table.specs.Rows.{CollectionRow, Rows, content_of, has, has_item, item_of, locked, shows_item}
 use Rattle.collection_table.proofs.EntryLemmas.{changed_in_order}
@@ -36,7 +36,6 @@ use Rattle.secret_calls.specs.declared.secret.ReturnedSecret.{ReturnedSecret}
 use Rattle.secret_calls.specs.Outs.{ArePaths, AreSecrets, IsSecret}
 use Rattle.secret_calls.proofs.PathLemmas.{named_path}
 use Rattle.secret_calls.proofs.SecretLemmas.{each_byte}
-use Rattle.service_tables.specs.Disk.{slots_of}
 use Rattle.service_tables.specs.Objects.{is_listed, is_open_item, is_there, item_paths, locked_paths, once, paths_in, paths_of, stem_where, unlocked_paths, with_object}
 use Rattle.service_tables.specs.Opened.{Contents}
 use Rattle.service_tables.specs.Reading.{asked_collections, found_in, item_secret, secret_of, stem_there}
@@ -138,7 +137,7 @@ once-from P listed (object ∷ objects) all rest = once-from P (with_object list
 pub once-each : (P : ObjectName → Type 0) (p : ObjectName → Bool) → ((object : ObjectName) → p object ≡ true → P object) → (objects : List ObjectName) → AllByRecursion P (once (filter p objects))
 once-each P p says objects = once-from P [] (filter p objects) tt (each-tested P p says objects)
 
-path-of : (object : ObjectName) → IsName object → IsTrue (is_object_path (path_text object))
+pub path-of : (object : ObjectName) → IsName object → IsTrue (is_object_path (path_text object))
 path-of object named = named_path object (path_text object) (record { named = named; spelled = refl })
 
 pub named-paths : (objects : List ObjectName) → AllByRecursion IsName objects → ArePaths (paths_of objects)
@@ -296,23 +295,12 @@ secrets-typed session rows (item ∷ items) small sound all =
 
 -- ---- a collection that is locked
 
--- its slot stays, and so do those of all others
-pub slots-locked : {S : Type 0} (stem : List ℕ) (entries : Entries S) → slots_of (changed stem closed entries) ≡ slots_of entries
-slots-locked stem [] = refl
-slots-locked stem (e ∷ entries) =
-    let pass : (b : Bool) → is_name stem e.0 ≡ b → slots_of (changed stem closed (e ∷ entries)) ≡ slots_of (e ∷ entries) =
-    elim [
-      | true ↦ λ is. rw is (ap (λ slots. (e.0, e.1.slot) ∷ slots) (slots-locked stem entries))
-      | false ↦ λ is. rw is (ap (λ slots. (e.0, e.1.slot) ∷ slots) (slots-locked stem entries))
-    ] in
-    pass (is_name stem e.0) refl
-
 each-locked : (stem : List ℕ) (rows : Rows) → AllByRecursion IsSoundCollection rows → AllByRecursion IsSoundCollection (changed stem locked rows)
 each-locked stem [] all = tt
 each-locked stem (row ∷ rows) all =
     let pass : (b : Bool) → is_name stem row.0 ≡ b → AllByRecursion IsSoundCollection (changed stem locked (row ∷ rows)) =
     elim [
-      | true ↦ λ is. rw is (record { stem = all.0.stem; shown = all.0.shown; held = tt }, each-locked stem rows all.1)
+      | true ↦ λ is. rw is (record { stem = all.0.stem; shown = all.0.shown; other = all.0.other; held = tt }, each-locked stem rows all.1)
       | false ↦ λ is. rw is (all.0, each-locked stem rows all.1)
     ] in
     pass (is_name stem row.0) refl

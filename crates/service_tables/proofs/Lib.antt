@@ -1,9 +1,14 @@
 pub mod AliasLemmas
 pub mod CollectionLemmas
 pub mod DeskLemmas
+pub mod DiskLemmas
 pub mod EachLemmas
 pub mod FitLemmas
+pub mod KeepingLemmas
 pub mod LoadedLemmas
 pub mod NotedLemmas
 pub mod ObjectLemmas
+pub mod SlotLemmas
+pub mod StoredLemmas
 pub mod TableLemmas
+pub mod TypedLemmas

@@ -85,6 +85,7 @@ module _ {S : Type 0} where
     record {
       stem = all.0.stem;
       shown = all_by_number (λ (item : ClearItem). item.id.0) IsKnownClearItem ring.clear.items all.0.items;
+      other = tt;
       held = tt;
     },
     rows-sound these all.1,

@@ -1,5 +1,5 @@
 -- The folder of the service, and what was loaded from it.
-use Rattle.std.specs.Prelude.{◌≡◌, ℕ, ◌≤◌, ◌⊎◌, Bool, List, Option, map}
+use Rattle.std.specs.Prelude.{◌≡◌, ℕ, ◌≤◌, ◌⊎◌, Bool, List, [], Option, map}
 use Rattle.kr_outside.specs.Faults.{KeepsSteady, Rose}
 use Rattle.kr_outside.specs.RenameDisk.{Image}
 use Rattle.kr_outside.specs.declared.slot.DeviceCall.{DeviceCall}
@@ -10,29 +10,27 @@ use Rattle.folder_store.specs.declared.opening.LeftAlone.{LeftAlone}
 use Rattle.folder_store.specs.Limits.{the_limits}
 use Rattle.folder_store.specs.Loads.{Loads}
 use Rattle.folder_store.specs.Ring.{HasFailedSlot}
-use Rattle.collection_table.specs.Entries.{Entries, loaded_from, rows_of}
+use Rattle.collection_table.specs.Entries.{loaded_from, rows_of, slots_of}
 use Rattle.service_tables.specs.declared.disk.Disk.{Disk}
 use Rattle.service_tables.specs.State.{State}
 use Rattle.service_tables.specs.Opened.{Contents, opened_state}
 
 -- a folder with the slots that were made of it: one for the file of each collection, by its stem, those of the files that were left
--- alone, and that of the aliases; and the stems of all keyring files
+-- alone, and that of the aliases; those of collections that were removed, the latest first; and the stems of all keyring files
 pub record DiskState (F S : Type 0) : Type 0 where
   pub folder : F
   pub slots : List (List ℕ × S)
+  pub spare : List (List ℕ × S)
   pub used : List (List ℕ)
   pub left_alone : List (LeftAlone S)
   pub aliases : FoundAliases S
-
--- the slot of each collection
-abbrev pub slots_of : {S : Type 0} → Entries S → List (List ℕ × S)
-slots_of entries = map (λ entry. (entry.0, entry.1.slot)) entries
 
 -- a disk without what is known of its collections
 abbrev pub disk_state : {F S : Type 0} → Disk F S → DiskState F S
 disk_state disk = record {
   folder = disk.folder;
   slots = slots_of disk.collections.entries;
+  spare = map (λ entry. (entry.0, entry.1.slot)) disk.spare.items;
   used = disk.used.items;
   left_alone = disk.left_alone.items;
   aliases = disk.aliases;
@@ -51,6 +49,7 @@ abbrev pub disk_from : {F S : Type 0} → F → Loaded S → DiskState F S
 disk_from folder loaded = record {
   folder = folder;
   slots = slots_of (map loaded_from loaded.rings.items);
+  spare = [];
   used = loaded.used.items;
   left_alone = loaded.left_alone.items;
   aliases = loaded.aliases;

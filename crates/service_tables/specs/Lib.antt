@@ -6,5 +6,7 @@ pub mod Objects
 pub mod Opened
 pub mod Questions
 pub mod Reading
+pub mod Slots
 pub mod Sound
 pub mod State
+pub mod Storing

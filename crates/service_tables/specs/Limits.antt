@@ -25,3 +25,7 @@ most_events = 18446744073709000000
 -- so many events of a run are recorded that no connection joins or asks any more
 abbrev pub IsSpent : ℕ → Type 0
 IsSpent count = most_events ≤ count
+
+-- the most bytes that the content type of a secret may have
+abbrev pub most_content : ℕ
+most_content = 1024

@@ -2,11 +2,17 @@
 -- in use was given, and is given to no other; a session's owner is there; the connections, the sessions of each and the bytes
 -- that wait are within their limits, and each output that waits has a spelling; the collections' stems rise, and what is
 -- known of a collection has its types. Laws over lists from any start take it as their premise.
-use Rattle.std.specs.Prelude.{ℕ, ◌==◌, ◌<◌, ◌≤◌, IsTrue, IfSome, List, [], ◌∷◌, length, filter}
+use Rattle.std.specs.Prelude.{◌≡◌, ℕ, ◌^◌, ◌==◌, ◌<◌, ◌≤◌, IsTrue, IfSome, true, List, [], ◌∷◌, length, filter}
 use Rattle.std.specs.List.{AllByRecursion}
+use Rattle.std.specs.Str.{is_utf8}
 use Rattle.kr_base.specs.Attributes.{IsInOrder}
 use Rattle.kr_base.specs.Stem.{IsStem}
+use Rattle.kr_base.specs.Text.{HasZero}
+use Rattle.kr_base.specs.declared.attributes.AttrValue.{AttrValue}
+use Rattle.kr_base.specs.declared.attributes.AttrValue.TheVariants as value
 use Rattle.kr_base.specs.declared.ids.ConnId.{ConnId}
+use Rattle.keyring_text.specs.Fields.{IsBytes}
+use Rattle.keyring_file.specs.Clear.{ClearPart}
 use Rattle.keyring_file.specs.Known.{IsKnownClearItem, IsKnownItem}
 use Rattle.keyring_seal.specs.Arranged.{Row}
 use Rattle.collection_store.specs.State.{Held}
@@ -84,10 +90,15 @@ pub record IsSoundItem (row : Row) : Type 0 where
 abbrev pub AreSoundItems : Held → Type 0
 AreSoundItems held = AllByRecursion IsSoundItem held.rows
 
+-- the items of a clear part have their types
+abbrev pub AreShown : ClearPart → Type 0
+AreShown clear = AllByRecursion IsKnownClearItem clear.items
+
 -- what is known of a collection has its types: its stem is one, and the items are those of a file
 pub record IsSoundCollection (collection : List ℕ × collections.CollectionRow) : Type 0 where
   pub stem : IsStem collection.0
-  pub shown : AllByRecursion IsKnownClearItem collection.1.clear.items
+  pub shown : AreShown collection.1.clear
+  pub other : IfSome collection.1.other AreShown
   pub held : IfSome collection.1.held AreSoundItems
 
 -- sound collections, whose stems rise
@@ -100,3 +111,31 @@ pub record IsSound (state : State) : Type 0 where
   pub connections : AreSoundConnections state.connections
   pub sessions : AreSoundSessions state.connections.rows state.sessions
   pub collections : AreSoundCollections state.collections
+
+-- ---- what a call brings: what its types guarantee, as facts that have one proof at most
+
+-- the bytes of a text
+pub record IsTypedText (bytes : List ℕ) : Type 0 where
+  pub utf8 : is_utf8 bytes ≡ true
+  pub no_zero : HasZero bytes → ⊥
+
+-- the value of an attribute
+abbrev pub IsTypedValue : AttrValue → Type 0
+IsTypedValue (value.Text text) = IsTypedText text
+IsTypedValue (value.Number n) = n < 2 ^ 32
+
+-- an attribute
+pub record IsTypedPair (pair : List ℕ × AttrValue) : Type 0 where
+  pub name : IsTypedText pair.0
+  pub value : IsTypedValue pair.1
+
+-- the label and the attributes of an item
+pub record AreItemTypes (name : List ℕ) (pairs : List (List ℕ × AttrValue)) : Type 0 where
+  pub label : IsTypedText name
+  pub ordered : IsInOrder pairs
+  pub attributes : AllByRecursion IsTypedPair pairs
+
+-- the value and the content type of a secret
+pub record AreSecretTypes (bytes text : List ℕ) : Type 0 where
+  pub value : IsBytes bytes
+  pub content : IsTypedText text

@@ -11,6 +11,7 @@ use collection_table::CollectionTable;
 use folder_store::{FoundAliases, LeftAlone, LoadRefused, load};
 use kr_base::Stem;
 use kr_outside::Folder;
+use replace_slot::FileCell;
 use std::alloc::{AllocError, Global};
 use thiserror::Error;
 
@@ -40,6 +41,8 @@ pub struct Disk<F: Folder> {
     pub folder: F,
     /// The collections, each with the slot of its file.
     pub collections: CollectionTable<F::Cell>,
+    /// The cells of collections that were removed, the latest first, each with its stem.
+    pub spare: Vec<(Stem, FileCell<F::Cell>)>,
     /// The stems of all keyring files, including those that were left alone.
     pub used: Vec<Stem>,
     /// The keyring files that were left alone.
@@ -78,6 +81,7 @@ impl<F: Folder> Disk<F> {
                 Ok(Disk {
                     folder,
                     collections,
+                    spare: Vec::new(alloc),
                     used: loaded.used,
                     left_alone: loaded.left_alone,
                     aliases: loaded.aliases,

@@ -2,20 +2,28 @@
 //! and what was loaded from it. Callers may rely on these: a change of one connection's row leaves all
 //! others as they are, and at most 256 are there; outputs wait in order, up to a limit of bytes; a disk
 //! that is opened has each slot that was made of its folder, and its collections are those of the folder's
-//! files, all of them locked; and objects, searches and secrets are read of the collections and of the
-//! aliases as the Secret Service API has them. The definitions of a state, and of a sound one, are here.
+//! files, all of them locked; objects, searches and secrets are read of the collections and of the
+//! aliases as the Secret Service API has them; and a change that is stored, and a file that is removed,
+//! use the slot of their collection alone, and leave what the definitions say, by how they ended. The
+//! definitions of a state, and of a sound one, are here.
 #![tactic(auto)]
 
 mod connections;
 mod desk;
 mod desks;
 mod disk;
+mod fate;
+mod keeping;
+mod known;
 mod objects;
 mod paths;
 mod reading;
 mod rows;
+mod storing;
 
 pub use connections::Connections;
 pub use disk::{Disk, OpenRefused};
-pub use paths::{item_paths, locked_paths, unlocked_paths};
+pub use fate::Fate;
+pub use known::{known_item, known_secret};
+pub use paths::{item_path, item_paths, locked_paths, unlocked_paths};
 pub use rows::{ConnRow, ConnRows, DeskRow, Rows};

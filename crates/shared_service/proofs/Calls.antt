@@ -142,11 +142,11 @@ takes-after conn steady view loop last before given is tried some =
 
 module _ (conn : ConnId) (steady : Bool) (view last : View) (between : List Event) (service : History) (stands : Stands service view.start view.before (view.seen ++ between)) where
   -- the request was recorded
-  pub arrives-if : (arrival : Arrival) (new : History) (result : Result (Unit {0}) Refused) → (stores : OnOk result (StoresRequest steady service arrival new))
+  pub arrives-if : (stored : Event → Type 0) (arrival : Arrival) (new : History) (result : Result (Unit {0}) Refused) → (stores : OnOk result (StoresRequest steady stored service arrival new))
       → (result ≢ Err refused.EventsSpent → IsSpent (total service.window) → ⊥)
-      → last ≡ viewed (event_if (λ _. with_fates arrival (fates_if steady service arrival new result stores)) result) (with_others between view)
+      → last ≡ viewed (event_if (λ _. with_fates arrival (fates_if steady stored service arrival new result stores)) result) (with_others between view)
       → OnOk result (Arrives (spot conn steady view) (spot conn steady last) arrival)
-  arrives-if arrival new (Ok done) stores left is = subst (λ (v : View). Arrives (spot conn steady view) (spot conn steady v) arrival) (sym is) record {
+  arrives-if stored arrival new (Ok done) stores left is = subst (λ (v : View). Arrives (spot conn steady view) (spot conn steady v) arrival) (sym is) record {
     fates = stores.fates;
     recorded = extends conn steady view between service stands (with_fates arrival stores.fates) stores.stores.fits stores.faultless;
     counted =
@@ -154,7 +154,7 @@ module _ (conn : ConnId) (steady : Bool) (view last : View) (between : List Even
         let push = length_push (view.seen ++ between) (with_fates arrival stores.fates) in
         let few : total service.window < most_events = not-spent (total service.window) (left (λ e. cc)) in omega (arith, all, push, few);
   }
-  arrives-if arrival new (Err fault) stores left is = tt
+  arrives-if stored arrival new (Err fault) stores left is = tt
 
   -- it was refused, and nothing recorded
   pub looks-if : (event : Unit {0} → Event) (result : Result (Unit {0}) Refused) → last ≡ viewed (event_if event result) (with_others between view) → OnErr result (Looks (spot conn steady view) (spot conn steady last))

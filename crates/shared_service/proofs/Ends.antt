@@ -8,7 +8,7 @@ use Rattle.secret_calls.specs.declared.taken.Refused.{Refused}
 use Rattle.service_machine.specs.declared.event.Arrival.{Arrival}
 use Rattle.service_machine.specs.declared.event.Event.{Event}
 use Rattle.service_machine.specs.declared.event.Event.TheVariants as event
-use Rattle.service_machine.specs.declared.event.Fate.{Fate}
+use Rattle.service_tables.specs.declared.fate.Fate.{Fate}
 use Rattle.service_machine.specs.Fates.{with_fates}
 use Rattle.service_tables.specs.Connections.{desk_of}
 use Rattle.service_machine.specs.Step.{Fits}
@@ -203,15 +203,15 @@ went-if event service new (Ok value) stores same kept = went-due service new (ev
 went-if event service new (Err fault) stores same kept = same
 
 -- how the storings of a request ended that was recorded; none did if it wasn't
-abbrev pub fates_if : (steady : Bool) (service : History) (arrival : Arrival) (new : History) (result : Result (Unit {0}) Refused)
-    → OnOk result (StoresRequest steady service arrival new) → List Fate
-fates_if steady service arrival new (Ok done) stores = stores.fates
-fates_if steady service arrival new (Err fault) stores = []
+abbrev pub fates_if : (steady : Bool) (stored : Event → Type 0) (service : History) (arrival : Arrival) (new : History) (result : Result (Unit {0}) Refused)
+    → OnOk result (StoresRequest steady stored service arrival new) → List Fate
+fates_if steady stored service arrival new (Ok done) stores = stores.fates
+fates_if steady stored service arrival new (Err fault) stores = []
 
-pub stores-if : (steady : Bool) (service : History) (arrival : Arrival) (new : History) (result : Result (Unit {0}) Refused) → (stores : OnOk result (StoresRequest steady service arrival new))
-    → IfOk result (λ _. Stores service (with_fates arrival (fates_if steady service arrival new result stores)) new)
-stores-if steady service arrival new (Ok done) stores = stores.stores
-stores-if steady service arrival new (Err fault) stores = tt
+pub stores-if : (steady : Bool) (stored : Event → Type 0) (service : History) (arrival : Arrival) (new : History) (result : Result (Unit {0}) Refused) → (stores : OnOk result (StoresRequest steady stored service arrival new))
+    → IfOk result (λ _. Stores service (with_fates arrival (fates_if steady stored service arrival new result stores)) new)
+stores-if steady stored service arrival new (Ok done) stores = stores.stores
+stores-if steady stored service arrival new (Err fault) stores = tt
 
 -- what the calls record is with_some of their events, which fit
 left-bool : (conn : ConnId) (service : History) (waits overrun leaving : Bool)

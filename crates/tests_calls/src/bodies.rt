@@ -76,6 +76,8 @@ fn paths_named(alloc: Global, name: &str) -> Result<Option<Body>, Fail> {
         "locked none" => Body::Locked(Items::empty(alloc)),
         "objects" => Body::Objects(texts_of(alloc, &[KEY, OLD])?),
         "objects none" => Body::Objects(Items::empty(alloc)),
+        "made" => Body::Made(text_of(alloc, KEY)?),
+        "object" => Body::Object(text_of(alloc, "/")?),
         _ => return Ok(None),
     };
     Ok(Some(body))

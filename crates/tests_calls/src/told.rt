@@ -3,7 +3,7 @@
 use crate::words::{decimal, joined};
 use kr_base::{AttrValue, Attributes, ItemId, SessionId, Stem, Text};
 use kr_names::{ObjectName, path_of};
-use secret_calls::{Call, CallFault, Request};
+use secret_calls::{Call, CallFault, Request, Secret};
 use std::alloc::Global;
 use std::test::Fail;
 
@@ -54,6 +54,17 @@ fn session_told(alloc: Global, session: &Option<SessionId>) -> Result<String, Fa
         Some(session) => decimal(alloc, session.0),
         None => Ok(String::from_str(alloc, "none")?),
     }
+}
+
+// A secret as its session, its value in hex, and its content type.
+fn secret_told(alloc: Global, secret: &Secret) -> Result<String, Fail> {
+    let session = session_told(alloc, &secret.session)?;
+    let value = hex::encode(alloc, secret.value.as_slice())?;
+    let content = secret.content.as_str();
+    joined(
+        alloc,
+        &["by ", session.as_str(), " ", value.as_str(), " ", content],
+    )
 }
 
 fn opening_told(alloc: Global, algorithm: &Text) -> Result<String, Fail> {
@@ -124,6 +135,48 @@ fn collection_search_told(
     )
 }
 
+// What an item is created with: its label, its attributes and its secret.
+fn item_told(
+    alloc: Global,
+    label: &Text,
+    attributes: &Attributes,
+    secret: &Secret,
+) -> Result<String, Fail> {
+    let attributes = attributes_told(alloc, attributes)?;
+    let secret = secret_told(alloc, secret)?;
+    let label = label.as_str();
+    joined(
+        alloc,
+        &[
+            "\"",
+            label,
+            "\" ",
+            attributes.as_str(),
+            " ",
+            secret.as_str(),
+        ],
+    )
+}
+
+fn making_told(
+    alloc: Global,
+    collection: &ObjectName,
+    item: &str,
+    replace: bool,
+) -> Result<String, Fail> {
+    let collection = path_told(alloc, collection)?;
+    let replace = if replace { " true)" } else { " false)" };
+    joined(
+        alloc,
+        &["Ok(CreateItem ", collection.as_str(), " ", item, replace],
+    )
+}
+
+fn deletion_told(alloc: Global, collection: &ObjectName) -> Result<String, Fail> {
+    let collection = path_told(alloc, collection)?;
+    joined(alloc, &["Ok(DeleteCollection ", collection.as_str(), ")"])
+}
+
 // A call on an item.
 fn item_call_told(
     alloc: Global,
@@ -149,6 +202,12 @@ fn reading_told(
     item_call_told(alloc, "GetSecret", stem, item, rest.as_str())
 }
 
+fn setting_told(alloc: Global, stem: &Stem, item: ItemId, secret: &Secret) -> Result<String, Fail> {
+    let secret = secret_told(alloc, secret)?;
+    let rest = joined(alloc, &[" ", secret.as_str(), ")"])?;
+    item_call_told(alloc, "SetSecret", stem, item, rest.as_str())
+}
+
 fn fault_told(alloc: Global, fault: CallFault) -> Result<String, Fail> {
     Ok(format!(in alloc; "Err({fault:?})")?)
 }
@@ -164,11 +223,24 @@ fn good_call_told(alloc: Global, call: &Call) -> Result<String, Fail> {
         Call::SearchCollection { collection, wanted } => {
             collection_search_told(alloc, collection, wanted)
         }
+        Call::CreateItem {
+            collection,
+            label,
+            attributes,
+            secret,
+            replace,
+        } => {
+            let item = item_told(alloc, label, attributes, secret)?;
+            making_told(alloc, collection, item.as_str(), *replace)
+        }
+        Call::DeleteCollection { collection } => deletion_told(alloc, collection),
+        Call::DeleteItem { stem, item } => item_call_told(alloc, "DeleteItem", stem, *item, ")"),
         Call::GetSecret {
             stem,
             item,
             session,
         } => reading_told(alloc, stem, *item, session),
+        Call::SetSecret { stem, item, secret } => setting_told(alloc, stem, *item, secret),
     }
 }
 

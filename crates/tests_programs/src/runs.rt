@@ -82,7 +82,35 @@ FULL [6c0301010000000041000000400000000401730029000000]org.freedesktop.DBus.Erro
 SESSION65 [6c02010135000000430000001000000005017500430000000801670002766f00017300000000000000000000\
 24000000]/org/freedesktop/secrets/session/s65[00]
 NOARGUMENTS [6c0301010000000004000000380000000401730026000000]org.freedesktop.DBus.Error.InvalidArg\
-s[00000501750007000000]";
+s[00000501750007000000]
+MAKE [6c0100018c000000020000009400000001016f0029000000]/org/freedesktop/secrets/collection/other[00\
+0000000000000201730021000000]org.freedesktop.Secret.Collection[00000000000000030173000a000000]Creat\
+eItem[000000000000080167000e617b73767d28]oayays[29620000000000360000000000000021000000]org.freedesk\
+top.Secret.Item.Label[000173000000000500000041206b657900000023000000]/org/freedesktop/secrets/sessi\
+on/s1[000000000006000000]secret[00000a000000]text/plain[000000000000]
+MAKEBIG [42010001000000a4000000030000009401016f0000000028]/org/freedesktop/secrets/aliases/default[\
+00000000000000000201730000000021]org.freedesktop.Secret.Collection[00000000000000030173000000000a]C\
+reateItem[000000000000080167000e617b73767d28]oayays[296200000000000000004c0000000000000026]org.free\
+desktop.Secret.Item.Attributes[0005617b73737d0000000000001400000007]service[00000000036e65770000000\
+00000000023]/org/freedesktop/secrets/session/s2[000000000000000006]secret[00000000000a]text/plain[0\
+00000000001]
+LABEL [6c0100017c000000040000009400000001016f0029000000]/org/freedesktop/secrets/collection/other[0\
+00000000000000201730021000000]org.freedesktop.Secret.Collection[00000000000000030173000a000000]Crea\
+teItem[000000000000080167000e617b73767d28]oayays[29620000000000300000000000000021000000]org.freedes\
+ktop.Secret.Item.Label[000175000000000100000023000000]/org/freedesktop/secrets/session/s1[000000000\
+0000000000a000000]text/plain[000000000000]
+SET [6c0100014b000000050000008600000001016f002b000000]/org/freedesktop/secrets/collection/other/7[0\
+000000000020173001b000000]org.freedesktop.Secret.Item[00000000000301730009000000]SetSecret[00000000\
+000000080167000828]oayays[2900000023000000]/org/freedesktop/secrets/session/s1[00030000000102030006\
+000000]secret[00000a000000]text/plain[00]
+REMOVE [6c01000100000000060000006f00000001016f002b000000]/org/freedesktop/secrets/collection/other/\
+7[0000000000020173001b000000]org.freedesktop.Secret.Item[00000000000301730006000000]Delete[0000]
+DROP [6c01000100000000070000004700000001016f0029000000]/org/freedesktop/secrets/collection/other[00\
+0000000000000301730006000000]Delete[0000]
+NOOBJECT [6c0301010000000002000000400000000401730029000000]org.freedesktop.Secret.Error.NoSuchObjec\
+t[000000000000000501750002000000]
+LOCKED [6c0301010000000002000000380000000401730025000000]org.freedesktop.Secret.Error.IsLocked[0000\
+000501750002000000]";
 
 // The name of each, what the client sends, the text of the end, and what is written. A part may be
 // changed: after `@` come a position in it and the bytes there.
@@ -102,6 +130,8 @@ a session is closed once|HELLO PLAIN CLOSE CLOSE@8:03|done|OK SESSION PONG NOSES
 the second session|HELLO PLAIN PLAIN@8:02|done|OK SESSION SESSION@8:02@20:02@82:32
 what isn't there|HELLO PATH INTERFACE METHOD ARGUMENTS|done|OK NOPATH NOINTERFACE NOMETHOD NOARGUME\
 NTS
+nothing to store in|HELLO PLAIN MAKE SET REMOVE DROP|done|OK SESSION NOOBJECT NOOBJECT@8:03@76:05 N\
+OOBJECT@8:04@76:06 NOOBJECT@8:05@76:07
 what is no call|HELLO RETURN FAULT SIGNAL OTHER PING|done|OK PONG@8:01
 a boolean of two|HELLO PLAIN BOOLEAN|bad message: BadBody|OK SESSION
 padding that isn't zero|HELLO PLAIN PADDING|bad message: BadBody|OK SESSION
@@ -458,6 +488,98 @@ fn a_stream_that_fails_ends_the_run(rt: HostRuntime) -> Result<(), Fail> {
         fails(&rt, row)?;
     }
     Ok(())
+}
+
+// The file of a collection. Its one item is 7, without attributes.
+const OTHER: &str = "\
+[476e6f6d654b657972696e670a0d000a00000000000000054f746865720000000000000000000000000000000000000000\
+00000000000003e801020304050607080000000000000000000000000000000000000001000000070000000000000000000\
+0001000000000000000000000000000000000]";
+
+// A host whose folders have that file alone.
+fn locked_host(alloc: Global) -> Result<SteadyHost, Fail> {
+    let mut files = Files::new(alloc);
+    let file = Bytes::new(spelled(alloc, OTHER)?);
+    files.set(text_of(alloc, "other.keyring")?, Some(file))?;
+    let clock = ListedClock::new(Vec::new(alloc));
+    Ok(SteadyHost::new(alloc, files, 0, clock))
+}
+
+// Runs `stdio . 1000` over this input on that host, and returns what is written.
+fn written_locked<R: Abort + AllocGlobal + Wait>(
+    rt: &R,
+    input: &[u8],
+    at: &str,
+) -> Result<Vec<u8>, Fail> {
+    let mut source = source_of(rt.alloc(), input, &[], Vec::new(rt.alloc()))?;
+    let mut sink = sink_of(rt.alloc(), Vec::new(rt.alloc()));
+    let mut host = locked_host(rt.alloc())?;
+    let status = run_on(rt, "/stdio/./1000", &mut source, &mut sink, &mut host)?;
+    ends(rt, status, "done", at)?;
+    Ok(sink.bytes().to_vec(rt.alloc())?)
+}
+
+// Asserts what the run over this input on that host writes.
+fn is_refused<R: Abort + AllocGlobal + Wait>(
+    rt: &R,
+    input: &[u8],
+    output: &str,
+    at: &str,
+) -> Result<(), Fail> {
+    let written = written_locked(rt, input, at)?;
+    let wanted = bytes_of(rt.alloc(), output)?;
+    same_bytes(rt, written.as_slice(), wanted.as_slice(), at);
+    Ok(())
+}
+
+// The name of each, what the client sends, and what is written.
+const REFUSALS: &str = "\
+all is locked|HELLO PLAIN MAKE SET REMOVE DROP|OK SESSION LOCKED LOCKED@8:03@68:05 LOCKED@8:04@68:0\
+6 LOCKED@8:05@68:07
+no session|HELLO MAKE SET|OK NOSESSION@8:01@68:02 NOSESSION@8:02@68:05
+no alias, and a label that isn't a text|HELLO PLAIN MAKEBIG LABEL|OK SESSION NOOBJECT@76:03 NOARGUM\
+ENTS@8:03@68:04
+";
+
+fn is_refused_in<R: Abort + AllocGlobal + Wait>(rt: &R, row: &str) -> Result<(), Fail> {
+    let input = bytes_of(rt.alloc(), cell(row, 1))?;
+    is_refused(rt, input.as_slice(), cell(row, 2), row)
+}
+
+#[test]
+fn a_member_that_stores_is_refused_while_its_collection_is_locked(
+    rt: HostRuntime,
+) -> Result<(), Fail> {
+    for row in REFUSALS.lines() {
+        is_refused_in(&rt, row)?;
+    }
+    Ok(())
+}
+
+// The start of a call of SetSecret that is a mebibyte, up to the bytes of its content type.
+const LONG_SECRET: &str = "\
+[6c01000168ff0f00050000008600000001016f002b000000]/org/freedesktop/secrets/collection/other/7[00000\
+00000020173001b000000]org.freedesktop.Secret.Item[00000000000301730009000000]SetSecret[000000000000\
+00080167000828]oayays[2900000023000000]/org/freedesktop/secrets/session/s1[000000000006000000]secre\
+t[00002bff0f00]";
+
+// The handshake, a session, and that call.
+fn long_secret(alloc: Global) -> Result<Vec<u8>, Fail> {
+    let mut call = spelled(alloc, LONG_SECRET)?;
+    call.resize(1_048_575, b'a')?;
+    call.push(0)?;
+    let mut input = bytes_of(alloc, "HELLO PLAIN")?;
+    input.extend_from_slice(call.as_slice())?;
+    Ok(input)
+}
+
+#[test]
+fn a_secret_with_a_content_type_of_a_mebibyte_is_refused_like_others(
+    rt: HostRuntime,
+) -> Result<(), Fail> {
+    let input = long_secret(rt.alloc())?;
+    let output = "OK SESSION LOCKED@68:05";
+    is_refused(&rt, input.as_slice(), output, "a mebibyte")
 }
 
 // A source that never fails, of what these words spell.

@@ -1,7 +1,7 @@
 // Services over folders in memory, and what lends them to a test.
 ghost use Rattle.std.specs.Prelude.{◌≡◌, []};
 
-use crate::login::login_folder;
+use crate::login::{login_folder, two_folder};
 use kr_memory_disk::MemoryFolder;
 use std::alloc::Global;
 use std::test::Fail;
@@ -28,9 +28,19 @@ pub fn machine_over_login(alloc: Global) -> Result<Machine, Fail> {
     Ok(Machine::open(alloc, login_folder(alloc)?)?)
 }
 
+/// A machine over a folder with two collections.
+pub fn machine_over_two(alloc: Global) -> Result<Machine, Fail> {
+    Ok(Machine::open(alloc, two_folder(alloc)?)?)
+}
+
 /// A service over a folder with one collection.
 pub fn service_over_login(alloc: Global) -> Result<Service, Fail> {
     Ok(Service::open(alloc, login_folder(alloc)?)?)
+}
+
+/// A service over a folder with two collections.
+pub fn service_over_two(alloc: Global) -> Result<Service, Fail> {
+    Ok(Service::open(alloc, two_folder(alloc)?)?)
 }
 
 /// A service over a folder without files.

@@ -20,4 +20,6 @@ mod machine;
 #[cfg(test)]
 mod members;
 #[cfg(test)]
+mod storing;
+#[cfg(test)]
 mod words;

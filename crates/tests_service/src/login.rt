@@ -1,4 +1,4 @@
-// A folder with one collection, `login`, as GNOME keyring 42.1 wrote it, and the alias `default` for it.
+// Folders with the collection `login`, as GNOME keyring 42.1 wrote it, and the alias `default` for it.
 ghost use Rattle.std.specs.Prelude.{◌≡◌, [], IfOk};
 
 use kr_base::{Bytes, Text};
@@ -28,6 +28,12 @@ const LOGIN: &str = "\
     40e8674e7a3e7de6e8c25409bae0555da471c9b5c3625eda3f7a9dbebc57b5e1148f2e25f06f75b44a32a3eabbd1\
     a6bac092ba16050bc53a386944948bc0a005fe1e529eb73b113633f66e13452519d30117a5a35a6ad599200d9b";
 
+// The file of another collection, written by hand. Its one item is 7, without attributes. Only the clear part is read.
+const OTHER: &str = "\
+    476e6f6d654b657972696e670a0d000a00000000000000054f746865720000000000000000000000000000000000\
+    00000000000000000003e80102030405060708000000000000000000000000000000000000000100000007000000\
+    00000000000000001000000000000000000000000000000000";
+
 fn login(alloc: Global) -> Result<Vec<u8>, Fail> {
     Ok(hex::decode(alloc, LOGIN)?)
 }
@@ -36,7 +42,7 @@ fn text(alloc: Global, text: &str) -> Result<Text, Fail> {
     Ok(Text::from_str(alloc, text)?.ok_or("a zero byte")?)
 }
 
-/// The folder.
+/// The folder with that collection alone.
 pub fn login_folder(alloc: Global) -> Result<MemoryFolder, Fail>
     ensures { IfOk result (λ folder. folder.made ≡ []) }
 {
@@ -44,6 +50,18 @@ pub fn login_folder(alloc: Global) -> Result<MemoryFolder, Fail>
     let file = Bytes::new(login(alloc)?);
     folder.set(text(alloc, "login.keyring")?, Some(file))?;
     let aliases = Bytes::from_slice(alloc, b"default=login\n")?;
+    folder.set(text(alloc, "aliases")?, Some(aliases))?;
+    Ok(folder)
+}
+
+/// The folder with another collection, `other`, and an alias `lost` for a collection that isn't there.
+pub fn two_folder(alloc: Global) -> Result<MemoryFolder, Fail>
+    ensures { IfOk result (λ folder. folder.made ≡ []) }
+{
+    let mut folder = login_folder(alloc)?;
+    let file = Bytes::new(hex::decode(alloc, OTHER)?);
+    folder.set(text(alloc, "other.keyring")?, Some(file))?;
+    let aliases = Bytes::from_slice(alloc, b"default=login\nlost=gone\n")?;
     folder.set(text(alloc, "aliases")?, Some(aliases))?;
     Ok(folder)
 }

@@ -38,7 +38,8 @@ const CONVERSATION: &str = "\
 1|search|service=empty|unlocked, locked collection/login/2
 ";
 
-fn is_answered(
+/// Asserts what a connection gets for what it does, as a row says.
+pub fn is_answered(
     rt: &impl Abort,
     alloc: Global,
     machine: &mut Machine,
@@ -76,7 +77,8 @@ const CUTS: &str = "\
 1|ping||3
 ";
 
-fn arrival(alloc: Global, row: &str) -> Result<Arrival, Fail> {
+/// The arrival of a row's call, by the first connection.
+pub fn arrival(alloc: Global, row: &str) -> Result<Arrival, Fail> {
     let request = Request {
         serial: Serial { number: 7 },
         wants_reply: true,

@@ -1,10 +1,10 @@
 // Calls from words, and outputs in words.
 
 use crate::checks::{cell, number};
-use kr_base::{Attributes, ItemId, SessionId, Stem, Text};
+use kr_base::{Attributes, Bytes, ItemId, SessionId, Stem, Text};
 use kr_items::Items;
 use kr_names::{ObjectName, parse_path};
-use secret_calls::{Body, Call, CallFault, ErrorName, Out};
+use secret_calls::{Body, Call, CallFault, ErrorName, Out, Secret};
 use std::alloc::Global;
 use std::test::Fail;
 
@@ -93,6 +93,72 @@ fn getting_all(alloc: Global, words: &str) -> Result<Call, Fail> {
     Ok(Call::GetSecrets { items, session })
 }
 
+// A content type of 1,025 bytes.
+fn long_content(alloc: Global) -> Result<Text, Fail> {
+    let bytes = vec![in alloc; b'a'; 1025]?;
+    Ok(Text::from_utf8(bytes).ok_or("a text")?)
+}
+
+// The content type `text/plain`, or a long one.
+fn content(alloc: Global, is_long: bool) -> Result<Text, Fail> {
+    if is_long {
+        return long_content(alloc);
+    }
+    text(alloc, "text/plain")
+}
+
+// The secret `x` for a session; with `long` after the session, its content type is long.
+fn secret(alloc: Global, words: &str) -> Result<Secret, Fail> {
+    let given = words.strip_suffix(" long");
+    let session = session(given.unwrap_or(words))?;
+    let content = content(alloc, given.is_some())?;
+    let value = Bytes::from_slice(alloc, b"x")?;
+    Ok(Secret {
+        session,
+        value,
+        content,
+    })
+}
+
+// An item in a collection, with an attribute and a secret.
+fn making(alloc: Global, words: &str, replace: bool) -> Result<Call, Fail> {
+    let (place, given) = halves(words, ';')?;
+    let (path, pair) = halves(place, '?')?;
+    let collection = object(alloc, path)?;
+    let attributes = attribute(alloc, pair)?;
+    let label = text(alloc, "An item")?;
+    let secret = secret(alloc, given)?;
+    Ok(Call::CreateItem {
+        collection,
+        label,
+        attributes,
+        secret,
+        replace,
+    })
+}
+
+// The deletion of an item, or of any other object as a collection.
+fn deleting(alloc: Global, path: &str) -> Result<Call, Fail> {
+    match object(alloc, path)? {
+        ObjectName::Item(stem, item) => Ok(Call::DeleteItem { stem, item }),
+        collection => Ok(Call::DeleteCollection { collection }),
+    }
+}
+
+fn item(alloc: Global, path: &str) -> Result<(Stem, ItemId), Fail> {
+    match object(alloc, path)? {
+        ObjectName::Item(stem, item) => Ok((stem, item)),
+        _ => Err("an item")?,
+    }
+}
+
+fn setting(alloc: Global, words: &str) -> Result<Call, Fail> {
+    let (path, given) = halves(words, ';')?;
+    let (stem, item) = item(alloc, path)?;
+    let secret = secret(alloc, given)?;
+    Ok(Call::SetSecret { stem, item, secret })
+}
+
 /// The call of a row: its second cell says what it does, and its third with what.
 pub fn call_of(alloc: Global, row: &str) -> Result<Result<Call, CallFault>, Fail> {
     match cell(row, 1) {
@@ -104,6 +170,10 @@ pub fn call_of(alloc: Global, row: &str) -> Result<Result<Call, CallFault>, Fail
         "lock" => Ok(Ok(locking(alloc, cell(row, 2))?)),
         "secret" => Ok(Ok(getting(alloc, cell(row, 2))?)),
         "secrets" => Ok(Ok(getting_all(alloc, cell(row, 2))?)),
+        "make" => Ok(Ok(making(alloc, cell(row, 2), false)?)),
+        "replace" => Ok(Ok(making(alloc, cell(row, 2), true)?)),
+        "delete" => Ok(Ok(deleting(alloc, cell(row, 2))?)),
+        "set" => Ok(Ok(setting(alloc, cell(row, 2))?)),
         _ => Ok(Ok(Call::Ping)),
     }
 }
@@ -120,17 +190,28 @@ pub fn session_told(alloc: Global, session: u64) -> Result<String, Fail> {
     Ok(told)
 }
 
-// Paths, each after a space and without what all of them begin with.
+// A path after a space, without what all paths begin with.
+fn add_path(told: &mut String, path: &Text) -> Result<(), Fail> {
+    told.push_str(" ")?;
+    told.push_str(
+        path.as_str()
+            .strip_prefix("/org/freedesktop/secrets/")
+            .ok_or("a path")?,
+    )?;
+    Ok(())
+}
+
 fn add_paths(told: &mut String, paths: &[Text]) -> Result<(), Fail> {
     for path in paths {
-        told.push_str(" ")?;
-        told.push_str(
-            path.as_str()
-                .strip_prefix("/org/freedesktop/secrets/")
-                .ok_or("a path")?,
-        )?;
+        add_path(told, path)?;
     }
     Ok(())
+}
+
+fn made_told(alloc: Global, item: &Text) -> Result<String, Fail> {
+    let mut told = String::from_str(alloc, "made")?;
+    add_path(&mut told, item)?;
+    Ok(told)
 }
 
 fn paths_told(alloc: Global, what: &str, paths: &[Text]) -> Result<String, Fail> {
@@ -155,6 +236,8 @@ fn body_told(alloc: Global, body: &Body) -> Result<String, Fail> {
         }
         Body::Locked(objects) => paths_told(alloc, "locked", objects.as_slice()),
         Body::Objects(objects) => paths_told(alloc, "found", objects.as_slice()),
+        Body::Made(item) => made_told(alloc, item),
+        Body::Object(object) => Ok(String::from_str(alloc, object.as_str())?),
         Body::Secret(_) => Ok(String::from_str(alloc, "a secret")?),
         Body::Secrets(secrets) => decimal(alloc, secrets.len() as u64),
     }
@@ -165,6 +248,7 @@ fn error_told(name: ErrorName) -> &'static str {
         ErrorName::NotSupported => "NotSupported",
         ErrorName::UnknownMethod => "UnknownMethod",
         ErrorName::LimitsExceeded => "LimitsExceeded",
+        ErrorName::IOError => "IOError",
         ErrorName::NoSession => "NoSession",
         ErrorName::IsLocked => "IsLocked",
         ErrorName::NoSuchObject => "NoSuchObject",

@@ -6,12 +6,16 @@ use Rattle.secret_calls.specs.contracts.out.Body as Body
 use Rattle.secret_calls.specs.contracts.out.Out as Out
 use Rattle.secret_calls.specs.contracts.secret.ItemSecret as ItemSecret
 use Rattle.secret_calls.specs.contracts.secret.ReturnedSecret as ReturnedSecret
+use Rattle.secret_calls.specs.contracts.secret.Secret as Secret
 use Rattle.tests_threads.proofs.Sends.KrBase.{Attributes-send, Bytes-send, Stem-send, Text-send}
 use Rattle.tests_threads.proofs.Sends.KrItems.{Items-send}
 use Rattle.tests_threads.proofs.Sends.KrNames.{ObjectName-field-send, ObjectName-send}
 
+Secret-send : IsSend (Secret.the_field).row
+Secret-send = search (Bytes-send, Text-send, sendable) depth 40
+
 Call-send : IsSend Call.the_row
-Call-send = search (Text-send, Stem-send, Attributes-send, ObjectName-send, ObjectName-field-send, Items-send, sendable) depth 40 fits 20000
+Call-send = search (Text-send, Stem-send, Attributes-send, ObjectName-send, ObjectName-field-send, Secret-send, Items-send, sendable) depth 40 fits 20000
 
 pub Request-send : IsSend (Request.the_field).row
 Request-send = search (Call-send, sendable) depth 40

@@ -5,19 +5,15 @@ use Rattle.std.proofs.Crossing as heap
 use Rattle.kr_outside.specs.declared.slot.Slot as slot
 use Rattle.service_machine.specs.contracts.event.Arrival as Arrival
 use Rattle.service_machine.specs.contracts.event.Event as Event
-use Rattle.service_machine.specs.contracts.event.Fate as Fate
 use Rattle.service_machine.specs.contracts.event.Recorded as Recorded
 use Rattle.service_machine.specs.contracts.machine.Machine as Machine
 use Rattle.tests_threads.proofs.Sends.KrItems.{Items-send}
 use Rattle.tests_threads.proofs.Sends.SecretCalls.{Request-send}
-use Rattle.tests_threads.proofs.Sends.ServiceTables.{Connections-send, Disk-send}
+use Rattle.tests_threads.proofs.Sends.ServiceTables.{Connections-send, Disk-send, Fate-send}
 use Rattle.tests_threads.proofs.Sends.SessionTable.{SessionTable-send}
 
 Arrival-send : IsSend (Arrival.the_field).row
 Arrival-send = search (Request-send, sendable) depth 40
-
-Fate-send : IsSend Fate.the_row
-Fate-send = search sendable depth 40
 
 Recorded-send : IsSend (Recorded.the_field).row
 Recorded-send = search (Arrival-send, Items-send, Fate-send, sendable) depth 40

@@ -1,7 +1,9 @@
-use Rattle.std.proofs.Common.{◌<◌, arith}
+use Rattle.std.proofs.Common.{◌<◌, arith, subst, sym}
+use Rattle.service_tables.specs.State.{State}
 use Rattle.service_tables.specs.Limits.{most_events}
 use Rattle.service_machine.specs.Rows.{rows_of}
 use Rattle.service_machine.specs.declared.event.Event.TheVariants as event
+use Rattle.service_history.specs.Inside.{IsKept}
 use Rattle.service_history.specs.Windows.{total}
 use Rattle.service_history.proofs.KeptLemmas.{kept-event}
 use Rattle.service_history.proofs.service.Service.join.Goals as goal
@@ -10,7 +12,7 @@ use Rattle.service_history.proofs.service.Service.join.Goals as goal
 pub invariant_of-self-2 : goal.invariant_of-self-2
 invariant_of-self-2 g c =
     let left : total c.self.inside.window.window < most_events = omega (arith, c.if-total-ge-LIMIT.false, c.total.ensures) in
-    rw c.in_ok-conn.ensures.stepped (kept-event (rows_of c.self.inside.machine) c.self.inside.window.window c.prepare.new.self c.in_ok-next.next (event.Connect c.in_ok-conn.conn) c.commit.new.self
+    subst (λ (s : State). IsKept s c.commit.new.self) (sym c.in_ok-conn.ensures.stepped) (kept-event (rows_of c.self.inside.machine) c.self.inside.window.window c.prepare.new.self c.in_ok-next.next (event.Connect c.in_ok-conn.conn) c.commit.new.self
     c.self.invariant.history c.in_ok-next.ensures.same c.in_ok-next.ensures.ready left c.in_ok-conn.ensures.fits c.commit.ensures.stored c.commit.ensures.spare)
 
 pub returns-clause-history : goal.returns-clause-history

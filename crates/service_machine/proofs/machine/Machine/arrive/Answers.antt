@@ -1,35 +1,78 @@
-use Rattle.std.proofs.Common.{◌≡◌, [], ap, sym, ◌∙◌}
-use Rattle.secret_calls.specs.declared.out.Out.{Out}
-use Rattle.service_tables.specs.Connections.{changed, with_out}
-use Rattle.service_machine.specs.declared.event.Recorded.{Recorded}
-use Rattle.service_machine.specs.Rows.{rows_of}
-use Rattle.service_tables.specs.State.{State}
-use Rattle.service_machine.specs.Step.{message_of, served, with_rows}
-use Rattle.service_machine.proofs.RunLemmas.{arrived-replied, arrived-silent}
+use Rattle.std.proofs.Common.{◌≡◌, ap, subst, sym, ◌∙◌}
+use Rattle.service_machine.specs.Fates.{with_fates, AreFaultless, is_steady}
+use Rattle.service_machine.specs.Rows.{disk_of, rows_of}
+use Rattle.service_machine.specs.Run.{asked}
+use Rattle.service_machine.specs.Step.{Fits, brought_by, plan_of, replies, step, with_delivered}
+use Rattle.service_machine.specs.Stored.{StoresEvent, fates_of}
+use Rattle.service_machine.proofs.LeadsLemmas.{leads-fits, leads-stepped, leads-stores}
+use Rattle.service_machine.proofs.SteadyLemmas.{stores-faultless, stores-steady}
 use Rattle.service_machine.proofs.machine.Machine.arrive.Goals as goal
 
--- room for the reply changes no row, and after it the row of the call is performed; its reply waits
+-- room for the reply changes no row; after it the row of the call is performed, and its reply waits
 pub returns-clause-stepped : goal.returns-clause-stepped
 returns-clause-stepped g c =
-    let conn = c.args.arrival.now.conn in
-    let request = c.args.arrival.now.request in
-    let came : Recorded = record { arrival = c.args.arrival.now; fates = [] } in
+    let slot = g.F.Cell.Slot in
+    let arrival = c.args.arrival.now in
     let old = rows_of c.args.self.now in
-    let called = rows_of c.call.new.self in
+    let done = c.in_ok-call.field-0 in
     let same : rows_of (record c.args.self.now { connections = c.reserve.new.self }) ≡ old =
     λ i. record old { connections = record { rows = c.reserve.ensures.unchanged i; next = c.reserve.ensures.next i } } in
-    let state : called ≡ (served came old).state = c.in_ok-answer.ensures.state ∙ ap (λ (s : State). (served came s).state) same in
-    let out : c.message.result ≡ message_of request.serial (served came old).answer =
-    c.message.ensures ∙ ap (message_of request.serial) (c.in_ok-answer.ensures.answer ∙ ap (λ (s : State). (served came s).answer) same) in
-    (λ i. record called { connections = record { rows = c.push.ensures.rows i; next = c.push.ensures.next i } })
-    ∙ ap (λ (o : Out). with_rows (changed conn (with_out o) called.connections.rows) called) out
-    ∙ ap (λ (s : State). with_rows (changed conn (with_out (message_of request.serial (served came old).answer)) s.connections.rows) s) state
-    ∙ sym (arrived-replied came old c.if-not-request.false)
+    let fates : c.new.result ≡ fates_of done.fate = c.new.ensures ∙ c.with_fate.ensures ∙ ap fates_of c.into_parts-answer.ensures.fate in
+    let replied : rows_of c.reply.new.self ≡ with_delivered (replies arrival.conn arrival.request done.answer) (rows_of c.call.new.self) =
+    c.reply.ensures.rows ∙ ap (λ answer. with_delivered (replies arrival.conn arrival.request answer) (rows_of c.call.new.self)) c.into_parts-answer.ensures.answer in
+    leads-stepped slot.is_honest slot.is_steady slot.faults slot.moment slot.left_since slot.may_leave arrival done old _ (rows_of c.call.new.self) (rows_of c.reply.new.self)
+    (disk_of c.args.self.now) (disk_of c.call.new.self) same c.in_ok-call.ensures.leads replied
+    ∙ ap (λ its. step old (with_fates arrival its)) (sym fates)
 
-pub returns-then-not-request-clause-stepped : goal.returns-then-not-request-clause-stepped
-returns-then-not-request-clause-stepped g c =
-    let came : Recorded = record { arrival = c.args.arrival.now; fates = [] } in
+pub returns-clause-fits : goal.returns-clause-fits
+returns-clause-fits g c =
+    let slot = g.F.Cell.Slot in
+    let arrival = c.args.arrival.now in
     let old = rows_of c.args.self.now in
+    let done = c.in_ok-call.field-0 in
     let same : rows_of (record c.args.self.now { connections = c.reserve.new.self }) ≡ old =
     λ i. record old { connections = record { rows = c.reserve.ensures.unchanged i; next = c.reserve.ensures.next i } } in
-    c.in_ok-answer.ensures.state ∙ ap (λ (s : State). (served came s).state) same ∙ sym (arrived-silent came old c.if-not-request.true)
+    let fates : c.new.result ≡ fates_of done.fate = c.new.ensures ∙ c.with_fate.ensures ∙ ap fates_of c.into_parts-answer.ensures.fate in
+    subst (λ its. Fits old (with_fates arrival its)) (sym fates)
+    (leads-fits slot.is_honest slot.is_steady slot.faults slot.moment slot.left_since slot.may_leave arrival done old _ (rows_of c.call.new.self) (rows_of c.reply.new.self)
+    (disk_of c.args.self.now) (disk_of c.call.new.self) same c.in_ok-call.ensures.leads c.known_request.ensures.moment c.known_request.ensures.types c.requires)
+
+-- the reply leaves the disk as the call left it
+pub returns-clause-disk : goal.returns-clause-disk
+returns-clause-disk g c =
+    let slot = g.F.Cell.Slot in
+    let arrival = c.args.arrival.now in
+    let old = rows_of c.args.self.now in
+    let disk = disk_of c.args.self.now in
+    let done = c.in_ok-call.field-0 in
+    let same : rows_of (record c.args.self.now { connections = c.reserve.new.self }) ≡ old =
+    λ i. record old { connections = record { rows = c.reserve.ensures.unchanged i; next = c.reserve.ensures.next i } } in
+    let fates : c.new.result ≡ fates_of done.fate = c.new.ensures ∙ c.with_fate.ensures ∙ ap fates_of c.into_parts-answer.ensures.fate in
+    subst (λ its. StoresEvent slot.is_honest slot.is_steady slot.faults slot.moment slot.left_since slot.may_leave (with_fates arrival its) old disk (disk_of c.reply.new.self)) (sym fates)
+    (subst (λ after. StoresEvent slot.is_honest slot.is_steady slot.faults slot.moment slot.left_since slot.may_leave (with_fates arrival (fates_of done.fate)) old disk after) (sym c.reply.ensures.disk)
+    (leads-stores slot.is_honest slot.is_steady slot.faults slot.moment slot.left_since slot.may_leave arrival done old _ (rows_of c.call.new.self) (rows_of c.reply.new.self)
+    disk (disk_of c.call.new.self) same c.in_ok-call.ensures.leads))
+
+-- over a steady disk no storing has a fault
+pub returns-clause-faultless : goal.returns-clause-faultless
+returns-clause-faultless g c = λ steady.
+    let slot = g.F.Cell.Slot in
+    let arrival = c.args.arrival.now in
+    let before = rows_of (record c.args.self.now { connections = c.reserve.new.self }) in
+    let done = c.in_ok-call.field-0 in
+    let leads = c.in_ok-call.ensures.leads in
+    let fates : c.new.result ≡ fates_of done.fate = c.new.ensures ∙ c.with_fate.ensures ∙ ap fates_of c.into_parts-answer.ensures.fate in
+    subst AreFaultless (sym fates)
+    (stores-faultless slot.is_honest slot.is_steady slot.faults slot.moment slot.left_since slot.may_leave g.F.Folder.is_steady arrival.conn (brought_by arrival)
+    (plan_of arrival.request.call (asked arrival.conn (brought_by arrival) before)) (fates_of done.fate) before (disk_of c.args.self.now) (disk_of c.call.new.self) leads.fates leads.disk steady)
+
+pub returns-clause-steady : goal.returns-clause-steady
+returns-clause-steady g c =
+    let slot = g.F.Cell.Slot in
+    let arrival = c.args.arrival.now in
+    let before = rows_of (record c.args.self.now { connections = c.reserve.new.self }) in
+    let done = c.in_ok-call.field-0 in
+    let leads = c.in_ok-call.ensures.leads in
+    ap (is_steady g.F.Folder.is_steady slot.is_steady) c.reply.ensures.disk
+    ∙ stores-steady slot.is_honest slot.is_steady slot.faults slot.moment slot.left_since slot.may_leave g.F.Folder.is_steady arrival.conn (brought_by arrival)
+    (plan_of arrival.request.call (asked arrival.conn (brought_by arrival) before)) (fates_of done.fate) before (disk_of c.args.self.now) (disk_of c.call.new.self) leads.disk

@@ -9,21 +9,21 @@ use Rattle.service_machine.proofs.machine.Machine.lock.Goals as goal
 pub returns-then-not-is_small-clause-answer : goal.returns-then-not-is_small-clause-answer
 returns-then-not-is_small-clause-answer g c =
     let large : is_small (body.Locked c.new.result) ≡ false = search rules in
-    large-answer c.args.conn c.args.objects.now (rows_of c.args.self.now) c.new.result c.in_ok-paths.paths.items c.new.ensures c.in_ok-paths.ensures large
+    λ brought. large-answer c.args.conn brought c.args.objects.now (rows_of c.args.self.now) c.new.result c.in_ok-paths.paths.items c.new.ensures c.in_ok-paths.ensures large
 
 pub returns-then-not-is_small-clause-state : goal.returns-then-not-is_small-clause-state
 returns-then-not-is_small-clause-state g c =
     let large : is_small (body.Locked c.new.result) ≡ false = search rules in
-    large-state c.args.conn c.args.objects.now (rows_of c.args.self.now) c.new.result c.in_ok-paths.paths.items c.new.ensures c.in_ok-paths.ensures large
+    λ brought. large-state c.args.conn brought c.args.objects.now (rows_of c.args.self.now) c.new.result c.in_ok-paths.paths.items c.new.ensures c.in_ok-paths.ensures large
 
 -- the objects that are there are answered, and their collections are locked
 pub returns-clause-answer : goal.returns-clause-answer
 returns-clause-answer g c =
     let small : is_small (body.Locked c.new.result) ≡ true = search rules in
-    lock-answer c.args.conn c.args.objects.now (rows_of c.args.self.now) c.new.result c.in_ok-paths.paths.items c.new.ensures c.in_ok-paths.ensures small
+    λ brought. lock-answer c.args.conn brought c.args.objects.now (rows_of c.args.self.now) c.new.result c.in_ok-paths.paths.items c.new.ensures c.in_ok-paths.ensures small
 
 pub returns-clause-state : goal.returns-clause-state
 returns-clause-state g c =
     let small : is_small (body.Locked c.new.result) ≡ true = search rules in
-    lock-state c.args.conn c.args.objects.now (rows_of c.args.self.now) c.new.result c.in_ok-paths.paths.items c.new.ensures c.in_ok-paths.ensures
+    λ brought. lock-state c.args.conn brought c.args.objects.now (rows_of c.args.self.now) c.new.result c.in_ok-paths.paths.items c.new.ensures c.in_ok-paths.ensures
     (rows_of c.lock_all.new.self) c.deref.result.now c.in_ok-stems.stems.items small c.lock_all.ensures.rows c.deref.ensures.value c.in_ok-stems.ensures

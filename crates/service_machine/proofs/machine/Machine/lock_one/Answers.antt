@@ -1,11 +1,7 @@
-use Rattle.std.proofs.Common.{ap, ◌∙◌}
-use Rattle.service_tables.specs.Disk.{slots_of}
+use Rattle.std.proofs.Common.{ap}
 use Rattle.service_machine.specs.Rows.{disk_of}
-use Rattle.service_tables.proofs.CollectionLemmas.{slots-locked}
 use Rattle.service_machine.proofs.machine.Machine.lock_one.Goals as goal
 
 -- no slot changes
 pub returns-clause-disk : goal.returns-clause-disk
-returns-clause-disk g c =
-    ap (λ slots. record (disk_of c.args.self.now) { slots = slots })
-    (ap (λ table. slots_of table.entries) c.lock.ensures.closed ∙ slots-locked c.args.stem.now c.args.self.now.disk.collections.entries)
+returns-clause-disk g c = ap (λ slots. record (disk_of c.args.self.now) { slots = slots }) c.lock.ensures.slots

@@ -13,7 +13,7 @@ pub returns-in-Ok-clause-loaded : goal.returns-in-Ok-clause-loaded
 returns-in-Ok-clause-loaded g c = record {
   loaded = c.in-Ok.loaded;
   loads = c.in-Ok.ensures.loaded;
-  kept = rw c.in_ok-collections-in-Ok.ensures refl;
+  kept = rw (c.in_ok-collections-in-Ok.ensures, c.new.ensures.items) refl;
   starts = rw c.in_ok-collections-in-Ok.ensures refl;
   honest = c.load.ensures.honest;
   later = c.load.ensures.later;

@@ -2,7 +2,7 @@ use Rattle.std.proofs.Common.{◌≡◌, Some, OnOk, OnErr, IfErr, ap, ◌∙◌
 use Rattle.service_machine.specs.declared.event.Arrival.{Arrival}
 use Rattle.service_machine.specs.declared.event.Event.{Event}
 use Rattle.service_machine.specs.Fates.{with_fates, is_steady}
-use Rattle.service_history.specs.History.{StoresRequest}
+use Rattle.service_history.specs.History.{StoresOn, StoresRequest}
 use Rattle.service_desk.specs.Views.{View}
 use Rattle.service_desk.specs.Places.{Looks}
 use Rattle.service_desk.specs.Calls.{Arrives, IsRefusal}
@@ -25,9 +25,11 @@ end-requires-clause-ended g c =
     let stands : (start : Start) → old.start ≡ Some start → Stands service start.state old.before c.enter-kept.new.pass.seen = λ start at. (e.stands start at).history in
     let same : is_steady g.F.Folder.is_steady g.F.Cell.Slot.is_steady found ≡ steady =
     steady-found old c.enter-kept.new.pass e.between e.is c.pass.invariant (is_steady g.F.Folder.is_steady g.F.Cell.Slot.is_steady found) (λ start at. (e.stands start at).steady) in
-    let stores : OnOk result (StoresRequest steady service arrival new) = subst (λ b. OnOk result (StoresRequest b service arrival new)) same c.arrive-arrived.ensures.stores in
-    let event : Unit {0} → Event = λ _. with_fates arrival (fates_if steady service arrival new result stores) in
-    let recorded = stores-if steady service arrival new result stores in
+    let cell = g.F.Cell.Slot in
+    let stored : Event → Type 0 = StoresOn cell.is_honest cell.is_steady cell.faults cell.moment cell.left_since cell.may_leave c.enter-kept.result.service c.arrive-arrived.new.self in
+    let stores : OnOk result (StoresRequest steady stored service arrival new) = subst (λ b. OnOk result (StoresRequest b stored service arrival new)) same c.arrive-arrived.ensures.stores in
+    let event : Unit {0} → Event = λ _. with_fates arrival (fates_if steady stored service arrival new result stores) in
+    let recorded = stores-if steady stored service arrival new result stores in
     let went = went-if event service new result recorded c.arrive-arrived.ensures.unchanged c.arrive-arrived.ensures.history in
     end-some old c.enter-kept.new.pass e.between e.is c.pass.invariant service stands (event_if event result) new c.total-count.result went c.total-count.ensures.count
 
@@ -49,9 +51,11 @@ invariant_of-pass g c =
     let stands : (start : Start) → old.start ≡ Some start → Stands service start.state old.before c.enter-kept.new.pass.seen = λ start at. (e.stands start at).history in
     let same : is_steady g.F.Folder.is_steady g.F.Cell.Slot.is_steady found ≡ steady =
     steady-found old c.enter-kept.new.pass e.between e.is c.pass.invariant (is_steady g.F.Folder.is_steady g.F.Cell.Slot.is_steady found) (λ start at. (e.stands start at).steady) in
-    let stores : OnOk result (StoresRequest steady service arrival new) = subst (λ b. OnOk result (StoresRequest b service arrival new)) same c.arrive-arrived.ensures.stores in
-    let event : Unit {0} → Event = λ _. with_fates arrival (fates_if steady service arrival new result stores) in
-    let recorded = stores-if steady service arrival new result stores in
+    let cell = g.F.Cell.Slot in
+    let stored : Event → Type 0 = StoresOn cell.is_honest cell.is_steady cell.faults cell.moment cell.left_since cell.may_leave c.enter-kept.result.service c.arrive-arrived.new.self in
+    let stores : OnOk result (StoresRequest steady stored service arrival new) = subst (λ b. OnOk result (StoresRequest b stored service arrival new)) same c.arrive-arrived.ensures.stores in
+    let event : Unit {0} → Event = λ _. with_fates arrival (fates_if steady stored service arrival new result stores) in
+    let recorded = stores-if steady stored service arrival new result stores in
     let went = went-if event service new result recorded c.arrive-arrived.ensures.unchanged c.arrive-arrived.ensures.history in
     let end = done old c.enter-kept.new.pass e.between e.is c.pass.invariant service stands (event_if event result) new c.total-count.result c.end.new.inner (fits-if event service new result recorded) went
     c.total-count.ensures.count c.end.ensures.same c.end.ensures.recorded in
@@ -70,9 +74,11 @@ returns-clause-same g c =
     let stands : (start : Start) → old.start ≡ Some start → Stands service start.state old.before c.enter-kept.new.pass.seen = λ start at. (e.stands start at).history in
     let same : is_steady g.F.Folder.is_steady g.F.Cell.Slot.is_steady found ≡ steady =
     steady-found old c.enter-kept.new.pass e.between e.is c.pass.invariant (is_steady g.F.Folder.is_steady g.F.Cell.Slot.is_steady found) (λ start at. (e.stands start at).steady) in
-    let stores : OnOk result (StoresRequest steady service arrival new) = subst (λ b. OnOk result (StoresRequest b service arrival new)) same c.arrive-arrived.ensures.stores in
-    let event : Unit {0} → Event = λ _. with_fates arrival (fates_if steady service arrival new result stores) in
-    let recorded = stores-if steady service arrival new result stores in
+    let cell = g.F.Cell.Slot in
+    let stored : Event → Type 0 = StoresOn cell.is_honest cell.is_steady cell.faults cell.moment cell.left_since cell.may_leave c.enter-kept.result.service c.arrive-arrived.new.self in
+    let stores : OnOk result (StoresRequest steady stored service arrival new) = subst (λ b. OnOk result (StoresRequest b stored service arrival new)) same c.arrive-arrived.ensures.stores in
+    let event : Unit {0} → Event = λ _. with_fates arrival (fates_if steady stored service arrival new result stores) in
+    let recorded = stores-if steady stored service arrival new result stores in
     let went = went-if event service new result recorded c.arrive-arrived.ensures.unchanged c.arrive-arrived.ensures.history in
     let end = done old c.enter-kept.new.pass e.between e.is c.pass.invariant service stands (event_if event result) new c.total-count.result c.end.new.inner (fits-if event service new result recorded) went
     c.total-count.ensures.count c.end.ensures.same c.end.ensures.recorded in
@@ -91,9 +97,11 @@ returns-clause-steady g c =
     let stands : (start : Start) → old.start ≡ Some start → Stands service start.state old.before c.enter-kept.new.pass.seen = λ start at. (e.stands start at).history in
     let same : is_steady g.F.Folder.is_steady g.F.Cell.Slot.is_steady found ≡ steady =
     steady-found old c.enter-kept.new.pass e.between e.is c.pass.invariant (is_steady g.F.Folder.is_steady g.F.Cell.Slot.is_steady found) (λ start at. (e.stands start at).steady) in
-    let stores : OnOk result (StoresRequest steady service arrival new) = subst (λ b. OnOk result (StoresRequest b service arrival new)) same c.arrive-arrived.ensures.stores in
-    let event : Unit {0} → Event = λ _. with_fates arrival (fates_if steady service arrival new result stores) in
-    let recorded = stores-if steady service arrival new result stores in
+    let cell = g.F.Cell.Slot in
+    let stored : Event → Type 0 = StoresOn cell.is_honest cell.is_steady cell.faults cell.moment cell.left_since cell.may_leave c.enter-kept.result.service c.arrive-arrived.new.self in
+    let stores : OnOk result (StoresRequest steady stored service arrival new) = subst (λ b. OnOk result (StoresRequest b stored service arrival new)) same c.arrive-arrived.ensures.stores in
+    let event : Unit {0} → Event = λ _. with_fates arrival (fates_if steady stored service arrival new result stores) in
+    let recorded = stores-if steady stored service arrival new result stores in
     let went = went-if event service new result recorded c.arrive-arrived.ensures.unchanged c.arrive-arrived.ensures.history in
     let end = done old c.enter-kept.new.pass e.between e.is c.pass.invariant service stands (event_if event result) new c.total-count.result c.end.new.inner (fits-if event service new result recorded) went
     c.total-count.ensures.count c.end.ensures.same c.end.ensures.recorded in
@@ -112,16 +120,18 @@ returns-clause-recorded g c =
     let stands : (start : Start) → old.start ≡ Some start → Stands service start.state old.before c.enter-kept.new.pass.seen = λ start at. (e.stands start at).history in
     let same : is_steady g.F.Folder.is_steady g.F.Cell.Slot.is_steady found ≡ steady =
     steady-found old c.enter-kept.new.pass e.between e.is c.pass.invariant (is_steady g.F.Folder.is_steady g.F.Cell.Slot.is_steady found) (λ start at. (e.stands start at).steady) in
-    let stores : OnOk result (StoresRequest steady service arrival new) = subst (λ b. OnOk result (StoresRequest b service arrival new)) same c.arrive-arrived.ensures.stores in
-    let event : Unit {0} → Event = λ _. with_fates arrival (fates_if steady service arrival new result stores) in
-    let recorded = stores-if steady service arrival new result stores in
+    let cell = g.F.Cell.Slot in
+    let stored : Event → Type 0 = StoresOn cell.is_honest cell.is_steady cell.faults cell.moment cell.left_since cell.may_leave c.enter-kept.result.service c.arrive-arrived.new.self in
+    let stores : OnOk result (StoresRequest steady stored service arrival new) = subst (λ b. OnOk result (StoresRequest b stored service arrival new)) same c.arrive-arrived.ensures.stores in
+    let event : Unit {0} → Event = λ _. with_fates arrival (fates_if steady stored service arrival new result stores) in
+    let recorded = stores-if steady stored service arrival new result stores in
     let went = went-if event service new result recorded c.arrive-arrived.ensures.unchanged c.arrive-arrived.ensures.history in
     let end = done old c.enter-kept.new.pass e.between e.is c.pass.invariant service stands (event_if event result) new c.total-count.result c.end.new.inner (fits-if event service new result recorded) went
     c.total-count.ensures.count c.end.ensures.same c.end.ensures.recorded in
     let view : View = view_of old in
     let stood = stands-view old c.enter-kept.new.pass e.between e.is c.pass.invariant service stands in
     subst (λ (s : Seen). OnOk result (Arrives (spot c.args.conn s.steady s.view) (spot c.args.conn s.steady (view_of c.end.new.inner)) arrival)) c.pass.view_is
-    (arrives-if c.args.conn steady view (view_of c.end.new.inner) e.between service stood arrival new result stores c.arrive-arrived.ensures.not_spent end.2)
+    (arrives-if c.args.conn steady view (view_of c.end.new.inner) e.between service stood stored arrival new result stores c.arrive-arrived.ensures.not_spent end.2)
 
 pub returns-clause-looked : goal.returns-clause-looked
 returns-clause-looked g c =
@@ -136,9 +146,11 @@ returns-clause-looked g c =
     let stands : (start : Start) → old.start ≡ Some start → Stands service start.state old.before c.enter-kept.new.pass.seen = λ start at. (e.stands start at).history in
     let same : is_steady g.F.Folder.is_steady g.F.Cell.Slot.is_steady found ≡ steady =
     steady-found old c.enter-kept.new.pass e.between e.is c.pass.invariant (is_steady g.F.Folder.is_steady g.F.Cell.Slot.is_steady found) (λ start at. (e.stands start at).steady) in
-    let stores : OnOk result (StoresRequest steady service arrival new) = subst (λ b. OnOk result (StoresRequest b service arrival new)) same c.arrive-arrived.ensures.stores in
-    let event : Unit {0} → Event = λ _. with_fates arrival (fates_if steady service arrival new result stores) in
-    let recorded = stores-if steady service arrival new result stores in
+    let cell = g.F.Cell.Slot in
+    let stored : Event → Type 0 = StoresOn cell.is_honest cell.is_steady cell.faults cell.moment cell.left_since cell.may_leave c.enter-kept.result.service c.arrive-arrived.new.self in
+    let stores : OnOk result (StoresRequest steady stored service arrival new) = subst (λ b. OnOk result (StoresRequest b stored service arrival new)) same c.arrive-arrived.ensures.stores in
+    let event : Unit {0} → Event = λ _. with_fates arrival (fates_if steady stored service arrival new result stores) in
+    let recorded = stores-if steady stored service arrival new result stores in
     let went = went-if event service new result recorded c.arrive-arrived.ensures.unchanged c.arrive-arrived.ensures.history in
     let end = done old c.enter-kept.new.pass e.between e.is c.pass.invariant service stands (event_if event result) new c.total-count.result c.end.new.inner (fits-if event service new result recorded) went
     c.total-count.ensures.count c.end.ensures.same c.end.ensures.recorded in
@@ -160,9 +172,11 @@ returns-clause-cause g c =
     let stands : (start : Start) → old.start ≡ Some start → Stands service start.state old.before c.enter-kept.new.pass.seen = λ start at. (e.stands start at).history in
     let same : is_steady g.F.Folder.is_steady g.F.Cell.Slot.is_steady found ≡ steady =
     steady-found old c.enter-kept.new.pass e.between e.is c.pass.invariant (is_steady g.F.Folder.is_steady g.F.Cell.Slot.is_steady found) (λ start at. (e.stands start at).steady) in
-    let stores : OnOk result (StoresRequest steady service arrival new) = subst (λ b. OnOk result (StoresRequest b service arrival new)) same c.arrive-arrived.ensures.stores in
-    let event : Unit {0} → Event = λ _. with_fates arrival (fates_if steady service arrival new result stores) in
-    let recorded = stores-if steady service arrival new result stores in
+    let cell = g.F.Cell.Slot in
+    let stored : Event → Type 0 = StoresOn cell.is_honest cell.is_steady cell.faults cell.moment cell.left_since cell.may_leave c.enter-kept.result.service c.arrive-arrived.new.self in
+    let stores : OnOk result (StoresRequest steady stored service arrival new) = subst (λ b. OnOk result (StoresRequest b stored service arrival new)) same c.arrive-arrived.ensures.stores in
+    let event : Unit {0} → Event = λ _. with_fates arrival (fates_if steady stored service arrival new result stores) in
+    let recorded = stores-if steady stored service arrival new result stores in
     let went = went-if event service new result recorded c.arrive-arrived.ensures.unchanged c.arrive-arrived.ensures.history in
     let end = done old c.enter-kept.new.pass e.between e.is c.pass.invariant service stands (event_if event result) new c.total-count.result c.end.new.inner (fits-if event service new result recorded) went
     c.total-count.ensures.count c.end.ensures.same c.end.ensures.recorded in

@@ -1,0 +1,308 @@
+// Calls that store something: each edits a collection, or removes one, and is answered by how that ended.
+ghost use Rattle.std.specs.Prelude.{◌≡◌, ℕ, List, None, Some, IfOk, OnErr, Err};
+ghost use Rattle.kr_base.specs.declared.ids.ConnId.{ConnId};
+ghost use Rattle.service_tables.specs.Storing.{Add_item, Brought, Edit, change_of, storable_at};
+ghost use Rattle.service_machine.specs.CollectionCalls.{create_item, delete_collection, secret_stored, storing};
+ghost use Rattle.service_machine.specs.ItemCalls.{delete_item, set_secret};
+ghost use Rattle.service_machine.specs.Rows.{disk_of, rows_of};
+ghost use Rattle.service_machine.specs.Run.{asked};
+ghost use Rattle.service_machine.specs.Stored.{Leads, answer_by, body_of};
+
+use crate::Machine;
+use crate::answer::{Answer, is_small};
+use collection_store::Change;
+use kr_base::{Attributes, ConnId, ItemId, OutOfMemory, SessionId, Stem, Text};
+use kr_names::{ObjectName, path_of};
+use kr_outside::Folder;
+use secret_calls::{Body, ErrorName, Secret};
+use service_tables::{Fate, item_path};
+use std::alloc::Global;
+
+/// The most bytes that the content type of a secret may have.
+const MOST_CONTENT: usize = 1_024;
+
+/// What an edit returns.
+#[derive(Clone, Copy, Drop)]
+pub enum Returned {
+    /// The path of the item, and that no prompt is needed.
+    Item,
+    /// That no prompt is needed.
+    NoPrompt,
+    /// Nothing.
+    Nothing,
+}
+
+/// What a call led to: its answer, and how the storing ended that it asked for, if it did.
+#[derive(Drop)]
+pub struct Done {
+    /// The answer.
+    pub answer: Answer,
+    /// How the storing ended.
+    pub fate: Option<Fate>,
+}
+
+impl Done {
+    /// The answer, and how the storing ended.
+    pub fn into_parts(self) -> (Answer, Option<Fate>)
+        ensures answer { result.0 ≡ self.answer }
+        ensures fate { result.1 ≡ self.fate }
+    {
+        (self.answer, self.fate)
+    }
+}
+
+/// A call that asked for no storing.
+pub fn unstored(answer: Answer) -> Done
+    ensures { result ≡ record { answer = answer; fate = None } }
+{
+    Done { answer, fate: None }
+}
+
+/// A call that is refused before anything is stored.
+pub fn refused(name: ErrorName) -> Done
+    ensures { result ≡ record { answer = Err name; fate = None } }
+{
+    unstored(Err(name))
+}
+
+// A call that asked for a storing.
+fn ended(body: Body, fate: Fate) -> Done
+    ensures { result ≡ record { answer = answer_by body fate; fate = Some fate } }
+{
+    let answer = match fate {
+        Fate::Stored => Ok(body),
+        Fate::Before => Err(ErrorName::IOError),
+        Fate::Unsure => Err(ErrorName::IOError),
+    };
+    Done {
+        answer,
+        fate: Some(fate),
+    }
+}
+
+// The values that an edit returns.
+fn body_of(
+    alloc: Global,
+    returned: Returned,
+    stem: &Stem,
+    item: ItemId,
+) -> Result<Body, OutOfMemory>
+    ensures { IfOk result (λ body. body ≡ body_of returned stem.now item) }
+{
+    match returned {
+        Returned::Item => Ok(Body::Made(item_path(alloc, stem, item)?)),
+        Returned::NoPrompt => Ok(Body::Object(path_of(alloc, &ObjectName::Nothing)?)),
+        Returned::Nothing => Ok(Body::Empty),
+    }
+}
+
+impl<F: Folder> Machine<F> {
+    // Stores an edit of a collection: `change` is the edit with the value that the request brings.
+    fn store_edit(
+        &mut self,
+        stem: &Stem,
+        change: Change,
+        returned: Returned,
+        now: u64,
+    ) -> Result<Done, OutOfMemory>
+        ensures leads { IfOk result (λ done. (conn : ConnId) (edit : Edit) (value : List ℕ)
+            → change ≡ change_of value edit
+            → Leads F.Cell.is_honest F.Cell.is_steady F.Cell.faults F.Cell.moment
+            F.Cell.left_since F.Cell.may_leave conn (record { now = now; value = value })
+            (storing stem.now edit (body_of returned stem.now)
+            (storable_at stem.now change now (rows_of self.old).collections))
+            (rows_of self.old) (rows_of self.new) (disk_of self.old) (disk_of self.new) done) }
+        ensures room { self.new.connections ≡ self.old.connections }
+        ensures unchanged { OnErr result ((rows_of self.new ≡ rows_of self.old)
+            × (disk_of self.new ≡ disk_of self.old)) }
+    {
+        let Some(item) = self.disk.answer_to(stem, &change) else {
+            return Ok(refused(ErrorName::LimitsExceeded));
+        };
+        let body = body_of(self.alloc, returned, stem, item)?;
+        if !is_small(&body) {
+            return Ok(refused(ErrorName::LimitsExceeded));
+        }
+        let stored = self.disk.store(stem, change, now)?;
+        match stored {
+            Some(fate) => Ok(ended(body, fate)),
+            None => Ok(refused(ErrorName::LimitsExceeded)),
+        }
+    }
+
+    // Stores an edit that brings a secret with this content type, for a session of the caller.
+    fn store_secret(
+        &mut self,
+        conn: ConnId,
+        session: Option<SessionId>,
+        stem: &Stem,
+        content: &Text,
+        change: Change,
+        returned: Returned,
+        now: u64,
+    ) -> Result<Done, OutOfMemory>
+        ensures leads { IfOk result (λ done. (edit : Edit) (value : List ℕ)
+            → change ≡ change_of value edit
+            → Leads F.Cell.is_honest F.Cell.is_steady F.Cell.faults F.Cell.moment
+            F.Cell.left_since F.Cell.may_leave conn (record { now = now; value = value })
+            (secret_stored session stem.now content.now edit (body_of returned stem.now)
+            (asked conn (record { now = now; value = value }) (rows_of self.old)))
+            (rows_of self.old) (rows_of self.new) (disk_of self.old) (disk_of self.new) done) }
+        ensures room { self.new.connections ≡ self.old.connections }
+        ensures unchanged { OnErr result ((rows_of self.new ≡ rows_of self.old)
+            × (disk_of self.new ≡ disk_of self.old)) }
+    {
+        let Some(session) = session else {
+            return Ok(refused(ErrorName::NoSession));
+        };
+        if !self.sessions.owned_by(session, conn) {
+            return Ok(refused(ErrorName::NoSession));
+        }
+        if !self.disk.collections.is_open(stem) {
+            return Ok(refused(ErrorName::IsLocked));
+        }
+        if content.len() > MOST_CONTENT {
+            return Ok(refused(ErrorName::LimitsExceeded));
+        }
+        self.store_edit(stem, change, returned, now)
+    }
+
+    /// Performs the row of CreateItem. All memory is taken before the first call of the device.
+    pub(crate) fn create_item(
+        &mut self,
+        conn: ConnId,
+        collection: &ObjectName,
+        label: &Text,
+        attributes: &Attributes,
+        secret: &Secret,
+        replace: bool,
+        now: u64,
+    ) -> Result<Done, OutOfMemory>
+        ensures leads { IfOk result (Leads F.Cell.is_honest F.Cell.is_steady F.Cell.faults
+            F.Cell.moment F.Cell.left_since F.Cell.may_leave conn
+            (record { now = now; value = secret.now.value })
+            (create_item collection.now
+            (Add_item label.now attributes.now secret.now.content replace)
+            secret.now.session secret.now.content
+            (asked conn (record { now = now; value = secret.now.value }) (rows_of self.old)))
+            (rows_of self.old) (rows_of self.new) (disk_of self.old) (disk_of self.new)) }
+        ensures room { self.new.connections ≡ self.old.connections }
+        ensures unchanged { OnErr result ((rows_of self.new ≡ rows_of self.old)
+            × (disk_of self.new ≡ disk_of self.old)) }
+    {
+        let Some(stem) = self.disk.collection_named(collection) else {
+            return Ok(refused(ErrorName::NoSuchObject));
+        };
+        let stem = stem.copy()?;
+        let change = Change::Add {
+            label: label.copy()?,
+            attributes: attributes.copy()?,
+            value: secret.value.copy()?,
+            content: secret.content.copy()?,
+            replace,
+        };
+        self.store_secret(
+            conn,
+            secret.session,
+            &stem,
+            &secret.content,
+            change,
+            Returned::Item,
+            now,
+        )
+    }
+
+    /// Performs the row of Delete of a collection. All memory is taken before the first call of the device.
+    pub(crate) fn delete_collection(
+        &mut self,
+        conn: ConnId,
+        collection: &ObjectName,
+    ) -> Result<Done, OutOfMemory>
+        ensures leads { IfOk result (λ done. (brought : Brought)
+            → Leads F.Cell.is_honest F.Cell.is_steady F.Cell.faults F.Cell.moment
+            F.Cell.left_since F.Cell.may_leave conn brought
+            (delete_collection collection.now (asked conn brought (rows_of self.old)))
+            (rows_of self.old) (rows_of self.new) (disk_of self.old) (disk_of self.new) done) }
+        ensures room { self.new.connections ≡ self.old.connections }
+        ensures unchanged { OnErr result ((rows_of self.new ≡ rows_of self.old)
+            × (disk_of self.new ≡ disk_of self.old)) }
+    {
+        let _ = conn;
+        let Some(stem) = self.disk.collection_named(collection) else {
+            return Ok(refused(ErrorName::NoSuchObject));
+        };
+        let stem = stem.copy()?;
+        if !self.disk.collections.is_open(&stem) {
+            return Ok(refused(ErrorName::IsLocked));
+        }
+        let body = Body::Object(path_of(self.alloc, &ObjectName::Nothing)?);
+        self.disk.reserve_spare()?;
+        Ok(ended(body, self.disk.erase(stem)))
+    }
+
+    /// Performs the row of Delete of an item. All memory is taken before the first call of the device.
+    pub(crate) fn delete_item(
+        &mut self,
+        conn: ConnId,
+        stem: &Stem,
+        item: ItemId,
+        now: u64,
+    ) -> Result<Done, OutOfMemory>
+        ensures leads { IfOk result (λ done. (value : List ℕ)
+            → Leads F.Cell.is_honest F.Cell.is_steady F.Cell.faults F.Cell.moment
+            F.Cell.left_since F.Cell.may_leave conn (record { now = now; value = value })
+            (delete_item stem.now item
+            (asked conn (record { now = now; value = value }) (rows_of self.old)))
+            (rows_of self.old) (rows_of self.new) (disk_of self.old) (disk_of self.new) done) }
+        ensures room { self.new.connections ≡ self.old.connections }
+        ensures unchanged { OnErr result ((rows_of self.new ≡ rows_of self.old)
+            × (disk_of self.new ≡ disk_of self.old)) }
+    {
+        let _ = conn;
+        if !self.disk.collections.has_item(stem, item) {
+            return Ok(refused(ErrorName::NoSuchObject));
+        }
+        if !self.disk.collections.is_open(stem) {
+            return Ok(refused(ErrorName::IsLocked));
+        }
+        self.store_edit(stem, Change::Remove { id: item }, Returned::NoPrompt, now)
+    }
+
+    /// Performs the row of SetSecret. All memory is taken before the first call of the device.
+    pub(crate) fn set_secret(
+        &mut self,
+        conn: ConnId,
+        stem: &Stem,
+        item: ItemId,
+        secret: &Secret,
+        now: u64,
+    ) -> Result<Done, OutOfMemory>
+        ensures leads { IfOk result (Leads F.Cell.is_honest F.Cell.is_steady F.Cell.faults
+            F.Cell.moment F.Cell.left_since F.Cell.may_leave conn
+            (record { now = now; value = secret.now.value })
+            (set_secret stem.now item secret.now.session secret.now.content
+            (asked conn (record { now = now; value = secret.now.value }) (rows_of self.old)))
+            (rows_of self.old) (rows_of self.new) (disk_of self.old) (disk_of self.new)) }
+        ensures room { self.new.connections ≡ self.old.connections }
+        ensures unchanged { OnErr result ((rows_of self.new ≡ rows_of self.old)
+            × (disk_of self.new ≡ disk_of self.old)) }
+    {
+        if !self.disk.collections.has_item(stem, item) {
+            return Ok(refused(ErrorName::NoSuchObject));
+        }
+        let change = Change::SetSecret {
+            id: item,
+            value: secret.value.copy()?,
+            content: secret.content.copy()?,
+        };
+        self.store_secret(
+            conn,
+            secret.session,
+            stem,
+            &secret.content,
+            change,
+            Returned::Nothing,
+            now,
+        )
+    }
+}

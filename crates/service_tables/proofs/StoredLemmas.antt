@@ -1,0 +1,302 @@
+-- What a change that is stored leaves of sound collections: they are sound, whether or not the file was replaced or removed.
+use Rattle.std.proofs.Common.{◌≡◌, ℕ, ◌+◌, ◌^◌, ◌<◌, nat_eq, nat_le, nat_lt, Bool, true, false, cond, IfSome, List, [], ◌∷◌, ◌++◌, length, map, Option, Some, None, Result, Ok, Err, refl, sym, ap, subst, arith, inl, inr}
+use Rattle.std.specs.List.{AllByRecursion, zip}
+use Rattle.std.specs.Option.{option_and_then, option_map_or}
+use Rattle.std.proofs.lemmas.Bool.{eqb-true, or_cases}
+use Rattle.std.proofs.lemmas.Bool.Decides.{nat_tests}
+use Rattle.std.proofs.lemmas.Option.{none-some}
+use Rattle.kr_base.specs.Attributes.{is_name, value_at}
+use Rattle.kr_base.specs.declared.attributes.AttrValue.{AttrValue}
+use Rattle.kr_base.specs.declared.ids.ItemId.{ItemId}
+use Rattle.kr_names.specs.declared.object_name.ObjectName.TheVariants as name
+use Rattle.kr_names.specs.Path.{IsName}
+use Rattle.keyring_file.specs.Clear.{ClearPart}
+use Rattle.keyring_file.specs.Known.{IsKnownClearItem}
+use Rattle.keyring_seal.specs.Arranged.{Row, row_number, rows}
+use Rattle.keyring_seal.specs.Whole.{sealed}
+use Rattle.keyring_seal.specs.declared.content.Content.{Content}
+use Rattle.item_store.specs.declared.rows.Row.{Row as Kept}
+use Rattle.item_store.specs.Rows.{first_id, greatest_id, has_just, ids_where, last_id, most_attributes, next_id}
+use Rattle.item_store.specs.declared.fault.ItemFault.{ItemFault}
+use Rattle.item_store.specs.declared.fault.ItemFault.TheVariants as item_fault
+use Rattle.collection_store.specs.Changes.{as_content, at_item, content_changed, content_stored, equal_id, has_row, made_added, made_new, name_made, new_row, replaced, rows_changed, rows_made, rows_without, store_rows, with_secret, within_most}
+use Rattle.collection_store.specs.Outcomes.{most_for}
+use Rattle.collection_store.specs.State.{Held}
+use Rattle.collection_store.specs.Storable.{sized, storable}
+use Rattle.collection_store.specs.declared.change.Changed.{Changed}
+use Rattle.collection_store.specs.declared.change.Changed.TheVariants as changes
+use Rattle.collection_store.specs.declared.refused.ChangeRefused.TheVariants as refused
+use Rattle.collection_table.specs.Entries.{changed}
+use Rattle.collection_table.specs.Rows.{CollectionRow, Rows, perhaps_removed, room_in}
+use Rattle.collection_table.proofs.EntryLemmas.{changed_in_order, order_kept}
+use Rattle.service_tables.specs.declared.fate.Fate.{Fate}
+use Rattle.service_tables.specs.declared.fate.Fate.TheVariants as fate
+use Rattle.service_tables.specs.Sound.{AreItemTypes, AreSecretTypes, AreShown, AreSoundCollections, AreSoundItems, IsSoundCollection, IsSoundItem}
+use Rattle.service_tables.specs.Storing.{AreEditTypes, Edit, Add_item, Set_secret, Remove_item, change_of, has_place, item_in, placed, placed_answer, row_after, row_changed, rows_erased, rows_stored, storable_at}
+use Rattle.service_tables.proofs.CollectionLemmas.{at-stem}
+use Rattle.service_tables.proofs.EachLemmas.{each-append, each-filter, each-mapped, each-weaker}
+use Rattle.service_tables.proofs.TypedLemmas.{pairs-known, text-known}
+
+-- ---- rows of items
+
+abbrev AreSound : List Row → Type 0
+AreSound these = AllByRecursion IsSoundItem these
+
+-- one row is changed into another sound one
+changed-sound : (id : ℕ) (f : Row → Row) → ((row : Row) → IsSoundItem row → IsSoundItem (f row)) → (these : List Row) → AreSound these → AreSound (rows_changed id f these)
+changed-sound id f keeps [] all = tt
+changed-sound id f keeps (row ∷ these) all =
+    let pass : (b : Bool) → IsSoundItem (cond b (f row) row) = elim [ true ↦ keeps row all.0 | false ↦ all.0 ] in
+    (pass (nat_eq (row_number row) id), changed-sound id f keeps these all.1)
+
+-- the last id has its type
+last-small : (these : List Row) → AreSound these → last_id (store_rows these) < 2 ^ 32
+last-small [] all = omega arith
+last-small (row ∷ []) all = all.0.clear.id
+last-small (row ∷ next ∷ more) all = last-small (next ∷ more) all.1
+
+next-small : (these : List Row) (id : ℕ) → AreSound these → next_id (store_rows these) ≡ Some id → id < 2 ^ 32
+next-small these id all is =
+    let last = last_id (store_rows these) in
+    let small : last < 2 ^ 32 = last-small these all in
+    let pass : (b : Bool) → nat_eq last greatest_id ≡ b → cond b None (Some (last + 1)) ≡ Some id → id < 2 ^ 32 =
+    elim [
+      | true ↦ λ at has. absurd (none-some id has)
+      | false ↦ λ at has. let same : last + 1 ≡ id = cc in let off : last ≡ 4294967295 → ⊥ = grind (arith, nat_tests, at) in omega (arith, small, same, off)
+    ] in
+    pass (nat_eq last greatest_id) refl is
+
+-- the first item that passes has its type
+first-small : (p : Kept → Bool) (these : List Row) (id : ℕ) → AreSound these → first_id (ids_where p (store_rows these)) ≡ Some id → id < 2 ^ 32
+first-small p [] id all is = absurd (none-some id is)
+first-small p (row ∷ these) id all is =
+    let kept : Kept = record { kind = row.0.kind; item = row.1 } in
+    let pass : (b : Bool) → p kept ≡ b → id < 2 ^ 32 =
+    elim [
+      | true ↦ λ at. let here : Some (row_number row) ≡ Some id = rw at at is in let same : row_number row ≡ id = cc in subst (λ n. n < 2 ^ 32) same all.0.clear.id
+      | false ↦ λ at. first-small p these id all.1 (rw at at is)
+    ] in
+    pass (p kept) refl
+
+equal-small : (replace : Bool) (attributes : List (List ℕ × AttrValue)) (these : List Row) (id : ℕ) → AreSound these → equal_id replace attributes these ≡ Some id → id < 2 ^ 32
+equal-small true attributes these id all is = first-small (has_just attributes) these id all is
+equal-small false attributes these id all is = absurd (none-some id is)
+
+has-small : (id : ℕ) (these : List Row) → AreSound these → has_row id these ≡ true → id < 2 ^ 32
+has-small id [] all there = absurd (let no : false ≡ true = there in cc)
+has-small id (row ∷ these) all there =
+    elim (or_cases (nat_eq (row_number row) id) (has_row id these) there) [
+      | inl here ↦ subst (λ n. n < 2 ^ 32) (eqb-true (row_number row) id here) all.0.clear.id
+      | inr later ↦ has-small id these all.1 later
+    ]
+
+-- an item of an answer has its type
+abbrev IsSmall : ItemId → Type 0
+IsSmall item = item.0 < 2 ^ 32
+
+-- the rows that a change makes and the item that it answers, if it can be made
+abbrev MadeSound : Result (List Row × Changed) ItemFault → Type 0
+MadeSound (Ok made) = AreSound made.0 × IfSome (item_in made.1) IsSmall
+MadeSound (Err fault) = Unit {0}
+
+within-sound : (attributes : List (List ℕ × AttrValue)) (made : List Row × Changed) → MadeSound (Ok made) → MadeSound (within_most attributes made)
+within-sound attributes made all =
+    let pass : (b : Bool) → MadeSound (cond b (Err item_fault.TooManyAttributes) (Ok made)) = elim [ true ↦ tt | false ↦ all ] in
+    pass (nat_lt most_attributes (length attributes))
+
+at-sound : (id : ℕ) (these : List Row) (made : List Row × Changed) → (has_row id these ≡ true → MadeSound (Ok made)) → MadeSound (at_item id these (Ok made))
+at-sound id these made all =
+    let pass : (b : Bool) → has_row id these ≡ b → MadeSound (cond b (Ok made) (Err item_fault.NoItem)) = elim [ true ↦ λ is. all is | false ↦ λ is. tt ] in
+    pass (has_row id these) refl
+
+module _ (now : ℕ) (small : now < 2 ^ 64) where
+  new-sound : (id : ℕ) (label : List ℕ) (attributes : List (List ℕ × AttrValue)) (value content : List ℕ) → id < 2 ^ 32 → AreItemTypes label attributes → AreSecretTypes value content
+      → IsSoundItem (new_row id now label attributes value content)
+  new-sound id label attributes value content is item secret = record {
+    clear = record { id = is; kind = omega arith; content = text-known content secret.content };
+    full = record {
+      label = text-known label item.label;
+      value = secret.value;
+      created = small;
+      modified = small;
+      ordered = item.ordered;
+      attributes = pairs-known attributes item.attributes;
+      access = tt;
+    };
+  }
+
+  replaced-sound : (label : List ℕ) (attributes : List (List ℕ × AttrValue)) (value content : List ℕ) → AreItemTypes label attributes → AreSecretTypes value content → (row : Row) → IsSoundItem row
+      → IsSoundItem (replaced now label value content row)
+  replaced-sound label attributes value content item secret row sound = record {
+    clear = record { id = sound.clear.id; kind = sound.clear.kind; content = text-known content secret.content };
+    full = record {
+      label = text-known label item.label;
+      value = secret.value;
+      created = sound.full.created;
+      modified = small;
+      ordered = sound.full.ordered;
+      attributes = sound.full.attributes;
+      access = sound.full.access;
+    };
+  }
+
+  secret-sound : (value content : List ℕ) → AreSecretTypes value content → (row : Row) → IsSoundItem row → IsSoundItem (with_secret now value content row)
+  secret-sound value content secret row sound = record {
+    clear = record { id = sound.clear.id; kind = sound.clear.kind; content = text-known content secret.content };
+    full = record {
+      label = sound.full.label;
+      value = secret.value;
+      created = sound.full.created;
+      modified = small;
+      ordered = sound.full.ordered;
+      attributes = sound.full.attributes;
+      access = sound.full.access;
+    };
+  }
+
+  made-sound : (id : Option ℕ) (label : List ℕ) (attributes : List (List ℕ × AttrValue)) (value content : List ℕ) (these : List Row) → ((n : ℕ) → id ≡ Some n → n < 2 ^ 32)
+      → AreItemTypes label attributes → AreSecretTypes value content → AreSound these → MadeSound (made_new id now label attributes value content these)
+  made-sound None label attributes value content these is item secret all = tt
+  made-sound (Some id) label attributes value content these is item secret all =
+      within-sound attributes (these ++ new_row id now label attributes value content ∷ [], changes.Made (record { 0 = id }))
+      (each-append IsSoundItem these (new_row id now label attributes value content ∷ []) all (new-sound id label attributes value content (is id refl) item secret, tt), is id refl)
+
+  added-sound : (id : Option ℕ) (label : List ℕ) (attributes : List (List ℕ × AttrValue)) (value content : List ℕ) (these : List Row) → ((n : ℕ) → id ≡ Some n → n < 2 ^ 32)
+      → AreItemTypes label attributes → AreSecretTypes value content → AreSound these → MadeSound (made_added id now label attributes value content these)
+  added-sound None label attributes value content these is item secret all =
+      made-sound (next_id (store_rows these)) label attributes value content these (λ n. next-small these n all) item secret all
+  added-sound (Some id) label attributes value content these is item secret all =
+      within-sound attributes (rows_changed id (replaced now label value content) these, changes.Changed (record { 0 = id }))
+      (changed-sound id (replaced now label value content) (replaced-sound label attributes value content item secret) these all, is id refl)
+
+  rows-sound : (edit : Edit) (value : List ℕ) (these : List Row) → AreEditTypes value edit → AreSound these → MadeSound (rows_made (change_of value edit) now these)
+  rows-sound (Add_item label attributes content replace) value these types all =
+      added-sound (equal_id replace attributes these) label attributes value content these (λ n. equal-small replace attributes these n all) types.0 types.1 all
+  rows-sound (Set_secret item content) value these types all =
+      at-sound item.0 these (rows_changed item.0 (with_secret now value content) these, changes.Changed item)
+      (λ there. (changed-sound item.0 (with_secret now value content) (secret-sound value content types) these all, has-small item.0 these all there))
+  rows-sound (Remove_item item) value these types all =
+      at-sound item.0 these (rows_without item.0 these, changes.Removed item) (λ there. (each-filter IsSoundItem _ these all, has-small item.0 these all there))
+
+-- ---- the content that is stored
+
+zip-rows : (these : List Row) → zip (map (λ (row : Row). row.0) these) (map (λ (row : Row). row.1) these) ≡ these
+zip-rows [] = refl
+zip-rows (row ∷ these) = ap (λ more. row ∷ more) (zip-rows these)
+
+-- the items of a content are sound
+record IsSoundContent (content : Content) : Type 0 where
+  shown : AreShown content.clear
+  held : AreSound (rows content)
+
+stored-sound : (now : ℕ) (front : ClearPart) (these : List Row) → AreSound these → IsSoundContent (content_stored now front these)
+stored-sound now front these all = record {
+  shown = each-mapped (λ (row : Row). row.0) IsKnownClearItem these (each-weaker IsSoundItem _ (λ row sound. sound.clear) these all);
+  held = subst AreSound (sym (zip-rows these)) all;
+}
+
+abbrev ContentSound : Result (Content × Changed) ItemFault → Type 0
+ContentSound (Ok made) = IsSoundContent made.0 × IfSome (item_in made.1) IsSmall
+ContentSound (Err fault) = Unit {0}
+
+as-sound : (now : ℕ) (front : ClearPart) (made : Result (List Row × Changed) ItemFault) → MadeSound made → ContentSound (as_content now front made)
+as-sound now front (Ok made) all = (stored-sound now front made.0 all.0, all.1)
+as-sound now front (Err fault) all = tt
+
+-- ---- collections
+
+module _ (now : ℕ) (small : now < 2 ^ 64) (edit : Edit) (value : List ℕ) (types : AreEditTypes value edit) where
+  -- what the edit makes of the rows of a sound collection
+  content-sound : (row : CollectionRow) (held : Held) → AreSound held.rows → ContentSound (content_changed (change_of value edit) now row.clear held.rows)
+  content-sound row held all =
+      as-sound now (record row.clear { name = name_made (change_of value edit) row.clear.name }) (rows_made (change_of value edit) now held.rows) (rows-sound now small edit value held.rows types all)
+
+  after-sound : (stem : List ℕ) (row : CollectionRow) (held : Held) (some : Fate) (made : Result (Content × Changed) ItemFault) → IsSoundCollection (stem, row) → ContentSound made
+      → IsSoundCollection (stem, row_after some held row made)
+  after-sound stem row held fate.Stored (Ok made) sound content = record { stem = sound.stem; shown = content.0.shown; other = tt; held = content.0.held }
+  after-sound stem row held fate.Unsure (Ok made) sound content = record { stem = sound.stem; shown = sound.shown; other = content.0.shown; held = tt }
+  after-sound stem row held fate.Before (Ok made) sound content = sound
+  after-sound stem row held fate.Stored (Err fault) sound content = sound
+  after-sound stem row held fate.Unsure (Err fault) sound content = sound
+  after-sound stem row held fate.Before (Err fault) sound content = sound
+
+  row-sound : (stem : List ℕ) (some : Fate) (row : CollectionRow) → IsSoundCollection (stem, row) → IsSoundCollection (stem, row_changed (change_of value edit) now some row)
+  row-sound stem some row sound =
+      let becomes : Option Held → CollectionRow =
+      λ o. option_map_or (λ (held : Held). row_after some held row (content_changed (change_of value edit) now row.clear held.rows)) o row in
+      let pass : (o : Option Held) → row.held ≡ o → IsSoundCollection (stem, becomes row.held) =
+      elim [
+        | None ↦ λ is. subst (λ (r : CollectionRow). IsSoundCollection (stem, r)) (sym (ap becomes is)) sound
+        | Some held ↦ λ is.
+            let all : AreSound held.rows = subst (λ o. IfSome o AreSoundItems) is sound.held in
+            subst (λ (r : CollectionRow). IsSoundCollection (stem, r)) (sym (ap becomes is))
+            (after-sound stem row held some (content_changed (change_of value edit) now row.clear held.rows) sound (content-sound row held all))
+      ] in
+      pass row.held refl
+
+  each-stored : (stem : List ℕ) (some : Fate) (these : Rows) → AllByRecursion IsSoundCollection these → AllByRecursion IsSoundCollection (rows_stored stem (change_of value edit) now some these)
+  each-stored stem some [] all = tt
+  each-stored stem some (row ∷ these) all =
+      let f = row_changed (change_of value edit) now some in
+      let pass : (b : Bool) → IsSoundCollection (cond b (row.0, f row.1) row) = elim [ true ↦ row-sound row.0 some row.1 all.0 | false ↦ all.0 ] in
+      (pass (is_name stem row.0), each-stored stem some these all.1)
+
+  -- an edit of a collection, however its storing ended
+  pub sound-stored : (stem : List ℕ) (some : Fate) (these : Rows) → AreSoundCollections these → AreSoundCollections (rows_stored stem (change_of value edit) now some these)
+  sound-stored stem some these sound = record {
+    ordered = changed_in_order stem (row_changed (change_of value edit) now some) these sound.ordered;
+    each = each-stored stem some these sound.each;
+  }
+
+  -- ---- the item of an edit that can be stored
+
+  placed-small : (these : Rows) (answer : Changed) (item : ItemId) → IfSome (item_in answer) IsSmall → placed_answer answer these ≡ Some item → IsSmall item
+  placed-small these answer item small is =
+      let pass : (b : Bool) → cond b (item_in answer) None ≡ Some item → IsSmall item =
+      elim [
+        | true ↦ λ has. subst (λ o. IfSome o IsSmall) has small
+        | false ↦ λ has. absurd (none-some item has)
+      ] in
+      pass (has_place answer these) is
+
+  sized-small : (these : Rows) (most : ℕ) (held : Held) (made : Result (Content × Changed) ItemFault) (item : ItemId) → ContentSound made → placed these (sized most held made) ≡ Some item → IsSmall item
+  sized-small these most held (Ok made) item sound is =
+      let pass : (b : Bool) → placed these (cond b (Ok made.1) (Err refused.TooLarge)) ≡ Some item → IsSmall item =
+      elim [
+        | true ↦ λ has. placed-small these made.1 item sound.1 has
+        | false ↦ λ has. absurd (none-some item has)
+      ] in
+      pass (nat_le (length (sealed made.0 held.key held.vector)) most) is
+  sized-small these most held (Err fault) item sound is = absurd (none-some item is)
+
+  pub storable-named : (stem : List ℕ) (these : Rows) (item : ItemId) → AreSoundCollections these → storable_at stem (change_of value edit) now these ≡ Some item → IsName (name.Item stem item)
+  storable-named stem these item sound is =
+      let given = change_of value edit in
+      let in_row : CollectionRow → Option ItemId =
+      λ row. option_and_then (λ (held : Held). placed these (storable given now (room_in these) row.file row.clear held)) row.held in
+      let pass : (o : Option CollectionRow) → value_at stem these ≡ o → option_and_then in_row o ≡ Some item → IsName (name.Item stem item) =
+      elim [
+        | None ↦ λ at has. absurd (none-some item has)
+        | Some row ↦ λ at has.
+            let here = at-stem IsSoundCollection stem row these sound.each at in
+            let inner : (h : Option Held) → IfSome h AreSoundItems → option_and_then (λ (held : Held). placed these (storable given now (room_in these) row.file row.clear held)) h ≡ Some item → IsSmall item =
+            elim [
+              | None ↦ λ all got. absurd (none-some item got)
+              | Some held ↦ λ all got. sized-small these (most_for (room_in these) row.file) held (content_changed given now row.clear held.rows) item (content-sound row held all) got
+            ] in
+            (here.stem, inner row.held here.held has)
+      ] in
+      pass (value_at stem these) refl is
+
+each-faded : (stem : List ℕ) (these : Rows) → AllByRecursion IsSoundCollection these → AllByRecursion IsSoundCollection (changed stem perhaps_removed these)
+each-faded stem [] all = tt
+each-faded stem (row ∷ these) all =
+    let pass : (b : Bool) → IsSoundCollection (cond b (row.0, perhaps_removed row.1) row) =
+    elim [ true ↦ record { stem = all.0.stem; shown = all.0.shown; other = tt; held = tt } | false ↦ all.0 ] in
+    (pass (is_name stem row.0), each-faded stem these all.1)
+
+-- the removal of a file, however it ended
+pub sound-erased : (stem : List ℕ) (some : Fate) (these : Rows) → AreSoundCollections these → AreSoundCollections (rows_erased stem some these)
+sound-erased stem fate.Stored these sound = record { ordered = order_kept _ these sound.ordered; each = each-filter IsSoundCollection _ these sound.each }
+sound-erased stem fate.Before these sound = sound
+sound-erased stem fate.Unsure these sound = record { ordered = changed_in_order stem perhaps_removed these sound.ordered; each = each-faded stem these sound.each }
