@@ -3,9 +3,9 @@
 //! machine owns the folder of the service and what was loaded from it when it opened. Callers may rely
 //! on these: an event that is answered is the incoming one, fits the rows before it, and gives the
 //! step's rows and output; an event that is refused changes nothing, and each refusal has its cause;
-//! leaving, taking and going take no memory; no event touches the folder or a slot that was made of it.
-//! The time of an event grows with what it changes and puts out, and with the logarithm of the number
-//! of connections and sessions.
+//! leaving, taking and going take no memory; a request touches only the slots of the files that its row
+//! stores or removes, and any other event none. The time of an event grows with what it changes and puts
+//! out, and with the logarithm of the number of connections and sessions.
 #![tactic(auto)]
 
 mod answer;
@@ -19,6 +19,9 @@ mod session;
 mod storing;
 
 pub use event::{ApplyRefused, Arrival, Arrived, Event, Incoming, JoinRefused, Output, Recorded};
-pub use laws::{lists_of_events_go_on, outputs_can_wait, steps_keep_the_rows_sound};
+pub use laws::{
+    alike_requests_lead_to_one_state, lists_of_events_go_on, outputs_can_wait,
+    steps_keep_the_rows_sound,
+};
 pub use machine::Machine;
 pub use service_tables::{ConnRow, ConnRows, DeskRow, Disk, Fate, OpenRefused, Rows};
