@@ -1,7 +1,6 @@
 -- The aliases with their file, and what a change does to both (docs/SERVICE.md, "Aliases").
 use Rattle.std.specs.Prelude.{◌≡◌, ℕ, ◌<◌, ◌≤◌, ◌⊎◌, List, length, Option, None, Some, Result, Ok, Err, IsSome, IsErrOf, option_map}
 use Rattle.std.specs.Option.{unwrap_or}
-use Rattle.kr_outside.specs.Faults.{Rose}
 use Rattle.kr_outside.specs.declared.slot.Seen.{Seen}
 use Rattle.alias_text.specs.Pairs.{GivesAliases}
 use Rattle.alias_text.specs.Writing.{text_of}
@@ -102,8 +101,3 @@ pub data Sets (IsRead : Found → Type 0) (change : Change) (rows : AliasRows) :
 -- the answer is a fault of the device
 abbrev pub IsFault : Result (Unit {0}) AliasRefused → Type 0
 IsFault result = IsErrOf result FaultRead ⊎ IsErrOf result FaultBefore ⊎ IsErrOf result FaultUnsure
-
--- the count never falls, and a fault is answered only where it rose
-pub record HasSetCause (old new : ℕ) (result : Result (Unit {0}) AliasRefused) : Type 0 where
-  pub later : old ≤ new
-  pub failed : IsFault result → Rose old new

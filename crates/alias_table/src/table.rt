@@ -3,14 +3,14 @@ ghost use Rattle.std.specs.Option.{option_copied};
 ghost use Rattle.kr_base.specs.Attributes.{value_at};
 ghost use Rattle.kr_base.specs.Stem.{IsStem};
 ghost use Rattle.kr_names.specs.Path.{IsAliasName};
-ghost use Rattle.kr_outside.specs.Faults.{HasCause, KeepsSteady};
 ghost use Rattle.kr_outside.specs.Moments.{LeavesOnly};
+ghost use Rattle.kr_outside.specs.Slot.{KeepsNature};
 ghost use Rattle.alias_text.specs.Pairs.{GivesAliases};
 ghost use Rattle.alias_text.specs.Writing.{AreAliases};
 ghost use Rattle.replace_slot.specs.Cell.{IsKnown, IsKnownImage, IsOneOf, LeavesFile, FailedBefore, FailedAfter, FailedRead, longest_of, new_image};
 ghost use Rattle.replace_slot.specs.Found.{IsFoundBy, IsFoundOf};
 ghost use Rattle.alias_table.specs.Changed.{changed, few};
-ghost use Rattle.alias_table.specs.Table.{IsFor, IsPrepared, Stores, Sets, WasRead, HasSetCause, chosen, resolved};
+ghost use Rattle.alias_table.specs.Table.{IsFor, IsPrepared, Stores, Sets, WasRead, IsFault, chosen, resolved};
 
 use crate::change::{AliasChange, Next};
 use crate::next::{changed_aliases, stem_at};
@@ -163,11 +163,9 @@ impl<S: Slot> AliasTable<S> {
             (IsOneOf self.old.rows.file) }
 
         // A fault has its cause, which is one of the two calls.
-        ensures cause { HasCause (S.faults self.old.slot) (S.faults self.new.slot) result }
+        ensures kept { KeepsNature S.is_honest S.is_steady S.faults (IsErr result)
+            self.old.slot self.new.slot }
         ensures read_call { IsErr result → FailedRead (S.failed self.new.slot) }
-        ensures honest { S.is_honest self.new.slot ≡ S.is_honest self.old.slot }
-        ensures steady { KeepsSteady (S.is_steady self.old.slot) (S.is_steady self.new.slot)
-            (S.faults self.old.slot) (S.faults self.new.slot) }
     {
         let (next, newer, mut buffer) = change.into_parts();
         let found = self.cell.resolve(&mut buffer)?;
@@ -195,15 +193,13 @@ impl<S: Slot> AliasTable<S> {
             → LeavesOnly S.moment S.left_since self.old.slot self.new.slot
             (λ left. IsOneOf self.old.rows.file left ⊎ IsOneOf self.new.rows.file left) }
 
-        ensures cause { HasSetCause (S.faults self.old.slot) (S.faults self.new.slot) result }
+        ensures kept { KeepsNature S.is_honest S.is_steady S.faults (IsFault result)
+            self.old.slot self.new.slot }
         ensures before_call { IsErrOf result AliasRefused.FaultBefore
             → FailedBefore (S.failed self.new.slot) }
         ensures unsure_call { IsErrOf result AliasRefused.FaultUnsure
             → FailedAfter DeviceCall.Rename (IsTrue (S.is_honest self.old.slot)
             → S.seen self.new.slot ≡ new_image self.new.rows.file) (S.failed self.new.slot) }
-        ensures honest { S.is_honest self.new.slot ≡ S.is_honest self.old.slot }
-        ensures steady { KeepsSteady (S.is_steady self.old.slot) (S.is_steady self.new.slot)
-            (S.faults self.old.slot) (S.faults self.new.slot) }
     {
         let (next, _, _) = change.into_parts();
         let Some(next) = next else {
@@ -253,7 +249,8 @@ impl<S: Slot> AliasTable<S> {
             (λ left. IsOneOf self.old.rows.file left ⊎ IsOneOf self.new.rows.file left) }
 
         // Each fault has its cause, which is a call of the device.
-        ensures cause { HasSetCause (S.faults self.old.slot) (S.faults self.new.slot) result }
+        ensures kept { KeepsNature S.is_honest S.is_steady S.faults (IsFault result)
+            self.old.slot self.new.slot }
         ensures read_call { IsErrOf result AliasRefused.FaultRead
             → FailedRead (S.failed self.new.slot) }
         ensures before_call { IsErrOf result AliasRefused.FaultBefore
@@ -261,9 +258,6 @@ impl<S: Slot> AliasTable<S> {
         ensures unsure_call { IsErrOf result AliasRefused.FaultUnsure
             → FailedAfter DeviceCall.Rename (IsTrue (S.is_honest self.old.slot)
             → S.seen self.new.slot ≡ new_image self.new.rows.file) (S.failed self.new.slot) }
-        ensures honest { S.is_honest self.new.slot ≡ S.is_honest self.old.slot }
-        ensures steady { KeepsSteady (S.is_steady self.old.slot) (S.is_steady self.new.slot)
-            (S.faults self.old.slot) (S.faults self.new.slot) }
     {
         if self.is_known() {
             return self.store(change);

@@ -2,8 +2,8 @@ ghost use Rattle.std.specs.Prelude.{◌≡◌, ◌≢◌, ℕ, ◌+◌, ◌≤�
 ghost use Rattle.std.specs.Option.{option_copied, option_map};
 ghost use Rattle.item_store.specs.declared.fault.ItemFault.{ItemFault as Fault};
 ghost use Rattle.key_derivation.specs.Kdf.{key_of, vector_of};
-ghost use Rattle.kr_outside.specs.Faults.{HasCause, KeepsSteady, Rose};
 ghost use Rattle.kr_outside.specs.Moments.{LeavesOnly};
+ghost use Rattle.kr_outside.specs.Slot.{KeepsNature};
 ghost use Rattle.keyring_file.specs.ClearText.{HasClear, most_iterations};
 ghost use Rattle.keyring_seal.specs.Arranged.{arranged_rows};
 ghost use Rattle.keyring_seal.specs.Whole.{opened, sealed};
@@ -130,11 +130,8 @@ impl<S: Slot> Collection<S> {
         ensures any_moment { IsTrue (S.is_honest cell.slot) → LeavesOnly S.moment S.left_since
             cell.slot (slot_of result) (IsOldOrSealed cell.file
             (content_created now label key.salt key.iterations) (key_of key) (vector_of key)) }
-        ensures cause { IsCreateFault result
-            → Rose (S.faults cell.slot) (S.faults (slot_of result)) }
-        ensures honest { S.is_honest (slot_of result) ≡ S.is_honest cell.slot }
-        ensures steady { KeepsSteady (S.is_steady cell.slot) (S.is_steady (slot_of result))
-            (S.faults cell.slot) (S.faults (slot_of result)) }
+        ensures kept { KeepsNature S.is_honest S.is_steady S.faults (IsCreateFault result)
+            cell.slot (slot_of result) }
     {
         let clear = Clear {
             name: label,
@@ -294,16 +291,14 @@ impl<S: Slot> Collection<S> {
             (IsOneOf self.old.file)) }
 
         // Each fault has its cause, which is a call of the device.
-        ensures cause { IsFault result → Rose (S.faults self.old.slot) (S.faults self.new.slot) }
+        ensures kept { KeepsNature S.is_honest S.is_steady S.faults (IsFault result)
+            self.old.slot self.new.slot }
         ensures before_call { IsErrOf result ChangeRefused.FaultBefore
             → FailedBefore (S.failed self.new.slot) }
         ensures unsure_call { IsErrOf result ChangeRefused.FaultUnsure → IfSome self.old.held
             (λ held. FailedAfter DeviceCall.Rename (IsTrue (S.is_honest self.old.slot)
             → IsNewImage change now self.old held (S.seen self.new.slot))
             (S.failed self.new.slot)) }
-        ensures honest { S.is_honest self.new.slot ≡ S.is_honest self.old.slot }
-        ensures steady { KeepsSteady (S.is_steady self.old.slot) (S.is_steady self.new.slot)
-            (S.faults self.old.slot) (S.faults self.new.slot) }
     {
         let frame = frame_of(&self.held, self.cell.longest(), now, room);
         match prepare_in(self.alloc, &frame, &self.told, &mut self.held, change) {
@@ -378,7 +373,8 @@ impl<S: Slot> Collection<S> {
             (IsOneOf self.old.file)) }
 
         // Each fault has its cause, which is a call of the device.
-        ensures cause { IsFault result → Rose (S.faults self.old.slot) (S.faults self.new.slot) }
+        ensures kept { KeepsNature S.is_honest S.is_steady S.faults (IsFault result)
+            self.old.slot self.new.slot }
         ensures before_call { IsErrOf result ChangeRefused.FaultBefore
             → FailedBefore (S.failed self.new.slot) }
         ensures unsure_call { IsErrOf result ChangeRefused.FaultUnsure → IfSome self.old.held
@@ -386,9 +382,6 @@ impl<S: Slot> Collection<S> {
             → S.seen self.new.slot ≡ Some (sealed
             (content_rekeyed now key.salt key.iterations self.old.clear held.rows)
             (key_of key) (vector_of key))) (S.failed self.new.slot)) }
-        ensures honest { S.is_honest self.new.slot ≡ S.is_honest self.old.slot }
-        ensures steady { KeepsSteady (S.is_steady self.old.slot) (S.is_steady self.new.slot)
-            (S.faults self.old.slot) (S.faults self.new.slot) }
     {
         let frame = Frame {
             time: now,
@@ -440,12 +433,10 @@ impl<S: Slot> Collection<S> {
             (IsOneOf (Doubt (old_image self.old.file) None)) }
 
         // A fault has its cause, which is one of the two calls.
-        ensures cause { HasCause (S.faults self.old.slot) (S.faults self.new.slot) result }
+        ensures kept { KeepsNature S.is_honest S.is_steady S.faults (IsErr result)
+            self.old.slot self.new.slot }
         ensures unsure_call { IsErr result → FailedAfter DeviceCall.Remove (IsTrue
             (S.is_honest self.old.slot) → S.seen self.new.slot ≡ None) (S.failed self.new.slot) }
-        ensures honest { S.is_honest self.new.slot ≡ S.is_honest self.old.slot }
-        ensures steady { KeepsSteady (S.is_steady self.old.slot) (S.is_steady self.new.slot)
-            (S.faults self.old.slot) (S.faults self.new.slot) }
     {
         show_again(&mut self.told, &mut self.held);
         self.cell.remove()
@@ -486,11 +477,9 @@ impl<S: Slot> Collection<S> {
             (IsOneOf self.old.file) }
 
         // A fault has its cause, which is one of the two calls.
-        ensures cause { HasCause (S.faults self.old.slot) (S.faults self.new.slot) result }
+        ensures kept { KeepsNature S.is_honest S.is_steady S.faults (IsErr result)
+            self.old.slot self.new.slot }
         ensures read_call { IsErr result → FailedRead (S.failed self.new.slot) }
-        ensures honest { S.is_honest self.new.slot ≡ S.is_honest self.old.slot }
-        ensures steady { KeepsSteady (S.is_steady self.old.slot) (S.is_steady self.new.slot)
-            (S.faults self.old.slot) (S.faults self.new.slot) }
     {
         let found = self.cell.resolve(buffer)?;
         show_found(found, &mut self.told, &mut self.newer);

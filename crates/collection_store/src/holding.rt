@@ -2,8 +2,8 @@
 
 ghost use Rattle.std.specs.Prelude.{◌≡◌, ◌≢◌, ◌+◌, ◌≤◌, ◌<◌, ◌⊎◌, IsTrue, IsSome, IfSome, IfOk, IfErr, OnOk, OnErr, IsErrOf, Ok, Some, None, length};
 ghost use Rattle.std.specs.Option.{option_map};
-ghost use Rattle.kr_outside.specs.Faults.{KeepsSteady, Rose};
 ghost use Rattle.kr_outside.specs.Moments.{LeavesOnly};
+ghost use Rattle.kr_outside.specs.Slot.{KeepsNature};
 ghost use Rattle.replace_slot.specs.Cell.{Doubt, FailedAfter, FailedBefore, IsKnown, IsOneOf, LeavesFile, old_image};
 ghost use Rattle.keyring_file.specs.ClearText.{most_iterations};
 ghost use Rattle.collection_store.specs.Changes.{name_made, rows_made};
@@ -104,15 +104,13 @@ pub fn store<S: Slot>(
         → LeavesOnly S.moment S.left_since cell.old.slot cell.new.slot
         (IsOneOf cell.old.file) }
 
-    ensures cause { IsFault result → Rose (S.faults cell.old.slot) (S.faults cell.new.slot) }
+    ensures slot_kept { KeepsNature S.is_honest S.is_steady S.faults (IsFault result)
+        cell.old.slot cell.new.slot }
     ensures before_call { IsErrOf result ChangeRefused.FaultBefore
         → FailedBefore (S.failed cell.new.slot) }
     ensures unsure_call { IsErrOf result ChangeRefused.FaultUnsure
         → FailedAfter DeviceCall.Rename (IsTrue (S.is_honest cell.old.slot)
         → S.seen cell.new.slot ≡ Some prepared.image) (S.failed cell.new.slot) }
-    ensures honest { S.is_honest cell.new.slot ≡ S.is_honest cell.old.slot }
-    ensures steady { KeepsSteady (S.is_steady cell.old.slot) (S.is_steady cell.new.slot)
-        (S.faults cell.old.slot) (S.faults cell.new.slot) }
 {
     let Prepared {
         next,

@@ -5,8 +5,10 @@ use Rattle.std.proofs.lemmas.List.{length-append}
 use Rattle.std.proofs.lemmas.List.Elements.{Contains-push}
 use Rattle.kr_outside.specs.Faults.{Rose, KeepsSteady, last_count}
 use Rattle.kr_outside.specs.declared.slot.DeviceCall.{DeviceCall}
+use Rattle.kr_outside.specs.declared.slot.Slot.{Ghosts}
 use Rattle.kr_outside.specs.Moments.{LeavesOnly}
 use Rattle.kr_outside.specs.RenameDisk.{Image, Temporary, Unknown, Only, LeavesAnyBytes, LeavesNoMore}
+use Rattle.kr_outside.specs.Slot.{KeepsNature, OnlyLooks}
 use Rattle.keyring_file.specs.Clear.{ClearPart}
 use Rattle.keyring_file.specs.ClearText.{HasClear}
 use Rattle.folder_store.specs.declared.limits.Limits.{Limits}
@@ -77,27 +79,25 @@ known_alone image got seen folder before now only fewer (inl any) same left may 
     absurd (differ image (sym (only (Some []) (fewer (Some []) (any [])))) (sym (only (Some (0 ∷ [])) (fewer (Some (0 ∷ [])) (any (0 ∷ []))))))
 
 -- a slot that was made for a settled name and looked at is as it was found
-pub found_there : {S : Type 0} (seen : S → Image) (temporary : S → Temporary) (may_leave : S → Image → Type 0) (left_since : S → ℕ → Image → Type 0) (is_honest is_steady : S → Bool) (moment : S → ℕ)
-    (honest steady : Bool) (image there : Image) (folder : Image → Type 0) (made now : S)
-    → is_honest made ≡ honest → is_steady made ≡ steady → is_honest now ≡ is_honest made → is_steady now ≡ is_steady made
-    → (IsTrue honest → image ≡ there) → (IsTrue honest → Only there folder)
-    → (IsTrue honest → seen made ≡ there) → (IsTrue honest → LeavesNoMore folder (may_leave made)) → (IsTrue honest → LeavesNoMore folder (left_since made 0)) → (IsTrue honest → temporary made ≡ Unknown)
-    → (IsTrue (is_honest made) → seen now ≡ seen made) → (IsTrue (is_honest made) → LeavesNoMore (may_leave made) (may_leave now))
-    → (IsTrue (is_honest made) → LeavesOnly moment left_since made now (may_leave made)) → (IsTrue (is_honest made) → temporary now ≡ temporary made)
-    → IsAsFound seen temporary may_leave left_since is_honest is_steady honest steady image now
-found_there seen temporary may_leave left_since is_honest is_steady moment honest steady image there folder made now made_honest made_steady now_honest now_steady same only made_seen made_crash made_since made_temporary now_seen now_crash now_since now_temporary = record {
-  as_honest = now_honest ∙ made_honest;
-  as_steady = now_steady ∙ made_steady;
-  same = λ is. now_seen (was is) ∙ made_seen is ∙ sym (same is);
-  crash = λ is left may. only is left (made_crash is left (now_crash (was is) left may)) ∙ sym (same is);
-  any_moment = λ is left since. ⊎_elim
+pub found_there : {S : Type 0} (slot : Ghosts S) (fault : Type 0) (honest steady : Bool) (image there : Image) (folder : Image → Type 0) (made now : S)
+    → slot.is_honest made ≡ honest → slot.is_steady made ≡ steady → (IsTrue honest → image ≡ there) → (IsTrue honest → Only there folder)
+    → (IsTrue honest → slot.seen made ≡ there) → (IsTrue honest → LeavesNoMore folder (slot.may_leave made)) → (IsTrue honest → LeavesNoMore folder (slot.left_since made 0)) → (IsTrue honest → slot.temporary made ≡ Unknown)
+    → KeepsNature slot.is_honest slot.is_steady slot.faults fault made now → OnlyLooks slot.seen slot.temporary slot.may_leave slot.is_honest made now
+    → (IsTrue (slot.is_honest made) → LeavesOnly slot.moment slot.left_since made now (slot.may_leave made))
+    → IsAsFound slot.seen slot.temporary slot.may_leave slot.left_since slot.is_honest slot.is_steady honest steady image now
+found_there slot fault honest steady image there folder made now made_honest made_steady same only made_seen made_crash made_since made_temporary kept look since = record {
+  as_honest = kept.honest ∙ made_honest;
+  as_steady = kept.steady.same ∙ made_steady;
+  same = λ is. look.same (was is) ∙ made_seen is ∙ sym (same is);
+  crash = λ is left may. only is left (made_crash is left (look.crash (was is) left may)) ∙ sym (same is);
+  any_moment = λ is left since_then. ⊎_elim
       (λ earlier. only is left (made_since is left earlier) ∙ sym (same is))
       (λ may. only is left (made_crash is left may) ∙ sym (same is))
-      ((now_since (was is)).before 0 left (omega arith) since);
-  untouched = λ is. now_temporary (was is) ∙ made_temporary is;
+      ((since (was is)).before 0 left (omega arith) since_then);
+  untouched = λ is. look.same_temporary (was is) ∙ made_temporary is;
 }
   where
-    was : IsTrue honest → IsTrue (is_honest made)
+    was : IsTrue honest → IsTrue (slot.is_honest made)
     was is = subst (λ b. IsTrue b) (sym made_honest) is
 
 -- the same for another image, which is equal if the folder is honest

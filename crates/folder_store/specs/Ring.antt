@@ -1,5 +1,5 @@
 -- What was loaded, as contracts see it.
-use Rattle.std.specs.Prelude.{◌≡◌, ℕ, ◌⊎◌, List, [], ◌∷◌, ◌++◌, length, map, Contains, Option, None, Some, Bool, IsTrue, Result, IsErrOf, ◌<◌, ◌≤◌}
+use Rattle.std.specs.Prelude.{◌≡◌, ℕ, ◌⊎◌, List, [], ◌∷◌, ◌++◌, length, map, Contains, Option, None, Some, Bool, IsTrue, ◌<◌}
 use Rattle.kr_outside.specs.Faults.{Rose}
 use Rattle.kr_outside.specs.RenameDisk.{Image, Temporary, Unknown, Only}
 use Rattle.kr_outside.specs.declared.slot.DeviceCall.{DeviceCall}
@@ -9,8 +9,6 @@ use Rattle.replace_slot.specs.Cell.{CellState, File, Known, Doubt}
 use Rattle.folder_store.specs.Opened.{RingRow}
 use Rattle.folder_store.specs.Names.{IsRingName, IsLoadName}
 use Rattle.folder_store.specs.declared.opening.LeftAlone.{LeftAlone}
-use Rattle.folder_store.specs.declared.refused.LoadRefused.{LoadRefused}
-use Rattle.folder_store.specs.declared.refused.LoadRefused.TheVariants.{Folder}
 
 -- a listed collection: its stem, the cell of its file, and the clear part
 pub record RingState (S : Type 0) : Type 0 where
@@ -41,11 +39,6 @@ row_of ring = record { stem = ring.stem; clear = ring.clear; image = bytes_of ri
 -- all listed collections
 abbrev pub rows_of : {S : Type 0} → List (RingState S) → List RingRow
 rows_of rings = map row_of rings
-
--- the count doesn't fall, and `Folder` is returned only if it rose
-pub record HasLoadCause {T : Type 0} (old new : ℕ) (result : Result T LoadRefused) : Type 0 where
-  pub later : old ≤ new
-  pub failed : IsErrOf result Folder → Rose old new
 
 -- A slot that a load made for a name and looked at. It is honest exactly if the folder is, and steady exactly
 -- if the folder is. In an honest folder the name still stands for the same image, no crash might have left

@@ -5,11 +5,12 @@ ghost use Rattle.std.specs.Ordering.{nat_cmp};
 ghost use Rattle.kr_outside.specs.Faults.{KeepsSteady, Rose};
 ghost use Rattle.kr_outside.specs.Folder.{IsSettled, Stays};
 ghost use Rattle.kr_outside.specs.RenameDisk.{Only};
+ghost use Rattle.kr_outside.specs.Slot.{KeepsNature};
 ghost use Rattle.folder_store.specs.Aliases.{AreFound, alias_slot};
 ghost use Rattle.folder_store.specs.Limits.{the_limits};
 ghost use Rattle.folder_store.specs.Loads.{Loads};
 ghost use Rattle.folder_store.specs.Names.{aliases, IsRingName};
-ghost use Rattle.folder_store.specs.Ring.{HasFailedSlot, HasLoadCause, IsAsFound, HandsBack, MakesOneAtMost, ReturnsAll};
+ghost use Rattle.folder_store.specs.Ring.{HasFailedSlot, IsAsFound, HandsBack, MakesOneAtMost, ReturnsAll};
 ghost use Rattle.folder_store.specs.Walk.{Visits, Walk, plain};
 
 use crate::found_aliases::{FoundAliases, found_by};
@@ -186,10 +187,8 @@ fn settled_names<F: Folder>(alloc: Global, folder: &mut F) -> Result<Vec<Text>, 
     ensures others { IsTrue (F.is_honest folder.old)
         → Stays F.images F.may_leave (F.made folder.old) folder.old folder.new }
     ensures made { F.made folder.new ≡ [] }
-    ensures honest { F.is_honest folder.new ≡ F.is_honest folder.old }
-    ensures cause { HasLoadCause (F.faults folder.old) (F.faults folder.new) result }
-    ensures steady { KeepsSteady (F.is_steady folder.old) (F.is_steady folder.new)
-        (F.faults folder.old) (F.faults folder.new) }
+    ensures kept { KeepsNature F.is_honest F.is_steady F.faults (IsErrOf result LoadRefused.Folder)
+        folder.old folder.new }
 {
     if folder.sync().is_err() {
         return Err(LoadRefused::Folder);

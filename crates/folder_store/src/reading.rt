@@ -1,11 +1,11 @@
 // Settling, measuring and reading one file.
 ghost use Rattle.std.specs.Prelude.{◌≡◌, ◌⊎◌, ◌∷◌, ℕ, List, Option, Contains, IsTrue, None, Some, IfOk, OnOk, OnErr, IsErr, IsErrOf};
-ghost use Rattle.kr_outside.specs.Faults.{HasCause, KeepsSteady};
 ghost use Rattle.kr_outside.specs.Folder.{Stays};
 ghost use Rattle.kr_outside.specs.Moments.{LeavesOnly};
-ghost use Rattle.kr_outside.specs.RenameDisk.{Only, LeavesAnyBytes, LeavesNoMore, size_of};
+ghost use Rattle.kr_outside.specs.RenameDisk.{Only, LeavesAnyBytes, size_of};
+ghost use Rattle.kr_outside.specs.Slot.{KeepsNature, OnlyLooks};
 ghost use Rattle.folder_store.specs.Names.{IsLoadName};
-ghost use Rattle.folder_store.specs.Ring.{HasFailedSlot, HasLoadCause, IsAsFound, IsLook, HandsBack, MakesOneAtMost, ReturnsAll};
+ghost use Rattle.folder_store.specs.Ring.{HasFailedSlot, IsAsFound, IsLook, HandsBack, MakesOneAtMost, ReturnsAll};
 ghost use Rattle.folder_store.specs.Walk.{Looks, ReadsWithin, image_of};
 
 use crate::opening::Opening;
@@ -22,18 +22,11 @@ pub fn settled_size<S: Slot>(slot: &mut S) -> Result<Option<u64>, Failed>
         → OnOk result (LeavesAnyBytes (S.may_leave slot.old)
         ⊎ Only (S.seen slot.new) (S.may_leave slot.new)) }
 
-    ensures same { IsTrue (S.is_honest slot.old) → S.seen slot.new ≡ S.seen slot.old }
-    ensures same_temporary { IsTrue (S.is_honest slot.old)
-        → S.temporary slot.new ≡ S.temporary slot.old }
-    ensures crash { IsTrue (S.is_honest slot.old)
-        → LeavesNoMore (S.may_leave slot.old) (S.may_leave slot.new) }
+    ensures look { OnlyLooks S.seen S.temporary S.may_leave S.is_honest slot.old slot.new }
     ensures any_moment { IsTrue (S.is_honest slot.old)
         → LeavesOnly S.moment S.left_since slot.old slot.new (S.may_leave slot.old) }
-    ensures honest { S.is_honest slot.new ≡ S.is_honest slot.old }
-    ensures cause { HasCause (S.faults slot.old) (S.faults slot.new) result }
-    ensures look { IsErr result → IsLook (S.failed slot.new) }
-    ensures steady { KeepsSteady (S.is_steady slot.old) (S.is_steady slot.new)
-        (S.faults slot.old) (S.faults slot.new) }
+    ensures kept { KeepsNature S.is_honest S.is_steady S.faults (IsErr result) slot.old slot.new }
+    ensures call { IsErr result → IsLook (S.failed slot.new) }
 {
     slot.sync_folder()?;
     slot.size()
@@ -50,18 +43,12 @@ pub fn read_sized<S: Slot>(
     ensures read { IsTrue (S.is_honest slot.old)
         → IfOk result (λ found. image_of found ≡ S.seen slot.new) }
 
-    ensures same { IsTrue (S.is_honest slot.old) → S.seen slot.new ≡ S.seen slot.old }
-    ensures same_temporary { IsTrue (S.is_honest slot.old)
-        → S.temporary slot.new ≡ S.temporary slot.old }
-    ensures crash { IsTrue (S.is_honest slot.old)
-        → LeavesNoMore (S.may_leave slot.old) (S.may_leave slot.new) }
+    ensures look { OnlyLooks S.seen S.temporary S.may_leave S.is_honest slot.old slot.new }
     ensures any_moment { IsTrue (S.is_honest slot.old)
         → LeavesOnly S.moment S.left_since slot.old slot.new (S.may_leave slot.old) }
-    ensures honest { S.is_honest slot.new ≡ S.is_honest slot.old }
-    ensures cause { HasLoadCause (S.faults slot.old) (S.faults slot.new) result }
-    ensures look { IsErrOf result LoadRefused.Folder → IsLook (S.failed slot.new) }
-    ensures steady { KeepsSteady (S.is_steady slot.old) (S.is_steady slot.new)
-        (S.faults slot.old) (S.faults slot.new) }
+    ensures kept { KeepsNature S.is_honest S.is_steady S.faults (IsErrOf result LoadRefused.Folder)
+        slot.old slot.new }
+    ensures call { IsErrOf result LoadRefused.Folder → IsLook (S.failed slot.new) }
 {
     let mut bytes = Vec::new(alloc);
     bytes.resize(size as usize, 0)?;
@@ -105,18 +92,12 @@ pub fn read_settled<S: Slot>(alloc: Global, slot: &mut S, most: usize) -> Result
         → OnOk result (LeavesAnyBytes (S.may_leave slot.old)
         ⊎ Only (S.seen slot.new) (S.may_leave slot.new)) }
 
-    ensures same { IsTrue (S.is_honest slot.old) → S.seen slot.new ≡ S.seen slot.old }
-    ensures same_temporary { IsTrue (S.is_honest slot.old)
-        → S.temporary slot.new ≡ S.temporary slot.old }
-    ensures crash { IsTrue (S.is_honest slot.old)
-        → LeavesNoMore (S.may_leave slot.old) (S.may_leave slot.new) }
+    ensures look { OnlyLooks S.seen S.temporary S.may_leave S.is_honest slot.old slot.new }
     ensures any_moment { IsTrue (S.is_honest slot.old)
         → LeavesOnly S.moment S.left_since slot.old slot.new (S.may_leave slot.old) }
-    ensures honest { S.is_honest slot.new ≡ S.is_honest slot.old }
-    ensures cause { HasLoadCause (S.faults slot.old) (S.faults slot.new) result }
-    ensures look { IsErrOf result LoadRefused.Folder → IsLook (S.failed slot.new) }
-    ensures steady { KeepsSteady (S.is_steady slot.old) (S.is_steady slot.new)
-        (S.faults slot.old) (S.faults slot.new) }
+    ensures kept { KeepsNature S.is_honest S.is_steady S.faults (IsErrOf result LoadRefused.Folder)
+        slot.old slot.new }
+    ensures call { IsErrOf result LoadRefused.Folder → IsLook (S.failed slot.new) }
 {
     match settled_size(slot) {
         Ok(Some(size)) => {

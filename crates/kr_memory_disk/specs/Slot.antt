@@ -1,10 +1,11 @@
 -- The rename disk in memory: what a record of calls made of a name.
-use Rattle.std.specs.Prelude.{◌≡◌, ℕ, ◌≤◌, ◌%◌, ◌⊎◌, ⊤, List, [], ◌∷◌, ◌++◌, length, map, reverse, get_or, take, fold, Contains, Option, None, Some, IsSome, Result, Ok, Err}
+use Rattle.std.specs.Prelude.{◌≡◌, ℕ, ◌≤◌, ◌%◌, ◌⊎◌, ⊤, List, [], ◌∷◌, ◌++◌, length, map, reverse, get_or, take, fold, Contains, Option, None, Some, IsSome, true, false, Result, Ok, Err}
 use Rattle.kr_outside.specs.declared.slot.DeviceCall.{DeviceCall}
 use Rattle.kr_outside.specs.declared.slot.DeviceCall.TheVariants as device
 use Rattle.kr_outside.specs.declared.slot.Seen.{Seen}
 use Rattle.kr_outside.specs.declared.source.Failed as refused
 use Rattle.kr_memory.specs.Plan.{next_count}
+use Rattle.kr_outside.specs.Slot.{IsOneCall, OnlyLooks}
 use Rattle.kr_outside.specs.RenameDisk.{Image, Temporary, Unknown, Unsynced, Synced, synced}
 use Rattle.kr_memory_disk.specs.declared.slot.SlotCall.{SlotCall}
 use Rattle.kr_memory_disk.specs.declared.slot.SlotCall.TheVariants.{Size, Read, PutTemp, SyncTemp, Rename, SyncFolder, Remove}
@@ -144,6 +145,15 @@ slot_moment slot = length slot.calls
 abbrev pub slot_left_since : SlotState → ℕ → Image → Type 0
 slot_left_since slot t left =
     (k : ℕ) × (t ≤ k) × (k ≤ length slot.calls) × DiskLeaves (disk_at slot.image (take k slot.calls)) left
+
+-- what each of its calls keeps
+abbrev pub IsSlotCall : {T E : Type 0} → DeviceCall → SlotState → SlotState → Result T E → Type 0
+IsSlotCall call old new result =
+    IsOneCall slot_moment slot_left_since slot_may_leave (λ _. true) (λ _. false) (λ s. s.faults) (λ s. s.failed) call old new result
+
+-- and those that only look
+abbrev pub SlotLooks : SlotState → SlotState → Type 0
+SlotLooks old new = OnlyLooks slot_seen slot_temporary slot_may_leave (λ _. true) old new
 
 -- how the next call should end
 abbrev pub IsPlanned : SlotState → CallEnd → Type 0

@@ -1,9 +1,8 @@
 ghost use Rattle.std.specs.Prelude.{◌≡◌, ◌≤◌, ◌⊎◌, [], None, Some, IsNone, IfSome, IfOk, OnOk, OnErr, true, false, length, take};
 ghost use Rattle.std.proofs.Common.{rules};
 ghost use Rattle.kr_outside.specs.Faults.{Rose, HasCause, EndsAs};
-ghost use Rattle.kr_outside.specs.Moments.{Elapses};
 ghost use Rattle.kr_outside.specs.RenameDisk.{FitsIn, Reads, Unsynced, synced, size_of, Only, GivesTemporary, LeavesTemporary, LeavesNoMore, LeavesAlso, LeavesAnyBytes};
-ghost use Rattle.kr_memory_disk.specs.Slot.{IsPlanned, IsNoted, device_call, with_fault, slot_seen, slot_temporary, slot_may_leave, slot_count_left, slot_left, slot_moment, slot_left_since};
+ghost use Rattle.kr_memory_disk.specs.Slot.{IsPlanned, IsNoted, device_call, with_fault, slot_seen, slot_temporary, slot_may_leave, slot_count_left, slot_left, slot_moment, slot_left_since, IsSlotCall, SlotLooks};
 ghost use Rattle.kr_memory_disk.specs.SlotLaws.{leaves_seen, counts_moment, only_moment};
 
 use crate::left::{place_left, places_left, stood};
@@ -261,13 +260,8 @@ impl Slot for MemorySlot {
     fn size(&mut self) -> Result<Option<u64>, Failed>
         // What the trait says.
         ensures answer { IfOk result (λ size. size ≡ size_of (slot_seen self.old)) }
-        ensures same { slot_seen self.new ≡ slot_seen self.old }
-        ensures same_temporary { slot_temporary self.new ≡ slot_temporary self.old }
-        ensures crash { LeavesNoMore (slot_may_leave self.old) (slot_may_leave self.new) }
-        ensures time { Elapses slot_moment slot_left_since slot_may_leave self.old self.new
-            result }
-        ensures cause { HasCause self.old.faults self.new.faults result }
-        ensures call { EndsAs DeviceCall.Size self.new.failed result }
+        ensures look { SlotLooks self.old self.new }
+        ensures call { IsSlotCall DeviceCall.Size self.old self.new result }
 
         // It fails as planned, and is recorded.
         ensures noted { IsNoted self.old SlotCall.Size self.new result }
@@ -284,13 +278,8 @@ impl Slot for MemorySlot {
         ensures fits { IfOk result (FitsIn (length buffer.new)) }
         ensures answer { IfOk result (Reads (slot_seen self.old) buffer.new) }
         ensures told { IfOk result (λ seen. self.new.answered ≡ Some seen) }
-        ensures same { slot_seen self.new ≡ slot_seen self.old }
-        ensures same_temporary { slot_temporary self.new ≡ slot_temporary self.old }
-        ensures crash { LeavesNoMore (slot_may_leave self.old) (slot_may_leave self.new) }
-        ensures time { Elapses slot_moment slot_left_since slot_may_leave self.old self.new
-            result }
-        ensures cause { HasCause self.old.faults self.new.faults result }
-        ensures call { EndsAs DeviceCall.Read self.new.failed result }
+        ensures look { SlotLooks self.old self.new }
+        ensures call { IsSlotCall DeviceCall.Read self.old self.new result }
 
         // It fails as planned, and is recorded.
         ensures noted { IsNoted self.old SlotCall.Read self.new result }
@@ -309,10 +298,7 @@ impl Slot for MemorySlot {
         ensures put { OnOk result (slot_temporary self.new ≡ Unsynced bytes.now) }
         ensures same { slot_seen self.new ≡ slot_seen self.old }
         ensures crash { LeavesNoMore (slot_may_leave self.old) (slot_may_leave self.new) }
-        ensures time { Elapses slot_moment slot_left_since slot_may_leave self.old self.new
-            result }
-        ensures cause { HasCause self.old.faults self.new.faults result }
-        ensures call { EndsAs DeviceCall.PutTemp self.new.failed result }
+        ensures call { IsSlotCall DeviceCall.PutTemp self.old self.new result }
 
         // It fails as planned, and is recorded.
         ensures noted { IsNoted self.old (SlotCall.PutTemp bytes.now) self.new result }
@@ -329,10 +315,7 @@ impl Slot for MemorySlot {
             (slot_temporary self.new ≡ synced (slot_temporary self.old)) }
         ensures same { slot_seen self.new ≡ slot_seen self.old }
         ensures crash { LeavesNoMore (slot_may_leave self.old) (slot_may_leave self.new) }
-        ensures time { Elapses slot_moment slot_left_since slot_may_leave self.old self.new
-            result }
-        ensures cause { HasCause self.old.faults self.new.faults result }
-        ensures call { EndsAs DeviceCall.SyncTemp self.new.failed result }
+        ensures call { IsSlotCall DeviceCall.SyncTemp self.old self.new result }
 
         // It fails as planned, and is recorded.
         ensures noted { IsNoted self.old SlotCall.SyncTemp self.new result }
@@ -348,10 +331,7 @@ impl Slot for MemorySlot {
             ⊎ GivesTemporary (slot_temporary self.old) (slot_seen self.new)) }
         ensures crash { LeavesAlso (slot_may_leave self.old)
             (LeavesTemporary (slot_temporary self.old)) (slot_may_leave self.new) }
-        ensures time { Elapses slot_moment slot_left_since slot_may_leave self.old self.new
-            result }
-        ensures cause { HasCause self.old.faults self.new.faults result }
-        ensures call { EndsAs DeviceCall.Rename self.new.failed result }
+        ensures call { IsSlotCall DeviceCall.Rename self.old self.new result }
 
         // It fails as planned, and is recorded.
         ensures noted { IsNoted self.old SlotCall.Rename self.new result }
@@ -363,13 +343,8 @@ impl Slot for MemorySlot {
         // What the trait says.
         ensures settled { OnOk result (LeavesAnyBytes (slot_may_leave self.old)
             ⊎ Only (slot_seen self.old) (slot_may_leave self.new)) }
-        ensures same { slot_seen self.new ≡ slot_seen self.old }
-        ensures same_temporary { slot_temporary self.new ≡ slot_temporary self.old }
-        ensures crash { LeavesNoMore (slot_may_leave self.old) (slot_may_leave self.new) }
-        ensures time { Elapses slot_moment slot_left_since slot_may_leave self.old self.new
-            result }
-        ensures cause { HasCause self.old.faults self.new.faults result }
-        ensures call { EndsAs DeviceCall.SyncFolder self.new.failed result }
+        ensures look { SlotLooks self.old self.new }
+        ensures call { IsSlotCall DeviceCall.SyncFolder self.old self.new result }
 
         // It fails as planned, and is recorded.
         ensures noted { IsNoted self.old SlotCall.SyncFolder self.new result }
@@ -384,10 +359,7 @@ impl Slot for MemorySlot {
             ⊎ (slot_seen self.new ≡ None)) }
         ensures crash { LeavesAlso (slot_may_leave self.old) (λ image. image ≡ None)
             (slot_may_leave self.new) }
-        ensures time { Elapses slot_moment slot_left_since slot_may_leave self.old self.new
-            result }
-        ensures cause { HasCause self.old.faults self.new.faults result }
-        ensures call { EndsAs DeviceCall.Remove self.new.failed result }
+        ensures call { IsSlotCall DeviceCall.Remove self.old self.new result }
 
         // It fails as planned, and is recorded.
         ensures noted { IsNoted self.old SlotCall.Remove self.new result }

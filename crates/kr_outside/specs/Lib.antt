@@ -4,4 +4,5 @@ pub mod Folder
 pub mod Host
 pub mod Moments
 pub mod RenameDisk
+pub mod Slot
 pub mod Written

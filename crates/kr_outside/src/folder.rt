@@ -1,7 +1,8 @@
-ghost use Rattle.std.specs.Prelude.{◌≡◌, ℕ, Bool, IsTrue, List, [], ◌∷◌, Contains, Option, IfOk, OnOk, OnErr};
-ghost use Rattle.kr_outside.specs.Faults.{HasCause, KeepsSteady, IsBelowLast};
-ghost use Rattle.kr_outside.specs.Folder.{HasOutsideCause, Lists, Stays, IsSettled};
+ghost use Rattle.std.specs.Prelude.{◌≡◌, ℕ, Bool, IsTrue, List, [], ◌∷◌, Contains, Option, IfOk, OnOk, OnErr, IsErr, IsErrOf};
+ghost use Rattle.kr_outside.specs.Faults.{IsBelowLast};
+ghost use Rattle.kr_outside.specs.Folder.{Lists, Stays, IsSettled};
 ghost use Rattle.kr_outside.specs.RenameDisk.{Unknown, LeavesNoMore};
+ghost use Rattle.kr_outside.specs.Slot.{KeepsNature};
 
 use crate::{Failed, Slot};
 use kr_base::{OutOfMemory, Text};
@@ -53,10 +54,7 @@ pub trait Folder: Drop {
         ensures stays { IsTrue (is_honest self.old)
             → Stays images may_leave (made self.old) self.old self.new }
         ensures made { made self.new ≡ made self.old }
-        ensures honest { is_honest self.new ≡ is_honest self.old }
-        ensures cause { HasCause (faults self.old) (faults self.new) result }
-        ensures steady { KeepsSteady (is_steady self.old) (is_steady self.new)
-            (faults self.old) (faults self.new) };
+        ensures kept { KeepsNature is_honest is_steady faults (IsErr result) self.old self.new };
 
     /// The names of all files, each once, in any order.
     ///
@@ -68,10 +66,8 @@ pub trait Folder: Drop {
         ensures stays { IsTrue (is_honest self.old)
             → Stays images may_leave (made self.old) self.old self.new }
         ensures made { made self.new ≡ made self.old }
-        ensures honest { is_honest self.new ≡ is_honest self.old }
-        ensures cause { HasOutsideCause (faults self.old) (faults self.new) result }
-        ensures steady { KeepsSteady (is_steady self.old) (is_steady self.new)
-            (faults self.old) (faults self.new) };
+        ensures kept { KeepsNature is_honest is_steady faults (IsErrOf result OutsideRefused.Failed)
+            self.old self.new };
 
     /// The slot of a name, with no fault counted yet; nothing is known of its temporary file. A
     /// name that `names` didn't return stands for no file. At no earlier moment of the slot's clock

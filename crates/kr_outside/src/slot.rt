@@ -1,7 +1,7 @@
 ghost use Rattle.std.specs.Prelude.{◌≡◌, ℕ, ◌≤◌, ◌⊎◌, Bool, IsTrue, List, Option, None, Some, length, IfOk, OnOk, OnErr};
-ghost use Rattle.kr_outside.specs.Faults.{HasCause, KeepsSteady, IsBelowLast, EndsAs};
-ghost use Rattle.kr_outside.specs.Moments.{Elapses};
+ghost use Rattle.kr_outside.specs.Faults.{IsBelowLast};
 ghost use Rattle.kr_outside.specs.RenameDisk.{Temporary, Unsynced, synced, GivesTemporary, LeavesTemporary, Only, LeavesAnyBytes, LeavesNoMore, LeavesAlso, size_of, FitsIn, Reads};
+ghost use Rattle.kr_outside.specs.Slot.{IsOneCall, OnlyLooks};
 
 use crate::Failed;
 
@@ -78,18 +78,9 @@ pub trait Slot: Drop {
     fn size(&mut self) -> Result<Option<u64>, Failed>
         ensures answer { IsTrue (is_honest self.old)
             → IfOk result (λ size. size ≡ size_of (seen self.old)) }
-        ensures same { IsTrue (is_honest self.old) → seen self.new ≡ seen self.old }
-        ensures same_temporary { IsTrue (is_honest self.old)
-            → temporary self.new ≡ temporary self.old }
-        ensures crash { IsTrue (is_honest self.old)
-            → LeavesNoMore (may_leave self.old) (may_leave self.new) }
-        ensures time { IsTrue (is_honest self.old)
-            → Elapses moment left_since may_leave self.old self.new result }
-        ensures honest { is_honest self.new ≡ is_honest self.old }
-        ensures cause { HasCause (faults self.old) (faults self.new) result }
-        ensures call { EndsAs DeviceCall.Size (failed self.new) result }
-        ensures steady { KeepsSteady (is_steady self.old) (is_steady self.new)
-            (faults self.old) (faults self.new) };
+        ensures look { OnlyLooks seen temporary may_leave is_honest self.old self.new }
+        ensures call { IsOneCall moment left_since may_leave is_honest is_steady faults failed
+            DeviceCall.Size self.old self.new result };
 
     /// Reads the file to the start of the buffer. It returns `Longer` exactly if the file is longer
     /// than the buffer.
@@ -100,18 +91,9 @@ pub trait Slot: Drop {
         ensures answer { IsTrue (is_honest self.old)
             → IfOk result (Reads (seen self.old) buffer.new) }
         ensures told { IfOk result (λ found. answered self.new ≡ Some found) }
-        ensures same { IsTrue (is_honest self.old) → seen self.new ≡ seen self.old }
-        ensures same_temporary { IsTrue (is_honest self.old)
-            → temporary self.new ≡ temporary self.old }
-        ensures crash { IsTrue (is_honest self.old)
-            → LeavesNoMore (may_leave self.old) (may_leave self.new) }
-        ensures time { IsTrue (is_honest self.old)
-            → Elapses moment left_since may_leave self.old self.new result }
-        ensures honest { is_honest self.new ≡ is_honest self.old }
-        ensures cause { HasCause (faults self.old) (faults self.new) result }
-        ensures call { EndsAs DeviceCall.Read (failed self.new) result }
-        ensures steady { KeepsSteady (is_steady self.old) (is_steady self.new)
-            (faults self.old) (faults self.new) };
+        ensures look { OnlyLooks seen temporary may_leave is_honest self.old self.new }
+        ensures call { IsOneCall moment left_since may_leave is_honest is_steady faults failed
+            DeviceCall.Read self.old self.new result };
 
     /// Makes the temporary file anew with these bytes. Until a sync of it succeeds, a crash may
     /// leave any bytes in it.
@@ -123,13 +105,8 @@ pub trait Slot: Drop {
         ensures same { IsTrue (is_honest self.old) → seen self.new ≡ seen self.old }
         ensures crash { IsTrue (is_honest self.old)
             → LeavesNoMore (may_leave self.old) (may_leave self.new) }
-        ensures time { IsTrue (is_honest self.old)
-            → Elapses moment left_since may_leave self.old self.new result }
-        ensures honest { is_honest self.new ≡ is_honest self.old }
-        ensures cause { HasCause (faults self.old) (faults self.new) result }
-        ensures call { EndsAs DeviceCall.PutTemp (failed self.new) result }
-        ensures steady { KeepsSteady (is_steady self.old) (is_steady self.new)
-            (faults self.old) (faults self.new) };
+        ensures call { IsOneCall moment left_since may_leave is_honest is_steady faults failed
+            DeviceCall.PutTemp self.old self.new result };
 
     /// Puts the bytes of the temporary file on the disk, so that a crash leaves them in it.
     ///
@@ -140,13 +117,8 @@ pub trait Slot: Drop {
         ensures same { IsTrue (is_honest self.old) → seen self.new ≡ seen self.old }
         ensures crash { IsTrue (is_honest self.old)
             → LeavesNoMore (may_leave self.old) (may_leave self.new) }
-        ensures time { IsTrue (is_honest self.old)
-            → Elapses moment left_since may_leave self.old self.new result }
-        ensures honest { is_honest self.new ≡ is_honest self.old }
-        ensures cause { HasCause (faults self.old) (faults self.new) result }
-        ensures call { EndsAs DeviceCall.SyncTemp (failed self.new) result }
-        ensures steady { KeepsSteady (is_steady self.old) (is_steady self.new)
-            (faults self.old) (faults self.new) };
+        ensures call { IsOneCall moment left_since may_leave is_honest is_steady faults failed
+            DeviceCall.SyncTemp self.old self.new result };
 
     /// Makes the name stand for the temporary file. Until a sync of the folder succeeds, a crash may
     /// leave what the name stood for before or what it stands for now.
@@ -160,13 +132,8 @@ pub trait Slot: Drop {
             ⊎ GivesTemporary (temporary self.old) (seen self.new)) }
         ensures crash { IsTrue (is_honest self.old) → LeavesAlso (may_leave self.old)
             (LeavesTemporary (temporary self.old)) (may_leave self.new) }
-        ensures time { IsTrue (is_honest self.old)
-            → Elapses moment left_since may_leave self.old self.new result }
-        ensures honest { is_honest self.new ≡ is_honest self.old }
-        ensures cause { HasCause (faults self.old) (faults self.new) result }
-        ensures call { EndsAs DeviceCall.Rename (failed self.new) result }
-        ensures steady { KeepsSteady (is_steady self.old) (is_steady self.new)
-            (faults self.old) (faults self.new) };
+        ensures call { IsOneCall moment left_since may_leave is_honest is_steady faults failed
+            DeviceCall.Rename self.old self.new result };
 
     /// Puts on the disk what this name stands for; nothing is said of other names. After it a crash
     /// leaves what a read returns, unless the name stands for a file whose bytes weren't synced.
@@ -177,18 +144,9 @@ pub trait Slot: Drop {
         ensures settled { IsTrue (is_honest self.old)
             → OnOk result (LeavesAnyBytes (may_leave self.old)
             ⊎ Only (seen self.old) (may_leave self.new)) }
-        ensures same { IsTrue (is_honest self.old) → seen self.new ≡ seen self.old }
-        ensures same_temporary { IsTrue (is_honest self.old)
-            → temporary self.new ≡ temporary self.old }
-        ensures crash { IsTrue (is_honest self.old)
-            → LeavesNoMore (may_leave self.old) (may_leave self.new) }
-        ensures time { IsTrue (is_honest self.old)
-            → Elapses moment left_since may_leave self.old self.new result }
-        ensures honest { is_honest self.new ≡ is_honest self.old }
-        ensures cause { HasCause (faults self.old) (faults self.new) result }
-        ensures call { EndsAs DeviceCall.SyncFolder (failed self.new) result }
-        ensures steady { KeepsSteady (is_steady self.old) (is_steady self.new)
-            (faults self.old) (faults self.new) };
+        ensures look { OnlyLooks seen temporary may_leave is_honest self.old self.new }
+        ensures call { IsOneCall moment left_since may_leave is_honest is_steady faults failed
+            DeviceCall.SyncFolder self.old self.new result };
 
     /// Makes the name stand for no file. Until a sync of the folder succeeds, a crash may leave what
     /// the name stood for before, or no file.
@@ -201,13 +159,8 @@ pub trait Slot: Drop {
             → OnErr result ((seen self.new ≡ seen self.old) ⊎ (seen self.new ≡ None)) }
         ensures crash { IsTrue (is_honest self.old) → LeavesAlso (may_leave self.old)
             (λ image. image ≡ None) (may_leave self.new) }
-        ensures time { IsTrue (is_honest self.old)
-            → Elapses moment left_since may_leave self.old self.new result }
-        ensures honest { is_honest self.new ≡ is_honest self.old }
-        ensures cause { HasCause (faults self.old) (faults self.new) result }
-        ensures call { EndsAs DeviceCall.Remove (failed self.new) result }
-        ensures steady { KeepsSteady (is_steady self.old) (is_steady self.new)
-            (faults self.old) (faults self.new) };
+        ensures call { IsOneCall moment left_since may_leave is_honest is_steady faults failed
+            DeviceCall.Remove self.old self.new result };
 
     /// What a read returns is one of the images that a crash now may leave.
     ghost may_leave_seen: { (slot : Self) → IsTrue (is_honest slot) → may_leave slot (seen slot) };

@@ -1,8 +1,8 @@
 ghost use Rattle.std.specs.Prelude.{◌≡◌, ◌≢◌, ◌+◌, ◌≤◌, ◌<◌, ◌⊎◌, ◌↔◌, IsTrue, None, Some, length, IfOk, OnOk, OnErr, IsErr, IsErrOf};
 ghost use Rattle.std.specs.Option.{option_map};
-ghost use Rattle.kr_outside.specs.Faults.{HasCause, KeepsSteady};
 ghost use Rattle.kr_outside.specs.Moments.{LeavesOnly};
 ghost use Rattle.kr_outside.specs.RenameDisk.{Only, FitsIn};
+ghost use Rattle.kr_outside.specs.Slot.{KeepsNature};
 ghost use Rattle.replace_slot.specs.Cell.{Known, Doubt, IsKnown, HasFile, old_image, new_image, IsOneOf, LeavesFile, length_of, longest_of, FailedBefore, FailedAfter, FailedRead};
 ghost use Rattle.replace_slot.specs.Found.{Gave, found_file, Shows, IsFoundBy, IsFoundOf};
 
@@ -145,7 +145,8 @@ impl<S: Slot> FileCell<S> {
 
         // Each fault has its cause, which is a call of the device, and two calls succeed before one
         // that leaves the file in doubt.
-        ensures cause { HasCause (S.faults self.old.slot) (S.faults self.new.slot) result }
+        ensures kept { KeepsNature S.is_honest S.is_steady S.faults (IsErr result)
+            self.old.slot self.new.slot }
         ensures before_call { IsErrOf result ReplaceFault.FaultBefore
             → FailedBefore (S.failed self.new.slot) }
         ensures unsure_call { IsErrOf result ReplaceFault.FaultUnsure
@@ -154,9 +155,6 @@ impl<S: Slot> FileCell<S> {
         ensures staged { IsTrue (S.is_honest self.old.slot)
             → IsErrOf result ReplaceFault.FaultUnsure
             → S.moment self.old.slot + 2 ≤ S.moment self.new.slot }
-        ensures honest { S.is_honest self.new.slot ≡ S.is_honest self.old.slot }
-        ensures steady { KeepsSteady (S.is_steady self.old.slot) (S.is_steady self.new.slot)
-            (S.faults self.old.slot) (S.faults self.new.slot) }
     {
         if let Err(_) = prepare(&mut self.slot, image.bytes()) {
             return Err(ReplaceFault::FaultBefore);
@@ -192,12 +190,10 @@ impl<S: Slot> FileCell<S> {
             (IsOneOf (Doubt (old_image self.old.file) None)) }
 
         // A fault has its cause, which is one of the two calls.
-        ensures cause { HasCause (S.faults self.old.slot) (S.faults self.new.slot) result }
+        ensures kept { KeepsNature S.is_honest S.is_steady S.faults (IsErr result)
+            self.old.slot self.new.slot }
         ensures unsure_call { IsErr result → FailedAfter DeviceCall.Remove (IsTrue
             (S.is_honest self.old.slot) → S.seen self.new.slot ≡ None) (S.failed self.new.slot) }
-        ensures honest { S.is_honest self.new.slot ≡ S.is_honest self.old.slot }
-        ensures steady { KeepsSteady (S.is_steady self.old.slot) (S.is_steady self.new.slot)
-            (S.faults self.old.slot) (S.faults self.new.slot) }
     {
         match retire(&mut self.slot) {
             Ok(()) => {
@@ -244,11 +240,9 @@ impl<S: Slot> FileCell<S> {
             (IsOneOf self.old.file) }
 
         // A fault has its cause, which is one of the two calls.
-        ensures cause { HasCause (S.faults self.old.slot) (S.faults self.new.slot) result }
+        ensures kept { KeepsNature S.is_honest S.is_steady S.faults (IsErr result)
+            self.old.slot self.new.slot }
         ensures read_call { IsErr result → FailedRead (S.failed self.new.slot) }
-        ensures honest { S.is_honest self.new.slot ≡ S.is_honest self.old.slot }
-        ensures steady { KeepsSteady (S.is_steady self.old.slot) (S.is_steady self.new.slot)
-            (S.faults self.old.slot) (S.faults self.new.slot) }
     {
         match settle(&mut self.slot, buffer) {
             Ok(seen) => Ok(self.file.find(seen, buffer)),

@@ -1,8 +1,8 @@
 ghost use Rattle.std.specs.Prelude.{◌≡◌, ℕ, ◌+◌, ◌≤◌, ◌⊎◌, IsTrue, List, Option, None, Some, length, IfOk, OnOk, IsErr};
-ghost use Rattle.kr_outside.specs.Faults.{HasCause, KeepsSteady};
 ghost use Rattle.kr_outside.specs.Moments.{LeavesOnly};
 ghost use Rattle.replace_slot.specs.Cell.{FailedBefore, FailedAfter, FailedRead};
 ghost use Rattle.kr_outside.specs.RenameDisk.{Synced, GivesTemporary, Only, LeavesAnyBytes, LeavesNoMore, FitsIn, Reads};
+ghost use Rattle.kr_outside.specs.Slot.{KeepsNature, OnlyLooks};
 
 use kr_outside::{DeviceCall, Failed, Seen, Slot};
 
@@ -19,11 +19,8 @@ pub fn prepare<S: Slot>(slot: &mut S, bytes: &[u8]) -> Result<(), Failed>
     ensures rises { IsTrue (S.is_honest slot.old)
         → OnOk result (S.moment slot.old + 2 ≤ S.moment slot.new) }
 
-    ensures honest { S.is_honest slot.new ≡ S.is_honest slot.old }
-    ensures cause { HasCause (S.faults slot.old) (S.faults slot.new) result }
+    ensures kept { KeepsNature S.is_honest S.is_steady S.faults (IsErr result) slot.old slot.new }
     ensures call { IsErr result → FailedBefore (S.failed slot.new) }
-    ensures steady { KeepsSteady (S.is_steady slot.old) (S.is_steady slot.new)
-        (S.faults slot.old) (S.faults slot.new) }
 {
     slot.put_temp(bytes)?;
     slot.sync_temp()
@@ -45,12 +42,9 @@ pub fn publish<S: Slot>(slot: &mut S) -> Result<(), Failed>
         → (left : Option (List ℕ)) → S.may_leave slot.new left
         → (left ≡ old) ⊎ (left ≡ Some bytes) }
 
-    ensures honest { S.is_honest slot.new ≡ S.is_honest slot.old }
-    ensures cause { HasCause (S.faults slot.old) (S.faults slot.new) result }
+    ensures kept { KeepsNature S.is_honest S.is_steady S.faults (IsErr result) slot.old slot.new }
     ensures call { IsErr result → FailedAfter DeviceCall.Rename (IsTrue (S.is_honest slot.old)
         → GivesTemporary (S.temporary slot.old) (S.seen slot.new)) (S.failed slot.new) }
-    ensures steady { KeepsSteady (S.is_steady slot.old) (S.is_steady slot.new)
-        (S.faults slot.old) (S.faults slot.new) }
 {
     slot.rename()?;
     slot.sync_folder()
@@ -70,15 +64,12 @@ pub fn retire<S: Slot>(slot: &mut S) -> Result<(), Failed>
         → Only old (S.may_leave slot.old) → (left : Option (List ℕ)) → S.may_leave slot.new left
         → (left ≡ old) ⊎ (left ≡ None) }
 
-    ensures honest { S.is_honest slot.new ≡ S.is_honest slot.old }
-    ensures cause { HasCause (S.faults slot.old) (S.faults slot.new) result }
+    ensures kept { KeepsNature S.is_honest S.is_steady S.faults (IsErr result) slot.old slot.new }
     ensures call { IsErr result → FailedAfter DeviceCall.Remove (IsTrue (S.is_honest slot.old)
         → S.seen slot.new ≡ None) (S.failed slot.new) }
     ensures rises { IsTrue (S.is_honest slot.old) → IsErr result
         → S.failed slot.new ≡ Some DeviceCall.SyncFolder
         → S.moment slot.old + 1 ≤ S.moment slot.new }
-    ensures steady { KeepsSteady (S.is_steady slot.old) (S.is_steady slot.new)
-        (S.faults slot.old) (S.faults slot.new) }
 {
     slot.remove()?;
     slot.sync_folder()
@@ -90,22 +81,17 @@ pub fn settle<S: Slot>(slot: &mut S, buffer: &mut [u8]) -> Result<Seen, Failed>
     ensures answer { IsTrue (S.is_honest slot.old)
         → IfOk result (Reads (S.seen slot.new) buffer.new) }
     ensures told { IfOk result (λ seen. S.answered slot.new ≡ Some seen) }
-    ensures same { IsTrue (S.is_honest slot.old) → S.seen slot.new ≡ S.seen slot.old }
     ensures settled { IsTrue (S.is_honest slot.old)
         → OnOk result (LeavesAnyBytes (S.may_leave slot.old)
         ⊎ Only (S.seen slot.new) (S.may_leave slot.new)) }
 
     // At each moment a crash leaves only what it might have left before.
-    ensures crash { IsTrue (S.is_honest slot.old)
-        → LeavesNoMore (S.may_leave slot.old) (S.may_leave slot.new) }
+    ensures look { OnlyLooks S.seen S.temporary S.may_leave S.is_honest slot.old slot.new }
     ensures any_moment { IsTrue (S.is_honest slot.old)
         → LeavesOnly S.moment S.left_since slot.old slot.new (S.may_leave slot.old) }
 
-    ensures honest { S.is_honest slot.new ≡ S.is_honest slot.old }
-    ensures cause { HasCause (S.faults slot.old) (S.faults slot.new) result }
+    ensures kept { KeepsNature S.is_honest S.is_steady S.faults (IsErr result) slot.old slot.new }
     ensures call { IsErr result → FailedRead (S.failed slot.new) }
-    ensures steady { KeepsSteady (S.is_steady slot.old) (S.is_steady slot.new)
-        (S.faults slot.old) (S.faults slot.new) }
 {
     slot.sync_folder()?;
     slot.read(buffer)

@@ -33,8 +33,8 @@ returns-clause-loaded g c =
     let one = c.settled_names.new.folder in
     let two = c.walk.new.folder in
     let names : c.deref.result.now ≡ c.in_ok-names.names.items = c.deref.ensures.value in
-    let honest_one : folder.is_honest one ≡ folder.is_honest zero = c.in_ok-names.ensures.honest in
-    let steady_one : folder.is_steady one ≡ folder.is_steady zero = c.in_ok-names.ensures.steady.same in
+    let honest_one : folder.is_honest one ≡ folder.is_honest zero = c.in_ok-names.ensures.kept.honest in
+    let steady_one : folder.is_steady one ≡ folder.is_steady zero = c.in_ok-names.ensures.kept.steady.same in
     let honest_two : folder.is_honest two ≡ folder.is_honest zero = c.in_ok-walk.ensures.honest ∙ honest_one in
     let steady_two : folder.is_steady two ≡ folder.is_steady zero = c.in_ok-walk.ensures.steady ∙ steady_one in
     let found = IsAsFound slot.seen slot.temporary slot.may_leave slot.left_since slot.is_honest slot.is_steady in
@@ -72,8 +72,8 @@ returns-in_err-walk-clause-cause g c is =
     let zero = c.args.folder.now in
     let one = c.settled_names.new.folder in
     let two = c.walk.new.folder in
-    let honest_one : folder.is_honest one ≡ folder.is_honest zero = c.in_ok-names.ensures.honest in
-    let steady_one : folder.is_steady one ≡ folder.is_steady zero = c.in_ok-names.ensures.steady.same in
+    let honest_one : folder.is_honest one ≡ folder.is_honest zero = c.in_ok-names.ensures.kept.honest in
+    let steady_one : folder.is_steady one ≡ folder.is_steady zero = c.in_ok-names.ensures.kept.steady.same in
     let found = IsAsFound slot.seen slot.temporary slot.may_leave slot.left_since slot.is_honest slot.is_steady in
     let failed : IsErrOf c.walk.result Folder = search rules in
     inr (subst (λ b. HasFailedSlot (found (folder.is_honest zero) b) (folder.images zero) (folder.made two) slot.faults slot.failed b) steady_one
@@ -89,9 +89,9 @@ returns-in_err-aliases-clause-cause g c is =
     let one = c.settled_names.new.folder in
     let two = c.walk.new.folder in
     let three = c.load_aliases.new.folder in
-    let honest_one : folder.is_honest one ≡ folder.is_honest zero = c.in_ok-names.ensures.honest in
+    let honest_one : folder.is_honest one ≡ folder.is_honest zero = c.in_ok-names.ensures.kept.honest in
     let honest_two : folder.is_honest two ≡ folder.is_honest zero = c.in_ok-walk.ensures.honest ∙ honest_one in
-    let steady_two : folder.is_steady two ≡ folder.is_steady zero = c.in_ok-walk.ensures.steady ∙ c.in_ok-names.ensures.steady.same in
+    let steady_two : folder.is_steady two ≡ folder.is_steady zero = c.in_ok-walk.ensures.steady ∙ c.in_ok-names.ensures.kept.steady.same in
     let found = IsAsFound slot.seen slot.temporary slot.may_leave slot.left_since slot.is_honest slot.is_steady in
     let opening = c.walk.new.opening in
     let walked = subst (λ b. Walk c.args.limits.now b folder.images folder.may_leave folder.made one two c.deref.result.now (plain opening)) honest_one c.in_ok-walk.ensures.walked in
@@ -108,8 +108,8 @@ returns-in_err-walk-clause-never g c steady is =
     let folder = g.F.Folder in
     let zero = c.args.folder.now in
     let one = c.settled_names.new.folder in
-    let honest_one : folder.is_honest one ≡ folder.is_honest zero = c.in_ok-names.ensures.honest in
-    let steady_one : folder.is_steady one ≡ folder.is_steady zero = c.in_ok-names.ensures.steady.same in
+    let honest_one : folder.is_honest one ≡ folder.is_honest zero = c.in_ok-names.ensures.kept.honest in
+    let steady_one : folder.is_steady one ≡ folder.is_steady zero = c.in_ok-names.ensures.kept.steady.same in
     let failed : IsErrOf c.walk.result Folder = search rules in
     (c.walk.ensures.cause (folder.images zero) (λ honest name. sym (c.in_ok-names.ensures.same (subst (λ b. IsTrue b) honest_one honest) name)) failed).unsteady
     (subst (λ b. IsTrue b) (sym steady_one) steady)
@@ -119,7 +119,7 @@ returns-in_err-aliases-clause-never g c steady is =
     let folder = g.F.Folder in
     let two = c.walk.new.folder in
     let zero = c.args.folder.now in
-    let steady_two : folder.is_steady two ≡ folder.is_steady zero = c.in_ok-walk.ensures.steady ∙ c.in_ok-names.ensures.steady.same in
+    let steady_two : folder.is_steady two ≡ folder.is_steady zero = c.in_ok-walk.ensures.steady ∙ c.in_ok-names.ensures.kept.steady.same in
     let failed : IsErrOf c.load_aliases.result Folder = search rules in
     (c.load_aliases.ensures.cause (λ _. folder.images two aliases) (λ _. refl) failed).unsteady (subst (λ b. IsTrue b) (sym steady_two) steady)
 
@@ -141,8 +141,8 @@ returns-in_err-walk-clause-returned g c =
     let zero = c.args.folder.now in
     let one = c.settled_names.new.folder in
     let two = c.walk.new.folder in
-    let honest_one : folder.is_honest one ≡ folder.is_honest zero = c.in_ok-names.ensures.honest in
-    let steady_one : folder.is_steady one ≡ folder.is_steady zero = c.in_ok-names.ensures.steady.same in
+    let honest_one : folder.is_honest one ≡ folder.is_honest zero = c.in_ok-names.ensures.kept.honest in
+    let steady_one : folder.is_steady one ≡ folder.is_steady zero = c.in_ok-names.ensures.kept.steady.same in
     let opening = c.walk.new.opening in
     let found = IsAsFound slot.seen slot.temporary slot.may_leave slot.left_since slot.is_honest slot.is_steady in
     whatever _ (subst (λ b. ReturnsAll (found (folder.is_honest zero) b) (folder.images zero) (folder.made two) opening.rings opening.left opening.last) steady_one
@@ -156,7 +156,7 @@ returns-in_err-walk-clause-others g c is =
     let one = c.settled_names.new.folder in
     let two = c.walk.new.folder in
     Stays-trans folder.images folder.may_leave (folder.made zero) (folder.made two) zero one two (none_fewer (folder.made zero) (folder.made two) c.requires.fresh)
-    (c.in_ok-names.ensures.others is) (c.in_err-walk.ensures.others (subst (λ b. IsTrue b) (sym c.in_ok-names.ensures.honest) is))
+    (c.in_ok-names.ensures.others is) (c.in_err-walk.ensures.others (subst (λ b. IsTrue b) (sym c.in_ok-names.ensures.kept.honest) is))
 
 -- or at the file of the aliases
 pub returns-in_err-aliases-clause-returned : goal.returns-in_err-aliases-clause-returned
@@ -166,8 +166,8 @@ returns-in_err-aliases-clause-returned g c =
     let zero = c.args.folder.now in
     let one = c.settled_names.new.folder in
     let two = c.walk.new.folder in
-    let honest_one : folder.is_honest one ≡ folder.is_honest zero = c.in_ok-names.ensures.honest in
-    let steady_one : folder.is_steady one ≡ folder.is_steady zero = c.in_ok-names.ensures.steady.same in
+    let honest_one : folder.is_honest one ≡ folder.is_honest zero = c.in_ok-names.ensures.kept.honest in
+    let steady_one : folder.is_steady one ≡ folder.is_steady zero = c.in_ok-names.ensures.kept.steady.same in
     let three = c.load_aliases.new.folder in
     let before = c.walk.new.opening in
     let opening = c.load_aliases.new.opening in
@@ -193,7 +193,7 @@ returns-in_err-aliases-clause-others g c is =
     let one = c.settled_names.new.folder in
     let two = c.walk.new.folder in
     let three = c.load_aliases.new.folder in
-    let honest_one : folder.is_honest one ≡ folder.is_honest zero = c.in_ok-names.ensures.honest in
+    let honest_one : folder.is_honest one ≡ folder.is_honest zero = c.in_ok-names.ensures.kept.honest in
     let honest_two : folder.is_honest two ≡ folder.is_honest zero = c.in_ok-walk.ensures.honest ∙ honest_one in
     Stays-trans folder.images folder.may_leave (folder.made two) (folder.made three) zero two three (one_fewer aliases (folder.made two) (folder.made three) c.in_err-aliases.ensures.one)
     (Stays-trans folder.images folder.may_leave (folder.made zero) (folder.made two) zero one two (none_fewer (folder.made zero) (folder.made two) c.requires.fresh)
@@ -207,7 +207,7 @@ returns-clause-others g c is =
     let one = c.settled_names.new.folder in
     let two = c.walk.new.folder in
     let three = c.load_aliases.new.folder in
-    let honest_one : folder.is_honest one ≡ folder.is_honest zero = c.in_ok-names.ensures.honest in
+    let honest_one : folder.is_honest one ≡ folder.is_honest zero = c.in_ok-names.ensures.kept.honest in
     let honest_two : folder.is_honest two ≡ folder.is_honest zero = c.in_ok-walk.ensures.honest ∙ honest_one in
     Stays-trans folder.images folder.may_leave (folder.made two) (folder.made three) zero two three (one_fewer aliases (folder.made two) (folder.made three) c.in_ok-aliases.ensures.one)
     (Stays-trans folder.images folder.may_leave (folder.made zero) (folder.made two) zero one two (none_fewer (folder.made zero) (folder.made two) c.requires.fresh)

@@ -16,8 +16,8 @@ returns-in-Ok-clause-sets g c =
       record {
         slot = c.resolve.new.self.slot;
         buffer = c.in-Ok.change.buffer;
-        later = c.resolve.ensures.cause.later;
-        earlier = c.store-in-Ok.ensures.cause.later;
+        later = c.resolve.ensures.kept.later;
+        earlier = c.store-in-Ok.ensures.kept.later;
         by_read = c.in-Ok.ensures.by_read;
       },
       c.in-Ok.ensures.by_name,

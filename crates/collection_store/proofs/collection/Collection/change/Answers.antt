@@ -1,4 +1,4 @@
-use Rattle.std.proofs.Common.{Err, inl, inr, subst}
+use Rattle.std.proofs.Common.{Err, inl, inr, rules, subst}
 use Rattle.std.specs.Prelude.{IfSome}
 use Rattle.std.specs.Option.{option_map}
 use Rattle.collection_store.specs.Changes.{rows_made}
@@ -79,8 +79,10 @@ returns-in-Err-clause-any_moment g c = λ honest. rw (← c.self.view_is) (momen
 pub returns-in-Err-clause-old_alone : goal.returns-in-Err-clause-old_alone
 returns-in-Err-clause-old_alone g c = λ honest. inr (rw (← c.self.view_is) (c.untouched.ensures.any_moment (rw (← c.self.view_is) at honest)))
 
-pub returns-in-Err-clause-cause : goal.returns-in-Err-clause-cause
-returns-in-Err-clause-cause g c = λ is. absurd (no_fault {S = g.row.S.Denot} c.args.change c.args.now c.longest.result c.args.room c.self.inside.cell.slot c.self.inside.cell.file c.self.inside.told c.self.inside.newer Changed c.frame_of-frame.result (front_of c.args.change c.self.inside.told) (rows_made c.args.change c.frame_of-frame.result.time) c.self.inside.held c.in-Err.refused c.in-Err.ensures.refused is)
+pub returns-in-Err-clause-kept : goal.returns-in-Err-clause-kept
+returns-in-Err-clause-kept g c =
+    let none = no_fault {S = g.row.S.Denot} c.args.change c.args.now c.longest.result c.args.room c.self.inside.cell.slot c.self.inside.cell.file c.self.inside.told c.self.inside.newer Changed c.frame_of-frame.result (front_of c.args.change c.self.inside.told) (rows_made c.args.change c.frame_of-frame.result.time) c.self.inside.held c.in-Err.refused c.in-Err.ensures.refused in
+    search rules
 
 pub returns-in-Err-clause-before_call : goal.returns-in-Err-clause-before_call
 returns-in-Err-clause-before_call g c = λ is. absurd (no_fault {S = g.row.S.Denot} c.args.change c.args.now c.longest.result c.args.room c.self.inside.cell.slot c.self.inside.cell.file c.self.inside.told c.self.inside.newer Changed c.frame_of-frame.result (front_of c.args.change c.self.inside.told) (rows_made c.args.change c.frame_of-frame.result.time) c.self.inside.held c.in-Err.refused c.in-Err.ensures.refused (inl is))

@@ -1,4 +1,4 @@
-use Rattle.std.proofs.Common.{inl, inr, refl, sym, ◌∙◌}
+use Rattle.std.proofs.Common.{inl, inr, refl, rules, sym, ◌∙◌}
 use Rattle.std.specs.Option.{option_map}
 use Rattle.collection_store.specs.State.{held_of}
 use Rattle.collection_store.specs.Storing.{parts_of}
@@ -43,8 +43,10 @@ returns-in-Ok-clause-untouched g c = rw c.answered.ensures (fault_or_told _ c.st
 pub returns-in-Ok-clause-any_moment : goal.returns-in-Ok-clause-any_moment
 returns-in-Ok-clause-any_moment g c = λ honest. rw (← c.key-2.ensures, ← c.vector.ensures, ← c.salt.ensures, ← c.iterations.ensures, ← c.self.view_is) (moments_key {S = g.row.S.Denot} c.args.now c.longest.result c.args.room c.key-2.result c.vector.result c.salt.result c.iterations.result c.self.inside.cell.slot c.self.inside.cell.file c.self.inside.told c.self.inside.newer g.S.Slot.moment g.S.Slot.left_since c.store.new.cell.slot c.self.inside.held c.in-Ok.prepared c.longest.ensures c.self.invariant c.in-Ok.ensures.prepared (c.store.ensures.any_moment (rw (← c.self.view_is) at honest)))
 
-pub returns-in-Ok-clause-cause : goal.returns-in-Ok-clause-cause
-returns-in-Ok-clause-cause g c = λ is. rw (← c.self.view_is) (c.store.ensures.cause (fault_told c.store.result (rw c.answered.ensures at is)))
+pub returns-in-Ok-clause-kept : goal.returns-in-Ok-clause-kept
+returns-in-Ok-clause-kept g c =
+    let told = fault_told c.store.result in
+    rw (c.answered.ensures, ← c.self.view_is) (search rules)
 
 pub returns-clause-no_item : goal.returns-clause-no_item
 returns-clause-no_item g c = λ fault is. none_key {S = g.row.S.Denot} c.args.now c.longest.result c.args.room c.key-2.result c.vector.result c.salt.result c.iterations.result c.self.inside.cell.slot c.self.inside.cell.file c.self.inside.told c.self.inside.newer c.self.inside.held c.in-Err.refused fault c.in-Err.ensures.refused (err_of _ _ is)
@@ -64,8 +66,10 @@ returns-clause-unchanged g c = inr (rw (← c.self.view_is) (same_now c.self.ins
 pub returns-clause-any_moment : goal.returns-clause-any_moment
 returns-clause-any_moment g c = λ honest. rw (← c.key-2.ensures, ← c.vector.ensures, ← c.salt.ensures, ← c.iterations.ensures, ← c.self.view_is) (moments_none {S = g.row.S.Denot} c.args.now c.longest.result c.args.room c.key-2.result c.vector.result c.salt.result c.iterations.result c.self.inside.cell.slot c.self.inside.cell.file c.self.inside.told c.self.inside.newer g.S.Slot.moment g.S.Slot.left_since c.self.inside.held c.self.invariant (c.untouched.ensures.any_moment (rw (← c.self.view_is) at honest)))
 
-pub returns-clause-cause : goal.returns-clause-cause
-returns-clause-cause g c = λ is. absurd (no_key_fault {S = g.row.S.Denot} c.args.now c.longest.result c.args.room c.key-2.result c.vector.result c.salt.result c.iterations.result c.self.inside.cell.slot c.self.inside.cell.file c.self.inside.told c.self.inside.newer c.self.inside.held c.in-Err.refused c.in-Err.ensures.refused is)
+pub returns-clause-kept : goal.returns-clause-kept
+returns-clause-kept g c =
+    let none = no_key_fault {S = g.row.S.Denot} c.args.now c.longest.result c.args.room c.key-2.result c.vector.result c.salt.result c.iterations.result c.self.inside.cell.slot c.self.inside.cell.file c.self.inside.told c.self.inside.newer c.self.inside.held c.in-Err.refused c.in-Err.ensures.refused in
+    search rules
 
 pub returns-in-Ok-clause-old_alone : goal.returns-in-Ok-clause-old_alone
 returns-in-Ok-clause-old_alone g c = λ honest. rw (c.answered.ensures, ← c.self.view_is) (before_or_told _ c.store.result c.store.ensures.faults (λ is. c.store.ensures.old_alone (rw (← c.self.view_is) at honest) is))

@@ -6,7 +6,7 @@ use Rattle.replace_slot.proofs.cell.FileCell.remove.Goals as goal
 -- the folder was synced: no file is left
 pub invariant_of-self : goal.invariant_of-self
 invariant_of-self g c honest =
-    let was = sym c.retire.ensures.honest ∙ honest in
+    let was = sym c.retire.ensures.kept.honest ∙ honest in
     let known = known_file c.self.inside.file (subst HasFile (sym (ap (λ s. s.file) c.self.view_is)) c.requires) in
     rw c.set.ensures (c.in-Ok.ensures.removed (old_image c.self.inside.file) was (known_only c.self.inside.file _ known (c.self.invariant was)))
 
@@ -21,7 +21,7 @@ returns-in-Ok-clause-any_moment g c = rw (← c.self.view_is) (λ was.
 -- it was not, or the name stayed: the old image or no file is left
 pub invariant_of-self-in-Err : goal.invariant_of-self-in-Err
 invariant_of-self-in-Err g c honest =
-    let was = sym c.retire.ensures.honest ∙ honest in
+    let was = sym c.retire.ensures.kept.honest ∙ honest in
     let known = known_file c.self.inside.file (subst HasFile (sym (ap (λ s. s.file) c.self.view_is)) c.requires) in
     rw c.doubt.ensures (c.retire.ensures.crash (old_image c.self.inside.file) was (known_only c.self.inside.file _ known (c.self.invariant was)))
 

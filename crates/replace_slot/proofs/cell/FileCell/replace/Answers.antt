@@ -8,8 +8,8 @@ use Rattle.replace_slot.proofs.cell.FileCell.replace.Goals as goal
 -- the folder was synced: the new image is left
 pub invariant_of-self-in-Ok : goal.invariant_of-self-in-Ok
 invariant_of-self-in-Ok g c honest =
-    let mid = sym c.publish.ensures.honest ∙ honest in
-    let was = sym c.prepare.ensures.honest ∙ mid in
+    let mid = sym c.publish.ensures.kept.honest ∙ honest in
+    let was = sym c.prepare.ensures.kept.honest ∙ mid in
     let known = subst IsKnown (sym (ap (λ s. s.file) c.self.view_is)) c.requires in
     let only = known_only c.self.inside.file _ known (c.self.invariant was) in
     let staged = subst (λ b. g.S.Slot.temporary c.prepare.new.slot ≡ Synced b) c.bytes.ensures (c.in_default.ensures.staged was) in
@@ -20,7 +20,7 @@ returns-in-Ok-clause-crash g c honest = invariant_of-self-in-Ok g c honest
 
 pub returns-in-Ok-clause-any_moment : goal.returns-in-Ok-clause-any_moment
 returns-in-Ok-clause-any_moment g c = rw (← c.self.view_is) (λ was.
-    let mid = c.prepare.ensures.honest ∙ was in
+    let mid = c.prepare.ensures.kept.honest ∙ was in
     let known = subst IsKnown (sym (ap (λ s. s.file) c.self.view_is)) c.requires in
     let only = known_only c.self.inside.file _ known (c.self.invariant was) in
     let staged = subst (λ b. g.S.Slot.temporary c.prepare.new.slot ≡ Synced b) c.bytes.ensures (c.in_default.ensures.staged was) in
@@ -31,8 +31,8 @@ returns-in-Ok-clause-any_moment g c = rw (← c.self.view_is) (λ was.
 -- it was not, or the name stayed: the old image or the new one is left
 pub invariant_of-self-in-Err-publish : goal.invariant_of-self-in-Err-publish
 invariant_of-self-in-Err-publish g c honest =
-    let mid = sym c.publish.ensures.honest ∙ honest in
-    let was = sym c.prepare.ensures.honest ∙ mid in
+    let mid = sym c.publish.ensures.kept.honest ∙ honest in
+    let was = sym c.prepare.ensures.kept.honest ∙ mid in
     let known = subst IsKnown (sym (ap (λ s. s.file) c.self.view_is)) c.requires in
     let only = known_only c.self.inside.file _ known (c.self.invariant was) in
     let staged = subst (λ b. g.S.Slot.temporary c.prepare.new.slot ≡ Synced b) c.bytes.ensures (c.in_default.ensures.staged was) in
@@ -43,7 +43,7 @@ returns-in-Err-publish-clause-crash g c honest = invariant_of-self-in-Err-publis
 
 pub returns-in-Err-publish-clause-any_moment : goal.returns-in-Err-publish-clause-any_moment
 returns-in-Err-publish-clause-any_moment g c = rw (← c.self.view_is) (λ was.
-    let mid = c.prepare.ensures.honest ∙ was in
+    let mid = c.prepare.ensures.kept.honest ∙ was in
     let known = subst IsKnown (sym (ap (λ s. s.file) c.self.view_is)) c.requires in
     let only = known_only c.self.inside.file _ known (c.self.invariant was) in
     let staged = subst (λ b. g.S.Slot.temporary c.prepare.new.slot ≡ Synced b) c.bytes.ensures (c.in_default.ensures.staged was) in
@@ -54,7 +54,7 @@ returns-in-Err-publish-clause-any_moment g c = rw (← c.self.view_is) (λ was.
 -- both steps that prepare the file have succeeded
 pub returns-in-Err-publish-clause-staged : goal.returns-in-Err-publish-clause-staged
 returns-in-Err-publish-clause-staged g c = rw (← c.self.view_is) (λ was _.
-    let mid = c.prepare.ensures.honest ∙ was in
+    let mid = c.prepare.ensures.kept.honest ∙ was in
     let known = subst IsKnown (sym (ap (λ s. s.file) c.self.view_is)) c.requires in
     let only = known_only c.self.inside.file _ known (c.self.invariant was) in
     let staged = subst (λ b. g.S.Slot.temporary c.prepare.new.slot ≡ Synced b) c.bytes.ensures (c.in_default.ensures.staged was) in
@@ -69,7 +69,7 @@ returns-in-Err-publish-clause-unsure_call g c = rw (← c.self.view_is) (λ _. �
     (λ after. inr (
       after.0,
       λ was.
-          let mid = c.prepare.ensures.honest ∙ was in
+          let mid = c.prepare.ensures.kept.honest ∙ was in
           let staged = subst (λ b. g.S.Slot.temporary c.prepare.new.slot ≡ Synced b) c.bytes.ensures (c.in_default.ensures.staged was) in
           subst (λ t. GivesTemporary t (g.S.Slot.seen c.publish.new.slot)) staged (after.1 mid),
     ))
