@@ -237,11 +237,13 @@ impl<S: Slot> Collection<S> {
         Ok(())
     }
 
-    /// Locks the collection: its key and its items are dropped. It takes no memory.
+    /// Locks the collection: its key and its items are dropped. It never fails for want of memory; without the
+    /// memory for the index of the hashes, a search compares each item.
     pub fn lock(&mut self)
         ensures { self.new ≡ record self.old { held = None } }
     {
         show_again(&mut self.told, &mut self.held);
+        self.told.make_index(self.alloc);
     }
 
     /// Changes the collection or one of its items, and stores it. The file may grow by `room` bytes.
@@ -443,7 +445,7 @@ impl<S: Slot> Collection<S> {
     }
 
     /// Ends a doubt as `FileCell::resolve` does: the file is read into the buffer, and is then known to have
-    /// the image that was found. It takes no memory.
+    /// the image that was found. It never fails for want of memory.
     ///
     /// Refused with `FaultRead` if the folder couldn't be synced or the file couldn't be read; the doubt stays.
     pub fn resolve(&mut self, buffer: &mut [u8]) -> Result<Found, FaultRead>
@@ -482,7 +484,7 @@ impl<S: Slot> Collection<S> {
         ensures read_call { IsErr result → FailedRead (S.failed self.new.slot) }
     {
         let found = self.cell.resolve(buffer)?;
-        show_found(found, &mut self.told, &mut self.newer);
+        show_found(self.alloc, found, &mut self.told, &mut self.newer);
         Ok(found)
     }
 
@@ -596,7 +598,8 @@ impl<S: Slot> Collection<S> {
     }
 
     /// The ids of the items that match the wanted attributes, in rising order. While the collection is locked,
-    /// the hashes in the clear part are compared (Secret Service API, "Lookup Attributes").
+    /// the hashes in the clear part are compared (Secret Service API, "Lookup Attributes"), and only those of the
+    /// items that have the rarest wanted attribute, as far as its hash can say.
     pub fn search(&self, wanted: &Attributes) -> Result<Vec<ItemId>, OutOfMemory>
         ensures { IfOk result (λ ids. map (λ id. id.0) ids.items
             ≡ found_in wanted.now self.now.clear self.now.held) }
@@ -608,8 +611,8 @@ impl<S: Slot> Collection<S> {
     }
 }
 
-/// Shows the clear part of the image that was found.
-fn show_found(found: Found, told: &mut Told, newer: &mut Option<Told>)
+/// Shows the clear part of the image that was found, with the index of its hashes if there is memory for it.
+fn show_found(alloc: Global, found: Found, told: &mut Told, newer: &mut Option<Told>)
     ensures told { told.new ≡ told_after found told.old newer.old }
     ensures newer { newer.new ≡ None }
 {
@@ -617,6 +620,7 @@ fn show_found(found: Found, told: &mut Told, newer: &mut Option<Told>)
         (Found::New, Some(part)) => *told = part,
         _ => {}
     }
+    told.make_index(alloc);
 }
 
 /// Whether either image is a file.

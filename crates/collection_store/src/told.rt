@@ -1,11 +1,12 @@
-ghost use Rattle.std.specs.Prelude.{◌≡◌, [], ◌∷◌, ◌++◌, IfOk, OnOk, filter, if◌then◌else◌, map};
+ghost use Rattle.std.specs.Prelude.{◌≡◌, IfOk, IfSome, map};
 ghost use Rattle.std.specs.Option.{option_copied};
-ghost use Rattle.attribute_match.specs.Match.{hashed_matches as matches_by_hashes};
+ghost use Rattle.hashed_index.specs.Entries.{IsIndexOf};
+ghost use Rattle.hashed_index.specs.Matching.{matching_ids};
 ghost use Rattle.collection_store.specs.Reading.{content_at};
 ghost use Rattle.collection_store.specs.State.{IsById, by_id};
 
 use crate::order::in_order;
-use attribute_match::hashed_matches;
+use hashed_index::{HashedIndex, all_matching};
 use keyring_file::{Clear, ClearItem};
 use kr_base::{Attributes, ItemId, OutOfMemory, Text};
 use kr_items::Items;
@@ -16,6 +17,8 @@ use std::marker::Model;
 #[derive(Drop)]
 pub struct Told {
     clear: Clear,
+    // While the collection is locked, the index of the items' hashes, if there was memory for it.
+    index: Option<HashedIndex>,
 }
 
 impl Model for Told {
@@ -26,7 +29,10 @@ impl Model for Told {
 
     ghost view = { λ t. t.clear };
 
-    ghost invariant = { λ t. IsById t.clear };
+    ghost use Rattle.std.specs.Prelude.{IfSome};
+    ghost use Rattle.hashed_index.specs.Entries.{IsIndexOf};
+
+    ghost invariant = { λ t. IsById t.clear × IfSome t.index (IsIndexOf t.clear.items) };
 }
 
 impl Told {
@@ -35,7 +41,7 @@ impl Told {
         requires { IsById clear }
         ensures { result ≡ clear }
     {
-        Told { clear }
+        Told { clear, index: None }
     }
 
     /// Takes the clear part of a file, and sorts its items by id.
@@ -53,7 +59,9 @@ impl Told {
             items,
             minor,
         } = clear;
-        let items = Items::new(in_order(alloc, items.into_vec())?);
+        let items = in_order(alloc, items.into_vec())?;
+        let index = index_of(alloc, items.as_slice());
+        let items = Items::new(items);
         Ok(Told {
             clear: Clear {
                 name,
@@ -66,6 +74,7 @@ impl Told {
                 items,
                 minor,
             },
+            index,
         })
     }
 
@@ -88,31 +97,35 @@ impl Told {
         }
     }
 
-    /// The ids of the items whose hashes match, in rising order.
+    /// Makes the index of the hashes, if there is none and there is memory for it. The clear part stays as it
+    /// is.
+    pub fn make_index(&mut self, alloc: Global)
+        ensures { self.new ≡ self.old }
+    {
+        if self.index.is_none() {
+            self.index = index_of(alloc, self.clear.items.as_slice());
+        }
+    }
+
+    /// The ids of the items whose hashes match, in rising order. Without the index each item is compared.
     pub fn search(&self, alloc: Global, wanted: &Attributes) -> Result<Vec<ItemId>, OutOfMemory>
-        ensures { IfOk result (λ ids. map (λ id. id.0) ids.items ≡ map (λ item. item.id.0)
-            (filter (λ item. matches_by_hashes wanted.now item.hashed) self.now.items)) }
+        ensures { IfOk result (λ ids. map (λ id. id.0) ids.items
+            ≡ matching_ids wanted.now self.now.items) }
     {
         let items = self.clear.items.as_slice();
-        let mut ids = Vec::new(alloc);
-        for place in 0..items.len() {
-            put_match(&mut ids, wanted, &items[place])?;
+        match &self.index {
+            Some(index) => index.search(alloc, items, wanted),
+            None => all_matching(alloc, items, wanted),
         }
-        Ok(ids)
     }
 }
 
-/// Appends the id of an item if its hashes match.
-fn put_match(
-    ids: &mut Vec<ItemId>,
-    wanted: &Attributes,
-    item: &ClearItem,
-) -> Result<(), OutOfMemory>
-    ensures { OnOk result (ids.new.items ≡ ids.old.items
-        ++ (if matches_by_hashes wanted.now item.now.hashed then item.now.id ∷ [] else [])) }
+/// The index of the items' hashes. None if there is no memory for it.
+fn index_of(alloc: Global, items: &[ClearItem]) -> Option<HashedIndex>
+    ensures { IfSome result (IsIndexOf items.now) }
 {
-    if hashed_matches(wanted, item.hashed.as_slice()) {
-        ids.push(item.id)?;
+    match HashedIndex::new(alloc, items) {
+        Ok(index) => Some(index),
+        Err(_) => None,
     }
-    Ok(())
 }
