@@ -68,7 +68,7 @@ pub fn find<'a, S: Slot>(
     }
 }
 
-/// Locks the collection of a stem, where there is one. It takes no memory.
+/// Locks the collection of a stem, where there is one. It needs no memory.
 pub fn lock<S: Slot>(entries: &mut Vec<(Stem, Collection<S>)>, stem: &Stem)
     requires { IsInOrder entries.old.items }
     ensures entries { entries.new.items ≡ changed stem.now closed entries.old.items }

@@ -1,7 +1,7 @@
 //! The collections of a service, each with its stem (Secret Service API, interfaces Service and
 //! Collection). Callers may rely on these: stems rise in byte order, and none is there twice; a call that
 //! names a collection reads or changes that one, and all others are as before; a search goes over all
-//! collections and says which ones are unlocked; and locking one takes no memory. A collection is found by
+//! collections and says which ones are unlocked; and locking one needs no memory. A collection is found by
 //! its stem in a number of steps that grows with the logarithm of the number of collections.
 #![tactic(auto)]
 

@@ -174,7 +174,7 @@ impl<S: Slot> CollectionTable<S> {
     }
 
     /// Locks a collection: its key and its items are dropped (Secret Service API, Service.Lock). All others
-    /// are as before, and where there is none of the stem nothing changes. It takes no memory.
+    /// are as before, and where there is none of the stem nothing changes. It needs no memory.
     pub fn lock(&mut self, stem: &Stem)
         ensures closed { self.new
             ≡ record self.old { entries = changed stem.now closed self.old.entries } }

@@ -41,7 +41,7 @@ impl<F: Folder> Machine<F> {
         Ok(bounded(Ok(Body::Objects(Items::new(paths)))))
     }
 
-    // Locks a collection. It takes no memory.
+    // Locks a collection. It needs no memory.
     fn lock_one(&mut self, conn: ConnId, stem: &Stem)
         ensures rows { rows_of self.new
             ≡ performed conn (Lock_collection stem.now) (rows_of self.old) }
@@ -52,7 +52,7 @@ impl<F: Folder> Machine<F> {
         self.disk.collections.lock(stem);
     }
 
-    /// Locks these collections. It takes no memory.
+    /// Locks these collections. It needs no memory.
     pub(crate) fn lock_all(&mut self, conn: ConnId, stems: &[Stem])
         ensures rows { rows_of self.new
             ≡ performed_all conn (map Lock_collection stems.now) (rows_of self.old) }

@@ -12,6 +12,8 @@ mod finding;
 #[cfg(test)]
 mod items;
 #[cfg(test)]
+mod locked;
+#[cfg(test)]
 mod matching;
 #[cfg(test)]
 mod orders;
