@@ -1,4 +1,4 @@
-//! Tests of the crates of the base layer: kr_base, kr_names and kr_items. They show what no clause
+//! Tests of the crates of the base layer: kr_base, kr_names, kr_items and stem_choice. They show what no clause
 //! of those crates says: worked examples of the standards, printed texts, and that each public
 //! function returns a value if there is memory.
 #![tactic(auto)]
@@ -11,5 +11,7 @@ mod checks;
 mod items;
 #[cfg(test)]
 mod names;
+#[cfg(test)]
+mod stems;
 #[cfg(test)]
 mod words;

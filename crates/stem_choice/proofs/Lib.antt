@@ -1,0 +1,4 @@
+mod UsedLemmas
+mod CandidateLemmas
+mod ChoiceLemmas
+mod WorkedRows

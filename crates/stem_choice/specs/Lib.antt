@@ -1,0 +1,2 @@
+pub mod UsedStems
+pub mod Choice

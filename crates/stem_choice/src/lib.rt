@@ -1,0 +1,15 @@
+//! Which stem a new collection gets (docs/SERVICE.md, "Names and paths"), and the stems that are used.
+//! Contracts see used stems as the list of them in byte order. Callers may rely on these: a stem that was
+//! added stays used, adding a stem uses no other one, and the stem that is chosen is free, made of the
+//! label, and the first of its candidates that is free, which there always is.
+#![tactic(auto)]
+
+mod choice;
+mod laws;
+mod used_stems;
+
+pub use choice::chosen_stem;
+pub use laws::{
+    a_used_stem_is_in_the_list, adding_a_stem_uses_it_alone, the_chosen_stem_is_the_first_free_one,
+};
+pub use used_stems::UsedStems;
