@@ -1,5 +1,5 @@
 // The stems that are used, in a list by byte order.
-ghost use Rattle.std.specs.Prelude.{◌≡◌, ℕ, ◌+◌, ◌-◌, ◌<◌, ◌≤◌, ◌^◌, List, [], vec_capacity, vec_len, length, OnErr, OnOk};
+ghost use Rattle.std.specs.Prelude.{◌≡◌, ℕ, ◌+◌, ◌-◌, ◌<◌, ◌≤◌, ◌^◌, List, [], vec_capacity, vec_len, length, IsOk, OnErr, OnOk, true};
 ghost use Rattle.stem_choice.specs.UsedStems.{AreInOrder, UsedState, is_used, with_stem};
 
 use kr_base::{OutOfMemory, Stem};
@@ -117,6 +117,7 @@ impl UsedStems {
     /// `OutOfMemory` alone.
     pub fn add(&mut self, stem: &Stem) -> Result<(), OutOfMemory>
         ensures added { OnOk result (self.new.stems ≡ with_stem stem.now self.old.stems) }
+        ensures used { is_used stem.now self.old.stems ≡ true → IsOk result }
         ensures unchanged { OnErr result (self.new.stems ≡ self.old.stems) }
     {
         if has_in(self.as_slice(), stem.as_str().as_bytes()) {

@@ -130,7 +130,12 @@ fn inserted(alloc: Global, stems: &str) -> Result<UsedStems, Fail> {
 fn are_stems(rt: &(impl AllocGlobal + Abort), used: &UsedStems, row: &str) -> Result<(), Fail> {
     let stems = told(rt.alloc(), used)?;
     same_text(rt, stems.as_str(), cell(row, 1), row);
-    same_number(rt, used.len(), cell(row, 1).split_terminator(',').count(), row);
+    same_number(
+        rt,
+        used.len(),
+        cell(row, 1).split_terminator(',').count(),
+        row,
+    );
     let other = stem_of(rt.alloc(), cell(row, 2))?;
     holds(rt, !used.has(&other), row);
     Ok(())
