@@ -1,5 +1,5 @@
 -- What is sent is read again as the same output.
-use Rattle.std.proofs.Common.{◌≡◌, ℕ, ◌^◌, ◌<◌, ◌≤◌, true, IsTrue, List, [], ◌∷◌, Option, Some, None, IfSome, length, drop, codes, decimal, unwrap_or, refl, ap, ◌∙◌, sym, arith, length-append, if◌then◌else◌}
+use Rattle.std.proofs.Common.{◌≡◌, ℕ, ◌^◌, ◌<◌, ◌≤◌, ◌==◌, not, Bool, true, false, IsTrue, List, [], ◌∷◌, Option, Some, None, IfSome, length, drop, codes, decimal, unwrap_or, refl, ap, ◌∙◌, sym, arith, length-append, if◌then◌else◌}
 use Rattle.std.specs.List.{All}
 use Rattle.std.specs.Str.{bytes_eq}
 use Rattle.std.specs.Str.Parse.{digits_value}
@@ -7,17 +7,19 @@ use Rattle.std.proofs.lemmas.Fmt.{decimal_is_IsNumeral, length-decimal-le}
 use Rattle.kr_names.proofs.TextLemmas.{IsPlain}
 use Rattle.dbus_types.specs.declared.endian.Endian.TheVariants.{Little}
 use Rattle.dbus_types.specs.declared.complete_type.BasicType.TheVariants as basics
+use Rattle.kr_base.specs.declared.ids.PromptId.{PromptId}
 use Rattle.kr_base.specs.declared.ids.SessionId.{SessionId}
 use Rattle.dbus_types.specs.Types.{Ty, is_signature}
 use Rattle.dbus_types.specs.Values.{Val, Vals, tys_of}
+use Rattle.dbus_types.specs.ValueViews.{bit_of}
 use Rattle.dbus_marshal.specs.Limits.{array_limit}
-use Rattle.dbus_marshal.specs.Wire.{number_bytes}
+use Rattle.dbus_marshal.specs.Wire.{IsTextOf, number_bytes}
 use Rattle.dbus_marshal.specs.Spelling.{all_spelled, are_short}
 use Rattle.dbus_marshal.specs.Fitting.{Fits, HaveSpelling}
 use Rattle.dbus_framing.specs.Names.{is_interface_name}
 use Rattle.dbus_framing.specs.Messages.{Parts, IsMessage}
 use Rattle.dbus_framing.specs.Headers.{has_needed}
-use Rattle.dbus_sending.specs.Sent.{HasHeader, CanBeSent, IsName, IsSerial, bare_header, fields_of, fields_read}
+use Rattle.dbus_sending.specs.Sent.{HasHeader, CanBeSent, IsName, IsMember, IsSerial, bare_header, fields_of, fields_read}
 use Rattle.dbus_sending.proofs.MessageLemmas.{sent_is_message}
 use Rattle.secret_calls.specs.declared.out.Body.{Body}
 use Rattle.secret_calls.specs.declared.out.Body.TheVariants as body
@@ -28,11 +30,18 @@ use Rattle.secret_calls.specs.declared.out.Out.TheVariants as out
 use Rattle.secret_calls.specs.declared.secret.ReturnedSecret.{ReturnedSecret}
 use Rattle.secret_calls.specs.declared.secret.ItemSecret.{ItemSecret}
 use Rattle.secret_calls.specs.declared.serial.Serial.{Serial}
+use Rattle.secret_calls.specs.declared.signal.AskKind.{AskKind}
+use Rattle.secret_calls.specs.declared.signal.AskKind.TheVariants as kind
+use Rattle.secret_calls.specs.declared.signal.Completion.{Completion}
+use Rattle.secret_calls.specs.declared.signal.Completion.TheVariants as completion
+use Rattle.secret_calls.specs.declared.signal.Signal.{Signal}
+use Rattle.secret_calls.specs.declared.signal.Signal.TheVariants as signal
 use Rattle.secret_calls.proofs.SerialLemmas.{one_serial}
-use Rattle.secret_calls.specs.Outs.{error_text, session_path, no_object, path_values, secret_value, secret_values, values_of, header_of, body_of, sent, AreTyped, FitsBody, IsSecret, AreSecrets, spelled}
+use Rattle.secret_calls.proofs.SizeLemmas.{prompt-short, fields-most}
+use Rattle.secret_calls.specs.Outs.{error_text, session_path, prompt_path, prompt_text, prompt_value, path_values, secret_value, secret_values, values_of, kind_text, completion_value, signal_values, emitter, header_of, values_sent, sent, AreTyped, IsPrompt, IsSecret, AreSecrets, IsResult, IsSignal, IsTyped, HasSpelling, spelled}
 use Rattle.call_wire.specs.Said.{said, IsSendable}
-use Rattle.call_wire.proofs.PlainLemmas.{plain_text, plain_literal, path_plain, path_is}
-use Rattle.call_wire.proofs.FitLemmas.{all_within, all_short, path_fits, paths_fit, fields_fit, secrets_fit}
+use Rattle.call_wire.proofs.PlainLemmas.{plain_text, plain_literal, path_plain, path_is, prompt_plain, prompt_is}
+use Rattle.call_wire.proofs.FitLemmas.{Within, all_within, all_short, text_is, path_fits, paths_fit, fields_fit, secrets_fit}
 
 -- ---- bodies
 
@@ -45,60 +54,106 @@ record AreBody (values : Vals) : Type 0 where
 path_long : (n : ℕ) → n < 2 ^ 64 → length (session_path n) < 2 ^ 32
 path_long n fits = omega (arith, length-append (codes "/org/freedesktop/secrets/session/s") (decimal n), length-decimal-le 20 n (omega arith) (omega (arith, fits)) fits)
 
-no_object_fits : Fits 64 (Ty.basic basics.ObjectPath) no_object
-no_object_fits = path_fits 64 (codes "/") refl (omega arith)
+-- the path of a prompt, or that of no object
+prompt_fits : (depth : ℕ) (prompt : Option PromptId) → IsPrompt prompt → Fits depth (Ty.basic basics.ObjectPath) (prompt_value prompt)
+prompt_fits depth None is = path_fits depth (codes "/") refl (omega arith)
+prompt_fits depth (Some prompt) is = (refl, ((plain_text (prompt_path prompt.0) (prompt_plain prompt.0 is), omega (arith, prompt-short prompt is)), prompt_is prompt.0 is))
 
-body_is : (body : Body) → FitsBody body → AreBody (values_of body)
-body_is body.Empty fits = record { listed = refl; spelled = tt; arrays = refl }
-body_is (body.Session session) fits = record {
+-- a body that is short enough for an array
+abbrev IsShort : Vals → Type 0
+IsShort values = length (all_spelled Little values 0) ≤ array_limit
+
+body_is : (body : Body) → AreTyped body → IsShort (values_of body) → AreBody (values_of body)
+body_is body.Empty typed short = record { listed = refl; spelled = tt; arrays = refl }
+body_is (body.Session session) typed short = record {
   listed = refl;
   spelled = (
     (refl, (refl, (plain_text [] (plain_literal [] refl), omega arith))),
-    ((refl, ((plain_text (session_path session.0) (path_plain session.0 fits.typed), path_long session.0 fits.typed), path_is session.0 fits.typed)), tt),
+    ((refl, ((plain_text (session_path session.0) (path_plain session.0 typed), path_long session.0 typed), path_is session.0 typed)), tt),
   );
   arrays = refl;
 }
-body_is (body.Found unlocked locked) fits =
-    let few = all_within array_limit (values_of (body.Found unlocked locked)) 0 fits.short in
+body_is (body.Found unlocked locked) typed short =
+    let few = all_within array_limit (values_of (body.Found unlocked locked)) 0 short in
     record {
       listed = refl;
-      spelled = ((refl, paths_fit 63 unlocked fits.typed.0 few.0, refl), ((refl, paths_fit 63 locked fits.typed.1 few.1.0, refl), tt));
-      arrays = all_short (values_of (body.Found unlocked locked)) 0 fits.short;
+      spelled = ((refl, paths_fit 63 unlocked typed.0 few.0, refl), ((refl, paths_fit 63 locked typed.1 few.1.0, refl), tt));
+      arrays = all_short (values_of (body.Found unlocked locked)) 0 short;
     }
-body_is (body.Locked objects) fits =
-    let few = all_within array_limit (values_of (body.Locked objects)) 0 fits.short in
+body_is (body.ObjectsAndPrompt objects prompt) typed short =
+    let few = all_within array_limit (values_of (body.ObjectsAndPrompt objects prompt)) 0 short in
     record {
       listed = refl;
-      spelled = ((refl, paths_fit 63 objects fits.typed few.0, refl), (no_object_fits, tt));
-      arrays = all_short (values_of (body.Locked objects)) 0 fits.short;
+      spelled = ((refl, paths_fit 63 objects typed.0 few.0, refl), (prompt_fits 64 prompt typed.1, tt));
+      arrays = all_short (values_of (body.ObjectsAndPrompt objects prompt)) 0 short;
     }
-body_is (body.Objects objects) fits =
-    let few = all_within array_limit (values_of (body.Objects objects)) 0 fits.short in
+body_is (body.Objects objects) typed short =
+    let few = all_within array_limit (values_of (body.Objects objects)) 0 short in
     record {
       listed = refl;
-      spelled = ((refl, paths_fit 63 objects fits.typed few.0, refl), tt);
-      arrays = all_short (values_of (body.Objects objects)) 0 fits.short;
+      spelled = ((refl, paths_fit 63 objects typed few.0, refl), tt);
+      arrays = all_short (values_of (body.Objects objects)) 0 short;
     }
-body_is (body.Made item) fits =
-    let few = all_within array_limit (values_of (body.Made item)) 0 fits.short in
-    record { listed = refl; spelled = (path_fits 64 item fits.typed few.0, (no_object_fits, tt)); arrays = refl }
-body_is (body.Object object) fits =
-    let few = all_within array_limit (values_of (body.Object object)) 0 fits.short in
-    record { listed = refl; spelled = (path_fits 64 object fits.typed few.0, tt); arrays = refl }
-body_is (body.Secret secret) fits =
-    let few = all_within array_limit (values_of (body.Secret secret)) 0 fits.short in
+body_is (body.ObjectAndPrompt object prompt) typed short =
+    let few = all_within array_limit (values_of (body.ObjectAndPrompt object prompt)) 0 short in
+    record { listed = refl; spelled = (path_fits 64 object typed.0 few.0, (prompt_fits 64 prompt typed.1, tt)); arrays = refl }
+body_is (body.Object object) typed short =
+    let few = all_within array_limit (values_of (body.Object object)) 0 short in
+    record { listed = refl; spelled = (path_fits 64 object typed few.0, tt); arrays = refl }
+body_is (body.Secret secret) typed short =
+    let few = all_within array_limit (values_of (body.Secret secret)) 0 short in
     record {
       listed = refl;
-      spelled = (fields_fit 62 secret fits.typed few.0, tt);
-      arrays = all_short (values_of (body.Secret secret)) 0 fits.short;
+      spelled = (fields_fit 62 secret typed few.0, tt);
+      arrays = all_short (values_of (body.Secret secret)) 0 short;
     }
-body_is (body.Secrets secrets) fits =
-    let few = all_within array_limit (values_of (body.Secrets secrets)) 0 fits.short in
+body_is (body.Secrets secrets) typed short =
+    let few = all_within array_limit (values_of (body.Secrets secrets)) 0 short in
     record {
       listed = refl;
-      spelled = ((refl, secrets_fit secrets fits.typed few.0, refl), tt);
-      arrays = all_short (values_of (body.Secrets secrets)) 0 fits.short;
+      spelled = ((refl, secrets_fit secrets typed few.0, refl), tt);
+      arrays = all_short (values_of (body.Secrets secrets)) 0 short;
     }
+
+-- ---- signals
+
+kind_fits : (depth : ℕ) (kind : AskKind) → Fits depth (Ty.basic basics.String) (Val.text basics.String (kind_text kind))
+kind_fits depth kind.Unlock = (refl, (plain_text (codes "unlock") (plain_literal (codes "unlock") refl), omega arith))
+kind_fits depth kind.Create = (refl, (plain_text (codes "create") (plain_literal (codes "create") refl), omega arith))
+
+bit_fits : (depth : ℕ) (truth : Bool) → Fits depth (Ty.basic basics.Boolean) (Val.number basics.Boolean (bit_of truth))
+bit_fits depth true = (refl, omega arith)
+bit_fits depth false = (refl, omega arith)
+
+-- what a prompt completes with, as a variant
+completion_fits : (result : Completion) → IsResult result → Within array_limit (completion_value result) → Fits 64 Ty.variant (Val.variant (completion_value result))
+completion_fits (completion.Objects objects) is few = (refl, (refl, paths_fit 62 objects is few, refl))
+completion_fits (completion.Object object) is few = (refl, path_fits 63 object is few)
+
+signal_is : (signal : Signal) → IsSignal signal → IsShort (signal_values signal) → AreBody (signal_values signal)
+signal_is (signal.Ask prompt round kind label wrong) typed short =
+    let few = all_within array_limit (signal_values (signal.Ask prompt round kind label wrong)) 0 short in
+    record {
+      listed = refl;
+      spelled = (
+        prompt_fits 64 (Some prompt) typed.0,
+        ((refl, typed.1), (kind_fits 64 kind, ((refl, (text_is label typed.2, omega (arith, few.1.1.1.0))), ((refl, typed.3), tt)))),
+      );
+      arrays = refl;
+    }
+signal_is (signal.Completed prompt dismissed result) typed short =
+    let few = all_within array_limit (signal_values (signal.Completed prompt dismissed result)) 0 short in
+    record {
+      listed = refl;
+      spelled = (bit_fits 64 dismissed, (completion_fits result typed.1 few.1.0, tt));
+      arrays = all_short (signal_values (signal.Completed prompt dismissed result)) 0 short;
+    }
+
+-- the values of an output
+sent_is : (out : Out) → HasSpelling out → AreBody (values_sent out)
+sent_is (out.Return to body) has = body_is body has.typed has.short
+sent_is (out.Error to name) has = record { listed = refl; spelled = tt; arrays = refl }
+sent_is (out.Signal signal) has = signal_is signal has.typed has.short
 
 -- ---- the body with these values
 
@@ -117,6 +172,15 @@ texts_in (Vals.more value values) = text_in value ∷ texts_in values
 
 abbrev session_in : Val → SessionId
 session_in value = record { 0 = digits_value 10 (drop 34 (text_in value)) }
+
+-- the prompt with this path, which is longer than `/`
+abbrev prompt_at : List ℕ → PromptId
+prompt_at path = record { 0 = digits_value 10 (drop 33 path) }
+
+abbrev prompt_in : List ℕ → Option PromptId
+prompt_in [] = None
+prompt_in (code ∷ []) = None
+prompt_in (code ∷ next ∷ codes) = Some (prompt_at (code ∷ next ∷ codes))
 
 -- the secret with these fields
 abbrev secret_of : Vals → ReturnedSecret
@@ -148,9 +212,9 @@ one_in value = body.Empty
 
 abbrev two_in : Val → Val → Body
 two_in (Val.variant value) other = body.Session (session_in other)
-two_in (Val.text b text) other = body.Made text
+two_in (Val.text b text) other = body.ObjectAndPrompt text (prompt_in (text_in other))
 two_in (Val.array t elements) (Val.array u others) = body.Found (texts_in elements) (texts_in others)
-two_in (Val.array t elements) other = body.Locked (texts_in elements)
+two_in (Val.array t elements) other = body.ObjectsAndPrompt (texts_in elements) (prompt_in (text_in other))
 two_in value other = body.Empty
 
 abbrev body_in : Vals → Body
@@ -172,20 +236,78 @@ secrets_again (one ∷ secrets) are =
     ap (λ (s : ReturnedSecret). record one { secret = s } ∷ secrets_in (secret_values secrets)) (secret_again one.secret are.1)
     ∙ ap (λ (more : List ItemSecret). one ∷ more) (secrets_again secrets are.2)
 
+prompt_again : (prompt : Option PromptId) → IsPrompt prompt → prompt_in (prompt_text prompt) ≡ prompt
+prompt_again None is = refl
+prompt_again (Some prompt) is = ap (λ (n : ℕ). Some (record { 0 = n })) ((decimal_is_IsNumeral prompt.0 is).1)
+
 body_again : (body : Body) → AreTyped body → body_in (values_of body) ≡ body
 body_again body.Empty typed = refl
 body_again (body.Session session) typed = ap (λ n. body.Session (record { 0 = n })) ((decimal_is_IsNumeral session.0 typed).1)
 body_again (body.Found unlocked locked) typed =
     ap (λ u. body.Found u (texts_in (path_values locked))) (texts_again unlocked) ∙ ap (body.Found unlocked) (texts_again locked)
-body_again (body.Locked objects) typed = ap body.Locked (texts_again objects)
+body_again (body.ObjectsAndPrompt objects prompt) typed =
+    ap (λ them. body.ObjectsAndPrompt them (prompt_in (prompt_text prompt))) (texts_again objects) ∙ ap (body.ObjectsAndPrompt objects) (prompt_again prompt typed.1)
 body_again (body.Objects objects) typed = ap body.Objects (texts_again objects)
-body_again (body.Made item) typed = refl
+body_again (body.ObjectAndPrompt object prompt) typed = ap (body.ObjectAndPrompt object) (prompt_again prompt typed.1)
 body_again (body.Object object) typed = refl
 body_again (body.Secret secret) typed = ap body.Secret (secret_again secret typed)
 body_again (body.Secrets secrets) typed = ap body.Secrets (secrets_again secrets typed)
 
 one_body : (one other : Body) → AreTyped one → AreTyped other → values_of one ≡ values_of other → one ≡ other
 one_body one other fits fit same = sym (body_again one fits) ∙ ap body_in same ∙ body_again other fit
+
+-- ---- the signal with this path and these values
+
+abbrev number_in : Val → ℕ
+number_in (Val.number b number) = number
+number_in value = 0
+
+abbrev held_in : Val → Val
+held_in (Val.variant value) = value
+held_in value = value
+
+-- the kind whose word begins with this letter
+abbrev kind_in : List ℕ → AskKind
+kind_in [] = kind.Create
+kind_in (code ∷ codes) = if code == 117 then kind.Unlock else kind.Create
+
+abbrev completion_in : Val → Completion
+completion_in (Val.array t elements) = completion.Objects (texts_in elements)
+completion_in value = completion.Object (text_in value)
+
+abbrev signal_in : List ℕ → Vals → Signal
+signal_in path (Vals.more prompt (Vals.more round (Vals.more kind (Vals.more label (Vals.more wrong values))))) =
+    signal.Ask (prompt_at (text_in prompt)) (number_in round) (kind_in (text_in kind)) (text_in label) (number_in wrong)
+signal_in path (Vals.more dismissed (Vals.more result values)) = signal.Completed (prompt_at path) (not (number_in dismissed == 0)) (completion_in (held_in result))
+signal_in path values = signal.Completed (prompt_at path) false (completion.Object [])
+
+kind_again : (kind : AskKind) → kind_in (kind_text kind) ≡ kind
+kind_again kind.Unlock = refl
+kind_again kind.Create = refl
+
+bit_again : (truth : Bool) → not (bit_of truth == 0) ≡ truth
+bit_again true = refl
+bit_again false = refl
+
+completion_again : (result : Completion) → completion_in (completion_value result) ≡ result
+completion_again (completion.Objects objects) = ap completion.Objects (texts_again objects)
+completion_again (completion.Object object) = refl
+
+at_again : (prompt : PromptId) → prompt.0 < 2 ^ 64 → prompt_at (prompt_path prompt.0) ≡ prompt
+at_again prompt fits = ap (λ (n : ℕ). record { 0 = n }) ((decimal_is_IsNumeral prompt.0 fits).1)
+
+signal_again : (signal : Signal) → IsSignal signal → signal_in (emitter signal) (signal_values signal) ≡ signal
+signal_again (signal.Ask prompt round kind label wrong) is =
+    ap (λ p. signal.Ask p round (kind_in (kind_text kind)) label wrong) (at_again prompt is.0)
+    ∙ ap (λ k. signal.Ask prompt round k label wrong) (kind_again kind)
+signal_again (signal.Completed prompt dismissed result) is =
+    ap (λ p. signal.Completed p (not (bit_of dismissed == 0)) (completion_in (completion_value result))) (at_again prompt is.0)
+    ∙ ap (λ d. signal.Completed prompt d (completion_in (completion_value result))) (bit_again dismissed)
+    ∙ ap (signal.Completed prompt dismissed) (completion_again result)
+
+one_signal : (one other : Signal) → IsSignal one → IsSignal other → emitter one ≡ emitter other → signal_values one ≡ signal_values other → one ≡ other
+one_signal one other is are path values =
+    sym (signal_again one is) ∙ ap (λ p. signal_in p (signal_values one)) path ∙ ap (signal_in (emitter other)) values ∙ signal_again other are
 
 -- ---- names of errors
 
@@ -200,7 +322,10 @@ which text =
     if bytes_eq text (error_text name.LimitsExceeded) then name.LimitsExceeded else
     if bytes_eq text (error_text name.IOError) then name.IOError else
     if bytes_eq text (error_text name.IsLocked) then name.IsLocked else
-    if bytes_eq text (error_text name.NoSession) then name.NoSession else name.NoSuchObject
+    if bytes_eq text (error_text name.AccessDenied) then name.AccessDenied else
+    if bytes_eq text (error_text name.NoSession) then name.NoSession else
+    if bytes_eq text (error_text name.NoSuchObject) then name.NoSuchObject else
+    if bytes_eq text (error_text name.AgentTaken) then name.AgentTaken else name.OldRound
 
 -- an error's name is a short text, an error name, and that of no other error
 record IsNamed (name : ErrorName) : Type 0 where
@@ -217,9 +342,12 @@ named name.UnknownMethod = record { plain = plain_literal (error_text name.Unkno
 named name.InvalidArgs = record { plain = plain_literal (error_text name.InvalidArgs) refl; short = omega arith; formed = refl; alone = refl }
 named name.LimitsExceeded = record { plain = plain_literal (error_text name.LimitsExceeded) refl; short = omega arith; formed = refl; alone = refl }
 named name.IOError = record { plain = plain_literal (error_text name.IOError) refl; short = omega arith; formed = refl; alone = refl }
+named name.AccessDenied = record { plain = plain_literal (error_text name.AccessDenied) refl; short = omega arith; formed = refl; alone = refl }
 named name.IsLocked = record { plain = plain_literal (error_text name.IsLocked) refl; short = omega arith; formed = refl; alone = refl }
 named name.NoSession = record { plain = plain_literal (error_text name.NoSession) refl; short = omega arith; formed = refl; alone = refl }
 named name.NoSuchObject = record { plain = plain_literal (error_text name.NoSuchObject) refl; short = omega arith; formed = refl; alone = refl }
+named name.AgentTaken = record { plain = plain_literal (error_text name.AgentTaken) refl; short = omega arith; formed = refl; alone = refl }
+named name.OldRound = record { plain = plain_literal (error_text name.OldRound) refl; short = omega arith; formed = refl; alone = refl }
 
 is_name : (name : ErrorName) → IsName (error_text name)
 is_name name = ((plain_text (error_text name) (named name).plain, omega (arith, (named name).short)), (named name).formed)
@@ -230,29 +358,35 @@ one_error one other same = sym (named one).alone ∙ ap which same ∙ (named ot
 -- ---- each output
 
 -- the fields of an output are few
-fields_short : (out : Out) (serial : ℕ) → length (all_spelled Little (fields_of (sent out serial)) 0) ≤ array_limit
+fields_short : (out : Out) (serial : ℕ) → IsTyped out → length (all_spelled Little (fields_of (sent out serial)) 0) ≤ array_limit
 unfolding number_bytes
-fields_short (out.Return to body.Empty) serial = omega arith
-fields_short (out.Return to (body.Session session)) serial = omega arith
-fields_short (out.Return to (body.Found unlocked locked)) serial = omega arith
-fields_short (out.Return to (body.Locked objects)) serial = omega arith
-fields_short (out.Return to (body.Objects objects)) serial = omega arith
-fields_short (out.Return to (body.Made item)) serial = omega arith
-fields_short (out.Return to (body.Object object)) serial = omega arith
-fields_short (out.Return to (body.Secret secret)) serial = omega arith
-fields_short (out.Return to (body.Secrets secrets)) serial = omega arith
-fields_short (out.Error to name.NotSupported) serial = omega arith
-fields_short (out.Error to name.UnknownObject) serial = omega arith
-fields_short (out.Error to name.UnknownInterface) serial = omega arith
-fields_short (out.Error to name.UnknownMethod) serial = omega arith
-fields_short (out.Error to name.InvalidArgs) serial = omega arith
-fields_short (out.Error to name.LimitsExceeded) serial = omega arith
-fields_short (out.Error to name.IOError) serial = omega arith
-fields_short (out.Error to name.IsLocked) serial = omega arith
-fields_short (out.Error to name.NoSession) serial = omega arith
-fields_short (out.Error to name.NoSuchObject) serial = omega arith
+fields_short (out.Return to body.Empty) serial typed = omega arith
+fields_short (out.Return to (body.Session session)) serial typed = omega arith
+fields_short (out.Return to (body.Found unlocked locked)) serial typed = omega arith
+fields_short (out.Return to (body.ObjectsAndPrompt objects prompt)) serial typed = omega arith
+fields_short (out.Return to (body.Objects objects)) serial typed = omega arith
+fields_short (out.Return to (body.ObjectAndPrompt object prompt)) serial typed = omega arith
+fields_short (out.Return to (body.Object object)) serial typed = omega arith
+fields_short (out.Return to (body.Secret secret)) serial typed = omega arith
+fields_short (out.Return to (body.Secrets secrets)) serial typed = omega arith
+fields_short (out.Error to name.NotSupported) serial typed = omega arith
+fields_short (out.Error to name.UnknownObject) serial typed = omega arith
+fields_short (out.Error to name.UnknownInterface) serial typed = omega arith
+fields_short (out.Error to name.UnknownMethod) serial typed = omega arith
+fields_short (out.Error to name.InvalidArgs) serial typed = omega arith
+fields_short (out.Error to name.LimitsExceeded) serial typed = omega arith
+fields_short (out.Error to name.IOError) serial typed = omega arith
+fields_short (out.Error to name.AccessDenied) serial typed = omega arith
+fields_short (out.Error to name.IsLocked) serial typed = omega arith
+fields_short (out.Error to name.NoSession) serial typed = omega arith
+fields_short (out.Error to name.NoSuchObject) serial typed = omega arith
+fields_short (out.Error to name.AgentTaken) serial typed = omega arith
+fields_short (out.Error to name.OldRound) serial typed = omega arith
+fields_short (out.Signal (signal.Ask prompt round kind label wrong)) serial typed = omega arith
+fields_short (out.Signal (signal.Completed prompt dismissed result)) serial typed =
+    omega (arith, prompt-short prompt typed.0, (fields-most (prompt_path prompt.0) (codes "org.freedesktop.Secret.Prompt") (codes "Completed") 98 (codes "v")).few 0)
 
--- the header of an output, of this type and with this error's name, if any
+-- the header of a reply of this type, with this error's name, if any
 has_header : (kind serial : ℕ) (to : Serial) (name : Option (List ℕ)) → 0 < kind → kind < 256 → IsSerial serial → IfSome name IsName
     → HasHeader (record (bare_header kind 1 serial) { error_name = name; reply_serial = Some to.number })
 has_header kind serial to name some few numbered named = record {
@@ -269,39 +403,85 @@ has_header kind serial to name some few numbered named = record {
   sender = tt;
 }
 
-header_is : (serial : ℕ) → IsSerial serial → (out : Out) → HasHeader (header_of out serial)
-header_is serial numbered (out.Return to body) = has_header 2 serial to None (omega arith) (omega arith) numbered tt
-header_is serial numbered (out.Error to name) = has_header 3 serial to (Some (error_text name)) (omega arith) (omega arith) numbered (is_name name)
+-- the header of a signal
+has_emitter : (serial : ℕ) (path interface name : List ℕ) → IsSerial serial → IsTextOf basics.ObjectPath path → IsName interface → IsMember name
+    → HasHeader (record (bare_header 4 1 serial) { path = Some path; interface = Some interface; member = Some name })
+has_emitter serial path interface name numbered emitted formed named = record {
+  typed = λ e. omega (arith, e);
+  kind = omega arith;
+  flags = omega arith;
+  serial = numbered;
+  path = emitted;
+  interface = formed;
+  member = named;
+  error_name = tt;
+  reply_serial = tt;
+  destination = tt;
+  sender = tt;
+}
+
+signal_header : (serial : ℕ) → IsSerial serial → (signal : Signal) → IsSignal signal → HasHeader (header_of (out.Signal signal) serial)
+signal_header serial numbered (signal.Ask prompt round kind label wrong) is =
+    let path = codes "/org/freedesktop/secrets/agent" in
+    let interface = codes "org.keyringd.Agent1" in
+    has_emitter serial path interface (codes "Ask") numbered ((plain_text path (plain_literal path refl), omega arith), refl)
+    ((plain_text interface (plain_literal interface refl), omega arith), refl) ((plain_text (codes "Ask") (plain_literal (codes "Ask") refl), omega arith), refl)
+signal_header serial numbered (signal.Completed prompt dismissed result) is =
+    let interface = codes "org.freedesktop.Secret.Prompt" in
+    has_emitter serial (prompt_path prompt.0) interface (codes "Completed") numbered (prompt_fits 64 (Some prompt) is.0).1
+    ((plain_text interface (plain_literal interface refl), omega arith), refl) ((plain_text (codes "Completed") (plain_literal (codes "Completed") refl), omega arith), refl)
+
+header_is : (serial : ℕ) → IsSerial serial → (out : Out) → IsTyped out → HasHeader (header_of out serial)
+header_is serial numbered (out.Return to body) typed = has_header 2 serial to None (omega arith) (omega arith) numbered tt
+header_is serial numbered (out.Error to name) typed = has_header 3 serial to (Some (error_text name)) (omega arith) (omega arith) numbered (is_name name)
+header_is serial numbered (out.Signal signal) typed = signal_header serial numbered signal typed
 
 needed : (serial : ℕ) (out : Out) → IsTrue (has_needed (header_of out serial).kind (fields_read (sent out serial)))
 needed serial (out.Return to body) = refl
 needed serial (out.Error to name) = refl
+needed serial (out.Signal signal) = refl
 
 can_be_sent : (most serial : ℕ) (out : Out) → IsSendable most out serial → CanBeSent (sent out serial)
 can_be_sent most serial out is =
-    let are = body_is (body_of out) is.has in
+    let are = sent_is out is.has in
     record {
-      header = header_is serial (is.numbered, omega (arith, is.serial_fits)) out;
+      header = header_is serial (is.numbered, omega (arith, is.serial_fits)) out is.has.typed;
       needed = needed serial out;
       listed = are.listed;
       spelled = are.spelled;
       arrays = are.arrays;
-      fields_short = fields_short out serial;
+      fields_short = fields_short out serial is.has.typed;
       body_short = omega (arith, is.has.short);
     }
 
 pub sent_again : (most serial : ℕ) (out : Out) → IsSendable most out serial → IsMessage most (spelled out serial) (said out serial)
 sent_again most serial out is = sent_is_message most (sent out serial) (can_be_sent most serial out is) is.short
 
--- two outputs that say the same are the same, with the same serial
-pub one_output : (serial again : ℕ) (one other : Out) → AreTyped (body_of one) → AreTyped (body_of other) → said one serial ≡ said other again → (one ≡ other) × (serial ≡ again)
-one_output serial again (out.Return to body) (out.Return too other) fits fit same = (
-  ap (λ n. out.Return n body) (one_serial to too (ap (λ (p : Parts). unwrap_or p.reply_serial 0) same)) ∙ ap (λ b. out.Return too b) (one_body body other fits fit (ap (λ (p : Parts). p.body) same)),
-  ap (λ (p : Parts). p.serial) same,
-)
-one_output serial again (out.Return to body) (out.Error too name) fits fit same = absurd (omega (arith, ap (λ (p : Parts). p.kind) same))
-one_output serial again (out.Error to name) (out.Return too body) fits fit same = absurd (omega (arith, ap (λ (p : Parts). p.kind) same))
-one_output serial again (out.Error to name) (out.Error too other) fits fit same = (
-  ap (λ n. out.Error n name) (one_serial to too (ap (λ (p : Parts). unwrap_or p.reply_serial 0) same)) ∙ ap (λ n. out.Error too n) (one_error name other (ap (λ (p : Parts). unwrap_or p.error_name []) same)),
-  ap (λ (p : Parts). p.serial) same,
-)
+-- two outputs that say the same are the same
+one_out : (serial again : ℕ) (one other : Out) → IsTyped one → IsTyped other → said one serial ≡ said other again → one ≡ other
+one_out serial again (out.Return to body) (out.Return too other) is are same =
+    ap (λ n. out.Return n body) (one_serial to too (ap (λ (p : Parts). unwrap_or p.reply_serial 0) same))
+    ∙ ap (λ b. out.Return too b) (one_body body other is are (ap (λ (p : Parts). p.body) same))
+one_out serial again (out.Return to body) (out.Error too name) is are same = absurd (omega (arith, ap (λ (p : Parts). p.kind) same))
+one_out serial again (out.Return to body) (out.Signal signal) is are same = absurd (omega (arith, ap (λ (p : Parts). p.kind) same))
+one_out serial again (out.Error to name) (out.Return too body) is are same = absurd (omega (arith, ap (λ (p : Parts). p.kind) same))
+one_out serial again (out.Error to name) (out.Error too other) is are same =
+    ap (λ n. out.Error n name) (one_serial to too (ap (λ (p : Parts). unwrap_or p.reply_serial 0) same))
+    ∙ ap (λ n. out.Error too n) (one_error name other (ap (λ (p : Parts). unwrap_or p.error_name []) same))
+one_out serial again (out.Error to name) (out.Signal signal) is are same = absurd (omega (arith, ap (λ (p : Parts). p.kind) same))
+one_out serial again (out.Signal signal) (out.Return too body) is are same = absurd (omega (arith, ap (λ (p : Parts). p.kind) same))
+one_out serial again (out.Signal signal) (out.Error too name) is are same = absurd (omega (arith, ap (λ (p : Parts). p.kind) same))
+one_out serial again (out.Signal signal) (out.Signal other) is are same =
+    ap out.Signal (one_signal signal other is are (ap (λ (p : Parts). unwrap_or p.path []) same) (ap (λ (p : Parts). p.body) same))
+
+numbered : (serial : ℕ) (out : Out) → (said out serial).serial ≡ serial
+numbered serial (out.Return to body) = refl
+numbered serial (out.Error to name) = refl
+numbered serial (out.Signal signal) = refl
+
+one_number : (serial again : ℕ) (one other : Out) → said one serial ≡ said other again → serial ≡ again
+one_number serial again one other same = sym (numbered serial one) ∙ ap (λ (p : Parts). p.serial) same ∙ numbered again other
+
+-- and have the same serial
+pub one_output : (serial again : ℕ) (one other : Out) → IsTyped one → IsTyped other → said one serial ≡ said other again → (one ≡ other) × (serial ≡ again)
+one_output serial again one other is are same = (one_out serial again one other is are same, one_number serial again one other same)

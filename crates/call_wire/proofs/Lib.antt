@@ -1,5 +1,3 @@
-mod FrontLemmas
 mod PlainLemmas
-mod ValueLemmas
 mod FitLemmas
 mod AgainLemmas

@@ -5,13 +5,13 @@ use Rattle.kr_base.specs.declared.attributes.AttrValue.{AttrValue}
 use Rattle.kr_names.specs.declared.object_name.ObjectName.{ObjectName}
 use Rattle.kr_names.specs.declared.object_name.ObjectName.TheVariants as name
 use Rattle.dbus_types.specs.Values.{Val, Vals}
-use Rattle.dbus_framing.specs.Headers.{string_in, one_of}
+use Rattle.dbus_framing.specs.Headers.{one_of}
 use Rattle.secret_calls.specs.declared.call.Call.{Call}
 use Rattle.secret_calls.specs.declared.call.Call.TheVariants as call
 use Rattle.secret_calls.specs.declared.call.CallFault.{CallFault}
 use Rattle.secret_calls.specs.declared.call.CallFault.TheVariants as fault
-use Rattle.call_wire.specs.declared.values.ElementType.TheVariants as element
-use Rattle.call_wire.specs.Arguments.{without_arguments, three_of, elements_in, truth_in, attributes_in, property, secret_in}
+use Rattle.call_arguments.specs.declared.values.ElementType.TheVariants as element
+use Rattle.call_arguments.specs.Arguments.{without_arguments, three_of, elements_in, truth_in, attributes_in, property, label_in, secret_in}
 
 -- the name of the interface
 abbrev pub interface : List ℕ
@@ -35,11 +35,6 @@ label_name = codes "org.freedesktop.Secret.Item.Label"
 
 abbrev pub attributes_name : List ℕ
 attributes_name = codes "org.freedesktop.Secret.Item.Attributes"
-
--- the label, which is empty if the property is missing
-abbrev pub label_in : Option Val → Option (List ℕ)
-label_in None = Some []
-label_in (Some value) = string_in value
 
 -- the attributes, of which there are none if the property is missing
 abbrev pub given_attributes_in : Option Val → Option (List (List ℕ × AttrValue))

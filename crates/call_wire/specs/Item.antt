@@ -9,7 +9,7 @@ use Rattle.secret_calls.specs.declared.call.Call.{Call}
 use Rattle.secret_calls.specs.declared.call.Call.TheVariants as call
 use Rattle.secret_calls.specs.declared.call.CallFault.{CallFault}
 use Rattle.secret_calls.specs.declared.call.CallFault.TheVariants as fault
-use Rattle.call_wire.specs.Arguments.{without_arguments, session_in, secret_in}
+use Rattle.call_arguments.specs.Arguments.{without_arguments, session_in, secret_in}
 
 -- the name of the interface
 abbrev pub interface : List ℕ

@@ -1,10 +1,8 @@
-pub mod Arguments
 pub mod Peer
 pub mod Service
 pub mod Collection
 pub mod Item
 pub mod Session
 pub mod Members
-pub mod Fronts
 pub mod CallOf
 pub mod Said

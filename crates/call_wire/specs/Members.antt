@@ -38,6 +38,8 @@ members =
     record { interface = interface.Service; name = codes "SearchItems"; arguments = codes "a{ss}"; method = method.SearchItems } ∷
     record { interface = interface.Service; name = codes "Lock"; arguments = codes "ao"; method = method.Lock } ∷
     record { interface = interface.Service; name = codes "GetSecrets"; arguments = codes "aoo"; method = method.GetSecrets } ∷
+    record { interface = interface.Service; name = codes "ReadAlias"; arguments = codes "s"; method = method.ReadAlias } ∷
+    record { interface = interface.Service; name = codes "SetAlias"; arguments = codes "so"; method = method.SetAlias } ∷
     record { interface = interface.Collection; name = codes "SearchItems"; arguments = codes "a{ss}"; method = method.SearchCollection } ∷
     record { interface = interface.Collection; name = codes "CreateItem"; arguments = codes "a{sv}(oayays)b"; method = method.CreateItem } ∷
     record { interface = interface.Collection; name = codes "Delete"; arguments = []; method = method.DeleteCollection } ∷
@@ -93,6 +95,8 @@ call_with method.OpenSession object values = service.open_session values
 call_with method.SearchItems object values = service.search_items values
 call_with method.Lock object values = service.lock values
 call_with method.GetSecrets object values = service.get_secrets values
+call_with method.ReadAlias object values = service.read_alias values
+call_with method.SetAlias object values = service.set_alias values
 call_with method.SearchCollection object values = collection.search_items object values
 call_with method.CreateItem object values = collection.create_item object values
 call_with method.DeleteCollection object values = collection.delete object values

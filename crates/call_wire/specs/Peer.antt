@@ -4,7 +4,7 @@ use Rattle.dbus_types.specs.Values.{Vals}
 use Rattle.secret_calls.specs.declared.call.Call.{Call}
 use Rattle.secret_calls.specs.declared.call.Call.TheVariants as call
 use Rattle.secret_calls.specs.declared.call.CallFault.{CallFault}
-use Rattle.call_wire.specs.Arguments.{without_arguments}
+use Rattle.call_arguments.specs.Arguments.{without_arguments}
 
 -- its name
 abbrev pub interface : List ℕ

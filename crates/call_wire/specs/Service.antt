@@ -6,7 +6,7 @@ use Rattle.secret_calls.specs.declared.call.Call.{Call}
 use Rattle.secret_calls.specs.declared.call.Call.TheVariants as call
 use Rattle.secret_calls.specs.declared.call.CallFault.{CallFault}
 use Rattle.secret_calls.specs.declared.call.CallFault.TheVariants as fault
-use Rattle.call_wire.specs.Arguments.{attributes_in, objects_in, session_in}
+use Rattle.call_arguments.specs.Arguments.{attributes_in, objects_in, session_in, name_in, alias_in}
 
 -- its name
 abbrev pub interface : List ℕ
@@ -35,3 +35,15 @@ secrets_wanted arguments = option_and_then (λ items. option_map (λ session. ca
 -- GetSecrets
 abbrev pub get_secrets : Vals → Result Call CallFault
 get_secrets values = ok_or (option_and_then secrets_wanted (two_of values)) fault.InvalidArgs
+
+-- ReadAlias, with the name
+abbrev pub read_alias : Vals → Result Call CallFault
+read_alias values = ok_or (option_map (λ name. call.ReadAlias name) (option_and_then string_in (one_of values))) fault.InvalidArgs
+
+-- SetAlias with these two arguments: the name, and the object that gets it
+abbrev pub set_with : Val × Val → Option Call
+set_with arguments = option_and_then (λ alias. option_map (λ object. call.SetAlias alias object) (name_in arguments.1)) (alias_in arguments.0)
+
+-- SetAlias
+abbrev pub set_alias : Vals → Result Call CallFault
+set_alias values = ok_or (option_and_then set_with (two_of values)) fault.InvalidArgs

@@ -7,7 +7,7 @@ use Rattle.secret_calls.specs.declared.call.Call.{Call}
 use Rattle.secret_calls.specs.declared.call.Call.TheVariants as call
 use Rattle.secret_calls.specs.declared.call.CallFault.{CallFault}
 use Rattle.secret_calls.specs.declared.call.CallFault.TheVariants as fault
-use Rattle.call_wire.specs.Arguments.{without_arguments}
+use Rattle.call_arguments.specs.Arguments.{without_arguments}
 
 -- its name
 abbrev pub interface : List ℕ

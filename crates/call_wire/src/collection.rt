@@ -1,16 +1,17 @@
 // The interface of a collection (Secret Service API, "org.freedesktop.Secret.Collection"). A call on an alias is a call
 // on its collection.
-ghost use Rattle.std.specs.Prelude.{◌≡◌, [], IfOk, option_and_then, option_map};
+ghost use Rattle.std.specs.Prelude.{◌≡◌, IfOk, option_and_then, option_map};
 ghost use Rattle.dbus_types.specs.ValueViews.{value_of, values_of, each_as};
 ghost use Rattle.dbus_framing.specs.Headers.{one_of};
-ghost use Rattle.call_wire.specs.Arguments.{type_of_element, elements_in, three_of, secret_in, truth_in};
-ghost use Rattle.call_wire.specs.Collection.{collection_of, search_items, label_in, given_attributes_in, described_by, description_in, made_with, create_item, deleted, delete};
+ghost use Rattle.call_arguments.specs.Arguments.{type_of_element, elements_in, three_of, secret_in, truth_in};
+ghost use Rattle.call_wire.specs.Collection.{collection_of, search_items, given_attributes_in, described_by, description_in, made_with, create_item, deleted, delete};
 
 use crate::OutOfMemory;
-use crate::arguments::{string_in, without_arguments};
-use crate::meanings::{attributes_in, property, secret_in};
 use crate::service::wanted_in;
-use crate::values::{ElementType, elements_in, three_in, truth_in};
+use call_arguments::{
+    ElementType, attributes_in, elements_in, label_in, property, secret_in, three_in, truth_in,
+    without_arguments,
+};
 use dbus_types::Value;
 use kr_base::{Attributes, Text};
 use kr_names::ObjectName;
@@ -50,30 +51,6 @@ pub fn search_items(
     match wanted_in(alloc, values)? {
         Some(wanted) => Ok(Ok(Call::SearchCollection { collection, wanted })),
         None => Ok(Err(CallFault::InvalidArgs)),
-    }
-}
-
-// The empty text.
-fn no_text(alloc: Global) -> Text
-    ensures { result ≡ [] }
-{
-    match Text::from_utf8(Vec::new(alloc)) {
-        Some(text) => text,
-        None => unreachable!(),
-    }
-}
-
-// The label, which is empty if the property is missing.
-fn label_in(alloc: Global, label: Option<&Value>) -> Result<Option<Text>, OutOfMemory>
-    ensures { IfOk result (λ text. text
-        ≡ label_in (option_map (λ it. value_of it.now) label.entry)) }
-{
-    match label {
-        Some(value) => match string_in(value) {
-            Some(text) => Ok(Some(text.copy()?)),
-            None => Ok(None),
-        },
-        None => Ok(Some(no_text(alloc))),
     }
 }
 

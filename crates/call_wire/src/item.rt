@@ -2,13 +2,11 @@
 ghost use Rattle.std.specs.Prelude.{◌≡◌, IfOk, option_and_then};
 ghost use Rattle.dbus_types.specs.ValueViews.{values_of};
 ghost use Rattle.dbus_framing.specs.Headers.{one_of};
-ghost use Rattle.call_wire.specs.Arguments.{session_in, secret_in};
+ghost use Rattle.call_arguments.specs.Arguments.{session_in, secret_in};
 ghost use Rattle.call_wire.specs.Item.{item_of, deleted, delete, get_secret, set_secret};
 
 use crate::OutOfMemory;
-use crate::arguments::without_arguments;
-use crate::meanings::{secret_in, session_in};
-use crate::values::one_in;
+use call_arguments::{one_in, secret_in, session_in, without_arguments};
 use dbus_types::Value;
 use kr_base::{ItemId, SessionId, Stem};
 use kr_names::ObjectName;

@@ -2,7 +2,7 @@
 ghost use Rattle.std.specs.Prelude.{◌≡◌, ℕ};
 ghost use Rattle.secret_calls.specs.declared.call.Request.{Request};
 ghost use Rattle.secret_calls.specs.declared.out.Out.{Out};
-ghost use Rattle.secret_calls.specs.Outs.{AreTyped, body_of, spelled};
+ghost use Rattle.secret_calls.specs.Outs.{IsTyped, spelled};
 ghost use Rattle.dbus_framing.specs.Messages.{Parts, IsMessage};
 ghost use Rattle.call_wire.specs.Said.{said, IsSendable};
 ghost use Rattle.call_wire.specs.CallOf.{CallOf};
@@ -24,7 +24,6 @@ pub fn a_message_is_one_request()
 pub fn what_is_sent_is_read_again()
     ensures message { (most serial : ℕ) (out : Out) → IsSendable most out serial
         → IsMessage most (spelled out serial) (said out serial) }
-    ensures one { (serial again : ℕ) (one other : Out) → AreTyped (body_of one)
-        → AreTyped (body_of other) → said one serial ≡ said other again
-        → (one ≡ other) × (serial ≡ again) }
+    ensures one { (serial again : ℕ) (one other : Out) → IsTyped one → IsTyped other
+        → said one serial ≡ said other again → (one ≡ other) × (serial ≡ again) }
 {}

@@ -5,26 +5,18 @@
 //! output is written as its one spelling.
 #![tactic(auto)]
 
-mod arguments;
 mod collection;
 mod item;
 mod laws;
-mod meanings;
 mod members;
 mod peer;
 mod reading;
 mod service;
 mod session;
-mod values;
 mod writing;
 
-pub use arguments::{are_listed, held_in, string_in, two_in};
 pub use laws::{a_message_is_one_request, what_is_sent_is_read_again};
 pub use reading::call_of;
-pub use values::{
-    ElementType, bytes_in, elements_in, entry_in, four_in, one_in, parts_in, path_in, three_in,
-    truth_in,
-};
 pub use writing::message_of;
 
 /// No memory was left for a call. It is the only refusal that may come at any time.

@@ -38,6 +38,10 @@ pub enum Method {
     Lock,
     /// `Service.GetSecrets`.
     GetSecrets,
+    /// `Service.ReadAlias`.
+    ReadAlias,
+    /// `Service.SetAlias`.
+    SetAlias,
     /// `Collection.SearchItems`.
     SearchCollection,
     /// `Collection.CreateItem`.
@@ -94,6 +98,18 @@ const MEMBERS: &[Row] = &[
         name: "GetSecrets",
         arguments: "aoo",
         method: Method::GetSecrets,
+    },
+    Row {
+        interface: Interface::Service,
+        name: "ReadAlias",
+        arguments: "s",
+        method: Method::ReadAlias,
+    },
+    Row {
+        interface: Interface::Service,
+        name: "SetAlias",
+        arguments: "so",
+        method: Method::SetAlias,
     },
     Row {
         interface: Interface::Collection,
@@ -273,6 +289,8 @@ pub fn call_with(
         Method::SearchItems => service::search_items(alloc, values),
         Method::Lock => service::lock(alloc, values),
         Method::GetSecrets => service::get_secrets(alloc, values),
+        Method::ReadAlias => service::read_alias(values),
+        Method::SetAlias => service::set_alias(alloc, values),
         Method::SearchCollection => collection::search_items(alloc, object, values),
         Method::CreateItem => collection::create_item(alloc, object, values),
         Method::DeleteCollection => collection::delete(object, values),

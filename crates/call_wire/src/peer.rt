@@ -3,7 +3,7 @@ ghost use Rattle.std.specs.Prelude.{◌≡◌};
 ghost use Rattle.dbus_types.specs.ValueViews.{values_of};
 ghost use Rattle.call_wire.specs.Peer.{ping};
 
-use crate::arguments::without_arguments;
+use call_arguments::without_arguments;
 use dbus_types::Value;
 use secret_calls::{Call, CallFault};
 

@@ -5,8 +5,8 @@ ghost use Rattle.call_wire.specs.Members.{seen};
 ghost use Rattle.call_wire.specs.CallOf.{CallOf, object_of, call_by, lack_of, call_on};
 
 use crate::OutOfMemory;
-use crate::arguments::are_listed;
 use crate::members::{Row, call_with, has_meant, member_called};
+use call_arguments::are_listed;
 use dbus_types::Message;
 use kr_base::Text;
 use kr_names::{ObjectName, parse_path};

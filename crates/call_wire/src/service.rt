@@ -2,13 +2,14 @@
 ghost use Rattle.std.specs.Prelude.{◌≡◌, IfOk, option_and_then, option_copied};
 ghost use Rattle.dbus_types.specs.ValueViews.{value_of, values_of};
 ghost use Rattle.dbus_framing.specs.Headers.{one_of, two_of};
-ghost use Rattle.call_wire.specs.Arguments.{attributes_in, objects_in};
-ghost use Rattle.call_wire.specs.Service.{algorithm_in, open_session, search_items, lock, secrets_wanted, get_secrets};
+ghost use Rattle.call_arguments.specs.Arguments.{attributes_in, objects_in};
+ghost use Rattle.call_wire.specs.Service.{algorithm_in, open_session, search_items, lock, secrets_wanted, get_secrets, read_alias, set_with, set_alias};
 
 use crate::OutOfMemory;
-use crate::arguments::{held_in, string_in, two_in};
-use crate::meanings::{attributes_in, objects_in, session_in};
-use crate::values::one_in;
+use call_arguments::{
+    alias_in, attributes_in, held_in, name_in, objects_in, one_in, one_string_in, session_in,
+    string_in, two_in,
+};
 use dbus_types::Value;
 use kr_base::{Attributes, Text};
 use kr_items::Items;
@@ -62,7 +63,7 @@ pub fn search_items(alloc: Global, values: &[Value]) -> Result<Result<Call, Call
 }
 
 // The objects that the only argument names.
-fn locked_in(alloc: Global, values: &[Value]) -> Result<Option<Items<ObjectName>>, OutOfMemory>
+fn named_in(alloc: Global, values: &[Value]) -> Result<Option<Items<ObjectName>>, OutOfMemory>
     ensures { IfOk result (λ objects. objects
         ≡ option_and_then objects_in (one_of (values_of values.now))) }
 {
@@ -76,7 +77,7 @@ fn locked_in(alloc: Global, values: &[Value]) -> Result<Option<Items<ObjectName>
 pub fn lock(alloc: Global, values: &[Value]) -> Result<Result<Call, CallFault>, OutOfMemory>
     ensures { IfOk result (λ call. call ≡ lock (values_of values.now)) }
 {
-    match locked_in(alloc, values)? {
+    match named_in(alloc, values)? {
         Some(objects) => Ok(Ok(Call::Lock { objects })),
         None => Ok(Err(CallFault::InvalidArgs)),
     }
@@ -107,6 +108,45 @@ pub fn get_secrets(alloc: Global, values: &[Value]) -> Result<Result<Call, CallF
         return Ok(Err(CallFault::InvalidArgs));
     };
     match secrets_wanted(alloc, items, session)? {
+        Some(call) => Ok(Ok(call)),
+        None => Ok(Err(CallFault::InvalidArgs)),
+    }
+}
+
+/// Reads a call of ReadAlias. Its argument may be any text.
+pub fn read_alias(values: &[Value]) -> Result<Result<Call, CallFault>, OutOfMemory>
+    ensures { IfOk result (λ call. call ≡ read_alias (values_of values.now)) }
+{
+    match one_string_in(values) {
+        Some(name) => {
+            let name = name.copy()?;
+            Ok(Ok(Call::ReadAlias { name }))
+        }
+        None => Ok(Err(CallFault::InvalidArgs)),
+    }
+}
+
+// SetAlias with these two arguments.
+fn set_with(alloc: Global, alias: &Value, object: &Value) -> Result<Option<Call>, OutOfMemory>
+    ensures { IfOk result (λ call. call ≡ set_with (value_of alias.now, value_of object.now)) }
+{
+    let Some(alias) = alias_in(alias)? else {
+        return Ok(None);
+    };
+    match name_in(alloc, object)? {
+        Some(object) => Ok(Some(Call::SetAlias { alias, object })),
+        None => Ok(None),
+    }
+}
+
+/// Reads a call of SetAlias. The name must be one that an alias may have.
+pub fn set_alias(alloc: Global, values: &[Value]) -> Result<Result<Call, CallFault>, OutOfMemory>
+    ensures { IfOk result (λ call. call ≡ set_alias (values_of values.now)) }
+{
+    let Some((alias, object)) = two_in(values) else {
+        return Ok(Err(CallFault::InvalidArgs));
+    };
+    match set_with(alloc, alias, object)? {
         Some(call) => Ok(Ok(call)),
         None => Ok(Err(CallFault::InvalidArgs)),
     }

@@ -1,5 +1,5 @@
 -- What is written is determined by what was read.
-use Rattle.std.proofs.Common.{◌≡◌, ℕ, List, [], ◌∷◌, ◌++◌, refl, sym, ◌∙◌, ap, subst, append_assoc, append-nil}
+use Rattle.std.proofs.Common.{◌≡◌, ℕ, Bool, true, false, cond, List, [], ◌∷◌, ◌++◌, refl, sym, ◌∙◌, ap, subst, append_assoc, append-nil}
 use Rattle.std.specs.List.{concat}
 use Rattle.secret_calls.specs.declared.call.Request.{Request}
 use Rattle.secret_calls.proofs.SerialLemmas.{one_serial}
@@ -11,14 +11,15 @@ use Rattle.call_wire.specs.CallOf.{CallOf}
 use Rattle.service_tables.specs.State.{State}
 use Rattle.service_machine.specs.declared.event.Event.{Event}
 use Rattle.service_machine.specs.declared.event.Event.TheVariants as event
+use Rattle.service_tables.specs.Aliases.{are_doubtful}
 use Rattle.service_tables.specs.Opened.{Contents, opened_state}
 use Rattle.service_machine.specs.Step.{step, AreAlike}
 use Rattle.service_machine.specs.Replay.{replay, Legal}
-use Rattle.service_machine.proofs.EventLemmas.{step_alike, fates_alike}
+use Rattle.service_machine.proofs.EventLemmas.{fates_alike, step_alike, step_certain}
 use Rattle.connection_worker.specs.Arrivals.{calls_in, AreRequests}
 use Rattle.connection_worker.specs.Handshakes.{most_bytes}
 use Rattle.connection_worker.specs.Causes.{AllServed}
-use Rattle.service_machine.specs.Single.{TimedRequest, requests_of, recorded_of, arrival, AllFaultless, taking, turns}
+use Rattle.service_machine.specs.Single.{TimedRequest, requests_of, recorded_of, arrival, AllFaultless, is_owed, taking, turns}
 use Rattle.connection_worker.specs.Written.{given, given_by, spelled_behind}
 use Rattle.keyring_program.specs.Events.{the_connection, joined, events_of, text_of, HaveSameMoments, HaveSameFates}
 
@@ -83,19 +84,25 @@ legal-behind : (state : State) (events more : List Event) → Legal state (event
 legal-behind state [] more legal = legal
 legal-behind state (event ∷ events) more legal = legal-behind (step state event) events more legal.1
 
-fates-agree : (one other : List TimedRequest) (state : State) → AreAllAlike one other → Legal state (turns the_connection state one) → Legal state (turns the_connection state other)
+-- what is taken leaves the aliases alone
+taking-certain : (state : State) → are_doubtful state.aliases ≡ false → are_doubtful (replay state (taking the_connection state)).aliases ≡ false
+taking-certain state certain =
+    let pass : (b : Bool) → are_doubtful (replay state (cond b (event.Take the_connection ∷ []) [])).aliases ≡ false = elim [ true ↦ certain | false ↦ certain ] in
+    pass (is_owed the_connection state)
+
+fates-agree : (one other : List TimedRequest) (state : State) → are_doubtful state.aliases ≡ false → AreAllAlike one other → Legal state (turns the_connection state one) → Legal state (turns the_connection state other)
     → AllFaultless one → AllFaultless other → HaveSameFates one other
-fates-agree [] other state p legal legal' faultless faultless' = tt
-fates-agree (a ∷ one) [] state p legal legal' faultless faultless' = tt
-fates-agree (a ∷ one) (b ∷ other) state p legal legal' faultless faultless' =
+fates-agree [] other state certain p legal legal' faultless faultless' = tt
+fates-agree (a ∷ one) [] state certain p legal legal' faultless faultless' = tt
+fates-agree (a ∷ one) (b ∷ other) state certain p legal legal' faultless faultless' =
     let first = recorded_of the_connection a in
     let second = recorded_of the_connection b in
-    let same = fates_alike state first second p.0 legal.0 legal'.0 faultless.0 faultless'.0 in
+    let same = fates_alike state first second p.0 legal.0 legal'.0 certain faultless.0 faultless'.0 in
     let here = step state (arrival the_connection a) in
     let take = taking the_connection here in
     let next = replay here take in
     let rest : Legal here (behind here other) = subst (λ s. Legal s (behind s other)) (sym (step_alike state first second p.0 same)) legal'.1 in
-    (same, fates-agree one other next p.1 (legal-behind here take (turns the_connection next one) legal.1) (legal-behind here take (turns the_connection next other) rest) faultless.1 faultless'.1)
+    (same, fates-agree one other next (taking-certain here (step_certain state (arrival the_connection a) faultless.0 certain)) p.1 (legal-behind here take (turns the_connection next one) legal.1) (legal-behind here take (turns the_connection next other) rest) faultless.1 faultless'.1)
 
 -- that the connection is gone gives nothing
 given-all : (contents : Contents) (asked : List TimedRequest) → given_by the_connection (opened_state contents) (events_of contents asked) ≡ given_by the_connection (joined contents) (turns the_connection (joined contents) asked)
@@ -121,11 +128,11 @@ pub one-text : OneCall → (contents : Contents) (run : Run) (one other : List T
 one-text same contents run one other rest left p q moments fates = text-alike contents run one other (all-alike same run one other rest left p q moments) fates
 
 pub steady-text : OneCall → (contents : Contents) (run : Run) (one other : List TimedRequest) (rest left : List ℕ) → AllServed run one rest → AllServed run other left → HaveSameMoments one other
-    → Legal (opened_state contents) (events_of contents one) → Legal (opened_state contents) (events_of contents other) → AllFaultless one → AllFaultless other
+    → are_doubtful contents.aliases ≡ false → Legal (opened_state contents) (events_of contents one) → Legal (opened_state contents) (events_of contents other) → AllFaultless one → AllFaultless other
     → text_of contents run one ≡ text_of contents run other
-steady-text same contents run one other rest left p q moments legal legal' faultless faultless' =
+steady-text same contents run one other rest left p q moments certain legal legal' faultless faultless' =
     let alike = all-alike same run one other rest left p q moments in
     let start = joined contents in
     let gone = event.Gone the_connection ∷ [] in
-    text-alike contents run one other alike (fates-agree one other start alike (legal-front start (turns the_connection start one) gone legal.1)
+    text-alike contents run one other alike (fates-agree one other start certain alike (legal-front start (turns the_connection start one) gone legal.1)
     (legal-front start (turns the_connection start other) gone legal'.1) faultless faultless')

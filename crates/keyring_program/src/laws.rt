@@ -1,6 +1,6 @@
 // Laws of the definitions of a run. Each law is the contract of a function that does nothing except
 // call the laws on which it rests.
-ghost use Rattle.std.specs.Prelude.{◌≡◌, ◌++◌, ℕ, List};
+ghost use Rattle.std.specs.Prelude.{◌≡◌, ◌++◌, ℕ, List, false};
 ghost use Rattle.std.specs.List.{concat};
 ghost use Rattle.dbus_auth.specs.Handshake.{Run};
 ghost use Rattle.connection_worker.specs.Causes.{AllServed};
@@ -9,6 +9,7 @@ ghost use Rattle.service_machine.specs.Single.{TimedRequest, AllFaultless};
 ghost use Rattle.connection_worker.specs.Written.{spelled_behind};
 ghost use Rattle.keyring_program.specs.Events.{the_connection, joined, events_of, text_of, HaveSameMoments, HaveSameFates};
 ghost use Rattle.service_machine.specs.Replay.{Legal};
+ghost use Rattle.service_tables.specs.Aliases.{are_doubtful};
 ghost use Rattle.service_tables.specs.Opened.{Contents, opened_state};
 ghost use Rattle.keyring_program.specs.Serves.{handshake_run};
 
@@ -18,7 +19,8 @@ use connection_worker::each_request_is_answered_at_once;
 /// What is written for the calls that were read is determined by the bytes that were read, the user,
 /// the seed, what the service starts with, and how the storings of files ended: runs over the same
 /// bytes that recorded each call in them write the same, if their storings ended alike. So it is also
-/// determined without these if no device failed. A moment matters only if its call stores it.
+/// determined without these if no device failed and the file of the aliases isn't in doubt at the start.
+/// A moment matters only if its call stores it.
 pub fn what_is_written_is_one()
     ensures alike { (contents : Contents) (uid : ℕ) (seed read rest left : List ℕ)
         (one other : List TimedRequest)
@@ -31,7 +33,7 @@ pub fn what_is_written_is_one()
         (one other : List TimedRequest)
         → AllServed (handshake_run uid seed read) one rest
         → AllServed (handshake_run uid seed read) other left
-        → HaveSameMoments one other
+        → HaveSameMoments one other → are_doubtful contents.aliases ≡ false
         → Legal (opened_state contents) (events_of contents one)
         → Legal (opened_state contents) (events_of contents other)
         → AllFaultless one → AllFaultless other

@@ -1,3 +1,5 @@
+mod AliasLemmas
+pub mod LengthLemmas
 pub mod PathLemmas
 pub mod SecretLemmas
 pub mod SerialLemmas

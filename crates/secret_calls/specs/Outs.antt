@@ -1,6 +1,7 @@
 -- What the service sends, and how it is spelled: D-Bus Specification, "Message Format"; Secret Service API draft
 -- 0.2, the interfaces' methods and errors.
-use Rattle.std.specs.Prelude.{ℕ, ◌^◌, ◌<◌, ◌≤◌, IsTrue, List, [], ◌∷◌, ◌++◌, length, Some, codes, decimal}
+use Rattle.std.specs.Prelude.{ℕ, ◌^◌, ◌<◌, ◌≤◌, nat_le, IsTrue, List, [], ◌∷◌, ◌++◌, length, Option, Some, None, IfSome, codes, decimal, if◌then◌else◌}
+use Rattle.kr_base.specs.declared.ids.PromptId.{PromptId}
 use Rattle.kr_base.specs.Text.{IsText}
 use Rattle.secret_calls.specs.declared.secret.ReturnedSecret.{ReturnedSecret}
 use Rattle.secret_calls.specs.declared.secret.ItemSecret.{ItemSecret}
@@ -10,11 +11,18 @@ use Rattle.secret_calls.specs.declared.out.ErrorName.{ErrorName}
 use Rattle.secret_calls.specs.declared.out.ErrorName.TheVariants as name
 use Rattle.secret_calls.specs.declared.out.Out.{Out}
 use Rattle.secret_calls.specs.declared.out.Out.TheVariants as out
+use Rattle.secret_calls.specs.declared.signal.AskKind.{AskKind}
+use Rattle.secret_calls.specs.declared.signal.AskKind.TheVariants as kind
+use Rattle.secret_calls.specs.declared.signal.Completion.{Completion}
+use Rattle.secret_calls.specs.declared.signal.Completion.TheVariants as completion
+use Rattle.secret_calls.specs.declared.signal.Signal.{Signal}
+use Rattle.secret_calls.specs.declared.signal.Signal.TheVariants as signal
 use Rattle.dbus_types.specs.declared.complete_type.BasicType.TheVariants as basics
 use Rattle.dbus_types.specs.declared.endian.Endian.TheVariants.{Little}
 use Rattle.dbus_types.specs.Paths.{is_object_path}
 use Rattle.dbus_types.specs.Types.{Ty, Tys}
 use Rattle.dbus_types.specs.Values.{Val, Vals}
+use Rattle.dbus_types.specs.ValueViews.{bit_of}
 use Rattle.dbus_marshal.specs.Limits.{array_limit}
 use Rattle.dbus_marshal.specs.Wire.{AreBytes}
 use Rattle.dbus_marshal.specs.Spelling.{all_spelled}
@@ -29,17 +37,29 @@ error_text name.UnknownMethod = codes "org.freedesktop.DBus.Error.UnknownMethod"
 error_text name.InvalidArgs = codes "org.freedesktop.DBus.Error.InvalidArgs"
 error_text name.LimitsExceeded = codes "org.freedesktop.DBus.Error.LimitsExceeded"
 error_text name.IOError = codes "org.freedesktop.DBus.Error.IOError"
+error_text name.AccessDenied = codes "org.freedesktop.DBus.Error.AccessDenied"
 error_text name.IsLocked = codes "org.freedesktop.Secret.Error.IsLocked"
 error_text name.NoSession = codes "org.freedesktop.Secret.Error.NoSession"
 error_text name.NoSuchObject = codes "org.freedesktop.Secret.Error.NoSuchObject"
+error_text name.AgentTaken = codes "org.keyringd.Error.AgentTaken"
+error_text name.OldRound = codes "org.keyringd.Error.OldRound"
 
 -- the object path of the session with this number
 abbrev pub session_path : ℕ → List ℕ
 session_path number = codes "/org/freedesktop/secrets/session/s" ++ decimal number
 
--- the path of no object, which is returned in place of a prompt
-abbrev pub no_object : Val
-no_object = Val.text basics.ObjectPath (codes "/")
+-- the object path of the prompt with this number
+abbrev pub prompt_path : ℕ → List ℕ
+prompt_path number = codes "/org/freedesktop/secrets/prompt/p" ++ decimal number
+
+-- the path that a call returns for its prompt: that of no object if none is needed
+abbrev pub prompt_text : Option PromptId → List ℕ
+prompt_text None = codes "/"
+prompt_text (Some prompt) = prompt_path prompt.0
+
+-- the same as a value
+abbrev pub prompt_value : Option PromptId → Val
+prompt_value prompt = Val.text basics.ObjectPath (prompt_text prompt)
 
 -- paths, as the elements of an array
 abbrev pub path_values : List (List ℕ) → Vals
@@ -72,15 +92,15 @@ abbrev pub secrets_value : List ItemSecret → Val
 secrets_value secrets = Val.array (Ty.entry basics.ObjectPath secret_type) (secret_values secrets)
 
 -- A body's values. OpenSession returns the output of `plain`, which is the empty text, and the session's path. The others are the
--- values that their methods return, with the path of no object in place of a prompt.
+-- values that their methods return.
 abbrev pub values_of : Body → Vals
 values_of body.Empty = Vals.end
 values_of (body.Session session) =
     Vals.more (Val.variant (Val.text basics.String [])) (Vals.more (Val.text basics.ObjectPath (session_path session.0)) Vals.end)
 values_of (body.Found unlocked locked) = Vals.more (paths_value unlocked) (Vals.more (paths_value locked) Vals.end)
-values_of (body.Locked objects) = Vals.more (paths_value objects) (Vals.more no_object Vals.end)
+values_of (body.ObjectsAndPrompt objects prompt) = Vals.more (paths_value objects) (Vals.more (prompt_value prompt) Vals.end)
 values_of (body.Objects objects) = Vals.more (paths_value objects) Vals.end
-values_of (body.Made item) = Vals.more (Val.text basics.ObjectPath item) (Vals.more no_object Vals.end)
+values_of (body.ObjectAndPrompt object prompt) = Vals.more (Val.text basics.ObjectPath object) (Vals.more (prompt_value prompt) Vals.end)
 values_of (body.Object object) = Vals.more (Val.text basics.ObjectPath object) Vals.end
 values_of (body.Secret secret) = Vals.more (secret_value secret) Vals.end
 values_of (body.Secrets secrets) = Vals.more (secrets_value secrets) Vals.end
@@ -89,24 +109,75 @@ values_of (body.Secrets secrets) = Vals.more (secrets_value secrets) Vals.end
 abbrev pub spelled_body : Body → List ℕ
 spelled_body body = all_spelled Little (values_of body) 0
 
--- The header of an output: a METHOD_RETURN, or an ERROR with its name, each with the flag NO_REPLY_EXPECTED and the serial of
--- the call that it answers.
+-- ---- signals
+
+-- what a password is asked for
+abbrev pub kind_text : AskKind → List ℕ
+kind_text kind.Unlock = codes "unlock"
+kind_text kind.Create = codes "create"
+
+-- the most bytes of a label in Ask
+abbrev pub most_label : ℕ
+most_label = 1024
+
+-- the label that Ask contains: the empty text in place of a longer one
+abbrev pub shown_label : List ℕ → List ℕ
+shown_label label = if nat_le (length label) most_label then label else []
+
+-- what a prompt completes with: the objects that it unlocked, or the collection that it created
+abbrev pub completion_value : Completion → Val
+completion_value (completion.Objects objects) = paths_value objects
+completion_value (completion.Object object) = Val.text basics.ObjectPath object
+
+-- A signal's values. Ask has the prompt, the round, what the password is for, the label, and how many answers were wrong.
+-- Completed has whether the prompt was dismissed, and what it completes with.
+abbrev pub signal_values : Signal → Vals
+signal_values (signal.Ask prompt round kind label wrong) =
+    Vals.more (Val.text basics.ObjectPath (prompt_path prompt.0)) (Vals.more (Val.number basics.Uint64 round) (Vals.more (Val.text basics.String (kind_text kind))
+    (Vals.more (Val.text basics.String label) (Vals.more (Val.number basics.Uint32 wrong) Vals.end))))
+signal_values (signal.Completed prompt dismissed completion) =
+    Vals.more (Val.number basics.Boolean (bit_of dismissed)) (Vals.more (Val.variant (completion_value completion)) Vals.end)
+
+-- the object that emits a signal: the agent's, or the prompt
+abbrev pub emitter : Signal → List ℕ
+emitter (signal.Ask prompt round kind label wrong) = codes "/org/freedesktop/secrets/agent"
+emitter (signal.Completed prompt dismissed completion) = prompt_path prompt.0
+
+-- its interface
+abbrev pub interface_of : Signal → List ℕ
+interface_of (signal.Ask prompt round kind label wrong) = codes "org.keyringd.Agent1"
+interface_of (signal.Completed prompt dismissed completion) = codes "org.freedesktop.Secret.Prompt"
+
+-- its name
+abbrev pub signal_name : Signal → List ℕ
+signal_name (signal.Ask prompt round kind label wrong) = codes "Ask"
+signal_name (signal.Completed prompt dismissed completion) = codes "Completed"
+
+-- ---- messages
+
+-- The header of an output: a METHOD_RETURN, or an ERROR with its name, each with the serial of the call that it answers, or
+-- a SIGNAL with the object that emits it, its interface and its name. Each has the flag NO_REPLY_EXPECTED.
 abbrev pub header_of : Out → ℕ → SentHeader
 header_of (out.Return to body) serial = record (bare_header 2 1 serial) { reply_serial = Some to.number }
 header_of (out.Error to name) serial = record (bare_header 3 1 serial) { error_name = Some (error_text name); reply_serial = Some to.number }
+header_of (out.Signal signal) serial =
+    record (bare_header 4 1 serial) { path = Some (emitter signal); interface = Some (interface_of signal); member = Some (signal_name signal) }
 
--- the body of an output: an error has none
-abbrev pub body_of : Out → Body
-body_of (out.Return to body) = body
-body_of (out.Error to name) = body.Empty
+-- the values of an output: an error has none
+abbrev pub values_sent : Out → Vals
+values_sent (out.Return to body) = values_of body
+values_sent (out.Error to name) = Vals.end
+values_sent (out.Signal signal) = signal_values signal
 
 -- the message of an output, with this serial
 abbrev pub sent : Out → ℕ → Sent
-sent out serial = record { header = header_of out serial; body = values_of (body_of out) }
+sent out serial = record { header = header_of out serial; body = values_sent out }
 
 -- its bytes
 abbrev pub spelled : Out → ℕ → List ℕ
 spelled out serial = spelled_message (sent out serial)
+
+-- ---- what can be sent
 
 -- each of them is an object path
 abbrev pub ArePaths : List (List ℕ) → Type 0
@@ -124,27 +195,46 @@ abbrev pub AreSecrets : List ItemSecret → Type 0
 AreSecrets [] = Unit {0}
 AreSecrets (one ∷ secrets) = IsTrue (is_object_path one.item) × IsSecret one.secret × AreSecrets secrets
 
--- A body's values have their types: sessions have numbers of 64 bits, paths are object paths, content types are texts.
+-- the number of a prompt, if there is one, has 64 bits
+abbrev pub IsPrompt : Option PromptId → Type 0
+IsPrompt prompt = IfSome prompt (λ it. it.0 < 2 ^ 64)
+
+-- A body's values have their types: sessions and prompts have numbers of 64 bits, paths are object paths, content types are
+-- texts.
 abbrev pub AreTyped : Body → Type 0
 AreTyped body.Empty = Unit {0}
 AreTyped (body.Session session) = session.0 < 2 ^ 64
 AreTyped (body.Found unlocked locked) = ArePaths unlocked × ArePaths locked
-AreTyped (body.Locked objects) = ArePaths objects
+AreTyped (body.ObjectsAndPrompt objects prompt) = ArePaths objects × IsPrompt prompt
 AreTyped (body.Objects objects) = ArePaths objects
-AreTyped (body.Made item) = IsTrue (is_object_path item)
+AreTyped (body.ObjectAndPrompt object prompt) = IsTrue (is_object_path object) × IsPrompt prompt
 AreTyped (body.Object object) = IsTrue (is_object_path object)
 AreTyped (body.Secret secret) = IsSecret secret
 AreTyped (body.Secrets secrets) = AreSecrets secrets
 
--- A body can be spelled: its values have their types, and it has no more bytes than an array may have (D-Bus Specification,
--- "Marshaling"), so no array and no text in it is too long.
-pub record FitsBody (body : Body) : Type 0 where
-  pub typed : AreTyped body
-  pub short : length (spelled_body body) ≤ array_limit
+-- what a prompt completes with are object paths
+abbrev pub IsResult : Completion → Type 0
+IsResult (completion.Objects objects) = ArePaths objects
+IsResult (completion.Object object) = IsTrue (is_object_path object)
 
--- An output can be spelled as a message if its body can. Its type already says that the serial which it answers isn't 0.
-abbrev pub HasSpelling : Out → Type 0
-HasSpelling out = FitsBody (body_of out)
+-- A signal's values have their types: the prompt and the round are numbers of 64 bits, the count is one of 32, the label is a
+-- text, and the result is object paths.
+abbrev pub IsSignal : Signal → Type 0
+IsSignal (signal.Ask prompt round kind label wrong) = (prompt.0 < 2 ^ 64) × (round < 2 ^ 64) × IsText label × (wrong < 2 ^ 32)
+IsSignal (signal.Completed prompt dismissed completion) = (prompt.0 < 2 ^ 64) × IsResult completion
+
+-- the values of an output have their types
+abbrev pub IsTyped : Out → Type 0
+IsTyped (out.Return to body) = AreTyped body
+IsTyped (out.Error to name) = Unit {0}
+IsTyped (out.Signal signal) = IsSignal signal
+
+-- An output can be spelled as a message: its values have their types, and they have no more bytes than an array may have
+-- (D-Bus Specification, "Marshaling"), so no array and no text in it is too long. Its type already says that the serial
+-- which it answers isn't 0.
+pub record HasSpelling (out : Out) : Type 0 where
+  pub typed : IsTyped out
+  pub short : length (all_spelled Little (values_sent out) 0) ≤ array_limit
 
 -- the most bytes that an output may have, which is also the most that may wait for a connection
 abbrev pub most_waiting : ℕ

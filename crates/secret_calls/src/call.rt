@@ -1,5 +1,6 @@
 ghost use Rattle.std.specs.Prelude.{◌≡◌};
 
+use crate::alias::AliasName;
 use crate::secret::Secret;
 use crate::{ErrorName, Serial};
 use kr_base::{Attributes, ItemId, SessionId, Stem, Text};
@@ -39,6 +40,19 @@ pub enum Call {
         items: Items<ObjectName>,
         /// The session to encode the secrets with.
         session: Option<SessionId>,
+    },
+    /// `Service.ReadAlias`.
+    ReadAlias {
+        /// The name, which need not be that of an alias.
+        name: Text,
+    },
+    /// `Service.SetAlias`.
+    SetAlias {
+        /// The alias.
+        alias: AliasName,
+        /// The object that it gets, or `ObjectName::Nothing` if it is to be removed. None if the path
+        /// isn't one of the service.
+        object: Option<ObjectName>,
     },
     /// `Collection.SearchItems`.
     SearchCollection {

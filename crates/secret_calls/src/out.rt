@@ -1,21 +1,25 @@
-ghost use Rattle.std.specs.Prelude.{◌≡◌, ℕ, List, [], IfOk, OnOk};
+ghost use Rattle.std.specs.Prelude.{◌≡◌, ℕ, List, [], Some, IfOk, OnOk};
 ghost use Rattle.dbus_marshal.specs.Putting.{puts};
 ghost use Rattle.dbus_sending.specs.HeaderViews.{seen};
+ghost use Rattle.dbus_sending.specs.Sent.{bare_header};
 ghost use Rattle.secret_calls.specs.Outs.{values_of, header_of, spelled};
 
 use crate::Serial;
 use crate::copies::{copied_secrets, copied_texts};
 use crate::returns::{
-    put_found, put_locked, put_made, put_object, put_objects, put_secret, put_secrets, put_session,
+    put_found, put_object, put_object_and_prompt, put_objects, put_objects_and_prompt, put_secret,
+    put_secrets, put_session,
 };
 use crate::secret::{ItemSecret, ReturnedSecret};
+use crate::signal::Signal;
 use dbus_marshal::{Put, PutValues};
 use dbus_sending::{Header, put_message};
-use kr_base::{OutOfMemory, SessionId, Text};
+use kr_base::{OutOfMemory, PromptId, SessionId, Text};
 use kr_items::Items;
 use std::alloc::Global;
 
-/// The name of an error, from the D-Bus Specification or the Secret Service API.
+/// The name of an error, from the D-Bus Specification, the Secret Service API or the agent's interface
+/// (docs/SERVICE.md, "Interfaces").
 #[derive(Clone, Copy, Debug, PartialEq, Eq)]
 pub enum ErrorName {
     /// The algorithm of a session isn't supported.
@@ -30,14 +34,20 @@ pub enum ErrorName {
     InvalidArgs,
     /// A limit of the service is reached.
     LimitsExceeded,
-    /// A keyring file can't be written or removed.
+    /// A file can't be read, written or removed.
     IOError,
+    /// Only the agent may make the call.
+    AccessDenied,
     /// The collection is locked.
     IsLocked,
     /// The caller has no such session.
     NoSession,
     /// The object of a call doesn't exist.
     NoSuchObject,
+    /// Another connection is the agent.
+    AgentTaken,
+    /// The prompt isn't asked in this round.
+    OldRound,
 }
 
 impl ErrorName {
@@ -55,15 +65,18 @@ impl ErrorName {
             ErrorName::InvalidArgs => "org.freedesktop.DBus.Error.InvalidArgs",
             ErrorName::LimitsExceeded => "org.freedesktop.DBus.Error.LimitsExceeded",
             ErrorName::IOError => "org.freedesktop.DBus.Error.IOError",
+            ErrorName::AccessDenied => "org.freedesktop.DBus.Error.AccessDenied",
             ErrorName::IsLocked => "org.freedesktop.Secret.Error.IsLocked",
             ErrorName::NoSession => "org.freedesktop.Secret.Error.NoSession",
             ErrorName::NoSuchObject => "org.freedesktop.Secret.Error.NoSuchObject",
+            ErrorName::AgentTaken => "org.keyringd.Error.AgentTaken",
+            ErrorName::OldRound => "org.keyringd.Error.OldRound",
         }
     }
 }
 
 /// The values of a method return, with one variant for each signature. Objects are returned as their
-/// paths. A prompt is always `/`, since none is needed.
+/// paths, and a prompt is None if none is needed, which is returned as `/`.
 #[derive(PartialEq, Eq, Drop)]
 pub enum Body {
     /// No values.
@@ -77,13 +90,24 @@ pub enum Body {
         /// The matching items in locked collections.
         locked: Items<Text>,
     },
-    /// Of Lock, `aoo`: the given objects that exist, whose collections are locked, and the prompt.
-    Locked(Items<Text>),
+    /// Of Lock and Unlock, `aoo`: the given objects whose collections are locked or unlocked, and the
+    /// prompt.
+    ObjectsAndPrompt {
+        /// The objects.
+        objects: Items<Text>,
+        /// The prompt.
+        prompt: Option<PromptId>,
+    },
     /// Of Collection.SearchItems, `ao`: the matching items.
     Objects(Items<Text>),
-    /// Of CreateItem, `oo`: the item, and the prompt.
-    Made(Text),
-    /// Of Collection.Delete and Item.Delete, `o`: the prompt.
+    /// Of CreateItem and CreateCollection, `oo`: the item or the collection, and the prompt.
+    ObjectAndPrompt {
+        /// The object, or `/` if there is none before the prompt has completed.
+        object: Text,
+        /// The prompt.
+        prompt: Option<PromptId>,
+    },
+    /// Of ReadAlias, `o`: the collection. Of Collection.Delete and Item.Delete: the prompt.
     Object(Text),
     /// Of GetSecret, `(oayays)`.
     Secret(ReturnedSecret),
@@ -104,17 +128,23 @@ impl Body {
                 let locked = copied_texts(alloc, locked.as_slice())?;
                 Ok(Body::Found { unlocked, locked })
             }
-            Body::Locked(objects) => {
+            Body::ObjectsAndPrompt { objects, prompt } => {
                 let objects = copied_texts(alloc, objects.as_slice())?;
-                Ok(Body::Locked(objects))
+                Ok(Body::ObjectsAndPrompt {
+                    objects,
+                    prompt: *prompt,
+                })
             }
             Body::Objects(objects) => {
                 let objects = copied_texts(alloc, objects.as_slice())?;
                 Ok(Body::Objects(objects))
             }
-            Body::Made(item) => {
-                let item = item.copy()?;
-                Ok(Body::Made(item))
+            Body::ObjectAndPrompt { object, prompt } => {
+                let object = object.copy()?;
+                Ok(Body::ObjectAndPrompt {
+                    object,
+                    prompt: *prompt,
+                })
             }
             Body::Object(object) => {
                 let object = object.copy()?;
@@ -147,9 +177,9 @@ impl Body {
                 unlocked: _,
                 locked: _,
             } => "aoao",
-            Body::Locked(_) => "aoo",
+            Body::ObjectsAndPrompt { .. } => "aoo",
             Body::Objects(_) => "ao",
-            Body::Made(_) => "oo",
+            Body::ObjectAndPrompt { .. } => "oo",
             Body::Object(_) => "o",
             Body::Secret(_) => "(oayays)",
             Body::Secrets(_) => "a{o(oayays)}",
@@ -169,9 +199,13 @@ impl PutValues for Body {
             Body::Found { unlocked, locked } => {
                 put_found(out, unlocked.as_slice(), locked.as_slice())
             }
-            Body::Locked(objects) => put_locked(out, objects.as_slice()),
+            Body::ObjectsAndPrompt { objects, prompt } => {
+                put_objects_and_prompt(out, objects.as_slice(), *prompt)
+            }
             Body::Objects(objects) => put_objects(out, objects.as_slice()),
-            Body::Made(item) => put_made(out, item),
+            Body::ObjectAndPrompt { object, prompt } => {
+                put_object_and_prompt(out, object, *prompt)
+            }
             Body::Object(object) => put_object(out, object),
             Body::Secret(secret) => put_secret(out, secret),
             Body::Secrets(secrets) => put_secrets(out, secrets.as_slice()),
@@ -186,6 +220,27 @@ const METHOD_RETURN: u8 = 2;
 const ERROR: u8 = 3;
 
 const NO_REPLY_EXPECTED: u8 = 1;
+
+// The header of a method return with this serial.
+fn return_header(to: Serial, serial: u32) -> Header<'static>
+    ensures { seen result ≡ record (bare_header 2 1 serial) { reply_serial = Some to.number } }
+{
+    Header {
+        reply_serial: Some(to.number),
+        ..Header::bare(METHOD_RETURN, NO_REPLY_EXPECTED, serial)
+    }
+}
+
+// The header of an error with this serial.
+fn error_header(to: Serial, name: ErrorName, serial: u32) -> Header<'static>
+    ensures { seen result ≡ header_of (Out.Error to name) serial }
+{
+    Header {
+        error_name: Some(name.as_str()),
+        reply_serial: Some(to.number),
+        ..Header::bare(ERROR, NO_REPLY_EXPECTED, serial)
+    }
+}
 
 /// A message that the service sends, without its serial.
 #[derive(PartialEq, Eq, Drop)]
@@ -204,6 +259,8 @@ pub enum Out {
         /// Its name.
         name: ErrorName,
     },
+    /// A signal.
+    Signal(Signal),
 }
 
 impl Out {
@@ -220,23 +277,10 @@ impl Out {
                 to: *to,
                 name: *name,
             }),
-        }
-    }
-
-    /// The header of the output's message with this serial.
-    fn header(&self, serial: u32) -> Header<'static>
-        ensures { seen result ≡ header_of self.now serial }
-    {
-        match self {
-            Out::Return { to, body: _ } => Header {
-                reply_serial: Some(to.number),
-                ..Header::bare(METHOD_RETURN, NO_REPLY_EXPECTED, serial)
-            },
-            Out::Error { to, name } => Header {
-                error_name: Some(name.as_str()),
-                reply_serial: Some(to.number),
-                ..Header::bare(ERROR, NO_REPLY_EXPECTED, serial)
-            },
+            Out::Signal(signal) => {
+                let signal = signal.copy(alloc)?;
+                Ok(Out::Signal(signal))
+            }
         }
     }
 
@@ -246,10 +290,16 @@ impl Out {
     pub fn put<P: Put>(&self, serial: u32, out: &mut P) -> Result<(), P::Refused>
         ensures { P.stands out.old [] → OnOk result (P.stands out.new (spelled self.now serial)) }
     {
-        let header = self.header(serial);
         match self {
-            Out::Return { to: _, body } => put_message(out, &header, body.signature(), body),
-            Out::Error { to: _, name: _ } => put_message(out, &header, "", &Body::Empty),
+            Out::Return { to, body } => {
+                let header = return_header(*to, serial);
+                put_message(out, &header, body.signature(), body)
+            }
+            Out::Error { to, name } => {
+                let header = error_header(*to, *name, serial);
+                put_message(out, &header, "", &Body::Empty)
+            }
+            Out::Signal(signal) => signal.put(serial, out),
         }
     }
 }

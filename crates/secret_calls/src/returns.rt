@@ -1,9 +1,9 @@
 // The values that calls return.
-ghost use Rattle.std.specs.Prelude.{ℕ, List, OnOk};
+ghost use Rattle.std.specs.Prelude.{ℕ, List, ◌++◌, OnOk, decimal};
 ghost use Rattle.dbus_types.specs.declared.complete_type.BasicType.TheVariants as basics;
 ghost use Rattle.dbus_types.specs.Values.{Val, Vals};
 ghost use Rattle.dbus_marshal.specs.Putting.{put, puts};
-ghost use Rattle.secret_calls.specs.Outs.{session_path, paths_value, secret_value, secrets_value, values_of};
+ghost use Rattle.secret_calls.specs.Outs.{session_path, prompt_path, prompt_value, paths_value, secret_value, secrets_value, values_of};
 
 use crate::out::Body;
 use crate::secret::{ItemSecret, ReturnedSecret};
@@ -12,22 +12,52 @@ use dbus_marshal::{
     put_text_variant,
 };
 use itoa::Buffer;
-use kr_base::{SessionId, Text};
+use kr_base::{PromptId, SessionId, Text};
 
 /// What comes before a session's number in its path.
 const SESSIONS: &str = "/org/freedesktop/secrets/session/s";
 
-/// The path of no object, which is returned in place of a prompt.
+/// What comes before a prompt's number in its path.
+pub const PROMPTS: &str = "/org/freedesktop/secrets/prompt/p";
+
+/// The path of no object, which is returned if no prompt is needed.
 const NO_OBJECT: &str = "/";
+
+// Writes a path that consists of a prefix and the digits of a number.
+fn put_numbered_path<P: Put>(out: &mut P, front: &str, number: u64) -> Result<(), P::Refused>
+    ensures { (before : List ℕ) → P.stands out.old before → OnOk result (P.stands out.new
+        (put before (Val.text basics.ObjectPath (front.now ++ decimal number)))) }
+{
+    let mut buffer = Buffer::new();
+    let digits = buffer.format(number);
+    put_long_path(out, front.as_bytes(), digits.as_bytes())
+}
 
 // Writes the path of a session.
 fn put_session_path<P: Put>(out: &mut P, session: SessionId) -> Result<(), P::Refused>
     ensures { (before : List ℕ) → P.stands out.old before → OnOk result (P.stands out.new
         (put before (Val.text basics.ObjectPath (session_path session.0)))) }
 {
-    let mut buffer = Buffer::new();
-    let number = buffer.format(session.0);
-    put_long_path(out, SESSIONS.as_bytes(), number.as_bytes())
+    put_numbered_path(out, SESSIONS, session.0)
+}
+
+/// Writes the path of a prompt.
+pub fn put_prompt_path<P: Put>(out: &mut P, prompt: PromptId) -> Result<(), P::Refused>
+    ensures { (before : List ℕ) → P.stands out.old before → OnOk result (P.stands out.new
+        (put before (Val.text basics.ObjectPath (prompt_path prompt.0)))) }
+{
+    put_numbered_path(out, PROMPTS, prompt.0)
+}
+
+// Writes the path of the prompt that a call returns, if one is needed.
+fn put_prompt<P: Put>(out: &mut P, prompt: Option<PromptId>) -> Result<(), P::Refused>
+    ensures { (before : List ℕ) → P.stands out.old before
+        → OnOk result (P.stands out.new (put before (prompt_value prompt))) }
+{
+    match prompt {
+        Some(prompt) => put_prompt_path(out, prompt),
+        None => put_path(out, NO_OBJECT.as_bytes()),
+    }
 }
 
 /// Writes the values that OpenSession returns.
@@ -58,8 +88,8 @@ impl PutValues for Paths<'_> {
     }
 }
 
-// Writes an array of paths.
-fn put_paths<P: Put>(out: &mut P, paths: &[Text]) -> Result<(), P::Refused>
+/// Writes an array of paths.
+pub fn put_paths<P: Put>(out: &mut P, paths: &[Text]) -> Result<(), P::Refused>
     ensures { (before : List ℕ) → P.stands out.old before
         → OnOk result (P.stands out.new (put before (paths_value paths.now))) }
 {
@@ -75,13 +105,17 @@ pub fn put_found<P: Put>(out: &mut P, unlocked: &[Text], locked: &[Text]) -> Res
     put_paths(out, locked)
 }
 
-/// Writes the values that Lock returns.
-pub fn put_locked<P: Put>(out: &mut P, objects: &[Text]) -> Result<(), P::Refused>
-    ensures { (before : List ℕ) → P.stands out.old before
-        → OnOk result (P.stands out.new (puts before (values_of (Body.Locked objects.now)))) }
+/// Writes the values that Lock and Unlock return.
+pub fn put_objects_and_prompt<P: Put>(
+    out: &mut P,
+    objects: &[Text],
+    prompt: Option<PromptId>,
+) -> Result<(), P::Refused>
+    ensures { (before : List ℕ) → P.stands out.old before → OnOk result (P.stands out.new
+        (puts before (values_of (Body.ObjectsAndPrompt objects.now prompt)))) }
 {
     put_paths(out, objects)?;
-    put_path(out, NO_OBJECT.as_bytes())
+    put_prompt(out, prompt)
 }
 
 /// Writes the value that Collection.SearchItems returns.
@@ -92,16 +126,20 @@ pub fn put_objects<P: Put>(out: &mut P, objects: &[Text]) -> Result<(), P::Refus
     put_paths(out, objects)
 }
 
-/// Writes the values that CreateItem returns.
-pub fn put_made<P: Put>(out: &mut P, item: &Text) -> Result<(), P::Refused>
-    ensures { (before : List ℕ) → P.stands out.old before
-        → OnOk result (P.stands out.new (puts before (values_of (Body.Made item.now)))) }
+/// Writes the values that CreateItem and CreateCollection return.
+pub fn put_object_and_prompt<P: Put>(
+    out: &mut P,
+    object: &Text,
+    prompt: Option<PromptId>,
+) -> Result<(), P::Refused>
+    ensures { (before : List ℕ) → P.stands out.old before → OnOk result (P.stands out.new
+        (puts before (values_of (Body.ObjectAndPrompt object.now prompt)))) }
 {
-    put_path(out, item.as_bytes())?;
-    put_path(out, NO_OBJECT.as_bytes())
+    put_path(out, object.as_bytes())?;
+    put_prompt(out, prompt)
 }
 
-/// Writes the value that a Delete returns.
+/// Writes the value that a Delete and ReadAlias return.
 pub fn put_object<P: Put>(out: &mut P, object: &Text) -> Result<(), P::Refused>
     ensures { (before : List ℕ) → P.stands out.old before
         → OnOk result (P.stands out.new (puts before (values_of (Body.Object object.now)))) }

@@ -8,7 +8,7 @@ use Rattle.service_tables.specs.State.{State}
 use Rattle.service_tables.specs.Connections.{left, emptied, desk_of}
 use Rattle.service_tables.specs.Limits.{most_events}
 use Rattle.service_tables.specs.Opened.{IsOpened, contents_of}
-use Rattle.service_tables.specs.Sound.{AreSoundCollections}
+use Rattle.service_tables.specs.Sound.{AreSoundContents}
 use Rattle.service_machine.specs.Step.{step, Fits}
 use Rattle.service_tables.proofs.FitLemmas.{has-told}
 use Rattle.service_machine.proofs.SoundLemmas.{sound_start}
@@ -21,7 +21,7 @@ use Rattle.service_history.proofs.RoomLemmas.{room-changed_one, room-left_one, r
 use Rattle.service_history.proofs.HistoryLemmas.{history-sound, room-behind, history-push, history-cut}
 
 -- the service as it starts, in the window that begins there
-pub kept-first : (state : State) (held : Held) → IsOpened state → AreSoundCollections state.collections → held.window ≡ begun 0 state → IsKept state held
+pub kept-first : (state : State) (held : Held) → IsOpened state → AreSoundContents (contents_of state) → held.window ≡ begun 0 state → IsKept state held
 kept-first state held start sound begins = record {
   history = subst (λ (w : Window). IsHistory (in_window state w)) (sym begins)
       (subst (λ (s : State). IsHistory (in_window s (begun 0 s))) (sym start)

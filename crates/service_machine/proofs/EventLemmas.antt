@@ -1,5 +1,5 @@
 -- What is true of an event whatever its request is: it fits in one way at most, and alike requests lead to the same.
-use Rattle.std.proofs.Common.{◌≡◌, ℕ, Bool, true, false, cond, if◌then◌else◌, List, [], ◌∷◌, ◌++◌, Option, Some, None, Result, Ok, Err, refl, sym, ap, subst, ◌∙◌}
+use Rattle.std.proofs.Common.{◌≡◌, ℕ, nat_le, Bool, true, false, cond, if◌then◌else◌, List, [], ◌∷◌, ◌++◌, length, Option, Some, None, Result, Ok, Err, refl, sym, ap, subst, ◌∙◌}
 use mathlib.Core.HLevel.{×_prop, Unit-prop}
 use Rattle.std.proofs.Props.{props}
 use Rattle.std.specs.Coded.{le_prop}
@@ -7,30 +7,39 @@ use Rattle.kr_base.specs.declared.ids.ConnId.{ConnId}
 use Rattle.kr_base.specs.declared.ids.ItemId.{ItemId}
 use Rattle.kr_base.specs.declared.ids.SessionId.{SessionId}
 use Rattle.kr_names.specs.declared.object_name.ObjectName.{ObjectName}
-use Rattle.collection_table.specs.Rows.{is_open}
+use Rattle.collection_table.specs.Rows.{has_item, is_open}
 use Rattle.secret_calls.specs.declared.call.Call.{Call}
 use Rattle.secret_calls.specs.declared.call.Call.TheVariants as call
 use Rattle.secret_calls.specs.declared.call.CallFault.{CallFault}
+use Rattle.secret_calls.specs.declared.out.Body.{Body}
+use Rattle.secret_calls.specs.declared.out.Body.TheVariants as body
+use Rattle.secret_calls.specs.declared.out.ErrorName.{ErrorName}
 use Rattle.secret_calls.specs.declared.out.ErrorName.TheVariants as name
 use Rattle.service_tables.specs.declared.fate.Fate.{Fate}
 use Rattle.service_tables.specs.declared.fate.Fate.TheVariants as fate
-use Rattle.service_tables.specs.Objects.{collection_named}
+use Rattle.service_tables.specs.Aliases.{aliases_resolved, are_doubtful, asked_aliases}
+use Rattle.service_tables.specs.Limits.{most_content}
+use Rattle.service_tables.specs.Objects.{alias_target, collection_named}
 use Rattle.service_tables.specs.Opened.{contents_of}
 use Rattle.service_tables.specs.Reading.{asked_collections}
 use Rattle.service_tables.specs.Slots.{IsFault}
 use Rattle.service_tables.specs.State.{State}
-use Rattle.service_tables.specs.Storing.{Brought}
-use Rattle.service_tables.proofs.TypedLemmas.{item-prop, secret-prop}
+use Rattle.service_tables.specs.Storing.{Add_item, Brought, Edit, IsResolve, IsStoring, Remove_item, Set_secret, storable_edit}
+use Rattle.service_tables.proofs.TypedLemmas.{alias-prop, item-prop, secret-prop}
+use Rattle.service_tables.proofs.KeptLemmas.{certain-resolved, certain-set}
 use Rattle.service_machine.specs.declared.event.Event.{Event}
 use Rattle.service_machine.specs.declared.event.Event.TheVariants as event
 use Rattle.service_machine.specs.declared.event.Recorded.{Recorded}
-use Rattle.service_machine.specs.CollectionCalls.{by_fate, no_prompt, on_collection}
-use Rattle.service_machine.specs.Fates.{AreFaultless}
-use Rattle.service_machine.specs.Plan.{Plan, Ends, After, Asks, Erase, refused}
-use Rattle.service_machine.specs.Run.{AreFates, AreNone, Ran, asked, demanded, led, performed_all}
+use Rattle.service_machine.specs.AliasCalls.{alias_settled, alias_stored, on_target, once_read}
+use Rattle.service_machine.specs.CollectionCalls.{by_fate, if_open, made, no_prompt, on_collection, secret_stored, storing, storing_secret}
+use Rattle.service_machine.specs.Fates.{AreFaultless, IsFaultless}
+use Rattle.service_machine.specs.Plan.{Change, Open_session, Close_session, Lock_collection, Demand, Store, Erase, Set_alias, Read_aliases, Plan, Questions, Ends, After, Asks, refused}
+use Rattle.service_machine.specs.Run.{AreFates, AreNone, IsFateOf, Ran, asked, demanded, led, performed, performed_all, run, sending}
+use Rattle.service_machine.specs.ServiceCalls.{is_small}
+use Rattle.service_machine.specs.SessionCalls.{with_session}
 use Rattle.service_machine.specs.Step.{AreAlike, Fits, FitsRequest, HasTypes, TakesMoment, brought_by, message_of, plan_of, step, value_in, with_delivered}
 use Rattle.service_machine.specs.Stored.{StoresNothing}
-use Rattle.service_machine.proofs.RunLemmas.{ended-alike, fates-none, no-fates, quiet-row}
+use Rattle.service_machine.proofs.RunLemmas.{EndsAtOnce, ended-alike, fates-none, no-fates, plan_for, quiet-row, state-limited}
 
 none-prop : (fates : List Fate) → IsProp (AreNone fates)
 none-prop [] = Unit-prop
@@ -40,13 +49,37 @@ pub none-is : (fates : List Fate) → AreNone fates → fates ≡ []
 none-is [] none = refl
 none-is (fate ∷ fates) none = absurd none
 
+storing-prop : (some : Fate) → IsProp (IsStoring some)
+storing-prop fate.Stored = Unit-prop
+storing-prop fate.Before = Unit-prop
+storing-prop fate.Unsure = Unit-prop
+storing-prop fate.Old = λ a b. absurd a
+storing-prop fate.New = λ a b. absurd a
+storing-prop fate.Other = λ a b. absurd a
+storing-prop fate.ReadFailed = λ a b. absurd a
+
+resolve-prop : (some : Fate) → IsProp (IsResolve some)
+resolve-prop fate.Stored = λ a b. absurd a
+resolve-prop fate.Before = λ a b. absurd a
+resolve-prop fate.Unsure = λ a b. absurd a
+resolve-prop fate.Old = Unit-prop
+resolve-prop fate.New = Unit-prop
+resolve-prop fate.Other = Unit-prop
+resolve-prop fate.ReadFailed = Unit-prop
+
+fate-prop : (demand : Demand) (some : Fate) → IsProp (IsFateOf demand some)
+fate-prop (Store stem edit) some = storing-prop some
+fate-prop (Erase stem) some = storing-prop some
+fate-prop (Set_alias alias stem) some = storing-prop some
+fate-prop Read_aliases some = resolve-prop some
+
 fates-prop : (caller : ConnId) (brought : Brought) (plan : Plan) (fates : List Fate) (state : State) → IsProp (AreFates caller brought plan fates state)
 fates-prop caller brought (Ends answer changes) fates state = none-prop fates
 fates-prop caller brought (After changes next) fates state =
     let after = performed_all caller changes state in
     fates-prop caller brought (next (asked caller brought after)) fates after
 fates-prop caller brought (Asks demand next) [] state = λ a b. absurd a
-fates-prop caller brought (Asks demand next) (some ∷ fates) state = fates-prop caller brought (next some) fates (demanded brought demand some state)
+fates-prop caller brought (Asks demand next) (some ∷ fates) state = ×_prop (fate-prop demand some) (fates-prop caller brought (next some) fates (demanded brought demand some state))
 
 types-prop : (given : Result Call CallFault) → IsProp (HasTypes given)
 types-prop (Err fault) = Unit-prop
@@ -54,6 +87,8 @@ types-prop (Ok call.Ping) = Unit-prop
 types-prop (Ok (call.OpenSession algorithm)) = Unit-prop
 types-prop (Ok (call.CloseSession session)) = Unit-prop
 types-prop (Ok (call.SearchItems wanted)) = Unit-prop
+types-prop (Ok (call.ReadAlias alias)) = Unit-prop
+types-prop (Ok (call.SetAlias alias object)) = alias-prop alias
 types-prop (Ok (call.Lock objects)) = Unit-prop
 types-prop (Ok (call.GetSecrets items session)) = Unit-prop
 types-prop (Ok (call.SearchCollection collection wanted)) = Unit-prop
@@ -102,12 +137,20 @@ module _ (caller : ConnId) (state : State) where
   erase-alike one other stem (fate.Stored ∷ more) = refl
   erase-alike one other stem (fate.Before ∷ more) = refl
   erase-alike one other stem (fate.Unsure ∷ more) = refl
+  erase-alike one other stem (fate.Old ∷ more) = refl
+  erase-alike one other stem (fate.New ∷ more) = refl
+  erase-alike one other stem (fate.Other ∷ more) = refl
+  erase-alike one other stem (fate.ReadFailed ∷ more) = refl
 
   erase-fates : (one other : Brought) (stem : List ℕ) (fates : List Fate) → AreFates caller one (erasing stem) fates state → AreFates caller other (erasing stem) fates state
   erase-fates one other stem [] are = absurd are
   erase-fates one other stem (fate.Stored ∷ more) are = are
   erase-fates one other stem (fate.Before ∷ more) are = are
   erase-fates one other stem (fate.Unsure ∷ more) are = are
+  erase-fates one other stem (fate.Old ∷ more) are = are
+  erase-fates one other stem (fate.New ∷ more) are = are
+  erase-fates one other stem (fate.Other ∷ more) are = are
+  erase-fates one other stem (fate.ReadFailed ∷ more) are = are
 
   abbrev if-erasing : Bool → List ℕ → Plan
   if-erasing unlocked stem = cond unlocked (erasing stem) (refused name.IsLocked)
@@ -130,6 +173,92 @@ module _ (caller : ConnId) (state : State) where
   on-fates : (one other : Brought) (named : Option (List ℕ)) (fates : List Fate) → AreFates caller one (on-erasing named) fates state → AreFates caller other (on-erasing named) fates state
   on-fates one other None fates are = are
   on-fates one other (Some stem) fates are = if-fates one other (is_open stem state.collections) stem fates are
+
+  -- an alias that is set, whatever the request brings
+  abbrev aliasing : List ℕ → Option (List ℕ) → Bool → Plan
+  aliasing alias stem can = cond can (Asks (Set_alias alias stem) (by_fate body.Empty)) (refused name.LimitsExceeded)
+
+  abbrev can-set : List ℕ → Option (List ℕ) → State → Bool
+  can-set alias stem its = (asked_aliases (contents_of its)).can_set alias stem
+
+  run-set : (one other : Brought) (alias : List ℕ) (stem : Option (List ℕ)) (can : Bool) (fates : List Fate) (its : State)
+      → run caller one (aliasing alias stem can) fates its ≡ run caller other (aliasing alias stem can) fates its
+  run-set one other alias stem true [] its = refl
+  run-set one other alias stem true (fate.Stored ∷ more) its = refl
+  run-set one other alias stem true (fate.Before ∷ more) its = refl
+  run-set one other alias stem true (fate.Unsure ∷ more) its = refl
+  run-set one other alias stem true (fate.Old ∷ more) its = refl
+  run-set one other alias stem true (fate.New ∷ more) its = refl
+  run-set one other alias stem true (fate.Other ∷ more) its = refl
+  run-set one other alias stem true (fate.ReadFailed ∷ more) its = refl
+  run-set one other alias stem false fates its = refl
+
+  abbrev reading : List ℕ → Option (List ℕ) → Plan
+  reading alias stem = Asks Read_aliases (once_read (alias_stored alias stem))
+
+  -- the state after a resolve, which brings nothing
+  abbrev after-read : Fate → State → State
+  after-read some its = record its { aliases = aliases_resolved some its.aliases }
+
+  run-read : (one other : Brought) (alias : List ℕ) (stem : Option (List ℕ)) (fates : List Fate) (its : State) → run caller one (reading alias stem) fates its ≡ run caller other (reading alias stem) fates its
+  run-read one other alias stem [] its = refl
+  run-read one other alias stem (fate.Stored ∷ more) its = refl
+  run-read one other alias stem (fate.Before ∷ more) its = refl
+  run-read one other alias stem (fate.Unsure ∷ more) its = refl
+  run-read one other alias stem (fate.Old ∷ more) its = ap (sending []) (run-set one other alias stem (can-set alias stem (after-read fate.Old its)) more (after-read fate.Old its))
+  run-read one other alias stem (fate.New ∷ more) its = ap (sending []) (run-set one other alias stem (can-set alias stem (after-read fate.New its)) more (after-read fate.New its))
+  run-read one other alias stem (fate.Other ∷ more) its = ap (sending []) (run-set one other alias stem (can-set alias stem (after-read fate.Other its)) more (after-read fate.Other its))
+  run-read one other alias stem (fate.ReadFailed ∷ more) its = refl
+
+  abbrev settling : List ℕ → Option (List ℕ) → Bool → Bool → Plan
+  settling alias stem doubt can = cond doubt (reading alias stem) (aliasing alias stem can)
+
+  settle-alike : (one other : Brought) (alias : List ℕ) (stem : Option (List ℕ)) (doubt can : Bool) (fates : List Fate)
+      → led caller one (settling alias stem doubt can) fates state ≡ led caller other (settling alias stem doubt can) fates state
+  settle-alike one other alias stem true can fates = run-read one other alias stem fates state
+  settle-alike one other alias stem false true fates = run-set one other alias stem true fates state
+  settle-alike one other alias stem false false fates = refl
+
+  abbrev on-settling : List ℕ → Option (Option (List ℕ)) → Plan
+  on-settling alias target = on_target target (λ stem. settling alias stem (are_doubtful state.aliases) (can-set alias stem state))
+
+  target-alike : (one other : Brought) (alias : List ℕ) (target : Option (Option (List ℕ))) (fates : List Fate)
+      → led caller one (on-settling alias target) fates state ≡ led caller other (on-settling alias target) fates state
+  target-alike one other alias None fates = refl
+  target-alike one other alias (Some stem) fates = settle-alike one other alias stem (are_doubtful state.aliases) (can-set alias stem state) fates
+
+  set-fates : (one other : Brought) (alias : List ℕ) (stem : Option (List ℕ)) (can : Bool) (fates : List Fate) (its : State)
+      → AreFates caller one (aliasing alias stem can) fates its → AreFates caller other (aliasing alias stem can) fates its
+  set-fates one other alias stem true [] its are = absurd are
+  set-fates one other alias stem true (fate.Stored ∷ more) its are = are
+  set-fates one other alias stem true (fate.Before ∷ more) its are = are
+  set-fates one other alias stem true (fate.Unsure ∷ more) its are = are
+  set-fates one other alias stem true (fate.Old ∷ more) its are = are
+  set-fates one other alias stem true (fate.New ∷ more) its are = are
+  set-fates one other alias stem true (fate.Other ∷ more) its are = are
+  set-fates one other alias stem true (fate.ReadFailed ∷ more) its are = are
+  set-fates one other alias stem false fates its are = are
+
+  read-fates : (one other : Brought) (alias : List ℕ) (stem : Option (List ℕ)) (fates : List Fate) (its : State)
+      → AreFates caller one (reading alias stem) fates its → AreFates caller other (reading alias stem) fates its
+  read-fates one other alias stem [] its are = absurd are
+  read-fates one other alias stem (fate.Stored ∷ more) its are = absurd are.0
+  read-fates one other alias stem (fate.Before ∷ more) its are = absurd are.0
+  read-fates one other alias stem (fate.Unsure ∷ more) its are = absurd are.0
+  read-fates one other alias stem (fate.Old ∷ more) its are = (tt, set-fates one other alias stem (can-set alias stem (after-read fate.Old its)) more (after-read fate.Old its) are.1)
+  read-fates one other alias stem (fate.New ∷ more) its are = (tt, set-fates one other alias stem (can-set alias stem (after-read fate.New its)) more (after-read fate.New its) are.1)
+  read-fates one other alias stem (fate.Other ∷ more) its are = (tt, set-fates one other alias stem (can-set alias stem (after-read fate.Other its)) more (after-read fate.Other its) are.1)
+  read-fates one other alias stem (fate.ReadFailed ∷ more) its are = are
+
+  settle-fates : (one other : Brought) (alias : List ℕ) (stem : Option (List ℕ)) (doubt can : Bool) (fates : List Fate)
+      → AreFates caller one (settling alias stem doubt can) fates state → AreFates caller other (settling alias stem doubt can) fates state
+  settle-fates one other alias stem true can fates are = read-fates one other alias stem fates state are
+  settle-fates one other alias stem false can fates are = set-fates one other alias stem can fates state are
+
+  target-fates : (one other : Brought) (alias : List ℕ) (target : Option (Option (List ℕ))) (fates : List Fate)
+      → AreFates caller one (on-settling alias target) fates state → AreFates caller other (on-settling alias target) fates state
+  target-fates one other alias None fates are = are
+  target-fates one other alias (Some stem) fates are = settle-fates one other alias stem (are_doubtful state.aliases) (can-set alias stem state) fates are
 
   secrets-same : (items : List ObjectName) (session : Option SessionId) (a b : ℕ) → plan caller state (Ok (call.GetSecrets items session)) a ≡ plan caller state (Ok (call.GetSecrets items session)) b
   secrets-same items None a b = refl
@@ -159,6 +288,9 @@ module _ (caller : ConnId) (state : State) where
   moment-alike (Ok (call.OpenSession algorithm)) fates a b same = quiet-alike (Ok (call.OpenSession algorithm)) tt fates a b refl
   moment-alike (Ok (call.CloseSession session)) fates a b same = quiet-alike (Ok (call.CloseSession session)) tt fates a b refl
   moment-alike (Ok (call.SearchItems wanted)) fates a b same = quiet-alike (Ok (call.SearchItems wanted)) tt fates a b refl
+  moment-alike (Ok (call.ReadAlias alias)) fates a b same = quiet-alike (Ok (call.ReadAlias alias)) tt fates a b refl
+  moment-alike (Ok (call.SetAlias alias object)) fates a b same =
+      target-alike (brings (Ok (call.SetAlias alias object)) a) (brings (Ok (call.SetAlias alias object)) b) alias (alias_target (asked_collections (contents_of state)) object) fates
   moment-alike (Ok (call.Lock objects)) fates a b same = quiet-alike (Ok (call.Lock objects)) tt fates a b refl
   moment-alike (Ok (call.GetSecrets items session)) fates a b same = quiet-alike (Ok (call.GetSecrets items session)) tt fates a b (secrets-same items session a b)
   moment-alike (Ok (call.SearchCollection collection wanted)) fates a b same = quiet-alike (Ok (call.SearchCollection collection wanted)) tt fates a b refl
@@ -177,6 +309,9 @@ module _ (caller : ConnId) (state : State) where
   moment-fates (Ok (call.OpenSession algorithm)) fates a b same are = quiet-fates (Ok (call.OpenSession algorithm)) tt fates a b are
   moment-fates (Ok (call.CloseSession session)) fates a b same are = quiet-fates (Ok (call.CloseSession session)) tt fates a b are
   moment-fates (Ok (call.SearchItems wanted)) fates a b same are = are
+  moment-fates (Ok (call.ReadAlias alias)) fates a b same are = are
+  moment-fates (Ok (call.SetAlias alias object)) fates a b same are =
+      target-fates (brings (Ok (call.SetAlias alias object)) a) (brings (Ok (call.SetAlias alias object)) b) alias (alias_target (asked_collections (contents_of state)) object) fates are
   moment-fates (Ok (call.Lock objects)) fates a b same are = quiet-fates (Ok (call.Lock objects)) tt fates a b are
   moment-fates (Ok (call.GetSecrets items session)) fates a b same are = quiet-fates (Ok (call.GetSecrets items session)) tt fates a b are
   moment-fates (Ok (call.SearchCollection collection wanted)) fates a b same are = quiet-fates (Ok (call.SearchCollection collection wanted)) tt fates a b are
@@ -205,35 +340,176 @@ step_alike state one other alike fates =
     let after = leads (alike.conn i) (fates i) state (alike.call i) other.arrival.now in
     with_delivered ((if alike.wants_reply i then record { to = alike.conn i; out = message_of (alike.serial i) after.answer } ∷ [] else []) ++ after.sends) after.state)
 
+-- ---- plans that ask for no resolve
+
+-- something is stored, or removed
+abbrev IsStore : Demand → Type 0
+IsStore (Store stem edit) = Unit {0}
+IsStore (Erase stem) = Unit {0}
+IsStore (Set_alias alias stem) = Unit {0}
+IsStore Read_aliases = ⊥
+
+abbrev NeverReads : ConnId → Brought → Plan → List Fate → State → Type 0
+NeverReads caller brought (Ends answer changes) fates state = Unit {0}
+NeverReads caller brought (After changes next) fates state =
+    NeverReads caller brought (next (asked caller brought (performed_all caller changes state))) fates (performed_all caller changes state)
+NeverReads caller brought (Asks demand next) [] state = Unit {0}
+NeverReads caller brought (Asks demand next) (some ∷ fates) state = IsStore demand × NeverReads caller brought (next some) fates (demanded brought demand some state)
+
+module _ (caller : ConnId) (brought : Brought) (fates : List Fate) (state : State) where
+  abbrev Unread : Plan → Type 0
+  Unread plan = NeverReads caller brought plan fates state
+
+  quiet-reads : (plan : Plan) → EndsAtOnce plan → Unread plan
+  quiet-reads (Ends answer changes) quiet = tt
+  quiet-reads (After changes next) quiet = absurd quiet
+  quiet-reads (Asks demand next) quiet = absurd quiet
+
+  ends-unread : (body : Body) (some : Fate) (more : List Fate) (its : State) → NeverReads caller brought (by_fate body some) more its
+  ends-unread body fate.Stored more its = tt
+  ends-unread body fate.Before more its = tt
+  ends-unread body fate.Unsure more its = tt
+  ends-unread body fate.Old more its = tt
+  ends-unread body fate.New more its = tt
+  ends-unread body fate.Other more its = tt
+  ends-unread body fate.ReadFailed more its = tt
+
+  asks-unread : (demand : Demand) (body : Body) (these : List Fate) → IsStore demand → NeverReads caller brought (Asks demand (by_fate body)) these state
+  asks-unread demand body [] is = tt
+  asks-unread demand body (some ∷ more) is = (is, ends-unread body some more (demanded brought demand some state))
+
+  if-unread : (b : Bool) (plan : Plan) (error : ErrorName) → Unread plan → Unread (cond b plan (refused error))
+  if-unread true plan error unread = unread
+  if-unread false plan error unread = tt
+
+  session-unread : (session : Option SessionId) (asks : Questions) (next : SessionId → Plan) → ((own : SessionId) → Unread (next own)) → Unread (with_session session asks next)
+  session-unread None asks next unread = tt
+  session-unread (Some session) asks next unread = if-unread (asks.sessions.owns session) (next session) name.NoSession (unread session)
+
+  storing-unread : (stem : List ℕ) (edit : Edit) (returned : ItemId → Body) (item : Option ItemId) → Unread (storing stem edit returned item)
+  storing-unread stem edit returned None = tt
+  storing-unread stem edit returned (Some item) = if-unread (is_small (returned item)) (Asks (Store stem edit) (by_fate (returned item))) name.LimitsExceeded (asks-unread (Store stem edit) (returned item) fates tt)
+
+  secret-unread : (session : Option SessionId) (stem content : List ℕ) (edit : Edit) (returned : ItemId → Body) (asks : Questions) → Unread (secret_stored session stem content edit returned asks)
+  secret-unread session stem content edit returned asks =
+      session-unread session asks _
+      (λ own. if-unread (asks.collections.is_open stem) (storing_secret content stem edit returned asks) name.IsLocked
+      (if-unread (nat_le (length content) most_content) (storing stem edit returned (asks.storable stem edit)) name.LimitsExceeded (storing-unread stem edit returned (asks.storable stem edit))))
+
+  on-unread : (named : Option (List ℕ)) (next : List ℕ → Plan) → ((stem : List ℕ) → Unread (next stem)) → Unread (on_collection named next)
+  on-unread None next unread = tt
+  on-unread (Some stem) next unread = unread stem
+
+  target-unread : (target : Option (Option (List ℕ))) (next : Option (List ℕ) → Plan) → ((stem : Option (List ℕ)) → Unread (next stem)) → Unread (on_target target next)
+  target-unread None next unread = tt
+  target-unread (Some stem) next unread = unread stem
+
+  settled-unread : (alias : List ℕ) (stem : Option (List ℕ)) → are_doubtful state.aliases ≡ false → Unread (alias_settled alias stem (asked caller brought state))
+  settled-unread alias stem certain =
+      rw certain (if-unread ((asked_aliases (contents_of state)).can_set alias stem) (Asks (Set_alias alias stem) (by_fate body.Empty)) name.LimitsExceeded (asks-unread (Set_alias alias stem) body.Empty fates tt))
+
+  -- unless the file of the aliases is in doubt, no call asks for a resolve
+  row-unread : (given : Result Call CallFault) → are_doubtful state.aliases ≡ false → Unread (plan_of given (asked caller brought state))
+  row-unread (Err fault) certain = tt
+  row-unread (Ok call.Ping) certain = tt
+  row-unread (Ok (call.OpenSession algorithm)) certain = quiet-reads _ (quiet-row (Ok (call.OpenSession algorithm)) (asked caller brought state) tt)
+  row-unread (Ok (call.CloseSession session)) certain = quiet-reads _ (quiet-row (Ok (call.CloseSession session)) (asked caller brought state) tt)
+  row-unread (Ok (call.SearchItems wanted)) certain = tt
+  row-unread (Ok (call.ReadAlias alias)) certain = tt
+  row-unread (Ok (call.SetAlias alias object)) certain =
+      target-unread (alias_target (asked_collections (contents_of state)) object) (λ stem. alias_settled alias stem (asked caller brought state)) (λ stem. settled-unread alias stem certain)
+  row-unread (Ok (call.Lock objects)) certain = quiet-reads _ (quiet-row (Ok (call.Lock objects)) (asked caller brought state) tt)
+  row-unread (Ok (call.GetSecrets items session)) certain = quiet-reads _ (quiet-row (Ok (call.GetSecrets items session)) (asked caller brought state) tt)
+  row-unread (Ok (call.SearchCollection collection wanted)) certain = quiet-reads _ (quiet-row (Ok (call.SearchCollection collection wanted)) (asked caller brought state) tt)
+  row-unread (Ok (call.GetSecret stem item session)) certain = quiet-reads _ (quiet-row (Ok (call.GetSecret stem item session)) (asked caller brought state) tt)
+  row-unread (Ok (call.CreateItem collection label attributes secret replace)) certain =
+      on-unread (collection_named (asked_collections (contents_of state)) collection) _
+      (λ stem. secret-unread secret.session stem secret.content (Add_item label attributes secret.content replace) (made stem) (asked caller brought state))
+  row-unread (Ok (call.DeleteCollection collection)) certain =
+      on-unread (collection_named (asked_collections (contents_of state)) collection) _
+      (λ stem. if-unread (is_open stem state.collections) (Asks (Erase stem) (by_fate no_prompt)) name.IsLocked (asks-unread (Erase stem) no_prompt fates tt))
+  row-unread (Ok (call.DeleteItem stem item)) certain =
+      let plan = storing stem (Remove_item item) (λ _. no_prompt) (storable_edit brought state.collections stem (Remove_item item)) in
+      if-unread (has_item stem item.0 state.collections) (if_open stem (asked caller brought state) plan) name.NoSuchObject
+      (if-unread (is_open stem state.collections) plan name.IsLocked (storing-unread stem (Remove_item item) (λ _. no_prompt) (storable_edit brought state.collections stem (Remove_item item))))
+  row-unread (Ok (call.SetSecret stem item secret)) certain =
+      if-unread (has_item stem item.0 state.collections) (secret_stored secret.session stem secret.content (Set_secret item secret.content) (λ _. body.Empty) (asked caller brought state)) name.NoSuchObject
+      (secret-unread secret.session stem secret.content (Set_secret item secret.content) (λ _. body.Empty) (asked caller brought state))
+
 -- ---- fates without a fault
 
-stored-is : (some : Fate) → (IsFault some → ⊥) → some ≡ fate.Stored
-stored-is fate.Stored none = refl
-stored-is fate.Before none = absurd (none tt)
-stored-is fate.Unsure none = absurd (none tt)
+storing-is : (some : Fate) → IsStoring some → (IsFault some → ⊥) → some ≡ fate.Stored
+storing-is fate.Stored kind none = refl
+storing-is fate.Before kind none = absurd (none tt)
+storing-is fate.Unsure kind none = absurd (none tt)
+storing-is fate.Old kind none = absurd kind
+storing-is fate.New kind none = absurd kind
+storing-is fate.Other kind none = absurd kind
+storing-is fate.ReadFailed kind none = absurd kind
+
+stored-is : (demand : Demand) (some : Fate) → IsStore demand → IsFateOf demand some → (IsFault some → ⊥) → some ≡ fate.Stored
+stored-is (Store stem edit) some is kind none = storing-is some kind none
+stored-is (Erase stem) some is kind none = storing-is some kind none
+stored-is (Set_alias alias stem) some is kind none = storing-is some kind none
+stored-is Read_aliases some is kind none = absurd is
 
 same-fates : (caller : ConnId) (brought : Brought) (its : Plan) (these those : List Fate) (state : State) → AreFates caller brought its these state → AreFates caller brought its those state
-    → AreFaultless these → AreFaultless those → these ≡ those
-same-fates caller brought (Ends answer changes) these those state are also clean others = none-is these are ∙ sym (none-is those also)
-same-fates caller brought (After changes next) these those state are also clean others =
+    → NeverReads caller brought its these state → AreFaultless these → AreFaultless those → these ≡ those
+same-fates caller brought (Ends answer changes) these those state are also unread clean others = none-is these are ∙ sym (none-is those also)
+same-fates caller brought (After changes next) these those state are also unread clean others =
     let after = performed_all caller changes state in
-    same-fates caller brought (next (asked caller brought after)) these those after are also clean others
-same-fates caller brought (Asks demand next) [] those state are also clean others = absurd are
-same-fates caller brought (Asks demand next) (a ∷ these) [] state are also clean others = absurd also
-same-fates caller brought (Asks demand next) (a ∷ these) (b ∷ those) state are also clean others =
-    let same : b ≡ a = stored-is b others.0 ∙ sym (stored-is a clean.0) in
-    let rest = same-fates caller brought (next a) these those (demanded brought demand a state) are
-    (subst (λ f. AreFates caller brought (next f) those (demanded brought demand f state)) same also) clean.1 others.1 in
+    same-fates caller brought (next (asked caller brought after)) these those after are also unread clean others
+same-fates caller brought (Asks demand next) [] those state are also unread clean others = absurd are
+same-fates caller brought (Asks demand next) (a ∷ these) [] state are also unread clean others = absurd also
+same-fates caller brought (Asks demand next) (a ∷ these) (b ∷ those) state are also unread clean others =
+    let same : b ≡ a = stored-is demand b unread.0 also.0 others.0 ∙ sym (stored-is demand a unread.0 are.0 clean.0) in
+    let rest = same-fates caller brought (next a) these those (demanded brought demand a state) are.1
+    (subst (λ f. AreFates caller brought (next f) those (demanded brought demand f state)) same also.1) unread.1 clean.1 others.1 in
     λ i. sym same i ∷ rest i
 
 -- those of alike requests end alike if no device fails
 pub fates_alike : (state : State) (one other : Recorded) → AreAlike one.arrival other.arrival → Fits state (event.Arrive one) → Fits state (event.Arrive other)
-    → AreFaultless one.fates → AreFaultless other.fates → one.fates ≡ other.fates
-fates_alike state one other alike fits others faultless faultless' =
+    → are_doubtful state.aliases ≡ false → AreFaultless one.fates → AreFaultless other.fates → one.fates ≡ other.fates
+fates_alike state one other alike fits others certain faultless faultless' =
     let conn = one.arrival.conn in
     let given = one.arrival.request.call in
     let these = moment-fates conn state given one.fates one.arrival.now other.arrival.now alike.moment fits.1.fates in
     let those : AreFates conn (brings given other.arrival.now) (plan conn state given other.arrival.now) other.fates state =
     subst (λ (c : ConnId × Result Call CallFault). AreFates c.0 (brings c.1 other.arrival.now) (plan c.0 state c.1 other.arrival.now) other.fates state)
     (λ i. (sym alike.conn i, sym alike.call i)) others.1.fates in
-    same-fates conn (brings given other.arrival.now) (plan conn state given other.arrival.now) one.fates other.fates state these those faultless faultless'
+    same-fates conn (brings given other.arrival.now) (plan conn state given other.arrival.now) one.fates other.fates state these those
+    (row-unread conn (brings given other.arrival.now) one.fates state given certain) faultless faultless'
+
+-- ---- without a fault no doubt arises
+
+aliases-all : (caller : ConnId) (changes : List Change) (state : State) → (performed_all caller changes state).aliases ≡ state.aliases
+aliases-all caller [] state = refl
+aliases-all caller (Open_session ∷ changes) state = aliases-all caller changes (performed caller Open_session state)
+aliases-all caller (Close_session session ∷ changes) state = aliases-all caller changes (performed caller (Close_session session) state)
+aliases-all caller (Lock_collection stem ∷ changes) state = aliases-all caller changes (performed caller (Lock_collection stem) state)
+
+demanded-certain : (brought : Brought) (demand : Demand) (some : Fate) (state : State) → (IsFault some → ⊥) → are_doubtful state.aliases ≡ false → are_doubtful (demanded brought demand some state).aliases ≡ false
+demanded-certain brought (Store stem edit) some state well certain = certain
+demanded-certain brought (Erase stem) some state well certain = certain
+demanded-certain brought (Set_alias alias stem) some state well certain = certain-set alias stem some (contents_of state) well certain
+demanded-certain brought Read_aliases some state well certain = certain-resolved some state.aliases certain
+
+run-certain : (caller : ConnId) (brought : Brought) (its : Plan) (fates : List Fate) (state : State) → AreFaultless fates → are_doubtful state.aliases ≡ false
+    → are_doubtful (run caller brought its fates state).state.aliases ≡ false
+run-certain caller brought (Ends answer changes) fates state well certain = ap are_doubtful (aliases-all caller changes state) ∙ certain
+run-certain caller brought (After changes next) fates state well certain =
+    let after = performed_all caller changes state in
+    run-certain caller brought (next (asked caller brought after)) fates after well (ap are_doubtful (aliases-all caller changes state) ∙ certain)
+run-certain caller brought (Asks demand next) [] state well certain = certain
+run-certain caller brought (Asks demand next) (some ∷ fates) state well certain =
+    run-certain caller brought (next some) fates (demanded brought demand some state) well.1 (demanded-certain brought demand some state well.0 certain)
+
+pub step_certain : (state : State) (event : Event) → IsFaultless event → are_doubtful state.aliases ≡ false → are_doubtful (step state event).aliases ≡ false
+step_certain state (event.Connect conn) well certain = certain
+step_certain state (event.Arrive came) well certain =
+    let plan = plan_for came state in
+    let ran = run came.arrival.conn (brought_by came.arrival) plan came.fates state in
+    ap (λ (s : State). are_doubtful s.aliases) (state-limited plan ran) ∙ run-certain came.arrival.conn (brought_by came.arrival) plan came.fates state well certain
+step_certain state (event.Leave conn) well certain = certain
+step_certain state (event.Take conn) well certain = certain
+step_certain state (event.Gone conn) well certain = certain

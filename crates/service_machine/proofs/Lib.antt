@@ -1,3 +1,4 @@
+pub mod AliasLemmas
 pub mod EventLemmas
 pub mod LeadsLemmas
 pub mod LockLemmas

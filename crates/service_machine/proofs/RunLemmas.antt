@@ -161,7 +161,9 @@ quiet-row (Ok (call.OpenSession algorithm)) asked nothing =
     quiet-if (is_plain algorithm) _ (refused name.NotSupported) (quiet-if asked.sessions.is_full (refused name.LimitsExceeded) _ tt tt) tt
 quiet-row (Ok (call.CloseSession session)) asked nothing = quiet-if (asked.sessions.owns session) _ (refused name.NoSession) tt tt
 quiet-row (Ok (call.SearchItems wanted)) asked nothing = tt
-quiet-row (Ok (call.Lock objects)) asked nothing = quiet-if (is_small (body.Locked (paths_of (once (filter (is_there asked.collections) objects))))) _ (refused name.LimitsExceeded) tt tt
+quiet-row (Ok (call.ReadAlias alias)) asked nothing = tt
+quiet-row (Ok (call.SetAlias alias object)) asked nothing = absurd nothing
+quiet-row (Ok (call.Lock objects)) asked nothing = quiet-if (is_small (body.ObjectsAndPrompt (paths_of (once (filter (is_there asked.collections) objects))) None)) _ (refused name.LimitsExceeded) tt tt
 quiet-row (Ok (call.GetSecrets items session)) asked nothing = quiet-session session asked _ (λ own. tt)
 quiet-row (Ok (call.SearchCollection collection wanted)) asked nothing = quiet-collection (collection_named asked.collections collection) _ (λ stem. tt)
 quiet-row (Ok (call.GetSecret stem item session)) asked nothing =

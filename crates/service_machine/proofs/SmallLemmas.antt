@@ -19,18 +19,19 @@ use Rattle.secret_calls.specs.Outs.{spelled_body, most_waiting}
 use Rattle.secret_calls.proofs.SizeLemmas.{error-short, return-waits, session-short}
 use Rattle.session_table.specs.Sessions.{rows_of, is_full, owns, most_sessions, last_session}
 use Rattle.service_machine.specs.declared.event.Recorded.{Recorded}
+use Rattle.service_machine.specs.AliasCalls.{alias_settled, alias_stored, on_target, once_read}
 use Rattle.service_machine.specs.CollectionCalls.{by_fate, if_open, made, no_prompt, on_collection, secret_stored, storing, storing_secret}
 use Rattle.service_tables.specs.Connections.{size_of}
 use Rattle.service_machine.specs.ItemCalls.{get_secret, secret_if_open}
 use Rattle.service_tables.specs.Limits.{most_body, most_content}
-use Rattle.service_tables.specs.Objects.{collection_named, is_there, item_paths, once, paths_of}
+use Rattle.service_tables.specs.Objects.{alias_target, collection_named, is_there, item_paths, once, paths_of}
 use Rattle.service_tables.specs.Opened.{contents_of}
 use Rattle.service_tables.specs.Reading.{asked_collections}
 use Rattle.service_tables.specs.Storing.{Brought, Edit, Add_item, Set_secret, Remove_item, storable_edit}
 use Rattle.service_tables.specs.declared.fate.Fate.{Fate}
 use Rattle.service_tables.specs.declared.fate.Fate.TheVariants as fate
-use Rattle.service_machine.specs.Plan.{Change, Open_session, Close_session, Demand, Store, Erase, Secret_of, Plan, Ends, After, Asks, refused, answered, given}
-use Rattle.service_machine.specs.Run.{asked, filled, led, run, bounded}
+use Rattle.service_machine.specs.Plan.{Change, Open_session, Close_session, Demand, Store, Erase, Set_alias, Read_aliases, Secret_of, Plan, Ends, After, Asks, refused, answered, given}
+use Rattle.service_machine.specs.Run.{asked, demanded, filled, led, run, bounded}
 use Rattle.service_machine.specs.ServiceCalls.{is_plain, is_small, locks}
 use Rattle.service_machine.specs.SessionCalls.{with_session}
 use Rattle.service_tables.specs.State.{State}
@@ -121,6 +122,10 @@ module _ (caller : ConnId) (brought : Brought) (fates : List Fate) where
   answered-by body demand state small (fate.Stored ∷ more) = small
   answered-by body demand state small (fate.Before ∷ more) = tt
   answered-by body demand state small (fate.Unsure ∷ more) = tt
+  answered-by body demand state small (fate.Old ∷ more) = tt
+  answered-by body demand state small (fate.New ∷ more) = tt
+  answered-by body demand state small (fate.Other ∷ more) = tt
+  answered-by body demand state small (fate.ReadFailed ∷ more) = tt
 
   fate-small : (body : Body) (demand : Demand) (state : State) → length (spelled_body body) ≤ most_body → StaysSmall (Asks demand (by_fate body)) state
   fate-small body demand state small = answered-by body demand state small fates
@@ -159,15 +164,49 @@ module _ (caller : ConnId) (brought : Brought) (fates : List Fate) where
   erased-small state (Some stem) =
       if-small (is_open stem state.collections) (Asks (Erase stem) (by_fate no_prompt)) state name.IsLocked (fate-small no_prompt (Erase stem) state prompt-small)
 
+  -- an alias is set
+  empty-small : length (spelled_body body.Empty) ≤ most_body
+  empty-small = omega arith
+
+  set-answer : (alias : List ℕ) (stem : Option (List ℕ)) (state : State) (these : List Fate) → IsSmall (run caller brought (alias_stored alias stem (asked caller brought state)) these state).answer
+  set-answer alias stem state these =
+      let pass : (b : Bool) → IsSmall (run caller brought (cond b (Asks (Set_alias alias stem) (by_fate body.Empty)) (refused name.LimitsExceeded)) these state).answer =
+      elim [ true ↦ answered-by body.Empty (Set_alias alias stem) state empty-small these | false ↦ tt ] in
+      pass ((asked caller brought state).aliases.can_set alias stem)
+
+  read-answer : (alias : List ℕ) (stem : Option (List ℕ)) (state : State) (these : List Fate) → IsSmall (run caller brought (Asks Read_aliases (once_read (alias_stored alias stem))) these state).answer
+  read-answer alias stem state [] = tt
+  read-answer alias stem state (fate.Stored ∷ more) = tt
+  read-answer alias stem state (fate.Before ∷ more) = tt
+  read-answer alias stem state (fate.Unsure ∷ more) = tt
+  read-answer alias stem state (fate.Old ∷ more) = set-answer alias stem (demanded brought Read_aliases fate.Old state) more
+  read-answer alias stem state (fate.New ∷ more) = set-answer alias stem (demanded brought Read_aliases fate.New state) more
+  read-answer alias stem state (fate.Other ∷ more) = set-answer alias stem (demanded brought Read_aliases fate.Other state) more
+  read-answer alias stem state (fate.ReadFailed ∷ more) = tt
+
+  alias-small : (alias : List ℕ) (stem : Option (List ℕ)) (state : State) → StaysSmall (alias_settled alias stem (asked caller brought state)) state
+  alias-small alias stem state =
+      let inner : (b : Bool) → StaysSmall (cond b (Asks (Set_alias alias stem) (by_fate body.Empty)) (refused name.LimitsExceeded)) state =
+      elim [ true ↦ fate-small body.Empty (Set_alias alias stem) state empty-small | false ↦ tt ] in
+      let pass : (b : Bool) → StaysSmall (cond b (Asks Read_aliases (once_read (alias_stored alias stem))) (alias_stored alias stem (asked caller brought state))) state =
+      elim [ true ↦ read-answer alias stem state fates | false ↦ inner ((asked caller brought state).aliases.can_set alias stem) ] in
+      pass (asked caller brought state).aliases.in_doubt
+
+  target-small : (alias : List ℕ) (state : State) (target : Option (Option (List ℕ))) → StaysSmall (on_target target (λ stem. alias_settled alias stem (asked caller brought state))) state
+  target-small alias state None = tt
+  target-small alias state (Some stem) = alias-small alias stem state
+
   plan-small : (state : State) (call : Result Call CallFault) → StaysSmall (plan_of call (asked caller brought state)) state
   plan-small state (Err fault) = tt
   plan-small state (Ok call.Ping) = tt
   plan-small state (Ok (call.OpenSession algorithm)) = opened-small state (is_plain algorithm)
   plan-small state (Ok (call.CloseSession session)) = closed-small session state ((asked caller brought state).sessions.owns session)
   plan-small state (Ok (call.SearchItems wanted)) = tt
+  plan-small state (Ok (call.ReadAlias alias)) = tt
+  plan-small state (Ok (call.SetAlias alias object)) = target-small alias state (alias_target (asked_collections (contents_of state)) object)
   plan-small state (Ok (call.Lock objects)) =
       let paths = paths_of (once (filter (is_there (asked_collections (contents_of state))) objects)) in
-      answered-small (body.Locked paths) (locks objects (asked caller brought state)) state (is_small (body.Locked paths)) refl
+      answered-small (body.ObjectsAndPrompt paths None) (locks objects (asked caller brought state)) state (is_small (body.ObjectsAndPrompt paths None)) refl
   plan-small state (Ok (call.GetSecrets items session)) = session-small session _ state (λ own. tt)
   plan-small state (Ok (call.SearchCollection collection wanted)) = collection-small wanted state (collection_named (asked_collections (contents_of state)) collection)
   plan-small state (Ok (call.GetSecret stem item session)) = secret-small stem item session state

@@ -8,7 +8,8 @@ use Rattle.kr_base.specs.declared.ids.ItemId.{ItemId}
 use Rattle.kr_base.specs.declared.ids.SessionId.{SessionId}
 use Rattle.kr_names.specs.declared.object_name.ObjectName.{ObjectName}
 use Rattle.kr_names.specs.declared.object_name.ObjectName.TheVariants as object
-use Rattle.kr_names.specs.Path.{IsName}
+use Rattle.kr_base.specs.Stem.{IsStem}
+use Rattle.kr_names.specs.Path.{IsAliasName, IsName}
 use Rattle.collection_table.specs.Rows.{has_item, is_open}
 use Rattle.session_table.specs.declared.row.SessionRow.{SessionRow}
 use Rattle.secret_calls.specs.declared.call.Call.{Call}
@@ -19,7 +20,7 @@ use Rattle.secret_calls.specs.declared.out.Body.{Body}
 use Rattle.secret_calls.specs.declared.out.Body.TheVariants as body
 use Rattle.secret_calls.specs.declared.out.ErrorName.{ErrorName}
 use Rattle.secret_calls.specs.declared.out.ErrorName.TheVariants as name
-use Rattle.secret_calls.proofs.SizeLemmas.{empty-fits, error-short, return-waits}
+use Rattle.secret_calls.proofs.SizeLemmas.{error-fits, error-short, return-waits}
 use Rattle.secret_calls.specs.declared.secret.ReturnedSecret.{ReturnedSecret}
 use Rattle.secret_calls.specs.Outs.{spelled_body, AreTyped, HasSpelling}
 use Rattle.session_table.specs.Sessions.{is_of, owns, rows_of, is_full, most_sessions, last_session}
@@ -31,12 +32,13 @@ use Rattle.service_machine.specs.declared.event.Event.TheVariants as event
 use Rattle.service_tables.specs.Connections.{new_row, joined, has, changed, left, emptied, size_of, with_out, Sent}
 use Rattle.service_tables.specs.Limits.{most_body, most_content}
 use Rattle.service_machine.specs.declared.event.Recorded.{Recorded}
+use Rattle.service_machine.specs.AliasCalls.{alias_body, alias_settled, alias_stored, on_target, once_read}
 use Rattle.service_machine.specs.CollectionCalls.{by_fate, if_open, made, no_prompt, on_collection, secret_stored, storing, storing_secret}
 use Rattle.service_machine.specs.ItemCalls.{get_secret, secret_if_open}
-use Rattle.service_tables.specs.Objects.{collection_around, collection_named, is_open_item, is_there, item_paths, once, paths_of}
+use Rattle.service_tables.specs.Objects.{alias_target, collection_around, collection_named, is_open_item, is_there, item_paths, once, paths_of}
 use Rattle.service_tables.specs.Opened.{Contents, contents_of, opened_state}
-use Rattle.service_tables.specs.Reading.{asked_collections, secret_of}
-use Rattle.service_machine.specs.Plan.{Change, Open_session, Close_session, Lock_collection, Demand, Store, Erase, Secret_of, Plan, Ends, After, Asks, refused, answered, given}
+use Rattle.service_tables.specs.Reading.{alias_of, asked_collections, secret_of}
+use Rattle.service_machine.specs.Plan.{Change, Open_session, Close_session, Lock_collection, Demand, Store, Erase, Set_alias, Read_aliases, Secret_of, Plan, Ends, After, Asks, refused, answered, given}
 use Rattle.service_machine.specs.Run.{asked, demanded, performed, performed_all, filled, Ran, run, bounded, limited, secret_returned}
 use Rattle.service_machine.specs.ServiceCalls.{is_plain, is_small, lock, locks, get_secrets}
 use Rattle.service_machine.specs.SessionCalls.{with_session}
@@ -45,9 +47,11 @@ use Rattle.service_machine.specs.Replay.{replay, Legal}
 use Rattle.service_tables.specs.Storing.{AreEditTypes, Brought, Edit, Add_item, Set_secret, Remove_item, storable_edit}
 use Rattle.service_tables.specs.declared.fate.Fate.{Fate}
 use Rattle.service_tables.specs.declared.fate.Fate.TheVariants as fate
-use Rattle.service_tables.specs.Sound.{AreSecretTypes, CanWait, WaitsWell, AreOpened, AreSoundCollections, IsSound}
-use Rattle.service_tables.proofs.CollectionLemmas.{path-of, found-in-paths, found-locked, found-unlocked, named-paths, once-each, open-named, secret-typed, secrets-typed, sound-locked, there-named}
+use Rattle.service_tables.specs.Sound.{AreSecretTypes, CanWait, WaitsWell, AreOpened, AreSoundContents, IsSound}
+use Rattle.service_tables.proofs.CollectionLemmas.{alias-named, target-stem, path-of, found-in-paths, found-locked, found-unlocked, named-paths, once-each, open-named, secret-typed, secrets-typed, sound-locked, there-named}
 use Rattle.service_tables.proofs.EachLemmas.{each-weaker}
+use Rattle.service_tables.proofs.AliasLemmas.{is-alias}
+use Rattle.service_tables.proofs.KeptLemmas.{sound-resolved, sound-set}
 use Rattle.service_tables.proofs.StoredLemmas.{sound-erased, sound-stored, storable-named}
 use Rattle.service_machine.proofs.SmallLemmas.{IsSmall, answer-small, not-full}
 use Rattle.service_machine.proofs.RunLemmas.{connections-performed, connections-all, plan_for, state-limited, put_out-served}
@@ -59,6 +63,7 @@ sound-changed conn change keeps well state sound = record {
   connections = connections-changed conn change keeps well state.connections sound.connections;
   sessions = sessions-among state.connections.rows (changed conn change state.connections.rows) (λ owner there. has-changed owner conn change keeps state.connections.rows ∙ there) state.sessions sound.sessions;
   collections = sound.collections;
+  aliases = sound.aliases;
 }
 
 -- outputs on their way, each of which has a spelling
@@ -93,6 +98,8 @@ IsTypedAnswer (Err name) = Unit {0}
 abbrev pub IsTypedDemand : Brought → Demand → Type 0
 IsTypedDemand brought (Store stem edit) = (brought.now < 2 ^ 64) × AreEditTypes brought.value edit
 IsTypedDemand brought (Erase stem) = Unit {0}
+IsTypedDemand brought (Set_alias alias stem) = IsAliasName alias × IfSome stem IsStem
+IsTypedDemand brought Read_aliases = Unit {0}
 
 -- each change of a plan is allowed, and what it asks of the disk and the values of its answer are of their types
 abbrev pub MayRun : ConnId → Brought → Plan → List Fate → State → Type 0
@@ -108,11 +115,25 @@ sound-demanded brought (Store stem edit) some state typed sound = record {
   connections = sound.connections;
   sessions = sound.sessions;
   collections = sound-stored brought.now typed.0 edit brought.value typed.1 stem some state.collections sound.collections;
+  aliases = sound.aliases;
 }
 sound-demanded brought (Erase stem) some state typed sound = record {
   connections = sound.connections;
   sessions = sound.sessions;
   collections = sound-erased stem some state.collections sound.collections;
+  aliases = sound.aliases;
+}
+sound-demanded brought (Set_alias alias stem) some state typed sound = record {
+  connections = sound.connections;
+  sessions = sound.sessions;
+  collections = sound.collections;
+  aliases = sound-set alias stem some (contents_of state) typed.0 typed.1 sound.aliases;
+}
+sound-demanded brought Read_aliases some state typed sound = record {
+  connections = sound.connections;
+  sessions = sound.sessions;
+  collections = sound.collections;
+  aliases = sound-resolved some state.aliases sound.aliases;
 }
 
 sound-performed : (caller : ConnId) (change : Change) (state : State) → has caller state.connections.rows ≡ true → IsAllowed caller change state → IsSound state
@@ -124,16 +145,19 @@ sound-performed caller Open_session state there allowed sound =
       sessions = sessions-opened caller state.connections.rows state.sessions there (leb-false most_sessions (length (rows_of caller state.sessions.rows)) room.0)
           (leb-false last_session state.sessions.next room.1) sound.sessions;
       collections = sound.collections;
+      aliases = sound.aliases;
     }
 sound-performed caller (Close_session session) state there allowed sound = record {
   connections = sound.connections;
   sessions = sessions-fewer state.connections.rows (λ row. not (is_of caller session row)) state.sessions sound.sessions;
   collections = sound.collections;
+  aliases = sound.aliases;
 }
 sound-performed caller (Lock_collection stem) state there allowed sound = record {
   connections = sound.connections;
   sessions = sound.sessions;
   collections = sound-locked stem state.collections sound.collections;
+  aliases = sound.aliases;
 }
 
 sound-all : (caller : ConnId) (changes : List Change) (state : State) → has caller state.connections.rows ≡ true → AreAllowed caller changes state → IsSound state
@@ -207,8 +231,8 @@ module _ (caller : ConnId) (brought : Brought) (fates : List Fate) where
   lock-may objects state sound =
       let there = once (filter (is_there (asked_collections (contents_of state))) objects) in
       let paths = named-paths there (once-each IsName (is_there (asked_collections (contents_of state))) (there-named (contents_of state) sound.collections) objects) in
-      small-may (body.Locked (paths_of there)) (locks objects (asked caller brought state)) state
-      (locks-allowed (filter_map (collection_around (asked_collections (contents_of state))) objects) state) paths (is_small (body.Locked (paths_of there)))
+      small-may (body.ObjectsAndPrompt (paths_of there) None) (locks objects (asked caller brought state)) state
+      (locks-allowed (filter_map (collection_around (asked_collections (contents_of state))) objects) state) (paths, tt) (is_small (body.ObjectsAndPrompt (paths_of there) None))
 
   -- a session that is owned has a number of its type
   and-second : (a b : Bool) → (a && b) ≡ true → b ≡ true
@@ -280,6 +304,10 @@ module _ (caller : ConnId) (brought : Brought) (fates : List Fate) where
   by-fate-may body fate.Stored more state typed = (tt, typed)
   by-fate-may body fate.Before more state typed = (tt, tt)
   by-fate-may body fate.Unsure more state typed = (tt, tt)
+  by-fate-may body fate.Old more state typed = (tt, tt)
+  by-fate-may body fate.New more state typed = (tt, tt)
+  by-fate-may body fate.Other more state typed = (tt, tt)
+  by-fate-may body fate.ReadFailed more state typed = (tt, tt)
 
   asks-may : (demand : Demand) (body : Body) (these : List Fate) (state : State) → IsTypedDemand brought demand → AreTyped body → MayRun caller brought (Asks demand (by_fate body)) these state
   asks-may demand body [] state given typed = tt
@@ -310,7 +338,7 @@ module _ (caller : ConnId) (brought : Brought) (fates : List Fate) where
       elim [
         | None ↦ λ is. tt
         | Some item ↦ λ is.
-            path-of (object.Item stem item) (storable-named brought.now given.0 edit brought.value given.1 stem state.collections item sound.collections is)
+            (path-of (object.Item stem item) (storable-named brought.now given.0 edit brought.value given.1 stem state.collections item sound.collections is), tt)
       ] in
       pass (storable_edit brought state.collections stem edit) refl
 
@@ -331,6 +359,47 @@ module _ (caller : ConnId) (brought : Brought) (fates : List Fate) where
   erased-may state None = (tt, tt)
   erased-may state (Some stem) = if-may (is_open stem state.collections) (Asks (Erase stem) (by_fate no_prompt)) name.IsLocked state (asks-may (Erase stem) no_prompt fates state tt prompt-typed)
 
+  -- the return for an alias
+  alias-typed : (alias : List ℕ) (state : State) → IsSound state → AreTyped (alias_body (alias_of alias (contents_of state)))
+  alias-typed alias state sound =
+      let pass : (o : Option (List ℕ)) → alias_of alias (contents_of state) ≡ o → AreTyped (alias_body o) =
+      elim [
+        | None ↦ λ is. prompt-typed
+        | Some stem ↦ λ is. path-of (object.Collection stem) (alias-named (contents_of state) sound.collections alias stem is)
+      ] in
+      pass (alias_of alias (contents_of state)) refl
+
+  -- an alias is set to the stem of a collection, or removed
+  set-may : (alias : List ℕ) (stem : Option (List ℕ)) (these : List Fate) (state : State) → IsAliasName alias × IfSome stem IsStem
+      → MayRun caller brought (alias_stored alias stem (asked caller brought state)) these state
+  set-may alias stem these state typed =
+      let pass : (b : Bool) → MayRun caller brought (cond b (Asks (Set_alias alias stem) (by_fate body.Empty)) (refused name.LimitsExceeded)) these state =
+      elim [ true ↦ asks-may (Set_alias alias stem) body.Empty these state typed tt | false ↦ (tt, tt) ] in
+      pass ((asked caller brought state).aliases.can_set alias stem)
+
+  read-may : (alias : List ℕ) (stem : Option (List ℕ)) (these : List Fate) (state : State) → IsAliasName alias × IfSome stem IsStem
+      → MayRun caller brought (Asks Read_aliases (once_read (alias_stored alias stem))) these state
+  read-may alias stem [] state typed = tt
+  read-may alias stem (fate.Stored ∷ more) state typed = (tt, (tt, tt))
+  read-may alias stem (fate.Before ∷ more) state typed = (tt, (tt, tt))
+  read-may alias stem (fate.Unsure ∷ more) state typed = (tt, (tt, tt))
+  read-may alias stem (fate.Old ∷ more) state typed = (tt, (tt, set-may alias stem more (demanded brought Read_aliases fate.Old state) typed))
+  read-may alias stem (fate.New ∷ more) state typed = (tt, (tt, set-may alias stem more (demanded brought Read_aliases fate.New state) typed))
+  read-may alias stem (fate.Other ∷ more) state typed = (tt, (tt, set-may alias stem more (demanded brought Read_aliases fate.Other state) typed))
+  read-may alias stem (fate.ReadFailed ∷ more) state typed = (tt, (tt, tt))
+
+  settled-may : (alias : List ℕ) (stem : Option (List ℕ)) (state : State) → IsAliasName alias × IfSome stem IsStem
+      → MayRun caller brought (alias_settled alias stem (asked caller brought state)) fates state
+  settled-may alias stem state typed =
+      let pass : (b : Bool) → MayRun caller brought (cond b (Asks Read_aliases (once_read (alias_stored alias stem))) (alias_stored alias stem (asked caller brought state))) fates state =
+      elim [ true ↦ read-may alias stem fates state typed | false ↦ set-may alias stem fates state typed ] in
+      pass (asked caller brought state).aliases.in_doubt
+
+  target-may : (alias : List ℕ) (state : State) (target : Option (Option (List ℕ))) → IsAliasName alias → ((stem : Option (List ℕ)) → target ≡ Some stem → IfSome stem IsStem)
+      → MayRun caller brought (on_target target (λ stem. alias_settled alias stem (asked caller brought state))) fates state
+  target-may alias state None named stems = (tt, tt)
+  target-may alias state (Some stem) named stems = settled-may alias stem state (named, stems stem refl)
+
   -- each row's plan may be run
   pub may-run : (state : State) (call : Result Call CallFault) → IsSound state → brought.now < 2 ^ 64 → HasTypes call → brought.value ≡ value_in call
       → MayRun caller brought (plan_of call (asked caller brought state)) fates state
@@ -340,6 +409,9 @@ module _ (caller : ConnId) (brought : Brought) (fates : List Fate) where
   may-run state (Ok (call.CloseSession session)) sound small types same = closed-may session state ((asked caller brought state).sessions.owns session)
   may-run state (Ok (call.SearchItems wanted)) sound small types same =
       (tt, (found-unlocked wanted state.collections sound.collections, found-locked wanted state.collections sound.collections))
+  may-run state (Ok (call.ReadAlias alias)) sound small types same = (tt, alias-typed alias state sound)
+  may-run state (Ok (call.SetAlias alias given)) sound small types same =
+      target-may alias state (alias_target (asked_collections (contents_of state)) given) (is-alias alias types) (target-stem (contents_of state) sound.collections given)
   may-run state (Ok (call.Lock objects)) sound small types same = lock-may objects state sound
   may-run state (Ok (call.GetSecrets items session)) sound small types same = secrets-may items session state sound
   may-run state (Ok (call.SearchCollection collection wanted)) sound small types same = collection-may wanted state sound (collection_named (asked_collections (contents_of state)) collection)
@@ -369,7 +441,7 @@ message-waits caller request (Ok body) typed small = record {
   spelled = record { typed = typed; short = omega (arith, small) };
   small = return-waits request.serial 1 body (omega (arith, small));
 }
-message-waits caller request (Err name) typed small = record { spelled = empty-fits; small = error-short request.serial 1 name }
+message-waits caller request (Err name) typed small = record { spelled = error-fits request.serial name; small = error-short request.serial 1 name }
 
 replies-wait : (wanted : Bool) (sent : Sent) → CanWait sent → AllByRecursion CanWait (cond wanted (sent ∷ []) [])
 replies-wait true sent waits = (waits, tt)
@@ -401,11 +473,12 @@ sound-served came state sound there fits =
 
 -- ---- an event, a list of events
 
-pub sound_start : (contents : Contents) → AreSoundCollections contents.collections → IsSound (opened_state contents)
+pub sound_start : (contents : Contents) → AreSoundContents contents → IsSound (opened_state contents)
 sound_start contents sound = record {
   connections = record { joined = tt; apart = tt; few = omega arith; waiting = tt };
   sessions = record { opened = tt; once = λ number. omega arith; limited = λ owner. omega arith; owned = tt; numbered = omega arith };
-  collections = sound;
+  collections = sound.collections;
+  aliases = sound.aliases;
 }
 
 pub sound_step : (state : State) (event : Event) → IsSound state → Fits state event → IsSound (step state event)
@@ -413,6 +486,7 @@ sound_step state (event.Connect conn) sound fits = record {
   connections = connections-joined conn state.connections fits.0 fits.1 sound.connections;
   sessions = sessions-among state.connections.rows (joined conn state.connections).rows (λ owner there. has-push owner state.connections.rows (new_row conn) there) state.sessions sound.sessions;
   collections = sound.collections;
+  aliases = sound.aliases;
 }
 sound_step state (event.Arrive came) sound fits =
     let ran = served came state in
@@ -425,6 +499,7 @@ sound_step state (event.Gone conn) sound fits = record {
   connections = connections-without conn state.connections sound.connections;
   sessions = sessions-without conn state.connections.rows state.sessions sound.sessions;
   collections = sound.collections;
+  aliases = sound.aliases;
 }
 
 pub sound_replay : (state : State) (events : List Event) → IsSound state → Legal state events → IsSound (replay state events)

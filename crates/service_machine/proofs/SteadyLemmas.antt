@@ -8,6 +8,7 @@ use Rattle.std.proofs.lemmas.Option.{none-some}
 use Rattle.kr_base.specs.Attributes.{is_name, value_at}
 use Rattle.kr_base.specs.declared.ids.ConnId.{ConnId}
 use Rattle.kr_outside.specs.RenameDisk.{Image}
+use Rattle.alias_table.specs.Table.{AliasRows}
 use Rattle.folder_store.specs.Aliases.{alias_slot}
 use Rattle.folder_store.specs.declared.opening.LeftAlone.{LeftAlone}
 use Rattle.folder_store.specs.Names.{aliases}
@@ -18,12 +19,13 @@ use Rattle.service_tables.specs.Disk.{DiskState, IsLoaded}
 use Rattle.service_tables.specs.State.{State}
 use Rattle.collection_table.specs.Rows.{Rows}
 use Rattle.service_tables.specs.declared.fate.Fate.{Fate}
-use Rattle.service_tables.specs.Slots.{IsFault, StoresAt, are_steady}
+use Rattle.service_tables.specs.Opened.{Contents, contents_of}
+use Rattle.service_tables.specs.Slots.{IsFault, StoresAliases, StoresAt, are_steady}
 use Rattle.service_tables.specs.Storing.{Brought}
 use Rattle.service_machine.specs.Fates.{AreFaultless, is_steady}
-use Rattle.service_machine.specs.Plan.{Plan, Ends, After, Asks}
-use Rattle.service_machine.specs.Run.{AreFates, AreNone, asked, demanded, performed_all, rows_asked, stem_of}
-use Rattle.service_machine.specs.Stored.{StoresOf}
+use Rattle.service_machine.specs.Plan.{Demand, Store, Erase, Set_alias, Read_aliases, Plan, Ends, After, Asks}
+use Rattle.service_machine.specs.Run.{AreFates, AreNone, asked, demanded, performed_all}
+use Rattle.service_machine.specs.Stored.{StoresDemand, StoresOf}
 
 and-both : (a b : Bool) → (a && b) ≡ true → (a ≡ true) × (b ≡ true)
 and-both true b is = (refl, is)
@@ -74,8 +76,8 @@ loaded-steady {F} {S} found is_honest folder_steady faults images may_leave made
           let files : list_all (λ (file : LeftAlone S). slot_steady file.slot) disk.left_alone ≡ true =
           ap (λ (d : DiskState F S). list_all (λ (file : LeftAlone S). slot_steady file.slot) d.left_alone) is.kept
           ∙ all-files found slot_steady as_found is.loaded.left_alone.items (files-steady found slot_steady as_found (images folder) is.loads.rest is.loads.taken is.loaded.left_alone.items is.loads.handed) in
-          let last : slot_steady (alias_slot disk.aliases) ≡ true =
-          ap (λ (d : DiskState F S). slot_steady (alias_slot d.aliases)) is.kept ∙ as_found (images folder aliases) (alias_slot is.loaded.aliases) is.loads.alias_found in
+          let last : slot_steady disk.aliases ≡ true =
+          ap (λ (d : DiskState F S). slot_steady d.aliases) is.kept ∙ as_found (images folder aliases) (alias_slot is.loaded.aliases) is.loads.alias_found in
           let spare : list_all (λ (slot : List ℕ × S). slot_steady slot.1) disk.spare ≡ true = ap (λ (d : DiskState F S). list_all (λ (slot : List ℕ × S). slot_steady slot.1) d.spare) is.kept in
           rw (here, slots, spare, files, last) refl
       | false ↦ λ unsteady. let here : folder_steady disk.folder ≡ false = is.steady.same ∙ unsteady in rw here refl
@@ -98,7 +100,7 @@ module _ {F S : Type 0} (is_honest slot_steady : S → Bool) (faults moment : S 
   at-steady : (stem : List ℕ) (some : Fate) (before after : Rows) (old new : DiskState F S) → At stem some before after old new → whole new ≡ whole old
   at-steady stem some before after old new at =
       ap whole at.rest
-      ∙ ap (λ b. folder_steady old.folder && (b && (list_all (λ (file : LeftAlone S). slot_steady file.slot) old.left_alone && slot_steady (alias_slot old.aliases)))) at.all_steady
+      ∙ ap (λ b. folder_steady old.folder && (b && (list_all (λ (file : LeftAlone S). slot_steady file.slot) old.left_alone && slot_steady old.aliases))) at.all_steady
 
   -- a slot among steady ones is steady
   among : (stem : List ℕ) (slot : S) (slots : List (List ℕ × S)) → list_all (λ (s : List ℕ × S). slot_steady s.1) slots ≡ true → value_at stem slots ≡ Some slot → slot_steady slot ≡ true
@@ -114,8 +116,8 @@ module _ {F S : Type 0} (is_honest slot_steady : S → Bool) (faults moment : S 
 
   at-never : (stem : List ℕ) (some : Fate) (before after : Rows) (old new : DiskState F S) → At stem some before after old new → whole old ≡ true → IsFault some → ⊥
   at-never stem some before after old new at steady fault =
-      let inner = and-both (folder_steady old.folder) (are_steady slot_steady old && (list_all (λ (file : LeftAlone S). slot_steady file.slot) old.left_alone && slot_steady (alias_slot old.aliases))) steady in
-      let slots = and-both (are_steady slot_steady old) (list_all (λ (file : LeftAlone S). slot_steady file.slot) old.left_alone && slot_steady (alias_slot old.aliases)) inner.1 in
+      let inner = and-both (folder_steady old.folder) (are_steady slot_steady old && (list_all (λ (file : LeftAlone S). slot_steady file.slot) old.left_alone && slot_steady old.aliases)) steady in
+      let slots = and-both (are_steady slot_steady old) (list_all (λ (file : LeftAlone S). slot_steady file.slot) old.left_alone && slot_steady old.aliases) inner.1 in
       let each = and-both (list_all (λ (s : List ℕ × S). slot_steady s.1) old.slots) (list_all (λ (s : List ℕ × S). slot_steady s.1) old.spare) slots.0 in
       let pass : (o : Option S) → value_at stem old.slots ≡ o → option_or o (value_at stem old.spare) ≡ Some at.was → slot_steady at.was ≡ true =
       elim [
@@ -123,6 +125,38 @@ module _ {F S : Type 0} (is_honest slot_steady : S → Bool) (faults moment : S 
         | Some slot ↦ λ there is. among stem at.was old.slots each.0 (there ∙ is)
       ] in
       at.stores.never (pass (value_at stem old.slots) refl at.slot) fault
+
+  -- the same of the file of the aliases
+  abbrev For : Fate → Option AliasRows → Option AliasRows → DiskState F S → DiskState F S → Type 0
+  For some before after old new = StoresAliases is_honest slot_steady faults moment left_since may_leave some before after old new
+
+  for-steady : (some : Fate) (before after : Option AliasRows) (old new : DiskState F S) → For some before after old new → whole new ≡ whole old
+  for-steady some before after old new is =
+      ap whole is.rest
+      ∙ ap (λ b. folder_steady old.folder && (are_steady slot_steady old && (list_all (λ (file : LeftAlone S). slot_steady file.slot) old.left_alone && b))) is.stores.steady.same
+
+  for-never : (some : Fate) (before after : Option AliasRows) (old new : DiskState F S) → For some before after old new → whole old ≡ true → IsFault some → ⊥
+  for-never some before after old new is steady fault =
+      let inner = and-both (folder_steady old.folder) (are_steady slot_steady old && (list_all (λ (file : LeftAlone S). slot_steady file.slot) old.left_alone && slot_steady old.aliases)) steady in
+      let slots = and-both (are_steady slot_steady old) (list_all (λ (file : LeftAlone S). slot_steady file.slot) old.left_alone && slot_steady old.aliases) inner.1 in
+      let last = and-both (list_all (λ (file : LeftAlone S). slot_steady file.slot) old.left_alone) (slot_steady old.aliases) slots.1 in
+      is.stores.never last.1 fault
+
+  -- and of whatever is asked
+  abbrev Asked : Demand → Fate → Contents → Contents → DiskState F S → DiskState F S → Type 0
+  Asked demand some before after old new = StoresDemand is_honest slot_steady faults moment left_since may_leave demand some before after old new
+
+  asked-steady : (demand : Demand) (some : Fate) (before after : Contents) (old new : DiskState F S) → Asked demand some before after old new → whole new ≡ whole old
+  asked-steady (Store stem edit) some before after old new is = at-steady stem some before.collections after.collections old new is
+  asked-steady (Erase stem) some before after old new is = at-steady stem some before.collections after.collections old new is
+  asked-steady (Set_alias alias stem) some before after old new is = for-steady some before.aliases after.aliases old new is
+  asked-steady Read_aliases some before after old new is = for-steady some before.aliases after.aliases old new is
+
+  asked-never : (demand : Demand) (some : Fate) (before after : Contents) (old new : DiskState F S) → Asked demand some before after old new → whole old ≡ true → IsFault some → ⊥
+  asked-never (Store stem edit) some before after old new is = at-never stem some before.collections after.collections old new is
+  asked-never (Erase stem) some before after old new is = at-never stem some before.collections after.collections old new is
+  asked-never (Set_alias alias stem) some before after old new is = for-never some before.aliases after.aliases old new is
+  asked-never Read_aliases some before after old new is = for-never some before.aliases after.aliases old new is
 
   abbrev Of : ConnId → Brought → Plan → List Fate → State → DiskState F S → DiskState F S → Type 0
   Of caller brought plan fates state old new = StoresOf is_honest slot_steady faults moment left_since may_leave caller brought plan fates state old new
@@ -135,7 +169,7 @@ module _ {F S : Type 0} (is_honest slot_steady : S → Bool) (faults moment : S 
   stores-steady caller brought (Asks demand next) [] state old new stores = absurd stores
   stores-steady caller brought (Asks demand next) (some ∷ fates) state old new (mid, at, rest) =
       stores-steady caller brought (next some) fates (demanded brought demand some state) mid new rest
-      ∙ at-steady (stem_of demand) some state.collections (rows_asked brought demand some state.collections) old mid at
+      ∙ asked-steady demand some (contents_of state) (contents_of (demanded brought demand some state)) old mid at
 
   pub stores-faultless : (caller : ConnId) (brought : Brought) (plan : Plan) (fates : List Fate) (state : State) (old new : DiskState F S) → AreFates caller brought plan fates state
       → Of caller brought plan fates state old new → whole old ≡ true → AreFaultless fates
@@ -144,8 +178,8 @@ module _ {F S : Type 0} (is_honest slot_steady : S → Bool) (faults moment : S 
       let after = performed_all caller changes state in
       stores-faultless caller brought (next (asked caller brought after)) fates after old new are stores steady
   stores-faultless caller brought (Asks demand next) [] state old new are stores steady = absurd stores
-  stores-faultless caller brought (Asks demand next) (some ∷ fates) state old new are (mid, at, rest) steady = (
-    at-never (stem_of demand) some state.collections (rows_asked brought demand some state.collections) old mid at steady,
+  stores-faultless caller brought (Asks demand next) (some ∷ fates) state old new (kind, are) (mid, at, rest) steady = (
+    asked-never demand some (contents_of state) (contents_of (demanded brought demand some state)) old mid at steady,
     stores-faultless caller brought (next some) fates (demanded brought demand some state) mid new are rest
-        (at-steady (stem_of demand) some state.collections (rows_asked brought demand some state.collections) old mid at ∙ steady),
+        (asked-steady demand some (contents_of state) (contents_of (demanded brought demand some state)) old mid at ∙ steady),
   )

@@ -38,6 +38,10 @@ abbrev pub by_fate : Body → Fate → Plan
 by_fate body fate.Stored = answered body []
 by_fate body fate.Before = refused name.IOError
 by_fate body fate.Unsure = refused name.IOError
+by_fate body fate.Old = refused name.IOError
+by_fate body fate.New = refused name.IOError
+by_fate body fate.Other = refused name.IOError
+by_fate body fate.ReadFailed = refused name.IOError
 
 -- An edit of an unlocked collection is stored: LimitsExceeded if a limit is in the way or the return would be too large, which none
 -- is of a stem that is one, and IOError if the disk fails.
@@ -66,7 +70,7 @@ no_prompt = body.Object (path_text object.Nothing)
 
 -- the return of an item that was made or replaced
 abbrev pub made : List ℕ → ItemId → Body
-made stem item = body.Made (path_text (object.Item stem item))
+made stem item = body.ObjectAndPrompt (path_text (object.Item stem item)) None
 
 -- CreateItem: an item is added or replaced
 abbrev pub create_item : ObjectName → Edit → Option SessionId → List ℕ → Questions → Plan

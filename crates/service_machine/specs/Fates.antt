@@ -1,7 +1,6 @@
--- How the storings of an event ended, and what is true of them if no device fails.
+-- How the storings and the resolves of an event ended, and what is true of them if no device fails.
 use Rattle.std.specs.Prelude.{Bool, ◌&&◌, List}
 use Rattle.std.specs.List.{AllByRecursion, list_all}
-use Rattle.folder_store.specs.Aliases.{alias_slot}
 use Rattle.service_tables.specs.Disk.{DiskState}
 use Rattle.service_tables.specs.Slots.{IsFault, are_steady}
 use Rattle.service_machine.specs.declared.event.Arrival.{Arrival}
@@ -29,4 +28,4 @@ IsFaultless (event.Gone conn) = Unit {0}
 abbrev pub is_steady : {F S : Type 0} → (F → Bool) → (S → Bool) → DiskState F S → Bool
 is_steady folder_steady slot_steady disk =
     folder_steady disk.folder && (are_steady slot_steady disk
-    && (list_all (λ file. slot_steady file.slot) disk.left_alone && slot_steady (alias_slot disk.aliases)))
+    && (list_all (λ file. slot_steady file.slot) disk.left_alone && slot_steady disk.aliases))

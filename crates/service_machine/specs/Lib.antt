@@ -1,3 +1,4 @@
+pub mod AliasCalls
 pub mod CollectionCalls
 pub mod Fates
 pub mod ItemCalls

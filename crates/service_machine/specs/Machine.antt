@@ -1,5 +1,6 @@
 -- The machine as contracts see it, and an event that comes to it.
-use Rattle.std.specs.Prelude.{◌≡◌, ℕ, false, true, List, IfSome}
+use Rattle.std.specs.Prelude.{◌≡◌, false, true, Option, IfSome}
+use Rattle.alias_table.specs.Table.{AliasRows}
 use Rattle.collection_table.specs.Rows.{Rows}
 use Rattle.service_machine.specs.declared.event.Incoming.{Incoming}
 use Rattle.service_machine.specs.declared.event.Incoming.TheVariants as incoming
@@ -12,7 +13,7 @@ use Rattle.service_machine.specs.Step.{IsMissing}
 use Rattle.session_table.specs.declared.row.Sessions.{Sessions}
 
 -- the rows that the tables have
-abbrev pub rows_from : Table → Sessions → Rows → List (List ℕ × List ℕ) → State
+abbrev pub rows_from : Table → Sessions → Rows → Option AliasRows → State
 rows_from connections sessions collections aliases = record {
   connections = record { rows = connections.rows; next = connections.next };
   sessions = sessions;

@@ -8,7 +8,7 @@ use Rattle.kr_names.specs.declared.object_name.ObjectName.{ObjectName}
 use Rattle.secret_calls.specs.declared.out.Body.{Body}
 use Rattle.secret_calls.specs.declared.out.ErrorName.{ErrorName}
 use Rattle.service_tables.specs.declared.fate.Fate.{Fate}
-use Rattle.service_tables.specs.Questions.{CollectionQuestions}
+use Rattle.service_tables.specs.Questions.{AliasQuestions, CollectionQuestions}
 use Rattle.service_tables.specs.Storing.{Edit}
 
 -- what a row may ask of the sessions, about its caller
@@ -24,6 +24,7 @@ pub record SessionQuestions : Type 0 where
 pub record Questions : Type 0 where
   pub sessions : SessionQuestions
   pub collections : CollectionQuestions
+  pub aliases : AliasQuestions
   -- the item that an edit of an unlocked collection would make, change or remove, if the edit keeps within all limits
   pub storable : List ℕ → Edit → Option ItemId
 
@@ -33,6 +34,10 @@ pub data Demand : Type 0 where
   Store : (stem : List ℕ) → (edit : Edit) → Demand
   -- the file of the collection of the stem is removed, and the collection with it
   Erase : (stem : List ℕ) → Demand
+  -- the alias of the name is set to the stem, or removed if there is none, and the file of the aliases is stored
+  Set_alias : (alias : List ℕ) → (stem : Option (List ℕ)) → Demand
+  -- the file of the aliases, of which two images are known, is read again
+  Read_aliases : Demand
 
 -- what a row may change
 pub data Change : Type 0 where

@@ -1,7 +1,8 @@
 -- What a plan leads to: its answer, the state after its changes, and what these send.
-use Rattle.std.specs.Prelude.{ℕ, nat_le, if◌then◌else◌, List, [], ◌∷◌, ◌++◌, length, Option, Some, None, Result, Ok, Err}
+use Rattle.std.specs.Prelude.{nat_le, if◌then◌else◌, List, [], ◌∷◌, ◌++◌, length, Option, Some, None, Result, Ok, Err}
 use Rattle.std.specs.List.{filter_map}
 use Rattle.kr_base.specs.declared.ids.ConnId.{ConnId}
+use Rattle.alias_table.specs.Table.{AliasRows}
 use Rattle.collection_table.specs.Entries.{changed}
 use Rattle.collection_table.specs.Rows as collections
 use Rattle.secret_calls.specs.declared.out.Body.{Body}
@@ -13,11 +14,12 @@ use Rattle.secret_calls.specs.Outs.{spelled_body}
 use Rattle.session_table.specs.Sessions.{owns, is_full, opened, closed}
 use Rattle.service_tables.specs.Connections.{Sent}
 use Rattle.service_tables.specs.Limits.{most_body}
-use Rattle.service_tables.specs.Opened.{contents_of}
+use Rattle.service_tables.specs.Aliases.{aliases_resolved, aliases_set, asked_aliases}
+use Rattle.service_tables.specs.Opened.{Contents, contents_of}
 use Rattle.service_tables.specs.Reading.{asked_collections, item_secret, secret_of}
-use Rattle.service_tables.specs.Storing.{Brought, change_of, rows_erased, rows_stored, storable_edit}
+use Rattle.service_tables.specs.Storing.{Brought, IsResolve, IsStoring, change_of, rows_erased, rows_stored, storable_edit}
 use Rattle.service_tables.specs.declared.fate.Fate.{Fate}
-use Rattle.service_machine.specs.Plan.{SessionQuestions, Questions, Demand, Store, Erase, Change, Open_session, Close_session, Lock_collection, Gift, Secret_of, Secrets_of, Answer, Returns, Gives, Refuses, Plan, Ends, After, Asks}
+use Rattle.service_machine.specs.Plan.{SessionQuestions, Questions, Demand, Store, Erase, Set_alias, Read_aliases, Change, Open_session, Close_session, Lock_collection, Gift, Secret_of, Secrets_of, Answer, Returns, Gives, Refuses, Plan, Ends, After, Asks}
 use Rattle.service_tables.specs.State.{State}
 
 -- ---- what is asked
@@ -35,6 +37,7 @@ abbrev pub asked : ConnId → Brought → State → Questions
 asked caller brought state = record {
   sessions = asked_sessions caller state;
   collections = asked_collections (contents_of state);
+  aliases = asked_aliases (contents_of state);
   storable = storable_edit brought state.collections;
 }
 
@@ -68,15 +71,29 @@ sent_all caller (change ∷ changes) state = sent_by caller change state ++ sent
 abbrev pub rows_asked : Brought → Demand → Fate → collections.Rows → collections.Rows
 rows_asked brought (Store stem edit) fate rows = rows_stored stem (change_of brought.value edit) brought.now fate rows
 rows_asked brought (Erase stem) fate rows = rows_erased stem fate rows
+rows_asked brought (Set_alias alias stem) fate rows = rows
+rows_asked brought Read_aliases fate rows = rows
+
+-- the aliases after it
+abbrev pub aliases_asked : Demand → Fate → Contents → Option AliasRows
+aliases_asked (Store stem edit) fate contents = contents.aliases
+aliases_asked (Erase stem) fate contents = contents.aliases
+aliases_asked (Set_alias alias stem) fate contents = aliases_set alias stem fate contents
+aliases_asked Read_aliases fate contents = aliases_resolved fate contents.aliases
 
 -- the state after it
 abbrev pub demanded : Brought → Demand → Fate → State → State
-demanded brought demand fate state = record state { collections = rows_asked brought demand fate state.collections }
+demanded brought demand fate state = record state {
+  collections = rows_asked brought demand fate state.collections;
+  aliases = aliases_asked demand fate (contents_of state);
+}
 
--- the stem of the collection whose file is stored or removed
-abbrev pub stem_of : Demand → List ℕ
-stem_of (Store stem edit) = stem
-stem_of (Erase stem) = stem
+-- how what is asked may end
+abbrev pub IsFateOf : Demand → Fate → Type 0
+IsFateOf (Store stem edit) fate = IsStoring fate
+IsFateOf (Erase stem) fate = IsStoring fate
+IsFateOf (Set_alias alias stem) fate = IsStoring fate
+IsFateOf Read_aliases fate = IsResolve fate
 
 -- ---- what is answered
 
@@ -106,7 +123,7 @@ pub record Ran : Type 0 where
 abbrev pub sending : List Sent → Ran → Ran
 sending sends ran = record ran { sends = sends ++ ran.sends }
 
--- A caller's plan, from a state on, with how each storing ended that it asks for. No event has fewer fates than its plan asks for.
+-- A caller's plan, from a state on, with how each storing and each resolve ended that it asks for. No event has fewer fates than its plan asks for.
 abbrev pub run : ConnId → Brought → Plan → List Fate → State → Ran
 run caller brought (Ends answer changes) fates state = record {
   answer = filled state answer;
@@ -124,13 +141,13 @@ abbrev pub AreNone : List Fate → Type 0
 AreNone [] = Unit {0}
 AreNone (fate ∷ fates) = ⊥
 
--- there is one fate for each storing that a plan asks for, from a state on
+-- there is one fate for each storing or resolve that a plan asks for, from a state on, and of its kind
 abbrev pub AreFates : ConnId → Brought → Plan → List Fate → State → Type 0
 AreFates caller brought (Ends answer changes) fates state = AreNone fates
 AreFates caller brought (After changes next) fates state =
     AreFates caller brought (next (asked caller brought (performed_all caller changes state))) fates (performed_all caller changes state)
 AreFates caller brought (Asks demand next) [] state = ⊥
-AreFates caller brought (Asks demand next) (fate ∷ fates) state = AreFates caller brought (next fate) fates (demanded brought demand fate state)
+AreFates caller brought (Asks demand next) (fate ∷ fates) state = IsFateOf demand fate × AreFates caller brought (next fate) fates (demanded brought demand fate state)
 
 -- LimitsExceeded in place of a return whose body is too large
 abbrev pub bounded : Result Body ErrorName → Result Body ErrorName
@@ -150,6 +167,6 @@ led caller brought plan fates state = limited plan (run caller brought plan fate
 abbrev pub ran : ConnId → Brought → (Questions → Plan) → List Fate → State → Ran
 ran caller brought row fates state = led caller brought (row (asked caller brought state)) fates state
 
--- there is one fate for each storing that the row asks for
+-- there is one fate for each storing or resolve that the row asks for
 abbrev pub AreFatesOf : ConnId → Brought → (Questions → Plan) → List Fate → State → Type 0
 AreFatesOf caller brought row fates state = AreFates caller brought (row (asked caller brought state)) fates state

@@ -1,6 +1,6 @@
 -- The rows of the table of calls for the interface Service (Secret Service API draft 0.2,
 -- "org.freedesktop.Secret.Service"). The refusals are in their order.
-use Rattle.std.specs.Prelude.{ℕ, Bool, if◌then◌else◌, nat_le, List, [], ◌∷◌, codes, filter, length, map, nat_eq, Option}
+use Rattle.std.specs.Prelude.{ℕ, Bool, if◌then◌else◌, nat_le, List, [], ◌∷◌, codes, filter, length, map, nat_eq, Option, None}
 use Rattle.std.specs.Cmp.Lexicographic.{pointwise}
 use Rattle.std.specs.List.{filter_map}
 use Rattle.kr_base.specs.declared.attributes.AttrValue.{AttrValue}
@@ -46,7 +46,7 @@ locks objects asked = map Lock_collection (filter_map (collection_around asked.c
 
 -- Lock: the objects that are there, whose collections are locked
 abbrev pub lock : List ObjectName → Questions → Plan
-lock objects asked = answered_if_small (body.Locked (paths_of (once (filter (is_there asked.collections) objects)))) (locks objects asked)
+lock objects asked = answered_if_small (body.ObjectsAndPrompt (paths_of (once (filter (is_there asked.collections) objects))) None) (locks objects asked)
 
 -- GetSecrets: the secrets of the items that are there and whose collections are unlocked
 abbrev pub get_secrets : List ObjectName → Option SessionId → Questions → Plan

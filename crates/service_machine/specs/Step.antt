@@ -15,13 +15,14 @@ use Rattle.secret_calls.specs.Calls.{error_of}
 use Rattle.session_table.specs.Sessions.{abandoned}
 use Rattle.service_tables.specs.declared.rows.ConnRow.{ConnRow}
 use Rattle.service_tables.specs.Storing.{Add_item, Brought}
-use Rattle.service_tables.specs.Sound.{AreItemTypes, AreSecretTypes}
+use Rattle.service_tables.specs.Sound.{AreItemTypes, AreSecretTypes, IsTypedAlias}
 use Rattle.service_machine.specs.declared.event.Arrival.{Arrival}
 use Rattle.service_machine.specs.declared.event.Recorded.{Recorded}
 use Rattle.service_machine.specs.declared.event.Event.{Event}
 use Rattle.service_machine.specs.declared.event.Event.TheVariants as event
 use Rattle.service_machine.specs.declared.event.Output.{Output}
 use Rattle.service_machine.specs.declared.event.Output.TheVariants as output
+use Rattle.service_machine.specs.AliasCalls.{read_alias, set_alias}
 use Rattle.service_machine.specs.CollectionCalls.{search_collection, create_item, delete_collection}
 use Rattle.service_tables.specs.Connections.{joined, has, changed, without, left, emptied, waiting_for, desk_of, Sent, delivered}
 use Rattle.service_machine.specs.ItemCalls.{get_secret, delete_item, set_secret}
@@ -42,6 +43,8 @@ row_of call.Ping asked = ping asked
 row_of (call.OpenSession algorithm) asked = open_session algorithm asked
 row_of (call.CloseSession session) asked = close_session session asked
 row_of (call.SearchItems wanted) asked = search_items wanted asked
+row_of (call.ReadAlias alias) asked = read_alias alias asked
+row_of (call.SetAlias alias object) asked = set_alias alias object asked
 row_of (call.Lock objects) asked = lock objects asked
 row_of (call.GetSecrets items session) asked = get_secrets items session asked
 row_of (call.SearchCollection collection wanted) asked = search_collection collection wanted asked
@@ -139,10 +142,11 @@ CanJoin state = (length state.connections.rows < most_connections) × (state.con
 abbrev pub HasTypes : Result Call CallFault → Type 0
 HasTypes (Ok (call.CreateItem collection label attributes secret replace)) = AreItemTypes label attributes × AreSecretTypes secret.value secret.content
 HasTypes (Ok (call.SetSecret stem item secret)) = AreSecretTypes secret.value secret.content
+HasTypes (Ok (call.SetAlias alias object)) = IsTypedAlias alias
 HasTypes _ = Unit {0}
 
 -- A request can be recorded with these fates: its moment and the arguments of its call have their types, and there is one fate for each
--- storing that it asks for.
+-- storing and each resolve that it asks for.
 pub record FitsRequest (came : Recorded) (state : State) : Type 0 where
   pub moment : came.arrival.now < 2 ^ 64
   pub types : HasTypes came.arrival.request.call

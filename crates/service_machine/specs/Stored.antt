@@ -1,5 +1,5 @@
 -- What the storings that a plan asks for do to the disk, one after the other, and how the call ends that asked for one.
-use Rattle.std.specs.Prelude.{◌≡◌, ℕ, Bool, List, [], ◌∷◌, Option, None, Some, Result, Ok, Err}
+use Rattle.std.specs.Prelude.{◌≡◌, ℕ, Bool, List, [], ◌∷◌, ◌++◌, Option, None, Some, Result, Ok, Err}
 use Rattle.kr_base.specs.declared.ids.ConnId.{ConnId}
 use Rattle.kr_base.specs.declared.ids.ItemId.{ItemId}
 use Rattle.kr_outside.specs.RenameDisk.{Image}
@@ -13,7 +13,8 @@ use Rattle.secret_calls.specs.declared.out.ErrorName.TheVariants as name
 use Rattle.service_tables.specs.declared.fate.Fate.{Fate}
 use Rattle.service_tables.specs.declared.fate.Fate.TheVariants as fate
 use Rattle.service_tables.specs.Disk.{DiskState}
-use Rattle.service_tables.specs.Slots.{StoresAt}
+use Rattle.service_tables.specs.Opened.{Contents, contents_of}
+use Rattle.service_tables.specs.Slots.{StoresAliases, StoresAt}
 use Rattle.service_tables.specs.State.{State}
 use Rattle.service_tables.specs.Storing.{Brought}
 use Rattle.service_machine.specs.declared.event.Event.{Event}
@@ -22,8 +23,8 @@ use Rattle.service_machine.specs.declared.storing.Done.{Done}
 use Rattle.service_machine.specs.declared.storing.Returned.{Returned}
 use Rattle.service_machine.specs.declared.storing.Returned.TheVariants as returned
 use Rattle.service_machine.specs.CollectionCalls.{made, no_prompt}
-use Rattle.service_machine.specs.Plan.{Plan, Ends, After, Asks, Questions}
-use Rattle.service_machine.specs.Run.{AreFates, asked, demanded, led, performed_all, rows_asked, stem_of}
+use Rattle.service_machine.specs.Plan.{Plan, Ends, After, Asks, Demand, Store, Erase, Set_alias, Read_aliases, Questions}
+use Rattle.service_machine.specs.Run.{AreFates, asked, demanded, led, performed_all}
 use Rattle.service_machine.specs.Step.{brought_by, plan_of}
 
 -- a call that stores nothing
@@ -32,18 +33,27 @@ StoresNothing (Ok (call.CreateItem collection label attributes secret replace)) 
 StoresNothing (Ok (call.DeleteCollection collection)) = ⊥
 StoresNothing (Ok (call.DeleteItem stem item)) = ⊥
 StoresNothing (Ok (call.SetSecret stem item secret)) = ⊥
+StoresNothing (Ok (call.SetAlias alias object)) = ⊥
 StoresNothing _ = Unit {0}
 
--- how the storings of a call ended that asks for one at most
+-- how something ended that was perhaps asked for
 abbrev pub fates_of : Option Fate → List Fate
 fates_of None = []
 fates_of (Some fate) = fate ∷ []
+
+-- how what a call asked for ended: a resolve first, and then a storing
+abbrev pub fates_in : Done → List Fate
+fates_in done = fates_of done.read ++ fates_of done.fate
 
 -- what is answered once the disk was asked
 abbrev pub answer_by : Body → Fate → Result Body ErrorName
 answer_by body fate.Stored = Ok body
 answer_by body fate.Before = Err name.IOError
 answer_by body fate.Unsure = Err name.IOError
+answer_by body fate.Old = Err name.IOError
+answer_by body fate.New = Err name.IOError
+answer_by body fate.Other = Err name.IOError
+answer_by body fate.ReadFailed = Err name.IOError
 
 -- what an edit returns
 abbrev pub body_of : Returned → List ℕ → ItemId → Body
@@ -52,7 +62,14 @@ body_of returned.NoPrompt stem item = no_prompt
 body_of returned.Nothing stem item = body.Empty
 
 module _ {F S : Type 0} (is_honest is_steady : S → Bool) (faults moment : S → ℕ) (left_since : S → ℕ → Image → Type 0) (may_leave : S → Image → Type 0) where
-  -- each storing that a plan asks for is one of the disk, in a state of its own; no other slot is used
+  -- what is asked of the disk, which ended so: the slot of its file is used, and no other
+  abbrev pub StoresDemand : Demand → Fate → Contents → Contents → DiskState F S → DiskState F S → Type 0
+  StoresDemand (Store stem edit) fate before after old new = StoresAt is_honest is_steady faults moment left_since may_leave stem fate before.collections after.collections old new
+  StoresDemand (Erase stem) fate before after old new = StoresAt is_honest is_steady faults moment left_since may_leave stem fate before.collections after.collections old new
+  StoresDemand (Set_alias alias stem) fate before after old new = StoresAliases is_honest is_steady faults moment left_since may_leave fate before.aliases after.aliases old new
+  StoresDemand Read_aliases fate before after old new = StoresAliases is_honest is_steady faults moment left_since may_leave fate before.aliases after.aliases old new
+
+  -- each storing and each resolve that a plan asks for is one of the disk, in a state of its own; no other slot is used
   abbrev pub StoresOf : ConnId → Brought → Plan → List Fate → State → DiskState F S → DiskState F S → Type 0
   StoresOf caller brought (Ends answer changes) fates state old new = new ≡ old
   StoresOf caller brought (After changes next) fates state old new =
@@ -60,7 +77,7 @@ module _ {F S : Type 0} (is_honest is_steady : S → Bool) (faults moment : S �
   StoresOf caller brought (Asks demand next) [] state old new = ⊥
   StoresOf caller brought (Asks demand next) (fate ∷ fates) state old new =
       (mid : DiskState F S)
-      × StoresAt is_honest is_steady faults moment left_since may_leave (stem_of demand) fate state.collections (rows_asked brought demand fate state.collections) old mid
+      × StoresDemand demand fate (contents_of state) (contents_of (demanded brought demand fate state)) old mid
       × StoresOf caller brought (next fate) fates (demanded brought demand fate state) mid new
 
   -- the same of a row of the table of calls
@@ -73,9 +90,9 @@ module _ {F S : Type 0} (is_honest is_steady : S → Bool) (faults moment : S �
       StoresRow came.arrival.conn (brought_by came.arrival) (plan_of came.arrival.request.call) came.fates state old new
   StoresEvent _ state old new = new ≡ old
 
-  -- A call that asks for one storing at most leads to what its plan does: to this answer, to this state, and with this fate to this disk.
+  -- A call leads to what its plan does: to this answer, to this state, and with these fates to this disk.
   pub record Leads (caller : ConnId) (brought : Brought) (plan : Plan) (before after : State) (old new : DiskState F S) (done : Done) : Type 0 where
-    pub answer : done.answer ≡ (led caller brought plan (fates_of done.fate) before).answer
-    pub state : after ≡ (led caller brought plan (fates_of done.fate) before).state
-    pub fates : AreFates caller brought plan (fates_of done.fate) before
-    pub disk : StoresOf caller brought plan (fates_of done.fate) before old new
+    pub answer : done.answer ≡ (led caller brought plan (fates_in done) before).answer
+    pub state : after ≡ (led caller brought plan (fates_in done) before).state
+    pub fates : AreFates caller brought plan (fates_in done) before
+    pub disk : StoresOf caller brought plan (fates_in done) before old new

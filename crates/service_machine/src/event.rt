@@ -27,7 +27,7 @@ pub struct Arrival {
 pub struct Recorded {
     /// The request.
     pub arrival: Arrival,
-    /// How each storing or removal of a file ended that the request led to, in order.
+    /// How each storing, removal or resolve of a file ended that the request led to, in order.
     pub fates: Items<Fate>,
 }
 

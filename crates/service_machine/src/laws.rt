@@ -1,21 +1,22 @@
 // What the definitions of a step and of lists of events say together. Each law is the contract of a
 // function that does nothing.
-ghost use Rattle.std.specs.Prelude.{◌≡◌, ◌++◌, ◌∷◌, [], List};
+ghost use Rattle.std.specs.Prelude.{◌≡◌, ◌++◌, ◌∷◌, [], false, List};
 ghost use Rattle.std.specs.List.{AllByRecursion};
 ghost use Rattle.service_machine.specs.declared.event.Event.{Event};
 ghost use Rattle.service_machine.specs.declared.event.Event.TheVariants as Event;
 ghost use Rattle.service_machine.specs.declared.event.Recorded.{Recorded};
-ghost use Rattle.service_machine.specs.Fates.{AreFaultless};
+ghost use Rattle.service_machine.specs.Fates.{AreFaultless, IsFaultless};
 ghost use Rattle.service_machine.specs.Step.{step, puts_out, output_of, AreAlike, Fits};
 ghost use Rattle.service_machine.specs.Replay.{replay, Legal, outputs};
-ghost use Rattle.service_tables.specs.Sound.{AreSoundCollections, CanWait, IsSound};
+ghost use Rattle.service_tables.specs.Aliases.{are_doubtful};
+ghost use Rattle.service_tables.specs.Sound.{AreSoundContents, CanWait, IsSound};
 ghost use Rattle.service_tables.specs.Opened.{Contents, opened_state};
 ghost use Rattle.service_tables.specs.State.{State};
 
 /// A start with sound collections is sound, and each event that fits keeps a sound state sound.
 #[tactic(auto, using(crate::proofs::SoundLemmas::sound_start, crate::proofs::SoundLemmas::sound_step, crate::proofs::SoundLemmas::sound_replay))]
 pub fn steps_keep_the_rows_sound()
-    ensures start { (contents : Contents) → AreSoundCollections contents.collections
+    ensures start { (contents : Contents) → AreSoundContents contents
         → IsSound (opened_state contents) }
     ensures step { (state : State) (event : Event) → IsSound state → Fits state event
         → IsSound (step state event) }
@@ -32,15 +33,18 @@ pub fn outputs_can_wait()
 {}
 
 /// Two requests that are alike lead from one state to one state if their storings ended alike; and these
-/// do if no device failed.
-#[tactic(auto, using(crate::proofs::EventLemmas::step_alike, crate::proofs::EventLemmas::fates_alike))]
+/// do if no device failed and the file of the aliases isn't in doubt, which it then stays.
+#[tactic(auto, using(crate::proofs::EventLemmas::step_alike, crate::proofs::EventLemmas::fates_alike, crate::proofs::EventLemmas::step_certain))]
 pub fn alike_requests_lead_to_one_state()
     ensures step { (state : State) (one other : Recorded) → AreAlike one.arrival other.arrival
         → one.fates ≡ other.fates
         → step state (Event.Arrive one) ≡ step state (Event.Arrive other) }
     ensures fates { (state : State) (one other : Recorded) → AreAlike one.arrival other.arrival
         → Fits state (Event.Arrive one) → Fits state (Event.Arrive other)
+        → are_doubtful state.aliases ≡ false
         → AreFaultless one.fates → AreFaultless other.fates → one.fates ≡ other.fates }
+    ensures certain { (state : State) (event : Event) → IsFaultless event
+        → are_doubtful state.aliases ≡ false → are_doubtful (step state event).aliases ≡ false }
 {}
 
 /// One list behind another leads on from where the first one led, is legal where both are, and answers

@@ -3,11 +3,13 @@
 //! machine owns the folder of the service and what was loaded from it when it opened. Callers may rely
 //! on these: an event that is answered is the incoming one, fits the rows before it, and gives the
 //! step's rows and output; an event that is refused changes nothing, and each refusal has its cause;
-//! leaving, taking and going take no memory; a request touches only the slots of the files that its row
-//! stores or removes, and any other event none. The time of an event grows with what it changes and puts
-//! out, and with the logarithm of the number of connections and sessions.
+//! leaving, taking and going take no memory; a request uses the slots of the files that its row stores,
+//! removes or resolves, and no other event touches the folder or a slot that was made of it.
+//! The time of an event grows with what it changes and puts out, and with the logarithm of the number
+//! of connections and sessions.
 #![tactic(auto)]
 
+mod aliases;
 mod answer;
 mod collection;
 mod event;

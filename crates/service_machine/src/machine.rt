@@ -1,4 +1,4 @@
-ghost use Rattle.std.specs.Prelude.{◌≡◌, ◌<◌, ◌^◌, [], Some, Ok, true, false, IsTrue, IfOk, IfSome, OnOk, OnErr, IsErrOf, vec_capacity};
+ghost use Rattle.std.specs.Prelude.{◌≡◌, ◌<◌, ◌≤◌, ◌^◌, ◌++◌, [], Some, Ok, true, false, IsTrue, IfOk, IfSome, OnOk, OnErr, IsErrOf, vec_capacity};
 ghost use Rattle.kr_base.specs.Attributes.{value_at};
 ghost use Rattle.collection_table.specs.Entries.{rows_of as collections_of};
 ghost use Rattle.service_tables.specs.Slots.{LeavesKnown, file_at};
@@ -7,10 +7,10 @@ ghost use Rattle.service_tables.specs.Connections.{has, waiting_for, desk_of};
 ghost use Rattle.service_tables.specs.Disk.{IsLoaded, FailedToLoad, disk_state};
 ghost use Rattle.service_machine.specs.Fates.{with_fates, AreFaultless, IsFaultless, is_steady};
 ghost use Rattle.service_machine.specs.Machine.{Records, IsDue, IsOfNone, IsConnect, TakesMemory};
-ghost use Rattle.service_tables.specs.Opened.{IsOpened};
+ghost use Rattle.service_tables.specs.Opened.{IsOpened, contents_of};
 ghost use Rattle.service_tables.specs.Storing.{Brought};
 ghost use Rattle.service_machine.specs.Run.{asked, ran};
-ghost use Rattle.service_tables.specs.Sound.{AreSoundCollections};
+ghost use Rattle.service_tables.specs.Sound.{AreSoundContents};
 ghost use Rattle.service_machine.specs.Step.{step, output_of, brought_by, brought_with, plan_of, row_of, message_of, replies, with_delivered, IsMissing, IsCrowded, CanJoin, HasTypes, Fits};
 ghost use Rattle.service_machine.specs.Stored.{Leads, StoresEvent, StoresNothing, fates_of};
 
@@ -22,7 +22,7 @@ use kr_items::Items;
 use kr_outside::Folder;
 use secret_calls::{Body, Call, CallFault, Out, Request, Serial};
 use service_tables::{
-    Connections, DeskRow, Disk, Fate, OpenRefused, Rows, known_item, known_secret,
+    Connections, DeskRow, Disk, Fate, OpenRefused, Rows, known_alias, known_item, known_secret,
 };
 use session_table::SessionTable;
 use std::alloc::Global;
@@ -47,7 +47,7 @@ impl<F: Folder> Machine<F> {
     pub fn open(alloc: Global, folder: F) -> Result<Machine<F>, OpenRefused>
         requires fresh { F.made folder ≡ [] }
         ensures opened { IfOk result (λ machine. IsOpened (rows_of machine)) }
-        ensures sound { IfOk result (λ machine. AreSoundCollections (rows_of machine).collections) }
+        ensures sound { IfOk result (λ machine. AreSoundContents (contents_of (rows_of machine))) }
         ensures loaded { IfOk result (λ machine. IsLoaded (IsAsFound F.Cell.seen F.Cell.temporary
             F.Cell.may_leave F.Cell.left_since F.Cell.is_honest F.Cell.is_steady
             (F.is_honest folder) (F.is_steady folder))
@@ -187,7 +187,7 @@ impl<F: Folder> Machine<F> {
     }
 
     /// Answers the request of a connection that is there; the reply waits for it. It returns how each
-    /// storing of a file ended that the request asked for. All memory is taken before the first call of a
+    /// storing and each resolve of a file ended that the request asked for. All memory is taken before the first call of a
     /// device.
     pub fn arrive(&mut self, arrival: &Arrival) -> Result<Items<Fate>, OutOfMemory>
         requires { has arrival.now.conn (rows_of self.old).connections.rows ≡ true }
@@ -208,10 +208,10 @@ impl<F: Folder> Machine<F> {
     {
         known_request(arrival);
         self.connections.reserve(arrival.conn)?;
-        let fates = Vec::with_capacity(self.alloc, 1)?;
-        let (answer, fate) = self.call(arrival)?.into_parts();
+        let fates = Vec::with_capacity(self.alloc, 2)?;
+        let (answer, read, fate) = self.call(arrival)?.into_parts();
         self.reply(arrival.conn, &arrival.request, answer);
-        Ok(Items::new(with_fate(fates, fate)))
+        Ok(Items::new(with_fates(fates, read, fate)))
     }
 
     // The reply to a request waits for its connection, if it is wanted. It takes no memory.
@@ -268,6 +268,7 @@ impl<F: Folder> Machine<F> {
             Call::SetSecret { stem, item, secret } => {
                 self.set_secret(conn, stem, *item, secret, now)
             }
+            Call::SetAlias { alias, object } => self.set_alias(conn, alias, object),
             _ => Ok(unstored(self.ask(conn, call)?)),
         }
     }
@@ -289,6 +290,7 @@ impl<F: Folder> Machine<F> {
             Call::OpenSession { algorithm } => self.open_session(conn, algorithm),
             Call::CloseSession { session } => Ok(self.close_session(conn, *session)),
             Call::SearchItems { wanted } => self.search_items(conn, wanted),
+            Call::ReadAlias { name } => self.read_alias(conn, name),
             Call::Lock { objects } => self.lock(conn, objects.as_slice()),
             Call::GetSecrets { items, session } => {
                 self.get_secrets(conn, items.as_slice(), *session)
@@ -313,6 +315,15 @@ impl<F: Folder> Machine<F> {
             (file_at stem.now (rows_of self.now).collections)) }
     {
         self.disk.untouched(stem);
+    }
+
+    /// While no call runs, a crash leaves of the file of the aliases what is known of it: its image, or one
+    /// of the two that it may have if it is in doubt. It does nothing.
+    pub fn untouched_aliases(&self)
+        ensures { IfSome (rows_of self.now).aliases (λ rows. LeavesKnown F.Cell.is_honest
+            F.Cell.moment F.Cell.left_since rows.file (disk_of self.now).aliases) }
+    {
+        self.disk.untouched_aliases();
     }
 
     /// Marks that a connection asks no more. It takes no memory.
@@ -364,13 +375,16 @@ impl<F: Folder> Machine<F> {
     }
 }
 
-// The fates with one more, if there is one. It takes no memory.
-fn with_fate(fates: Vec<Fate>, fate: Option<Fate>) -> Vec<Fate>
+// How a resolve and a storing ended, as far as they were asked for, in a list that is empty. It takes no memory.
+fn with_fates(fates: Vec<Fate>, read: Option<Fate>, fate: Option<Fate>) -> Vec<Fate>
     requires empty { fates.items ≡ [] }
-    requires room { 0 < vec_capacity fates }
-    ensures { result.items ≡ fates_of fate }
+    requires room { 2 ≤ vec_capacity fates }
+    ensures { result.items ≡ fates_of read ++ fates_of fate }
 {
     let mut fates = fates;
+    if let Some(read) = read {
+        fates.push(read).unwrap();
+    }
     if let Some(fate) = fate {
         fates.push(fate).unwrap();
     }
@@ -396,6 +410,7 @@ fn known_request(arrival: &Arrival)
             known_secret(&secret.value, &secret.content);
         }
         Ok(Call::SetSecret { secret, .. }) => known_secret(&secret.value, &secret.content),
+        Ok(Call::SetAlias { alias, .. }) => known_alias(alias.as_text()),
         _ => {}
     }
 }

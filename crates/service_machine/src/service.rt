@@ -88,7 +88,10 @@ impl<F: Folder> Machine<F> {
     {
         let stems = self.disk.collections_around(self.alloc, objects)?;
         let paths = self.disk.those_there(self.alloc, objects)?;
-        let body = Body::Locked(Items::new(paths));
+        let body = Body::ObjectsAndPrompt {
+            objects: Items::new(paths),
+            prompt: None,
+        };
         if !is_small(&body) {
             return Ok(Err(ErrorName::LimitsExceeded));
         }

@@ -1,6 +1,7 @@
 // Calls that store something: each edits a collection, or removes one, and is answered by how that ended.
 ghost use Rattle.std.specs.Prelude.{◌≡◌, ℕ, List, None, Some, IfOk, OnErr, Err};
 ghost use Rattle.kr_base.specs.declared.ids.ConnId.{ConnId};
+ghost use Rattle.secret_calls.specs.declared.out.ErrorName.TheVariants.{IOError};
 ghost use Rattle.service_tables.specs.Storing.{Add_item, Brought, Edit, change_of, storable_at};
 ghost use Rattle.service_machine.specs.CollectionCalls.{create_item, delete_collection, secret_stored, storing};
 ghost use Rattle.service_machine.specs.ItemCalls.{delete_item, set_secret};
@@ -32,50 +33,82 @@ pub enum Returned {
     Nothing,
 }
 
-/// What a call led to: its answer, and how the storing ended that it asked for, if it did.
+/// What a call led to: its answer, and how the resolve of a file in doubt ended that it asked for first, and
+/// then the storing, as far as it asked for them.
 #[derive(Drop)]
 pub struct Done {
     /// The answer.
     pub answer: Answer,
+    /// How the resolve ended.
+    pub read: Option<Fate>,
     /// How the storing ended.
     pub fate: Option<Fate>,
 }
 
 impl Done {
-    /// The answer, and how the storing ended.
-    pub fn into_parts(self) -> (Answer, Option<Fate>)
+    /// The answer, and how the resolve and the storing ended.
+    pub fn into_parts(self) -> (Answer, Option<Fate>, Option<Fate>)
         ensures answer { result.0 ≡ self.answer }
-        ensures fate { result.1 ≡ self.fate }
+        ensures read { result.1 ≡ self.read }
+        ensures fate { result.2 ≡ self.fate }
     {
-        (self.answer, self.fate)
+        (self.answer, self.read, self.fate)
     }
+
+    /// The same after a resolve that ended so.
+    pub fn after(self, read: Fate) -> Done
+        ensures { result
+            ≡ record { answer = self.answer; read = Some read; fate = self.fate } }
+    {
+        Done {
+            answer: self.answer,
+            read: Some(read),
+            fate: self.fate,
+        }
+    }
+}
+
+/// A call that asked for a resolve, which failed.
+pub fn unread(read: Fate) -> Done
+    ensures { result ≡ record { answer = Err IOError; read = Some read; fate = None } }
+{
+    refused(ErrorName::IOError).after(read)
 }
 
 /// A call that asked for no storing.
 pub fn unstored(answer: Answer) -> Done
-    ensures { result ≡ record { answer = answer; fate = None } }
+    ensures { result ≡ record { answer = answer; read = None; fate = None } }
 {
-    Done { answer, fate: None }
+    Done {
+        answer,
+        read: None,
+        fate: None,
+    }
 }
 
 /// A call that is refused before anything is stored.
 pub fn refused(name: ErrorName) -> Done
-    ensures { result ≡ record { answer = Err name; fate = None } }
+    ensures { result ≡ record { answer = Err name; read = None; fate = None } }
 {
     unstored(Err(name))
 }
 
-// A call that asked for a storing.
-fn ended(body: Body, fate: Fate) -> Done
-    ensures { result ≡ record { answer = answer_by body fate; fate = Some fate } }
+/// A call that asked for a storing.
+pub fn ended(body: Body, fate: Fate) -> Done
+    ensures { result ≡ record { answer = answer_by body fate; read = None; fate = Some fate } }
 {
     let answer = match fate {
         Fate::Stored => Ok(body),
         Fate::Before => Err(ErrorName::IOError),
         Fate::Unsure => Err(ErrorName::IOError),
+        Fate::Old => Err(ErrorName::IOError),
+        Fate::New => Err(ErrorName::IOError),
+        Fate::Other => Err(ErrorName::IOError),
+        Fate::ReadFailed => Err(ErrorName::IOError),
     };
     Done {
         answer,
+        read: None,
         fate: Some(fate),
     }
 }
@@ -90,7 +123,10 @@ fn body_of(
     ensures { IfOk result (λ body. body ≡ body_of returned stem.now item) }
 {
     match returned {
-        Returned::Item => Ok(Body::Made(item_path(alloc, stem, item)?)),
+        Returned::Item => Ok(Body::ObjectAndPrompt {
+            object: item_path(alloc, stem, item)?,
+            prompt: None,
+        }),
         Returned::NoPrompt => Ok(Body::Object(path_of(alloc, &ObjectName::Nothing)?)),
         Returned::Nothing => Ok(Body::Empty),
     }

@@ -23,6 +23,10 @@ alias_Decides bytes =
 pub is-alias : (bytes : List ℕ) → is_alias bytes ≡ true → IsAliasName bytes
 is-alias bytes is = (alias_Decides bytes).0 is
 
+-- and the name of an alias passes it
+pub alias-is : (bytes : List ℕ) → IsAliasName bytes → is_alias bytes ≡ true
+alias-is bytes is = (alias_Decides bytes).1 is
+
 -- two tests that decide the same
 same-test : (a b : Bool) (P : Type 0) → Decides a P → (IsTrue b ↔ P) → a ≡ b
 same-test true true P one other = refl

@@ -1,5 +1,5 @@
 -- What sound collections have: the objects that are there have paths, and what is returned of them has its types.
-use Rattle.std.proofs.Common.{◌≡◌, ℕ, ◌^◌, ◌<◌, ◌&&◌, nat_eq, Bool, true, false, cond, IsTrue, IfSome, List, [], ◌∷◌, ◌++◌, filter, Option, Some, None, refl, sym, ap, subst, inl, inr}
+use Rattle.std.proofs.Common.{◌≡◌, ℕ, ◌^◌, ◌<◌, ◌&&◌, nat_eq, Bool, true, false, cond, IsTrue, IfSome, List, [], ◌∷◌, ◌++◌, filter, Option, Some, None, refl, sym, ap, subst, ◌∙◌, inl, inr}
 use Rattle.std.specs.Cmp.Lexicographic.{slice_cmp}
 use Rattle.std.specs.List.{AllByRecursion, cons_option, filter_map, fold, list_any}
 use Rattle.std.specs.Option.{is_some, option_map, option_and_then, option_map_or}
@@ -36,9 +36,10 @@ use Rattle.secret_calls.specs.declared.secret.ReturnedSecret.{ReturnedSecret}
 use Rattle.secret_calls.specs.Outs.{ArePaths, AreSecrets, IsSecret}
 use Rattle.secret_calls.proofs.PathLemmas.{named_path}
 use Rattle.secret_calls.proofs.SecretLemmas.{each_byte}
-use Rattle.service_tables.specs.Objects.{is_listed, is_open_item, is_there, item_paths, locked_paths, once, paths_in, paths_of, stem_where, unlocked_paths, with_object}
+use Rattle.service_tables.specs.Aliases.{pairs_of}
+use Rattle.service_tables.specs.Objects.{alias_target, collection_named, is_listed, is_open_item, is_there, item_paths, locked_paths, once, paths_in, paths_of, stem_where, unlocked_paths, with_object}
 use Rattle.service_tables.specs.Opened.{Contents}
-use Rattle.service_tables.specs.Reading.{asked_collections, found_in, item_secret, secret_of, stem_there}
+use Rattle.service_tables.specs.Reading.{alias_of, asked_collections, found_in, item_secret, secret_of, stem_there}
 use Rattle.service_tables.specs.Sound.{AreSoundCollections, AreSoundItems, IsSoundCollection, IsSoundItem}
 use Rattle.service_tables.proofs.AliasLemmas.{is-alias}
 use Rattle.service_tables.proofs.EachLemmas.{each-append, each-filter, each-found, each-mapped, each-tested, each-weaker}
@@ -103,12 +104,70 @@ alias-true false stem is = is
 pub there-named : (contents : Contents) → AreSoundCollections contents.collections → (object : ObjectName) → is_there (asked_collections contents) object ≡ true → IsName object
 there-named contents sound (name.Collection stem) there = has-stem stem contents.collections sound.each (where-true (has stem contents.collections) stem there)
 there-named contents sound (name.Item stem item) there = has-item stem item contents.collections sound.each (where-true (has_item stem item.0 contents.collections) stem there)
-there-named contents sound (name.Alias alias) there = is-alias alias (alias-true (is_alias alias) (stem_there contents.collections (value_at alias contents.aliases)) there)
+there-named contents sound (name.Alias alias) there = is-alias alias (alias-true (is_alias alias) (stem_there contents.collections (value_at alias (pairs_of contents.aliases))) there)
 there-named contents sound name.Nothing there = tt
 there-named contents sound name.Service there = tt
 there-named contents sound name.Agent there = tt
 there-named contents sound (name.Session session) there = absurd (let no : false ≡ true = there in cc)
 there-named contents sound (name.Prompt prompt) there = absurd (let no : false ≡ true = there in cc)
+
+-- the stem of a collection that an object names is one
+where-stem : (rows : Rows) → AllByRecursion IsSoundCollection rows → (named stem : List ℕ) → stem_where (has named rows) named ≡ Some stem → IsStem stem
+where-stem rows all named stem is =
+    let pass : (b : Bool) → has named rows ≡ b → cond b (Some named) None ≡ Some stem → IsStem stem =
+    elim [
+      | true ↦ λ there found. let same : named ≡ stem = cc in subst IsStem same (has-stem named rows all there)
+      | false ↦ λ off found. absurd (none-some stem found)
+    ] in
+    pass (has named rows) refl is
+
+there-stem : (rows : Rows) → AllByRecursion IsSoundCollection rows → (named : Option (List ℕ)) (stem : List ℕ) → stem_there rows named ≡ Some stem → IsStem stem
+there-stem rows all None stem is = absurd (none-some stem is)
+there-stem rows all (Some named) stem is = where-stem rows all named stem is
+
+pub named-stem : (contents : Contents) → AreSoundCollections contents.collections → (object : ObjectName) (stem : List ℕ) → collection_named (asked_collections contents) object ≡ Some stem → IsStem stem
+named-stem contents sound (name.Collection named) stem is = where-stem contents.collections sound.each named stem is
+named-stem contents sound (name.Alias alias) stem is =
+    let pass : (b : Bool) → cond b (stem_there contents.collections (value_at alias (pairs_of contents.aliases))) None ≡ Some stem → IsStem stem =
+    elim [ true ↦ λ found. there-stem contents.collections sound.each (value_at alias (pairs_of contents.aliases)) stem found | false ↦ λ found. absurd (none-some stem found) ] in
+    pass (is_alias alias) is
+named-stem contents sound (name.Item other item) stem is = absurd (none-some stem is)
+named-stem contents sound name.Nothing stem is = absurd (none-some stem is)
+named-stem contents sound name.Service stem is = absurd (none-some stem is)
+named-stem contents sound name.Agent stem is = absurd (none-some stem is)
+named-stem contents sound (name.Session session) stem is = absurd (none-some stem is)
+named-stem contents sound (name.Prompt prompt) stem is = absurd (none-some stem is)
+
+of-named : (contents : Contents) → AreSoundCollections contents.collections → (object : ObjectName) (stem : List ℕ)
+    → option_map Some (collection_named (asked_collections contents) object) ≡ Some (Some stem) → IsStem stem
+of-named contents sound object stem is =
+    let pass : (o : Option (List ℕ)) → collection_named (asked_collections contents) object ≡ o → option_map Some o ≡ Some (Some stem) → IsStem stem =
+    elim [
+      | None ↦ λ at found. absurd (none-some (Some stem) found)
+      | Some named ↦ λ at found. let same : named ≡ stem = cc in named-stem contents sound object stem (at ∙ ap Some same)
+    ] in
+    pass (collection_named (asked_collections contents) object) refl is
+
+not-inner : (target : Option (Option (List ℕ))) (stem : List ℕ) → target ≡ Some None → target ≡ Some (Some stem) → ⊥
+not-inner target stem none some = cc
+
+-- the stem that an alias is set to is one
+pub target-stem : (contents : Contents) → AreSoundCollections contents.collections → (object : Option ObjectName) (stem : Option (List ℕ))
+    → alias_target (asked_collections contents) object ≡ Some stem → IfSome stem IsStem
+target-stem contents sound object None is = tt
+target-stem contents sound None (Some stem) is = absurd (none-some (Some stem) is)
+target-stem contents sound (Some name.Nothing) (Some stem) is = absurd (not-inner (Some None) stem refl is)
+target-stem contents sound (Some (name.Collection named)) (Some stem) is = of-named contents sound (name.Collection named) stem is
+target-stem contents sound (Some (name.Alias alias)) (Some stem) is = of-named contents sound (name.Alias alias) stem is
+target-stem contents sound (Some (name.Item other item)) (Some stem) is = absurd (none-some (Some stem) is)
+target-stem contents sound (Some name.Service) (Some stem) is = absurd (none-some (Some stem) is)
+target-stem contents sound (Some name.Agent) (Some stem) is = absurd (none-some (Some stem) is)
+target-stem contents sound (Some (name.Session session)) (Some stem) is = absurd (none-some (Some stem) is)
+target-stem contents sound (Some (name.Prompt prompt)) (Some stem) is = absurd (none-some (Some stem) is)
+
+-- the path of a collection that an alias stands for
+pub alias-named : (contents : Contents) → AreSoundCollections contents.collections → (alias stem : List ℕ) → alias_of alias contents ≡ Some stem → IsName (name.Collection stem)
+alias-named contents sound alias stem is = named-stem contents sound (name.Alias alias) stem is
 
 and-first : (a b : Bool) → (a && b) ≡ true → a ≡ true
 and-first true b is = refl

@@ -5,6 +5,7 @@ pub mod DiskLemmas
 pub mod EachLemmas
 pub mod FitLemmas
 pub mod KeepingLemmas
+pub mod KeptLemmas
 pub mod LoadedLemmas
 pub mod NotedLemmas
 pub mod ObjectLemmas

@@ -1,5 +1,5 @@
 -- What a storing does to a collection and to the disk: the row that it leaves, the slot that it uses, and what a crash leaves meanwhile.
-use Rattle.std.proofs.Common.{◌≡◌, ◌↔◌, ℕ, ◌-◌, ◌<◌, ◌⊎◌, Bool, true, false, cond, IsTrue, IsSome, IfSome, IfNone, IfOk, OnErr, List, length, nat_le, Option, Some, None, Result, Ok, Err, IsOk, refl, sym, ap, subst, ◌∙◌, arith, inl, inr}
+use Rattle.std.proofs.Common.{◌≡◌, ◌↔◌, ℕ, ◌<◌, ◌⊎◌, Bool, true, false, cond, IsTrue, IsSome, IfSome, IfNone, IfOk, OnErr, List, length, nat_le, Option, Some, None, Result, Ok, Err, IsOk, refl, sym, ap, subst, ◌∙◌, arith, inl, inr}
 use Rattle.std.specs.Option.{is_some, option_and_then, option_map, option_map_or}
 use Rattle.kr_base.specs.Attributes.{value_at}
 use Rattle.kr_base.specs.declared.ids.ItemId.{ItemId}

@@ -216,9 +216,11 @@ module _ (now : ℕ) (small : now < 2 ^ 64) (edit : Edit) (value : List ℕ) (ty
   after-sound stem row held fate.Stored (Ok made) sound content = record { stem = sound.stem; shown = content.0.shown; other = tt; held = content.0.held }
   after-sound stem row held fate.Unsure (Ok made) sound content = record { stem = sound.stem; shown = sound.shown; other = content.0.shown; held = tt }
   after-sound stem row held fate.Before (Ok made) sound content = sound
-  after-sound stem row held fate.Stored (Err fault) sound content = sound
-  after-sound stem row held fate.Unsure (Err fault) sound content = sound
-  after-sound stem row held fate.Before (Err fault) sound content = sound
+  after-sound stem row held fate.Old (Ok made) sound content = sound
+  after-sound stem row held fate.New (Ok made) sound content = sound
+  after-sound stem row held fate.Other (Ok made) sound content = sound
+  after-sound stem row held fate.ReadFailed (Ok made) sound content = sound
+  after-sound stem row held some (Err fault) sound content = sound
 
   row-sound : (stem : List ℕ) (some : Fate) (row : CollectionRow) → IsSoundCollection (stem, row) → IsSoundCollection (stem, row_changed (change_of value edit) now some row)
   row-sound stem some row sound =
@@ -300,3 +302,7 @@ pub sound-erased : (stem : List ℕ) (some : Fate) (these : Rows) → AreSoundCo
 sound-erased stem fate.Stored these sound = record { ordered = order_kept _ these sound.ordered; each = each-filter IsSoundCollection _ these sound.each }
 sound-erased stem fate.Before these sound = sound
 sound-erased stem fate.Unsure these sound = record { ordered = changed_in_order stem perhaps_removed these sound.ordered; each = each-faded stem these sound.each }
+sound-erased stem fate.Old these sound = sound
+sound-erased stem fate.New these sound = sound
+sound-erased stem fate.Other these sound = sound
+sound-erased stem fate.ReadFailed these sound = sound

@@ -12,9 +12,10 @@ use Rattle.std.proofs.lemmas.Str.{IsUtf8-from_is_utf8, is_utf8-from_IsUtf8}
 use Rattle.kr_base.specs.Text.{IsText}
 use Rattle.kr_base.specs.declared.attributes.AttrValue.{AttrValue}
 use Rattle.kr_base.specs.declared.attributes.AttrValue.TheVariants as value
+use Rattle.kr_names.specs.Naming.{is_alias}
 use Rattle.keyring_text.specs.Fields.{IsBytes}
 use Rattle.keyring_file.specs.Known.{IsKnownPair, IsKnownValue}
-use Rattle.service_tables.specs.Sound.{AreItemTypes, AreSecretTypes, IsTypedPair, IsTypedText, IsTypedValue}
+use Rattle.service_tables.specs.Sound.{AreItemTypes, AreSecretTypes, IsTypedAlias, IsTypedPair, IsTypedText, IsTypedValue}
 
 -- ---- to the types of items, and from them
 
@@ -54,6 +55,9 @@ value-prop (value.Number n) = λ one other. le_prop one other
 
 pair-prop : (pair : List ℕ × AttrValue) → IsProp (IsTypedPair pair)
 pair-prop pair one other = λ i. record { name = text-prop pair.0 one.name other.name i; value = value-prop pair.1 one.value other.value i }
+
+pub alias-prop : (alias : List ℕ) → IsProp (IsTypedAlias alias)
+alias-prop alias = bool-prop (is_alias alias)
 
 pub item-prop : (label : List ℕ) (attributes : List (List ℕ × AttrValue)) → IsProp (AreItemTypes label attributes)
 item-prop label attributes one other = λ i. record {

@@ -3,14 +3,14 @@ use Rattle.std.specs.Prelude.{◌≡◌, ℕ, ◌≤◌, ◌⊎◌, Bool, List, 
 use Rattle.kr_outside.specs.Faults.{KeepsSteady, Rose}
 use Rattle.kr_outside.specs.RenameDisk.{Image}
 use Rattle.kr_outside.specs.declared.slot.DeviceCall.{DeviceCall}
-use Rattle.folder_store.specs.Aliases.{pairs_in}
-use Rattle.folder_store.specs.declared.found_aliases.FoundAliases.{FoundAliases}
+use Rattle.folder_store.specs.Aliases.{alias_slot}
 use Rattle.folder_store.specs.declared.loading.Loaded.{Loaded}
 use Rattle.folder_store.specs.declared.opening.LeftAlone.{LeftAlone}
 use Rattle.folder_store.specs.Limits.{the_limits}
 use Rattle.folder_store.specs.Loads.{Loads}
 use Rattle.folder_store.specs.Ring.{HasFailedSlot}
 use Rattle.collection_table.specs.Entries.{loaded_from, rows_of, slots_of}
+use Rattle.service_tables.specs.Aliases.{aliases_from, rows_in, slot_in}
 use Rattle.service_tables.specs.declared.disk.Disk.{Disk}
 use Rattle.service_tables.specs.State.{State}
 use Rattle.service_tables.specs.Opened.{Contents, opened_state}
@@ -23,9 +23,9 @@ pub record DiskState (F S : Type 0) : Type 0 where
   pub spare : List (List ℕ × S)
   pub used : List (List ℕ)
   pub left_alone : List (LeftAlone S)
-  pub aliases : FoundAliases S
+  pub aliases : S
 
--- a disk without what is known of its collections
+-- a disk without what is known of its collections and of its aliases
 abbrev pub disk_state : {F S : Type 0} → Disk F S → DiskState F S
 disk_state disk = record {
   folder = disk.folder;
@@ -33,16 +33,16 @@ disk_state disk = record {
   spare = map (λ entry. (entry.0, entry.1.slot)) disk.spare.items;
   used = disk.used.items;
   left_alone = disk.left_alone.items;
-  aliases = disk.aliases;
+  aliases = slot_in disk.aliases;
 }
 
--- the collections that are known of a disk, and its aliases
+-- what is known of a disk's collections and of its aliases
 abbrev pub contents_in : {F S : Type 0} → Disk F S → Contents
-contents_in disk = record { collections = rows_of disk.collections.entries; aliases = pairs_in disk.aliases }
+contents_in disk = record { collections = rows_of disk.collections.entries; aliases = rows_in disk.aliases }
 
 -- what a service starts with that loaded this: its collections are those of the files that are listed, all of them locked
 abbrev pub contents_from : {S : Type 0} → Loaded S → Contents
-contents_from loaded = record { collections = rows_of (map loaded_from loaded.rings.items); aliases = pairs_in loaded.aliases }
+contents_from loaded = record { collections = rows_of (map loaded_from loaded.rings.items); aliases = aliases_from loaded.aliases }
 
 -- the disk of a service that loaded this from the folder
 abbrev pub disk_from : {F S : Type 0} → F → Loaded S → DiskState F S
@@ -52,7 +52,7 @@ disk_from folder loaded = record {
   spare = [];
   used = loaded.used.items;
   left_alone = loaded.left_alone.items;
-  aliases = loaded.aliases;
+  aliases = alias_slot loaded.aliases;
 }
 
 -- What was loaded is what `load` says of this folder, of which no slot was made before: each slot that was made of it is on the disk,

@@ -1,3 +1,4 @@
+pub mod Aliases
 pub mod Connections
 pub mod Desks
 pub mod Disk

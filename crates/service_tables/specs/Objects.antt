@@ -2,7 +2,7 @@
 use Rattle.std.specs.Prelude.{◌≡◌, ℕ, ◌&&◌, Bool, false, if◌then◌else◌, List, [], ◌∷◌, ◌++◌, map, nat_eq, Option, Some, None}
 use Rattle.std.specs.Cmp.Lexicographic.{pointwise}
 use Rattle.std.specs.List.{fold, list_any}
-use Rattle.std.specs.Option.{is_some}
+use Rattle.std.specs.Option.{is_some, option_map}
 use Rattle.kr_base.specs.declared.ids.ItemId.{ItemId}
 use Rattle.kr_names.specs.declared.object_name.ObjectName.{ObjectName}
 use Rattle.kr_names.specs.declared.object_name.ObjectName.TheVariants as name
@@ -26,6 +26,13 @@ collection_named asked _ = None
 abbrev pub collection_around : CollectionQuestions → ObjectName → Option (List ℕ)
 collection_around asked (name.Item stem item) = stem_where (asked.has_item stem item) stem
 collection_around asked object = collection_named asked object
+
+-- What an alias is set to by the object that is given for it: its collection, or nothing if the object is none, so that the alias is removed.
+-- None if there is no such collection; no path of the service is given then, or one of something else.
+abbrev pub alias_target : CollectionQuestions → Option ObjectName → Option (Option (List ℕ))
+alias_target asked None = None
+alias_target asked (Some name.Nothing) = Some None
+alias_target asked (Some object) = option_map Some (collection_named asked object)
 
 -- whether the object is a collection, an alias of one or an item
 abbrev pub is_there : CollectionQuestions → ObjectName → Bool

@@ -1,13 +1,14 @@
 -- The service as it starts: with the collections and the aliases that its folder has, and nothing else.
-use Rattle.std.specs.Prelude.{◌≡◌, ℕ, List, []}
+use Rattle.std.specs.Prelude.{◌≡◌, [], Option}
+use Rattle.alias_table.specs.Table.{AliasRows}
 use Rattle.collection_table.specs.Rows.{Rows}
 use Rattle.session_table.specs.Sessions.{no_sessions}
 use Rattle.service_tables.specs.State.{State}
 
--- what a service starts with: the collections by rising stems, and the aliases
+-- what a service starts with: the collections by rising stems, and the aliases with their file, None if it was left alone
 pub record Contents : Type 0 where
   pub collections : Rows
-  pub aliases : List (List ℕ × List ℕ)
+  pub aliases : Option AliasRows
 
 -- the service as it starts with these
 abbrev pub opened_state : Contents → State

@@ -1,10 +1,10 @@
--- What a row of the table of calls may ask of the collections. No answer shows the value of a secret.
+-- What a row of the table of calls may ask of the collections and of the aliases. No answer shows the value of a secret.
 use Rattle.std.specs.Prelude.{ℕ, Bool, List, Option}
 use Rattle.kr_base.specs.declared.attributes.AttrValue.{AttrValue}
 use Rattle.kr_base.specs.declared.ids.ItemId.{ItemId}
 use Rattle.collection_table.specs.declared.matches.Matches.{Matches}
 
--- what may be asked of the collections and of the aliases
+-- what may be asked of the collections, and which of them an alias stands for
 pub record CollectionQuestions : Type 0 where
   -- the stem that an alias stands for, if there is a collection of that stem
   pub alias : List ℕ → Option (List ℕ)
@@ -18,3 +18,11 @@ pub record CollectionQuestions : Type 0 where
   pub found_in : List ℕ → List (List ℕ × AttrValue) → List ItemId
   -- the items of each collection that match, in byte order of the collections' stems
   pub found : List (List ℕ × AttrValue) → List Matches
+
+-- what may be asked of the aliases before one is set
+pub record AliasQuestions : Type 0 where
+  -- whether their file is in doubt
+  pub in_doubt : Bool
+  -- whether the alias of a name can be set to a stem, or removed if there is none: the file wasn't left alone, and there are no more
+  -- aliases than may be once those whose collection isn't there are dropped
+  pub can_set : List ℕ → Option (List ℕ) → Bool

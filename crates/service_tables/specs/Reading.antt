@@ -13,6 +13,7 @@ use Rattle.collection_table.specs.Rows as collections
 use Rattle.collection_table.specs.Rows.{Rows, content_of, found_in_all, has, has_item, is_open, item_of}
 use Rattle.secret_calls.specs.declared.secret.ItemSecret.{ItemSecret}
 use Rattle.secret_calls.specs.declared.secret.ReturnedSecret.{ReturnedSecret}
+use Rattle.service_tables.specs.Aliases.{pairs_of}
 use Rattle.service_tables.specs.Objects.{stem_where}
 use Rattle.service_tables.specs.Opened.{Contents}
 use Rattle.service_tables.specs.Questions.{CollectionQuestions}
@@ -24,7 +25,7 @@ stem_there rows (Some stem) = stem_where (has stem rows) stem
 
 -- the collection that an alias stands for
 abbrev pub alias_of : List ℕ → Contents → Option (List ℕ)
-alias_of alias contents = if is_alias alias then stem_there contents.collections (value_at alias contents.aliases) else None
+alias_of alias contents = if is_alias alias then stem_there contents.collections (value_at alias (pairs_of contents.aliases)) else None
 
 -- the items of one collection that match
 abbrev pub found_in : List ℕ → List (List ℕ × AttrValue) → Rows → List ItemId

@@ -1,8 +1,8 @@
 -- What every state has that a start leads to, and a state has to have from which lists of events may begin: a number
 -- in use was given, and is given to no other; a session's owner is there; the connections, the sessions of each and the bytes
 -- that wait are within their limits, and each output that waits has a spelling; the collections' stems rise, and what is
--- known of a collection has its types. Laws over lists from any start take it as their premise.
-use Rattle.std.specs.Prelude.{◌≡◌, ℕ, ◌^◌, ◌==◌, ◌<◌, ◌≤◌, IsTrue, IfSome, true, List, [], ◌∷◌, length, filter}
+-- known of a collection has its types; the aliases are those that their file gives. Laws over lists from any start take it as their premise.
+use Rattle.std.specs.Prelude.{◌≡◌, ℕ, ◌^◌, ◌==◌, ◌<◌, ◌≤◌, IsTrue, IfSome, false, true, List, [], Option, Some, None, ◌∷◌, length, filter}
 use Rattle.std.specs.List.{AllByRecursion}
 use Rattle.std.specs.Str.{is_utf8}
 use Rattle.kr_base.specs.Attributes.{IsInOrder}
@@ -11,7 +11,9 @@ use Rattle.kr_base.specs.Text.{HasZero}
 use Rattle.kr_base.specs.declared.attributes.AttrValue.{AttrValue}
 use Rattle.kr_base.specs.declared.attributes.AttrValue.TheVariants as value
 use Rattle.kr_base.specs.declared.ids.ConnId.{ConnId}
+use Rattle.alias_table.specs.Table.{AliasRows, AreGiven}
 use Rattle.keyring_text.specs.Fields.{IsBytes}
+use Rattle.kr_names.specs.Naming.{is_alias}
 use Rattle.keyring_file.specs.Clear.{ClearPart}
 use Rattle.keyring_file.specs.Known.{IsKnownClearItem, IsKnownItem}
 use Rattle.keyring_seal.specs.Arranged.{Row}
@@ -21,6 +23,8 @@ use Rattle.secret_calls.specs.Outs.{HasSpelling, most_waiting}
 use Rattle.session_table.specs.declared.row.SessionRow.{SessionRow}
 use Rattle.session_table.specs.declared.row.Sessions.{Sessions}
 use Rattle.session_table.specs.Sessions.{rows_of, most_sessions, last_session}
+use Rattle.service_tables.specs.Aliases.{are_doubtful}
+use Rattle.service_tables.specs.Opened.{Contents}
 use Rattle.service_tables.specs.State.{State}
 use Rattle.service_tables.specs.declared.rows.ConnRow.{ConnRow}
 use Rattle.service_tables.specs.declared.rows.ConnRows.{ConnRows}
@@ -106,11 +110,23 @@ pub record AreSoundCollections (rows : collections.Rows) : Type 0 where
   pub ordered : IsInOrder rows
   pub each : AllByRecursion IsSoundCollection rows
 
+-- sound aliases: those that their file gives by its known image or, in doubt, by its older and its newer one
+abbrev pub AreSoundAliases : Option AliasRows → Type 0
+AreSoundAliases None = Unit {0}
+AreSoundAliases (Some rows) = AreGiven rows.file rows.aliases rows.newer
+
+-- what a start finds is sound, and the file of the aliases isn't in doubt
+pub record AreSoundContents (contents : Contents) : Type 0 where
+  pub collections : AreSoundCollections contents.collections
+  pub aliases : AreSoundAliases contents.aliases
+  pub certain : are_doubtful contents.aliases ≡ false
+
 -- a sound state: each table is
 pub record IsSound (state : State) : Type 0 where
   pub connections : AreSoundConnections state.connections
   pub sessions : AreSoundSessions state.connections.rows state.sessions
   pub collections : AreSoundCollections state.collections
+  pub aliases : AreSoundAliases state.aliases
 
 -- ---- what a call brings: what its types guarantee, as facts that have one proof at most
 
@@ -118,6 +134,10 @@ pub record IsSound (state : State) : Type 0 where
 pub record IsTypedText (bytes : List ℕ) : Type 0 where
   pub utf8 : is_utf8 bytes ≡ true
   pub no_zero : HasZero bytes → ⊥
+
+-- the name that an alias may be set under
+abbrev pub IsTypedAlias : List ℕ → Type 0
+IsTypedAlias alias = is_alias alias ≡ true
 
 -- the value of an attribute
 abbrev pub IsTypedValue : AttrValue → Type 0

@@ -1,12 +1,14 @@
 -- What the service is at a moment: the rows of each table, with no trace of how they are kept.
-use Rattle.std.specs.Prelude.{ℕ, List}
+use Rattle.std.specs.Prelude.{Option}
+use Rattle.alias_table.specs.Table.{AliasRows}
 use Rattle.session_table.specs.declared.row.Sessions.{Sessions}
 use Rattle.collection_table.specs.Rows.{Rows}
 use Rattle.service_tables.specs.declared.rows.ConnRows.{ConnRows}
 
--- the connections, the sessions, the collections by rising stems, and the aliases, each a name and the stem that it stands for
+-- the connections, the sessions, the collections by rising stems, and the aliases with what is known of their file: None if it was left
+-- alone at the start, since it is too long
 pub record State : Type 0 where
   pub connections : ConnRows
   pub sessions : Sessions
   pub collections : Rows
-  pub aliases : List (List ℕ × List ℕ)
+  pub aliases : Option AliasRows

@@ -94,11 +94,35 @@ storable_edit brought rows stem edit = storable_at stem (change_of brought.value
 
 -- ---- what becomes of a collection
 
+-- how a storing or a removal of a file may end
+abbrev pub IsStoring : Fate → Type 0
+IsStoring fate.Stored = Unit {0}
+IsStoring fate.Before = Unit {0}
+IsStoring fate.Unsure = Unit {0}
+IsStoring fate.Old = ⊥
+IsStoring fate.New = ⊥
+IsStoring fate.Other = ⊥
+IsStoring fate.ReadFailed = ⊥
+
+-- how a resolve of a file in doubt may end
+abbrev pub IsResolve : Fate → Type 0
+IsResolve fate.Stored = ⊥
+IsResolve fate.Before = ⊥
+IsResolve fate.Unsure = ⊥
+IsResolve fate.Old = Unit {0}
+IsResolve fate.New = Unit {0}
+IsResolve fate.Other = Unit {0}
+IsResolve fate.ReadFailed = Unit {0}
+
 -- a collection after its changed content was to be stored, by how that ended
 abbrev pub row_after : Fate → Held → CollectionRow → Result (Content × Changed) ItemFault → CollectionRow
 row_after fate.Stored held row (Ok made) = stored made.0 held.key held.vector
 row_after fate.Unsure held row (Ok made) = perhaps_stored made.0 held.key held.vector row
 row_after fate.Before held row (Ok made) = row
+row_after fate.Old held row (Ok made) = row
+row_after fate.New held row (Ok made) = row
+row_after fate.Other held row (Ok made) = row
+row_after fate.ReadFailed held row (Ok made) = row
 row_after some held row (Err fault) = row
 
 -- a collection that is asked to store a change; nothing is asked of one that is locked
@@ -119,9 +143,17 @@ abbrev pub row_erased : Fate → CollectionRow → CollectionRow
 row_erased fate.Stored row = record { file = Known None; clear = row.clear; other = None; held = None }
 row_erased fate.Before row = row
 row_erased fate.Unsure row = perhaps_removed row
+row_erased fate.Old row = row
+row_erased fate.New row = row
+row_erased fate.Other row = row
+row_erased fate.ReadFailed row = row
 
 -- the collections after the file of the one of a stem was to be removed, by how that ended
 abbrev pub rows_erased : List ℕ → Fate → Rows → Rows
 rows_erased stem fate.Stored rows = without stem rows
 rows_erased stem fate.Before rows = rows
 rows_erased stem fate.Unsure rows = changed stem perhaps_removed rows
+rows_erased stem fate.Old rows = rows
+rows_erased stem fate.New rows = rows
+rows_erased stem fate.Other rows = rows
+rows_erased stem fate.ReadFailed rows = rows

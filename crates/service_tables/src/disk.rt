@@ -1,14 +1,14 @@
 // The folder of the service, and what was loaded from it.
 ghost use Rattle.std.specs.Prelude.{◌≡◌, [], IsTrue, IfOk, IsErrOf, OnOk};
 ghost use Rattle.folder_store.specs.Ring.{IsAsFound};
-ghost use Rattle.collection_table.specs.Entries.{rows_of};
 ghost use Rattle.service_tables.specs.Disk.{IsLoaded, FailedToLoad, contents_in, disk_state};
 ghost use Rattle.service_tables.specs.declared.disk.OpenRefused.TheVariants as OpenRefused;
 ghost use Rattle.service_tables.specs.Opened.{opened_state};
-ghost use Rattle.service_tables.specs.Sound.{AreSoundCollections};
+ghost use Rattle.service_tables.specs.Sound.{AreSoundContents};
 
+use crate::KeptAliases;
 use collection_table::CollectionTable;
-use folder_store::{FoundAliases, LeftAlone, LoadRefused, load};
+use folder_store::{LeftAlone, LoadRefused, load};
 use kr_base::Stem;
 use kr_outside::Folder;
 use replace_slot::FileCell;
@@ -47,8 +47,8 @@ pub struct Disk<F: Folder> {
     pub used: Vec<Stem>,
     /// The keyring files that were left alone.
     pub left_alone: Vec<LeftAlone<F::Cell>>,
-    /// The aliases.
-    pub aliases: FoundAliases<F::Cell>,
+    /// The aliases, with the slot of their file.
+    pub aliases: KeptAliases<F::Cell>,
 }
 
 impl<F: Folder> Disk<F> {
@@ -64,8 +64,7 @@ impl<F: Folder> Disk<F> {
             (F.is_honest folder) (F.is_steady folder))
             F.is_honest F.is_steady F.faults F.images F.may_leave F.made folder (disk_state disk)
             (opened_state (contents_in disk))) }
-        ensures sound { IfOk result (λ disk.
-            AreSoundCollections (rows_of disk.collections.entries)) }
+        ensures sound { IfOk result (λ disk. AreSoundContents (contents_in disk)) }
 
         // The folder is at fault only if it failed, and never if it is steady.
         ensures cause { IsErrOf result OpenRefused.Folder → FailedToLoad (IsAsFound F.Cell.seen
@@ -84,7 +83,7 @@ impl<F: Folder> Disk<F> {
                     spare: Vec::new(alloc),
                     used: loaded.used,
                     left_alone: loaded.left_alone,
-                    aliases: loaded.aliases,
+                    aliases: KeptAliases::found(alloc, loaded.aliases),
                 })
             }
             Err(not_loaded) => match not_loaded.refused {

@@ -1,4 +1,4 @@
-/// How one storing of a file, or one removal of it, ended.
+/// How one storing of a file, one removal of it, or one resolve of a file in doubt ended.
 #[derive(Clone, Copy, Debug, Drop, PartialEq, Eq)]
 pub enum Fate {
     /// The file was replaced, or removed.
@@ -7,4 +7,12 @@ pub enum Fate {
     Before,
     /// A call of the device failed, and the file may have changed or not.
     Unsure,
+    /// A file in doubt has the older of its two images.
+    Old,
+    /// A file in doubt has the newer of its two images.
+    New,
+    /// A file in doubt has neither of its two images. This never happens with an honest slot.
+    Other,
+    /// A file in doubt couldn't be read again. The doubt stays.
+    ReadFailed,
 }

@@ -2,9 +2,11 @@
 // field, and take no memory.
 ghost use Rattle.std.specs.List.{AllByRecursion};
 ghost use Rattle.kr_base.specs.Attributes.{IsInOrder};
+ghost use Rattle.kr_names.specs.Path.{IsAliasName};
 ghost use Rattle.keyring_file.specs.Known.{IsKnownPair};
-ghost use Rattle.service_tables.specs.Sound.{AreItemTypes, AreSecretTypes, IsTypedText};
+ghost use Rattle.service_tables.specs.Sound.{AreItemTypes, AreSecretTypes, IsTypedAlias, IsTypedText};
 
+use crate::objects::is_alias;
 use keyring_text::known_bytes;
 use kr_base::{AttrValue, Attributes, Bytes, Text};
 
@@ -36,6 +38,14 @@ fn known_text(text: &Text)
     ensures { IsTypedText text.now }
 {
     let _text = text.as_str();
+}
+
+/// A law: the name of an alias, as a fact that has one proof at most. The call does nothing.
+pub fn known_alias(alias: &Text)
+    requires { IsAliasName alias.now }
+    ensures { IsTypedAlias alias.now }
+{
+    let _name = is_alias(alias);
 }
 
 /// A law: what the types of a label and of attributes guarantee. The call does nothing.

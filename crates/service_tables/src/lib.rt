@@ -8,6 +8,7 @@
 //! definitions of a state, and of a sound one, are here.
 #![tactic(auto)]
 
+mod aliases;
 mod connections;
 mod desk;
 mod desks;
@@ -21,9 +22,10 @@ mod reading;
 mod rows;
 mod storing;
 
+pub use aliases::KeptAliases;
 pub use connections::Connections;
 pub use disk::{Disk, OpenRefused};
 pub use fate::Fate;
-pub use known::{known_item, known_secret};
-pub use paths::{item_path, item_paths, locked_paths, unlocked_paths};
+pub use known::{known_alias, known_item, known_secret};
+pub use paths::{collection_path, item_path, item_paths, locked_paths, unlocked_paths};
 pub use rows::{ConnRow, ConnRows, DeskRow, Rows};

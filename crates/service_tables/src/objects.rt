@@ -1,11 +1,10 @@
 // Which objects are there (Secret Service API, "Object Paths").
-ghost use Rattle.std.specs.Prelude.{◌≡◌, true, filter, IfOk, IfSome};
+ghost use Rattle.std.specs.Prelude.{◌≡◌, ◌↔◌, Some, true, filter, IfOk, IfSome};
 ghost use Rattle.std.specs.List.{filter_map};
-ghost use Rattle.std.specs.Option.{option_copied};
-ghost use Rattle.kr_base.specs.Attributes.{value_at};
+ghost use Rattle.std.specs.Option.{option_copied, option_map};
 ghost use Rattle.kr_names.specs.Naming.{is_alias};
 ghost use Rattle.kr_names.specs.Path.{HasPath, IsAliasName};
-ghost use Rattle.service_tables.specs.Objects.{collection_around, collection_named, is_open_item, is_there, once, paths_of};
+ghost use Rattle.service_tables.specs.Objects.{alias_target, collection_around, collection_named, is_open_item, is_there, once, paths_of};
 ghost use Rattle.service_tables.specs.Disk.{contents_in};
 ghost use Rattle.service_tables.specs.Reading.{alias_of, asked_collections};
 
@@ -17,36 +16,24 @@ use kr_outside::Folder;
 use std::alloc::Global;
 use std::collections::BTreeSet;
 
-// The stem that an alias has in this list.
-fn stem_of<'a>(pairs: &'a [(Text, Stem)], alias: &Text) -> Option<&'a Stem>
-    ensures { option_copied result ≡ value_at alias.now pairs.now }
-{
-    for pair in pairs {
-        if alias.cmp(&pair.0).is_eq() {
-            return Some(&pair.1);
-        }
-    }
-    None
-}
-
-// Whether a text is the name of an alias.
-fn is_alias(alias: &Text) -> bool
+/// Whether a text is the name of an alias.
+pub fn is_alias(alias: &Text) -> bool
     ensures test { result ≡ is_alias alias.now }
-    ensures name { result ≡ true → IsAliasName alias.now }
+    ensures name { result ≡ true ↔ IsAliasName alias.now }
 {
     is_alias_name(alias.as_str())
 }
 
 impl<F: Folder> Disk<F> {
-    // The collection that an alias stands for, if it is there.
-    fn alias_of(&self, alias: &Text) -> Option<&Stem>
+    /// The collection that an alias stands for (Secret Service API, Service.ReadAlias), if it is there.
+    pub fn alias_of(&self, alias: &Text) -> Option<&Stem>
         ensures stem { option_copied result ≡ alias_of alias.now (contents_in self.now) }
         ensures path { IfSome result (λ _. IsAliasName alias.now) }
     {
         if !is_alias(alias) {
             return None;
         }
-        let Some(stem) = stem_of(self.aliases.pairs(), alias) else {
+        let Some(stem) = self.aliases.read(alias.as_str()) else {
             return None;
         };
         if !self.collections.has(stem) {
@@ -71,6 +58,35 @@ impl<F: Folder> Disk<F> {
             }
             ObjectName::Alias(alias) => self.alias_of(alias),
             _ => None,
+        }
+    }
+
+    /// What an alias is set to by the object that is given for it (Secret Service API, Service.SetAlias): a
+    /// collection, or nothing if it is `ObjectName::Nothing`, so that the alias is removed. None if there is
+    /// no such collection.
+    pub fn alias_target(
+        &self,
+        object: &Option<ObjectName>,
+    ) -> Result<Option<Option<Stem>>, OutOfMemory>
+        ensures { IfOk result (λ target.
+            target ≡ alias_target (asked_collections (contents_in self.now)) object.now) }
+    {
+        match object {
+            None => Ok(None),
+            Some(ObjectName::Nothing) => Ok(Some(None)),
+            Some(object) => self.copied_stem(object),
+        }
+    }
+
+    // A copy of the stem of the collection that an object is, or that it stands for as an alias.
+    fn copied_stem(&self, object: &ObjectName) -> Result<Option<Option<Stem>>, OutOfMemory>
+        ensures { IfOk result (λ target. target
+            ≡ option_map Some (collection_named (asked_collections (contents_in self.now))
+            object.now)) }
+    {
+        match self.collection_named(object) {
+            Some(stem) => Ok(Some(Some(stem.copy()?))),
+            None => Ok(None),
         }
     }
 

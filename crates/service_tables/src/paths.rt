@@ -10,6 +10,14 @@ use kr_names::{ObjectName, path_of};
 use std::alloc::Global;
 use std::collections::BTreeSet;
 
+/// The path of a collection.
+pub fn collection_path(alloc: Global, stem: &Stem) -> Result<Text, OutOfMemory>
+    ensures { IfOk result (λ path. path ≡ path_text (ObjectName.Collection stem.now)) }
+{
+    let name = ObjectName::Collection(stem.copy()?);
+    path_of(alloc, &name)
+}
+
 /// The path of an item.
 pub fn item_path(alloc: Global, stem: &Stem, item: ItemId) -> Result<Text, OutOfMemory>
     ensures { IfOk result (λ path. path ≡ path_text (ObjectName.Item stem.now item)) }

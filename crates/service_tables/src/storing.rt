@@ -8,7 +8,7 @@ ghost use Rattle.kr_base.specs.Attributes.{value_at};
 ghost use Rattle.collection_table.specs.Rows.{is_open};
 ghost use Rattle.service_tables.specs.Disk.{contents_in, disk_state};
 ghost use Rattle.service_tables.specs.Slots.{StoresAt, StoresIn};
-ghost use Rattle.service_tables.specs.Storing.{answered_at, fate_by, placed_answer, row_changed, row_erased, rows_erased, rows_stored, storable_at};
+ghost use Rattle.service_tables.specs.Storing.{IsStoring, answered_at, fate_by, placed_answer, row_changed, row_erased, rows_erased, rows_stored, storable_at};
 
 use crate::{Disk, Fate};
 use collection_store::{Change, ChangeRefused, Changed, Collection};
@@ -31,6 +31,7 @@ fn store_in<S: Slot>(
     ensures slot { IfOk result (λ fate. IfSome fate (λ fate.
         StoresIn S.is_honest S.is_steady S.faults S.moment S.left_since S.may_leave fate
         collection.old.file collection.new.file collection.old.slot collection.new.slot)) }
+    ensures kind { IfOk result (λ fate. IfSome fate IsStoring) }
     ensures fits { IfOk result (λ fate. IfSome fate (λ _. IfSome collection.old.held (λ held.
         IsOk (storable change now room collection.old.file collection.old.clear held)))) }
 
@@ -124,6 +125,7 @@ impl<F: Folder> Disk<F> {
             F.Cell.left_since F.Cell.may_leave stem.now fate
             (contents_in self.old).collections (contents_in self.new).collections
             (disk_state self.old) (disk_state self.new))) }
+        ensures kind { IfOk result (λ fate. IfSome fate IsStoring) }
         ensures fits { IfOk result (λ fate. IfSome fate (λ _.
             storable_at stem.now change now (contents_in self.old).collections
             ≡ answered_at stem.now change now (contents_in self.old).collections)) }
@@ -186,6 +188,7 @@ impl<F: Folder> Disk<F> {
             F.Cell.left_since F.Cell.may_leave stem result
             (contents_in self.old).collections (contents_in self.new).collections
             (disk_state self.old) (disk_state self.new) }
+        ensures kind { IsStoring result }
     {
         let _ordered = self.collections.entries();
         let Some(collection) = self.collections.get_mut(&stem) else {

@@ -1,7 +1,7 @@
 // The bodies of returns, as the rows of tables name them.
 
 use crate::words::bytes_of;
-use kr_base::{Bytes, SessionId, Text};
+use kr_base::{Bytes, PromptId, SessionId, Text};
 use kr_items::Items;
 use secret_calls::{Body, ItemSecret, ReturnedSecret};
 use std::alloc::Global;
@@ -16,11 +16,13 @@ const OTHER: &str = "/org/freedesktop/secrets/collection/x/1";
 
 const LOGIN: &str = "/org/freedesktop/secrets/collection/login";
 
-fn text_of(alloc: Global, text: &str) -> Result<Text, Fail> {
+/// A text of these characters.
+pub fn text_of(alloc: Global, text: &str) -> Result<Text, Fail> {
     Ok(Text::from_str(alloc, text)?.ok_or("a zero byte")?)
 }
 
-fn texts_of(alloc: Global, texts: &[&str]) -> Result<Items<Text>, Fail> {
+/// Texts, in order.
+pub fn texts_of(alloc: Global, texts: &[&str]) -> Result<Items<Text>, Fail> {
     let mut made = Vec::new(alloc);
     for text in texts {
         made.push(text_of(alloc, text)?)?;
@@ -67,17 +69,35 @@ fn found(alloc: Global, unlocked: &[&str], locked: &[&str]) -> Result<Body, Fail
     Ok(Body::Found { unlocked, locked })
 }
 
+fn objects_and_prompt(
+    alloc: Global,
+    objects: &[&str],
+    prompt: Option<PromptId>,
+) -> Result<Body, Fail> {
+    let objects = texts_of(alloc, objects)?;
+    Ok(Body::ObjectsAndPrompt { objects, prompt })
+}
+
+fn object_and_prompt(alloc: Global, object: &str, prompt: Option<PromptId>) -> Result<Body, Fail> {
+    let object = text_of(alloc, object)?;
+    Ok(Body::ObjectAndPrompt { object, prompt })
+}
+
 // A body that contains only paths.
 fn paths_named(alloc: Global, name: &str) -> Result<Option<Body>, Fail> {
     let body = match name {
         "found" => found(alloc, &[KEY, OLD], &[OTHER])?,
         "found none" => found(alloc, &[], &[])?,
-        "locked" => Body::Locked(texts_of(alloc, &[LOGIN, KEY])?),
-        "locked none" => Body::Locked(Items::empty(alloc)),
+        "locked" => objects_and_prompt(alloc, &[LOGIN, KEY], None)?,
+        "locked none" => objects_and_prompt(alloc, &[], None)?,
+        "prompted" => objects_and_prompt(alloc, &[LOGIN, KEY], Some(PromptId(7)))?,
+        "prompted none" => objects_and_prompt(alloc, &[], Some(PromptId(u64::MAX)))?,
         "objects" => Body::Objects(texts_of(alloc, &[KEY, OLD])?),
         "objects none" => Body::Objects(Items::empty(alloc)),
-        "made" => Body::Made(text_of(alloc, KEY)?),
+        "made" => object_and_prompt(alloc, KEY, None)?,
+        "making" => object_and_prompt(alloc, "/", Some(PromptId(1)))?,
         "object" => Body::Object(text_of(alloc, "/")?),
+        "alias" => Body::Object(text_of(alloc, LOGIN)?),
         _ => return Ok(None),
     };
     Ok(Some(body))

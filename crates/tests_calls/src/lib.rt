@@ -12,6 +12,10 @@ mod members;
 #[cfg(test)]
 mod outputs;
 #[cfg(test)]
+mod prompts;
+#[cfg(test)]
+mod signals;
+#[cfg(test)]
 mod told;
 #[cfg(test)]
 mod wire;

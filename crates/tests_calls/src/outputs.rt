@@ -52,9 +52,12 @@ fn sizes_are_those_of_messages(rt: HostRuntime) -> Result<(), Fail> {
     error_has(&rt, ErrorName::InvalidArgs, 72)?;
     error_has(&rt, ErrorName::LimitsExceeded, 80)?;
     error_has(&rt, ErrorName::IOError, 72)?;
+    error_has(&rt, ErrorName::AccessDenied, 72)?;
     error_has(&rt, ErrorName::IsLocked, 72)?;
     error_has(&rt, ErrorName::NoSession, 72)?;
     error_has(&rt, ErrorName::NoSuchObject, 80)?;
+    error_has(&rt, ErrorName::AgentTaken, 64)?;
+    error_has(&rt, ErrorName::OldRound, 64)?;
     empty_has(&rt, 24)
 }
 

@@ -3,7 +3,7 @@
 use crate::words::{decimal, joined};
 use kr_base::{AttrValue, Attributes, ItemId, SessionId, Stem, Text};
 use kr_names::{ObjectName, path_of};
-use secret_calls::{Call, CallFault, Request, Secret};
+use secret_calls::{AliasName, Call, CallFault, Request, Secret};
 use std::alloc::Global;
 use std::test::Fail;
 
@@ -208,6 +208,31 @@ fn setting_told(alloc: Global, stem: &Stem, item: ItemId, secret: &Secret) -> Re
     item_call_told(alloc, "SetSecret", stem, item, rest.as_str())
 }
 
+fn alias_read_told(alloc: Global, name: &Text) -> Result<String, Fail> {
+    joined(alloc, &["Ok(ReadAlias \"", name.as_str(), "\")"])
+}
+
+// The path of a name, or `none`.
+fn target_told(alloc: Global, object: &Option<ObjectName>) -> Result<Text, Fail> {
+    match object {
+        Some(object) => path_told(alloc, object),
+        None => Ok(Text::from_str(alloc, "none")?.ok_or("a zero byte")?),
+    }
+}
+
+fn alias_told(
+    alloc: Global,
+    alias: &AliasName,
+    object: &Option<ObjectName>,
+) -> Result<String, Fail> {
+    let object = target_told(alloc, object)?;
+    let alias = alias.as_text().as_str();
+    joined(
+        alloc,
+        &["Ok(SetAlias ", alias, " to ", object.as_str(), ")"],
+    )
+}
+
 fn fault_told(alloc: Global, fault: CallFault) -> Result<String, Fail> {
     Ok(format!(in alloc; "Err({fault:?})")?)
 }
@@ -220,6 +245,8 @@ fn good_call_told(alloc: Global, call: &Call) -> Result<String, Fail> {
         Call::SearchItems { wanted } => search_told(alloc, wanted),
         Call::Lock { objects } => lock_told(alloc, objects.as_slice()),
         Call::GetSecrets { items, session } => secrets_told(alloc, items.as_slice(), session),
+        Call::ReadAlias { name } => alias_read_told(alloc, name),
+        Call::SetAlias { alias, object } => alias_told(alloc, alias, object),
         Call::SearchCollection { collection, wanted } => {
             collection_search_told(alloc, collection, wanted)
         }

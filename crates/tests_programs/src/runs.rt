@@ -110,7 +110,19 @@ DROP [6c01000100000000070000004700000001016f0029000000]/org/freedesktop/secrets/
 NOOBJECT [6c0301010000000002000000400000000401730029000000]org.freedesktop.Secret.Error.NoSuchObjec\
 t[000000000000000501750002000000]
 LOCKED [6c0301010000000002000000380000000401730025000000]org.freedesktop.Secret.Error.IsLocked[0000\
-000501750002000000]";
+000501750002000000]
+READALIAS [6c01000109000000030000006f00000001016f0018000000]/org/freedesktop/secrets[00000000000000\
+00020173001e000000]org.freedesktop.Secret.Service[00000301730009000000]ReadAlias[000000000000000801\
+67000173000004000000]work[00]
+SETALIAS [6c0100013a000000020000007000000001016f0018000000]/org/freedesktop/secrets[000000000000000\
+0020173001e000000]org.freedesktop.Secret.Service[00000301730008000000]SetAlias[00000000000000000801\
+670002736f0004000000]work[0000000029000000]/org/freedesktop/secrets/collection/other[00]
+DROPALIAS [6c01000112000000040000007000000001016f0018000000]/org/freedesktop/secrets[00000000000000\
+00020173001e000000]org.freedesktop.Secret.Service[00000301730008000000]SetAlias[0000000000000000080\
+1670002736f0004000000]work[00000000010000002f00]
+OTHERPATH [6c0201012e000000020000000f000000050175000200000008016700016f000029000000]/org/freedeskto\
+p/secrets/collection/other[00]
+ROOTPATH [6c02010106000000040000000f000000050175000400000008016700016f0000010000002f00]";
 
 // The name of each, what the client sends, the text of the end, and what is written. A part may be
 // changed: after `@` come a position in it and the bytes there.
@@ -132,6 +144,7 @@ what isn't there|HELLO PATH INTERFACE METHOD ARGUMENTS|done|OK NOPATH NOINTERFAC
 NTS
 nothing to store in|HELLO PLAIN MAKE SET REMOVE DROP|done|OK SESSION NOOBJECT NOOBJECT@8:03@76:05 N\
 OOBJECT@8:04@76:06 NOOBJECT@8:05@76:07
+an alias of nothing|HELLO SETALIAS READALIAS|done|OK NOOBJECT@8:01 ROOTPATH@8:02@20:03
 what is no call|HELLO RETURN FAULT SIGNAL OTHER PING|done|OK PONG@8:01
 a boolean of two|HELLO PLAIN BOOLEAN|bad message: BadBody|OK SESSION
 padding that isn't zero|HELLO PLAIN PADDING|bad message: BadBody|OK SESSION
@@ -520,7 +533,7 @@ fn written_locked<R: Abort + AllocGlobal + Wait>(
 }
 
 // Asserts what the run over this input on that host writes.
-fn is_refused<R: Abort + AllocGlobal + Wait>(
+fn is_written<R: Abort + AllocGlobal + Wait>(
     rt: &R,
     input: &[u8],
     output: &str,
@@ -543,7 +556,7 @@ ENTS@8:03@68:04
 
 fn is_refused_in<R: Abort + AllocGlobal + Wait>(rt: &R, row: &str) -> Result<(), Fail> {
     let input = bytes_of(rt.alloc(), cell(row, 1))?;
-    is_refused(rt, input.as_slice(), cell(row, 2), row)
+    is_written(rt, input.as_slice(), cell(row, 2), row)
 }
 
 #[test]
@@ -554,6 +567,15 @@ fn a_member_that_stores_is_refused_while_its_collection_is_locked(
         is_refused_in(&rt, row)?;
     }
     Ok(())
+}
+
+#[test]
+fn an_alias_is_set_to_a_locked_collection_and_removed(rt: HostRuntime) -> Result<(), Fail> {
+    let input = "HELLO READALIAS@8:01 SETALIAS READALIAS DROPALIAS READALIAS@8:05";
+    let input = bytes_of(rt.alloc(), input)?;
+    let output =
+        "OK ROOTPATH@8:01@20:01 PONG OTHERPATH@8:03@20:03 PONG@8:04@20:04 ROOTPATH@8:05@20:05";
+    is_written(&rt, input.as_slice(), output, "an alias")
 }
 
 // The start of a call of SetSecret that is a mebibyte, up to the bytes of its content type.
@@ -579,7 +601,7 @@ fn a_secret_with_a_content_type_of_a_mebibyte_is_refused_like_others(
 ) -> Result<(), Fail> {
     let input = long_secret(rt.alloc())?;
     let output = "OK SESSION LOCKED@68:05";
-    is_refused(&rt, input.as_slice(), output, "a mebibyte")
+    is_written(&rt, input.as_slice(), output, "a mebibyte")
 }
 
 // A source that never fails, of what these words spell.

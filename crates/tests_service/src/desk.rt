@@ -8,18 +8,23 @@ use std::alloc::Global;
 use std::process::Abort;
 use std::test::Fail;
 
-// A request with this serial.
-fn request(serial: &str, call: Result<Call, CallFault>) -> Result<Request, Fail> {
-    let number = serial.parse::<u32>().ok().ok_or("serial")?;
+// The serial of a row.
+fn serial_of(text: &str) -> Result<Serial, Fail> {
+    let number = text.parse::<u32>().ok().ok_or("serial")?;
     if number == 0 {
         return Err("serial")?;
     }
-    Ok(Request {
-        serial: Serial { number },
+    Ok(Serial { number })
+}
+
+// A request with this serial.
+fn request(serial: Serial, call: Result<Call, CallFault>) -> Request {
+    Request {
+        serial,
         wants_reply: true,
         length: 128,
         call,
-    })
+    }
 }
 
 // A return with this serial, in words.
@@ -35,6 +40,7 @@ fn out_told(out: &Out) -> &'static str {
     match out {
         Out::Return { to, body } => return_told(to.number, body),
         Out::Error { to: _, name: _ } => "other outputs",
+        Out::Signal(_) => "other outputs",
     }
 }
 
@@ -86,8 +92,10 @@ fn gone<D: WriteDesk>(desk: &mut D) -> &'static str {
 
 // Records the request of a row.
 fn ask<D: ReadDesk>(alloc: Global, desk: &mut D, row: &str) -> Result<&'static str, Fail> {
-    let request = request(cell(row, 0), call_of(alloc, row)?)?;
-    Ok(arrive(desk, request, number(cell(row, 3))?))
+    let serial = serial_of(cell(row, 0))?;
+    let now = number(cell(row, 3))?;
+    let request = request(serial, call_of(alloc, row)?);
+    Ok(arrive(desk, request, now))
 }
 
 // What is done through the traits of a desk: take, leave, gone or a request. A request has a serial, a

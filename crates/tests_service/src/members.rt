@@ -32,9 +32,9 @@ const CONVERSATION: &str = "\
 1|secrets|collection/login/1 collection/login/3;1|0
 1|secrets|collection/login/1;2|NoSession
 1|secrets|collection/login/1;-|NoSession
-1|lock|collection/login/3 collection/login collection/login/3|locked collection/login/3 collection/login
-1|lock|aliases/default aliases/other collection/other/1|locked aliases/default
-1|lock|session/s1|locked
+1|lock|collection/login/3 collection/login collection/login/3|objects collection/login/3 collection/login
+1|lock|aliases/default aliases/other collection/other/1|objects aliases/default
+1|lock|session/s1|objects
 1|search|service=empty|unlocked, locked collection/login/2
 ";
 
@@ -69,12 +69,18 @@ fn each_member_finds_what_is_there(rt: HostRuntime) -> Result<(), Fail> {
 }
 
 // What a connection asks, and the era of the service after that: a cut comes before the event that
-// follows a call of Lock.
+// follows a call of Lock, or a call that stored something.
 const CUTS: &str = "\
 1|ping||0
 1|lock|collection/login|0
 1|ping||3
 1|ping||3
+1|alias|work=collection/login|3
+1|ping||6
+1|alias|work=collection/none|6
+1|alias|default=-|6
+1|read|default|9
+1|ping||9
 ";
 
 /// The arrival of a row's call, by the first connection.
@@ -109,7 +115,7 @@ fn asks(rt: &impl Abort, alloc: Global, service: &mut Service) -> Result<(), Fai
 }
 
 #[test]
-fn a_cut_follows_a_lock(rt: HostRuntime) -> Result<(), Fail> {
+fn a_cut_follows_a_lock_and_a_storing(rt: HostRuntime) -> Result<(), Fail> {
     let service = service_over_login(rt.alloc())?;
     over(service, |service| asks(&rt, rt.alloc(), service))
 }

@@ -1,10 +1,10 @@
 // Calls from words, and outputs in words.
 
 use crate::checks::{cell, number};
-use kr_base::{Attributes, Bytes, ItemId, SessionId, Stem, Text};
+use kr_base::{Attributes, Bytes, ItemId, PromptId, SessionId, Stem, Text};
 use kr_items::Items;
 use kr_names::{ObjectName, parse_path};
-use secret_calls::{Body, Call, CallFault, ErrorName, Out, Secret};
+use secret_calls::{AliasName, Body, Call, CallFault, ErrorName, Out, Secret};
 use std::alloc::Global;
 use std::test::Fail;
 
@@ -159,6 +159,27 @@ fn setting(alloc: Global, words: &str) -> Result<Call, Fail> {
     Ok(Call::SetSecret { stem, item, secret })
 }
 
+fn reading(alloc: Global, name: &str) -> Result<Call, Fail> {
+    let name = text(alloc, name)?;
+    Ok(Call::ReadAlias { name })
+}
+
+// The object that an alias is set to: `/` for `-`, and none for `?`.
+fn given(alloc: Global, path: &str) -> Result<Option<ObjectName>, Fail> {
+    match path {
+        "-" => Ok(Some(ObjectName::Nothing)),
+        "?" => Ok(None),
+        _ => Ok(Some(object(alloc, path)?)),
+    }
+}
+
+fn aliasing(alloc: Global, words: &str) -> Result<Call, Fail> {
+    let (name, path) = halves(words, '=')?;
+    let alias = AliasName::from_text(text(alloc, name)?).ok_or("the name of an alias")?;
+    let object = given(alloc, path)?;
+    Ok(Call::SetAlias { alias, object })
+}
+
 /// The call of a row: its second cell says what it does, and its third with what.
 pub fn call_of(alloc: Global, row: &str) -> Result<Result<Call, CallFault>, Fail> {
     match cell(row, 1) {
@@ -174,6 +195,8 @@ pub fn call_of(alloc: Global, row: &str) -> Result<Result<Call, CallFault>, Fail
         "replace" => Ok(Ok(making(alloc, cell(row, 2), true)?)),
         "delete" => Ok(Ok(deleting(alloc, cell(row, 2))?)),
         "set" => Ok(Ok(setting(alloc, cell(row, 2))?)),
+        "read" => Ok(Ok(reading(alloc, cell(row, 2))?)),
+        "alias" => Ok(Ok(aliasing(alloc, cell(row, 2))?)),
         _ => Ok(Ok(Call::Ping)),
     }
 }
@@ -208,15 +231,31 @@ fn add_paths(told: &mut String, paths: &[Text]) -> Result<(), Fail> {
     Ok(())
 }
 
-fn made_told(alloc: Global, item: &Text) -> Result<String, Fail> {
+// The number of a prompt, if there is one.
+fn add_prompt(alloc: Global, told: &mut String, prompt: Option<PromptId>) -> Result<(), Fail> {
+    if let Some(prompt) = prompt {
+        told.push_str(", prompt ")?;
+        told.push_str(decimal(alloc, prompt.0)?.as_str())?;
+    }
+    Ok(())
+}
+
+fn made_told(alloc: Global, object: &Text, prompt: Option<PromptId>) -> Result<String, Fail> {
     let mut told = String::from_str(alloc, "made")?;
-    add_path(&mut told, item)?;
+    add_path(&mut told, object)?;
+    add_prompt(alloc, &mut told, prompt)?;
     Ok(told)
 }
 
 fn paths_told(alloc: Global, what: &str, paths: &[Text]) -> Result<String, Fail> {
     let mut told = String::from_str(alloc, what)?;
     add_paths(&mut told, paths)?;
+    Ok(told)
+}
+
+fn objects_told(alloc: Global, objects: &[Text], prompt: Option<PromptId>) -> Result<String, Fail> {
+    let mut told = paths_told(alloc, "objects", objects)?;
+    add_prompt(alloc, &mut told, prompt)?;
     Ok(told)
 }
 
@@ -234,9 +273,11 @@ fn body_told(alloc: Global, body: &Body) -> Result<String, Fail> {
         Body::Found { unlocked, locked } => {
             found_told(alloc, unlocked.as_slice(), locked.as_slice())
         }
-        Body::Locked(objects) => paths_told(alloc, "locked", objects.as_slice()),
+        Body::ObjectsAndPrompt { objects, prompt } => {
+            objects_told(alloc, objects.as_slice(), *prompt)
+        }
         Body::Objects(objects) => paths_told(alloc, "found", objects.as_slice()),
-        Body::Made(item) => made_told(alloc, item),
+        Body::ObjectAndPrompt { object, prompt } => made_told(alloc, object, *prompt),
         Body::Object(object) => Ok(String::from_str(alloc, object.as_str())?),
         Body::Secret(_) => Ok(String::from_str(alloc, "a secret")?),
         Body::Secrets(secrets) => decimal(alloc, secrets.len() as u64),
@@ -249,9 +290,12 @@ fn error_told(name: ErrorName) -> &'static str {
         ErrorName::UnknownMethod => "UnknownMethod",
         ErrorName::LimitsExceeded => "LimitsExceeded",
         ErrorName::IOError => "IOError",
+        ErrorName::AccessDenied => "AccessDenied",
         ErrorName::NoSession => "NoSession",
         ErrorName::IsLocked => "IsLocked",
         ErrorName::NoSuchObject => "NoSuchObject",
+        ErrorName::AgentTaken => "AgentTaken",
+        ErrorName::OldRound => "OldRound",
         _ => "another error",
     }
 }
@@ -260,10 +304,11 @@ fn out_told(alloc: Global, out: &Out) -> Result<String, Fail> {
     match out {
         Out::Return { to: _, body } => body_told(alloc, body),
         Out::Error { to: _, name } => Ok(String::from_str(alloc, error_told(*name))?),
+        Out::Signal(_) => Ok(String::from_str(alloc, "a signal")?),
     }
 }
 
-/// The last of outputs in words: a return, the number of a session, or an error.
+/// The last of outputs in words: a return, the number of a session, an error, or that it is a signal.
 pub fn last_told(alloc: Global, outs: &[Out]) -> Result<String, Fail> {
     out_told(alloc, outs.last().ok_or("outs")?)
 }

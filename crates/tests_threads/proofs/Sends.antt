@@ -6,6 +6,7 @@ pub mod KrNames
 pub mod KrMemoryDisk
 pub mod KeyringFile
 pub mod ReplaceSlot
+pub mod AliasTable
 pub mod FolderStore
 pub mod AttributeIndex
 pub mod ItemStore

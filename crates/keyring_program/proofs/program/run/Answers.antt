@@ -1,4 +1,4 @@
-use Rattle.std.proofs.Common.{[], inr, sym, ◌∙◌}
+use Rattle.std.proofs.Common.{[], inr, sym, ◌∙◌, None}
 use Rattle.service_tables.specs.Opened.{Contents, contents_of}
 use Rattle.connection_worker.specs.Streams.{input_of, output_of}
 use Rattle.keyring_program.proofs.CommandLemmas.{one_user, one_folder}
@@ -9,7 +9,7 @@ use Rattle.keyring_program.proofs.program.run.Goals as goal
 
 -- a service that starts with nothing
 nothing : Contents
-nothing = record { collections = []; aliases = [] }
+nothing = record { collections = []; aliases = None }
 
 -- the arguments are invalid
 pub returns-in_default-clause-opened : goal.returns-in_default-clause-opened

@@ -11,8 +11,9 @@ returns-in-Err-FaultUnsure-clause-slot g c =
     record {
       any_moment = λ honest. moment-unsure c.args.change c.args.now old new g.S.Slot.moment g.S.Slot.left_since c.requires.open (ends.unsure (search rules)) (ends.any_moment honest);
       crash = ends.crash;
-      honest = ends.honest;
-      steady = ends.steady;
-      cause = λ fault. ends.cause (search rules);
-      never = λ steady fault. no-rise _ _ _ _ ends.steady steady (g.met.S.Slot.steady_below old.slot steady) (ends.cause (search rules));
+      honest = ends.kept.honest;
+      steady = ends.kept.steady;
+      cause = λ fault. ends.kept.cause (search rules);
+      never = λ steady fault. no-rise _ _ _ _ ends.kept.steady steady (g.met.S.Slot.steady_below old.slot steady) (ends.kept.cause (search rules));
+      one = λ honest same. cc;
     }

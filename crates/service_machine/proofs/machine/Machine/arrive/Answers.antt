@@ -1,9 +1,9 @@
-use Rattle.std.proofs.Common.{◌≡◌, ap, subst, sym, ◌∙◌}
+use Rattle.std.proofs.Common.{◌≡◌, ◌++◌, ap, subst, sym, ◌∙◌}
 use Rattle.service_machine.specs.Fates.{with_fates, AreFaultless, is_steady}
 use Rattle.service_machine.specs.Rows.{disk_of, rows_of}
 use Rattle.service_machine.specs.Run.{asked}
 use Rattle.service_machine.specs.Step.{Fits, brought_by, plan_of, replies, step, with_delivered}
-use Rattle.service_machine.specs.Stored.{StoresEvent, fates_of}
+use Rattle.service_machine.specs.Stored.{StoresEvent, fates_in, fates_of}
 use Rattle.service_machine.proofs.LeadsLemmas.{leads-fits, leads-stepped, leads-stores}
 use Rattle.service_machine.proofs.SteadyLemmas.{stores-faultless, stores-steady}
 use Rattle.service_machine.proofs.machine.Machine.arrive.Goals as goal
@@ -17,7 +17,8 @@ returns-clause-stepped g c =
     let done = c.in_ok-call.field-0 in
     let same : rows_of (record c.args.self.now { connections = c.reserve.new.self }) ≡ old =
     λ i. record old { connections = record { rows = c.reserve.ensures.unchanged i; next = c.reserve.ensures.next i } } in
-    let fates : c.new.result ≡ fates_of done.fate = c.new.ensures ∙ c.with_fate.ensures ∙ ap fates_of c.into_parts-answer.ensures.fate in
+    let fates : c.new.result ≡ fates_in done =
+    c.new.ensures ∙ c.with_fates.ensures ∙ (λ i. fates_of (c.into_parts-answer.ensures.read i) ++ fates_of (c.into_parts-answer.ensures.fate i)) in
     let replied : rows_of c.reply.new.self ≡ with_delivered (replies arrival.conn arrival.request done.answer) (rows_of c.call.new.self) =
     c.reply.ensures.rows ∙ ap (λ answer. with_delivered (replies arrival.conn arrival.request answer) (rows_of c.call.new.self)) c.into_parts-answer.ensures.answer in
     leads-stepped slot.is_honest slot.is_steady slot.faults slot.moment slot.left_since slot.may_leave arrival done old _ (rows_of c.call.new.self) (rows_of c.reply.new.self)
@@ -32,7 +33,8 @@ returns-clause-fits g c =
     let done = c.in_ok-call.field-0 in
     let same : rows_of (record c.args.self.now { connections = c.reserve.new.self }) ≡ old =
     λ i. record old { connections = record { rows = c.reserve.ensures.unchanged i; next = c.reserve.ensures.next i } } in
-    let fates : c.new.result ≡ fates_of done.fate = c.new.ensures ∙ c.with_fate.ensures ∙ ap fates_of c.into_parts-answer.ensures.fate in
+    let fates : c.new.result ≡ fates_in done =
+    c.new.ensures ∙ c.with_fates.ensures ∙ (λ i. fates_of (c.into_parts-answer.ensures.read i) ++ fates_of (c.into_parts-answer.ensures.fate i)) in
     subst (λ its. Fits old (with_fates arrival its)) (sym fates)
     (leads-fits slot.is_honest slot.is_steady slot.faults slot.moment slot.left_since slot.may_leave arrival done old _ (rows_of c.call.new.self) (rows_of c.reply.new.self)
     (disk_of c.args.self.now) (disk_of c.call.new.self) same c.in_ok-call.ensures.leads c.known_request.ensures.moment c.known_request.ensures.types c.requires)
@@ -47,9 +49,10 @@ returns-clause-disk g c =
     let done = c.in_ok-call.field-0 in
     let same : rows_of (record c.args.self.now { connections = c.reserve.new.self }) ≡ old =
     λ i. record old { connections = record { rows = c.reserve.ensures.unchanged i; next = c.reserve.ensures.next i } } in
-    let fates : c.new.result ≡ fates_of done.fate = c.new.ensures ∙ c.with_fate.ensures ∙ ap fates_of c.into_parts-answer.ensures.fate in
+    let fates : c.new.result ≡ fates_in done =
+    c.new.ensures ∙ c.with_fates.ensures ∙ (λ i. fates_of (c.into_parts-answer.ensures.read i) ++ fates_of (c.into_parts-answer.ensures.fate i)) in
     subst (λ its. StoresEvent slot.is_honest slot.is_steady slot.faults slot.moment slot.left_since slot.may_leave (with_fates arrival its) old disk (disk_of c.reply.new.self)) (sym fates)
-    (subst (λ after. StoresEvent slot.is_honest slot.is_steady slot.faults slot.moment slot.left_since slot.may_leave (with_fates arrival (fates_of done.fate)) old disk after) (sym c.reply.ensures.disk)
+    (subst (λ after. StoresEvent slot.is_honest slot.is_steady slot.faults slot.moment slot.left_since slot.may_leave (with_fates arrival (fates_in done)) old disk after) (sym c.reply.ensures.disk)
     (leads-stores slot.is_honest slot.is_steady slot.faults slot.moment slot.left_since slot.may_leave arrival done old _ (rows_of c.call.new.self) (rows_of c.reply.new.self)
     disk (disk_of c.call.new.self) same c.in_ok-call.ensures.leads))
 
@@ -61,10 +64,11 @@ returns-clause-faultless g c = λ steady.
     let before = rows_of (record c.args.self.now { connections = c.reserve.new.self }) in
     let done = c.in_ok-call.field-0 in
     let leads = c.in_ok-call.ensures.leads in
-    let fates : c.new.result ≡ fates_of done.fate = c.new.ensures ∙ c.with_fate.ensures ∙ ap fates_of c.into_parts-answer.ensures.fate in
+    let fates : c.new.result ≡ fates_in done =
+    c.new.ensures ∙ c.with_fates.ensures ∙ (λ i. fates_of (c.into_parts-answer.ensures.read i) ++ fates_of (c.into_parts-answer.ensures.fate i)) in
     subst AreFaultless (sym fates)
     (stores-faultless slot.is_honest slot.is_steady slot.faults slot.moment slot.left_since slot.may_leave g.F.Folder.is_steady arrival.conn (brought_by arrival)
-    (plan_of arrival.request.call (asked arrival.conn (brought_by arrival) before)) (fates_of done.fate) before (disk_of c.args.self.now) (disk_of c.call.new.self) leads.fates leads.disk steady)
+    (plan_of arrival.request.call (asked arrival.conn (brought_by arrival) before)) (fates_in done) before (disk_of c.args.self.now) (disk_of c.call.new.self) leads.fates leads.disk steady)
 
 pub returns-clause-steady : goal.returns-clause-steady
 returns-clause-steady g c =
@@ -75,4 +79,4 @@ returns-clause-steady g c =
     let leads = c.in_ok-call.ensures.leads in
     ap (is_steady g.F.Folder.is_steady slot.is_steady) c.reply.ensures.disk
     ∙ stores-steady slot.is_honest slot.is_steady slot.faults slot.moment slot.left_since slot.may_leave g.F.Folder.is_steady arrival.conn (brought_by arrival)
-    (plan_of arrival.request.call (asked arrival.conn (brought_by arrival) before)) (fates_of done.fate) before (disk_of c.args.self.now) (disk_of c.call.new.self) leads.disk
+    (plan_of arrival.request.call (asked arrival.conn (brought_by arrival) before)) (fates_in done) before (disk_of c.args.self.now) (disk_of c.call.new.self) leads.disk

@@ -5,6 +5,9 @@ use Rattle.service_machine.proofs.machine.Machine.ask.Goals as goal
 pub returns-in-SearchItems-clause-answer : goal.returns-in-SearchItems-clause-answer
 returns-in-SearchItems-clause-answer g c = rw c.in-SearchItems.is c.search_items.ensures.answer
 
+pub returns-in-ReadAlias-clause-answer : goal.returns-in-ReadAlias-clause-answer
+returns-in-ReadAlias-clause-answer g c = rw c.in-ReadAlias.is c.read_alias.ensures.answer
+
 pub returns-in-Lock-clause-answer : goal.returns-in-Lock-clause-answer
 returns-in-Lock-clause-answer g c = rw (c.in-Lock.is, sym c.as_slice.ensures) c.lock.ensures.answer
 

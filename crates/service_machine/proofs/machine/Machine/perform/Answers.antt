@@ -8,6 +8,10 @@ use Rattle.service_machine.proofs.machine.Machine.perform.Goals as goal
 pub returns-in-DeleteCollection-clause-leads : goal.returns-in-DeleteCollection-clause-leads
 returns-in-DeleteCollection-clause-leads g c = rw c.in-DeleteCollection.is (map-ok c.delete_collection.result _ _ (λ done leads. leads _) c.delete_collection.ensures.leads)
 
+-- so does an alias that is set
+pub returns-in-SetAlias-clause-leads : goal.returns-in-SetAlias-clause-leads
+returns-in-SetAlias-clause-leads g c = rw c.in-SetAlias.is (map-ok c.set_alias.result _ _ (λ done leads. leads _) c.set_alias.ensures.leads)
+
 -- a call that stores nothing
 pub returns-in_ok-ask-in_default-clause-leads : goal.returns-in_ok-ask-in_default-clause-leads
 returns-in_ok-ask-in_default-clause-leads g c =

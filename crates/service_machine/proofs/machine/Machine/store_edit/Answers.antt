@@ -57,13 +57,13 @@ returns-in-Some-stored-clause-leads g c = λ conn edit value is.
     let some = c.in-Some-stored.fate in
     let made : storable_at stem c.args.change c.args.now old.collections ≡ Some c.in-Some.item = of-some _ c.in_ok-stored.stored some c.in-Some-stored.is c.in_ok-stored.ensures.fits ∙ sym (c.in-Some.ensures c.args.now) in
     let small : is_small (returned c.in-Some.item) ≡ true = ap is_small (sym c.in_ok-body.ensures) ∙ sym c.is_small.ensures ∙ c.if-not-is_small.false in
-    let done : c.ended.result ≡ record { answer = answer_by (returned c.in-Some.item) some; fate = Some some } =
-    c.ended.ensures ∙ ap (λ body. record { answer = answer_by body some; fate = Some some }) c.in_ok-body.ensures in
+    let done : c.ended.result ≡ record { answer = answer_by (returned c.in-Some.item) some; read = None; fate = Some some } =
+    c.ended.ensures ∙ ap (λ body. record { answer = answer_by body some; read = None; fate = Some some }) c.in_ok-body.ensures in
     let stored = of-some _ c.in_ok-stored.stored some c.in-Some-stored.is c.in_ok-stored.ensures.stored in
     let rows = ap (λ (contents : Contents). contents.collections) stored ∙ ap (λ given. rows_stored stem given c.args.now some old.collections) is in
     let state = ap (λ (contents : Contents). record old { collections = contents.collections; aliases = contents.aliases }) stored
     ∙ ap (λ given. record old { collections = rows_stored stem given c.args.now some old.collections }) is in
     leads-done slot.is_honest slot.is_steady slot.faults slot.moment slot.left_since slot.may_leave conn brought old _ disk _ plan _ _ done
     (leads-as slot.is_honest slot.is_steady slot.faults slot.moment slot.left_since slot.may_leave conn brought old _ disk _ plan _ _ (plan-small stem edit returned _ c.in-Some.item made small)
-    (leads-asked slot.is_honest slot.is_steady slot.faults slot.moment slot.left_since slot.may_leave conn brought old _ disk _ (Store stem edit) (returned c.in-Some.item) some state
+    (leads-asked slot.is_honest slot.is_steady slot.faults slot.moment slot.left_since slot.may_leave conn brought old _ disk _ (Store stem edit) (returned c.in-Some.item) some (of-some _ c.in_ok-stored.stored some c.in-Some-stored.is c.in_ok-stored.ensures.kind) state
     (at-moved slot.is_honest slot.is_steady slot.faults slot.moment slot.left_since slot.may_leave stem some _ _ _ _ _ _ _ refl rows refl (of-some _ c.in_ok-stored.stored some c.in-Some-stored.is c.in_ok-stored.ensures.disk))))

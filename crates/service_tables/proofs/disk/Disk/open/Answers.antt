@@ -13,8 +13,8 @@ pub returns-in-Ok-clause-loaded : goal.returns-in-Ok-clause-loaded
 returns-in-Ok-clause-loaded g c = record {
   loaded = c.in-Ok.loaded;
   loads = c.in-Ok.ensures.loaded;
-  kept = rw (c.in_ok-collections-in-Ok.ensures, c.new.ensures.items) refl;
-  starts = rw c.in_ok-collections-in-Ok.ensures refl;
+  kept = rw (c.in_ok-collections-in-Ok.ensures, c.new.ensures.items, c.found.ensures.slot) refl;
+  starts = rw (c.in_ok-collections-in-Ok.ensures, c.found.ensures.rows) refl;
   honest = c.load.ensures.honest;
   later = c.load.ensures.later;
   steady = c.load.ensures.steady;
@@ -22,8 +22,11 @@ returns-in-Ok-clause-loaded g c = record {
 
 -- they are sound, as what a start lists
 pub returns-in-Ok-clause-sound : goal.returns-in-Ok-clause-sound
-returns-in-Ok-clause-sound g c =
-    subst (λ entries. AreSoundCollections (rows_of entries)) (sym c.in_ok-collections-in-Ok.ensures) (loaded-sound c.in-Ok.loaded c.in-Ok.ensures.loaded.some)
+returns-in-Ok-clause-sound g c = record {
+  collections = subst (λ entries. AreSoundCollections (rows_of entries)) (sym c.in_ok-collections-in-Ok.ensures) (loaded-sound c.in-Ok.loaded c.in-Ok.ensures.loaded.some);
+  aliases = c.found.ensures.sound;
+  certain = c.found.ensures.certain;
+}
 
 pub returns-in-Folder-clause-cause : goal.returns-in-Folder-clause-cause
 returns-in-Folder-clause-cause g c is = record {

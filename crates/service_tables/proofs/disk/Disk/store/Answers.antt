@@ -1,7 +1,6 @@
 use Rattle.std.proofs.Common.{◌≡◌, Some, refl, sym, ap, ◌∙◌}
 use Rattle.kr_base.specs.Attributes.{value_at}
-use Rattle.collection_store.specs.State.{CollectionState}
-use Rattle.collection_table.specs.Entries.{Entries, changed, rows_of, slots_of}
+use Rattle.collection_table.specs.Entries.{changed, rows_of, slots_of}
 use Rattle.collection_table.specs.Rows.{Rows}
 use Rattle.collection_table.proofs.RowLemmas.{slots-changed}
 use Rattle.service_tables.specs.Disk.{contents_in, disk_state}

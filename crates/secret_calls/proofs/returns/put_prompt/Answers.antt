@@ -1,0 +1,4 @@
+use Rattle.secret_calls.proofs.returns.put_prompt.Goals as goal
+
+pub returns-in-Some : goal.returns-in-Some
+returns-in-Some g c = λ before at. rw c.in-Some.is (c.put_prompt_path.ensures before at)
