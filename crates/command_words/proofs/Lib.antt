@@ -1,0 +1,4 @@
+pub mod ArgumentLemmas
+pub mod FoundLemmas
+pub mod NumberLemmas
+pub mod CommandLemmas
