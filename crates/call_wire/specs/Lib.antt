@@ -3,6 +3,8 @@ pub mod Service
 pub mod Collection
 pub mod Item
 pub mod Session
+pub mod Prompt
+pub mod Agent
 pub mod Members
 pub mod CallOf
 pub mod Said

@@ -1,5 +1,5 @@
 -- The members that are implemented, which objects have them, and how their arguments are read: D-Bus Specification, "Standard
--- Interfaces"; Secret Service API draft 0.2, the interfaces' methods.
+-- Interfaces"; Secret Service API draft 0.2, the interfaces' methods; for the agent, docs/SERVICE.md, "Interfaces".
 use Rattle.std.specs.Prelude.{ℕ, ◌&&◌, Bool, true, false, List, [], ◌∷◌, Option, Some, None, Result, map, codes}
 use Rattle.std.specs.List.{filter, find}
 use Rattle.std.specs.Str.{bytes_eq}
@@ -13,9 +13,11 @@ use Rattle.call_wire.specs.declared.members.Interface.TheVariants as interface
 use Rattle.call_wire.specs.declared.members.Method.{Method}
 use Rattle.call_wire.specs.declared.members.Method.TheVariants as method
 use Rattle.call_wire.specs.declared.members.Row.{Row}
+use Rattle.call_wire.specs.Agent as agent
 use Rattle.call_wire.specs.Collection as collection
 use Rattle.call_wire.specs.Item as item
 use Rattle.call_wire.specs.Peer as peer
+use Rattle.call_wire.specs.Prompt as prompt
 use Rattle.call_wire.specs.Service as service
 use Rattle.call_wire.specs.Session as session
 
@@ -35,7 +37,9 @@ seen row = record { interface = row.interface; name = row.name.now; arguments = 
 unfoldable pub members : List Member
 members =
     record { interface = interface.Service; name = codes "OpenSession"; arguments = codes "sv"; method = method.OpenSession } ∷
+    record { interface = interface.Service; name = codes "CreateCollection"; arguments = codes "a{sv}s"; method = method.CreateCollection } ∷
     record { interface = interface.Service; name = codes "SearchItems"; arguments = codes "a{ss}"; method = method.SearchItems } ∷
+    record { interface = interface.Service; name = codes "Unlock"; arguments = codes "ao"; method = method.Unlock } ∷
     record { interface = interface.Service; name = codes "Lock"; arguments = codes "ao"; method = method.Lock } ∷
     record { interface = interface.Service; name = codes "GetSecrets"; arguments = codes "aoo"; method = method.GetSecrets } ∷
     record { interface = interface.Service; name = codes "ReadAlias"; arguments = codes "s"; method = method.ReadAlias } ∷
@@ -47,6 +51,11 @@ members =
     record { interface = interface.Item; name = codes "GetSecret"; arguments = codes "o"; method = method.GetSecret } ∷
     record { interface = interface.Item; name = codes "SetSecret"; arguments = codes "(oayays)"; method = method.SetSecret } ∷
     record { interface = interface.Session; name = codes "Close"; arguments = []; method = method.CloseSession } ∷
+    record { interface = interface.Prompt; name = codes "Prompt"; arguments = codes "s"; method = method.Prompt } ∷
+    record { interface = interface.Prompt; name = codes "Dismiss"; arguments = []; method = method.Dismiss } ∷
+    record { interface = interface.Agent; name = codes "Register"; arguments = []; method = method.Register } ∷
+    record { interface = interface.Agent; name = codes "Unregister"; arguments = []; method = method.Unregister } ∷
+    record { interface = interface.Agent; name = codes "Refuse"; arguments = codes "ot"; method = method.Refuse } ∷
     record { interface = interface.Peer; name = codes "Ping"; arguments = []; method = method.Ping } ∷ []
 
 -- the name of an interface
@@ -55,6 +64,8 @@ interface_name interface.Service = service.interface
 interface_name interface.Collection = collection.interface
 interface_name interface.Item = item.interface
 interface_name interface.Session = session.interface
+interface_name interface.Prompt = prompt.interface
+interface_name interface.Agent = agent.interface
 interface_name interface.Peer = peer.interface
 
 -- An object has the interface of its kind. Ping is answered on every path, so Peer is there even if there is no object.
@@ -64,6 +75,8 @@ is_on interface.Collection (Some (name.Collection stem)) = true
 is_on interface.Collection (Some (name.Alias alias)) = true
 is_on interface.Item (Some (name.Item stem item)) = true
 is_on interface.Session (Some (name.Session session)) = true
+is_on interface.Prompt (Some (name.Prompt prompt)) = true
+is_on interface.Agent (Some name.Agent) = true
 is_on interface.Peer object = true
 is_on it object = false
 
@@ -92,7 +105,9 @@ member_in object interface name = find (is_called object interface name) members
 -- the call of a method on this object with these values, or the fault that they have
 abbrev pub call_with : Method → Option ObjectName → Vals → Result Call CallFault
 call_with method.OpenSession object values = service.open_session values
+call_with method.CreateCollection object values = service.create_collection values
 call_with method.SearchItems object values = service.search_items values
+call_with method.Unlock object values = service.unlock values
 call_with method.Lock object values = service.lock values
 call_with method.GetSecrets object values = service.get_secrets values
 call_with method.ReadAlias object values = service.read_alias values
@@ -104,4 +119,9 @@ call_with method.DeleteItem object values = item.delete object values
 call_with method.GetSecret object values = item.get_secret object values
 call_with method.SetSecret object values = item.set_secret object values
 call_with method.CloseSession object values = session.close object values
+call_with method.Prompt object values = prompt.prompt object values
+call_with method.Dismiss object values = prompt.dismiss object values
+call_with method.Register object values = agent.register values
+call_with method.Unregister object values = agent.unregister values
+call_with method.Refuse object values = agent.refuse values
 call_with method.Ping object values = peer.ping values

@@ -6,7 +6,8 @@ use Rattle.secret_calls.specs.declared.call.Call.{Call}
 use Rattle.secret_calls.specs.declared.call.Call.TheVariants as call
 use Rattle.secret_calls.specs.declared.call.CallFault.{CallFault}
 use Rattle.secret_calls.specs.declared.call.CallFault.TheVariants as fault
-use Rattle.call_arguments.specs.Arguments.{attributes_in, objects_in, session_in, name_in, alias_in}
+use Rattle.call_arguments.specs.declared.values.ElementType.TheVariants as element
+use Rattle.call_arguments.specs.Arguments.{elements_in, property, label_in, attributes_in, objects_in, session_in, name_in, alias_in, wanted_alias_in}
 
 -- its name
 abbrev pub interface : List ℕ
@@ -20,9 +21,30 @@ algorithm_in arguments = option_and_then (λ input. string_in arguments.0) (held
 abbrev pub open_session : Vals → Result Call CallFault
 open_session values = ok_or (option_map (λ algorithm. call.OpenSession algorithm) (option_and_then algorithm_in (two_of values))) fault.InvalidArgs
 
+-- the name of the property that a collection is created with
+abbrev pub label_name : List ℕ
+label_name = codes "org.freedesktop.Secret.Collection.Label"
+
+-- the label in a dict of properties; any other property is ignored
+abbrev pub new_label_in : Val → Option (List ℕ)
+new_label_in value = option_and_then (λ properties. label_in (property label_name properties)) (elements_in element.Property value)
+
+-- CreateCollection with these two arguments: the properties, and the alias, if it isn't empty
+abbrev pub made_with : Val × Val → Option Call
+made_with arguments =
+    option_and_then (λ label. option_map (λ alias. call.CreateCollection label alias) (wanted_alias_in arguments.1)) (new_label_in arguments.0)
+
+-- CreateCollection
+abbrev pub create_collection : Vals → Result Call CallFault
+create_collection values = ok_or (option_and_then made_with (two_of values)) fault.InvalidArgs
+
 -- SearchItems, with the attributes to search for
 abbrev pub search_items : Vals → Result Call CallFault
 search_items values = ok_or (option_map (λ wanted. call.SearchItems wanted) (option_and_then attributes_in (one_of values))) fault.InvalidArgs
+
+-- Unlock, with the objects to unlock
+abbrev pub unlock : Vals → Result Call CallFault
+unlock values = ok_or (option_map (λ objects. call.Unlock objects) (option_and_then objects_in (one_of values))) fault.InvalidArgs
 
 -- Lock, with the objects to lock
 abbrev pub lock : Vals → Result Call CallFault

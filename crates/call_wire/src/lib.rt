@@ -5,11 +5,13 @@
 //! output is written as its one spelling.
 #![tactic(auto)]
 
+mod agent;
 mod collection;
 mod item;
 mod laws;
 mod members;
 mod peer;
+mod prompt;
 mod reading;
 mod service;
 mod session;

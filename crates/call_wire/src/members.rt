@@ -5,7 +5,7 @@ ghost use Rattle.std.specs.List.{filter, find, list_any};
 ghost use Rattle.dbus_types.specs.ValueViews.{values_of};
 ghost use Rattle.call_wire.specs.Members.{seen, members, interface_name, interfaces_of, is_on, says, means, is_called, member_in, call_with};
 
-use crate::{OutOfMemory, collection, item, peer, service, session};
+use crate::{OutOfMemory, agent, collection, item, peer, prompt, service, session};
 use dbus_types::Value;
 use kr_base::Text;
 use kr_names::ObjectName;
@@ -23,6 +23,10 @@ pub enum Interface {
     Item,
     /// `org.freedesktop.Secret.Session`.
     Session,
+    /// `org.freedesktop.Secret.Prompt`.
+    Prompt,
+    /// `org.keyringd.Agent1`.
+    Agent,
     /// `org.freedesktop.DBus.Peer`.
     Peer,
 }
@@ -32,8 +36,12 @@ pub enum Interface {
 pub enum Method {
     /// `Service.OpenSession`.
     OpenSession,
+    /// `Service.CreateCollection`.
+    CreateCollection,
     /// `Service.SearchItems`.
     SearchItems,
+    /// `Service.Unlock`.
+    Unlock,
     /// `Service.Lock`.
     Lock,
     /// `Service.GetSecrets`.
@@ -56,6 +64,16 @@ pub enum Method {
     SetSecret,
     /// `Session.Close`.
     CloseSession,
+    /// `Prompt.Prompt`.
+    Prompt,
+    /// `Prompt.Dismiss`.
+    Dismiss,
+    /// `Agent1.Register`.
+    Register,
+    /// `Agent1.Unregister`.
+    Unregister,
+    /// `Agent1.Refuse`.
+    Refuse,
     /// `Peer.Ping`.
     Ping,
 }
@@ -83,9 +101,21 @@ const MEMBERS: &[Row] = &[
     },
     Row {
         interface: Interface::Service,
+        name: "CreateCollection",
+        arguments: "a{sv}s",
+        method: Method::CreateCollection,
+    },
+    Row {
+        interface: Interface::Service,
         name: "SearchItems",
         arguments: "a{ss}",
         method: Method::SearchItems,
+    },
+    Row {
+        interface: Interface::Service,
+        name: "Unlock",
+        arguments: "ao",
+        method: Method::Unlock,
     },
     Row {
         interface: Interface::Service,
@@ -154,6 +184,36 @@ const MEMBERS: &[Row] = &[
         method: Method::CloseSession,
     },
     Row {
+        interface: Interface::Prompt,
+        name: "Prompt",
+        arguments: "s",
+        method: Method::Prompt,
+    },
+    Row {
+        interface: Interface::Prompt,
+        name: "Dismiss",
+        arguments: "",
+        method: Method::Dismiss,
+    },
+    Row {
+        interface: Interface::Agent,
+        name: "Register",
+        arguments: "",
+        method: Method::Register,
+    },
+    Row {
+        interface: Interface::Agent,
+        name: "Unregister",
+        arguments: "",
+        method: Method::Unregister,
+    },
+    Row {
+        interface: Interface::Agent,
+        name: "Refuse",
+        arguments: "ot",
+        method: Method::Refuse,
+    },
+    Row {
         interface: Interface::Peer,
         name: "Ping",
         arguments: "",
@@ -178,6 +238,8 @@ impl Interface {
             Interface::Collection => collection::INTERFACE,
             Interface::Item => item::INTERFACE,
             Interface::Session => session::INTERFACE,
+            Interface::Prompt => prompt::INTERFACE,
+            Interface::Agent => agent::INTERFACE,
             Interface::Peer => peer::INTERFACE,
         }
     }
@@ -192,6 +254,8 @@ impl Interface {
             (Interface::Collection, Some(ObjectName::Alias(_))) => true,
             (Interface::Item, Some(ObjectName::Item(_, _))) => true,
             (Interface::Session, Some(ObjectName::Session(_))) => true,
+            (Interface::Prompt, Some(ObjectName::Prompt(_))) => true,
+            (Interface::Agent, Some(ObjectName::Agent)) => true,
             (Interface::Peer, _) => true,
             _ => false,
         }
@@ -286,7 +350,9 @@ pub fn call_with(
 {
     match method {
         Method::OpenSession => service::open_session(values),
+        Method::CreateCollection => service::create_collection(alloc, values),
         Method::SearchItems => service::search_items(alloc, values),
+        Method::Unlock => service::unlock(alloc, values),
         Method::Lock => service::lock(alloc, values),
         Method::GetSecrets => service::get_secrets(alloc, values),
         Method::ReadAlias => service::read_alias(values),
@@ -298,6 +364,11 @@ pub fn call_with(
         Method::GetSecret => item::get_secret(alloc, object, values),
         Method::SetSecret => item::set_secret(alloc, object, values),
         Method::CloseSession => Ok(session::close(object, values)),
+        Method::Prompt => Ok(prompt::prompt(object, values)),
+        Method::Dismiss => Ok(prompt::dismiss(object, values)),
+        Method::Register => Ok(agent::register(values)),
+        Method::Unregister => Ok(agent::unregister(values)),
+        Method::Refuse => agent::refuse(alloc, values),
         Method::Ping => Ok(peer::ping(values)),
     }
 }

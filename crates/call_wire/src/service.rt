@@ -3,12 +3,12 @@ ghost use Rattle.std.specs.Prelude.{◌≡◌, IfOk, option_and_then, option_cop
 ghost use Rattle.dbus_types.specs.ValueViews.{value_of, values_of};
 ghost use Rattle.dbus_framing.specs.Headers.{one_of, two_of};
 ghost use Rattle.call_arguments.specs.Arguments.{attributes_in, objects_in};
-ghost use Rattle.call_wire.specs.Service.{algorithm_in, open_session, search_items, lock, secrets_wanted, get_secrets, read_alias, set_with, set_alias};
+ghost use Rattle.call_wire.specs.Service.{algorithm_in, open_session, new_label_in, made_with, create_collection, search_items, unlock, lock, secrets_wanted, get_secrets, read_alias, set_with, set_alias};
 
 use crate::OutOfMemory;
 use call_arguments::{
-    alias_in, attributes_in, held_in, name_in, objects_in, one_in, one_string_in, session_in,
-    string_in, two_in,
+    ElementType, alias_in, attributes_in, elements_in, held_in, label_in, name_in, objects_in,
+    one_in, one_string_in, property, session_in, string_in, two_in, wanted_alias_in,
 };
 use dbus_types::Value;
 use kr_base::{Attributes, Text};
@@ -19,6 +19,9 @@ use std::alloc::Global;
 
 /// The name of the interface.
 pub const INTERFACE: &str = "org.freedesktop.Secret.Service";
+
+/// The name of the property that a collection is created with.
+const LABEL: &str = "org.freedesktop.Secret.Collection.Label";
 
 fn algorithm_in(values: &[Value]) -> Option<&Text>
     ensures { option_copied result ≡ option_and_then algorithm_in (two_of (values_of values.now)) }
@@ -37,6 +40,46 @@ pub fn open_session(values: &[Value]) -> Result<Result<Call, CallFault>, OutOfMe
             let algorithm = algorithm.copy()?;
             Ok(Ok(Call::OpenSession { algorithm }))
         }
+        None => Ok(Err(CallFault::InvalidArgs)),
+    }
+}
+
+// The label in a dict of properties.
+fn new_label_in(alloc: Global, value: &Value) -> Result<Option<Text>, OutOfMemory>
+    ensures { IfOk result (λ label. label ≡ new_label_in (value_of value.now)) }
+{
+    match elements_in(value, ElementType::Property) {
+        Some(properties) => label_in(alloc, property(properties, LABEL)),
+        None => Ok(None),
+    }
+}
+
+// CreateCollection with these two arguments.
+fn made_with(alloc: Global, properties: &Value, alias: &Value) -> Result<Option<Call>, OutOfMemory>
+    ensures { IfOk result (λ call. call ≡ made_with (value_of properties.now, value_of alias.now)) }
+{
+    let Some(label) = new_label_in(alloc, properties)? else {
+        return Ok(None);
+    };
+    match wanted_alias_in(alias)? {
+        Some(alias) => Ok(Some(Call::CreateCollection { label, alias })),
+        None => Ok(None),
+    }
+}
+
+/// Reads a call of CreateCollection. A missing label is empty, and any other property is ignored. The
+/// alias is that of an alias, or empty.
+pub fn create_collection(
+    alloc: Global,
+    values: &[Value],
+) -> Result<Result<Call, CallFault>, OutOfMemory>
+    ensures { IfOk result (λ call. call ≡ create_collection (values_of values.now)) }
+{
+    let Some((properties, alias)) = two_in(values) else {
+        return Ok(Err(CallFault::InvalidArgs));
+    };
+    match made_with(alloc, properties, alias)? {
+        Some(call) => Ok(Ok(call)),
         None => Ok(Err(CallFault::InvalidArgs)),
     }
 }
@@ -70,6 +113,16 @@ fn named_in(alloc: Global, values: &[Value]) -> Result<Option<Items<ObjectName>>
     match one_in(values) {
         Some(objects) => objects_in(alloc, objects),
         None => Ok(None),
+    }
+}
+
+/// Reads a call of Unlock.
+pub fn unlock(alloc: Global, values: &[Value]) -> Result<Result<Call, CallFault>, OutOfMemory>
+    ensures { IfOk result (λ call. call ≡ unlock (values_of values.now)) }
+{
+    match named_in(alloc, values)? {
+        Some(objects) => Ok(Ok(Call::Unlock { objects })),
+        None => Ok(Err(CallFault::InvalidArgs)),
     }
 }
 

@@ -1,20 +1,24 @@
 -- One method call, from its message to what is written for it.
-use Rattle.std.proofs.Common.{◌≡◌, ℕ, List, [], ◌∷◌, Result, Ok, Err, refl, sym, ◌∙◌, ap, arith}
+use Rattle.std.proofs.Common.{◌≡◌, ℕ, List, [], ◌∷◌, Result, Ok, Err, refl, sym, ◌∙◌, ap, subst, arith}
 use Rattle.secret_calls.specs.declared.call.Request.{Request}
+use Rattle.service_tables.specs.Sound.{IsSound}
 use Rattle.service_tables.specs.State.{State}
 use Rattle.service_tables.specs.Connections.{waiting_for}
 use Rattle.service_desk.specs.Places.{Told, Place}
+use Rattle.service_desk.proofs.RecordLemmas.{own-legal}
 use Rattle.dbus_framing.specs.Messages.{Parts}
 use Rattle.call_wire.specs.CallOf.{CallOf}
 use Rattle.connection_worker.specs.declared.ending.End.{End}
 use Rattle.connection_worker.specs.declared.ending.End.TheVariants as end
 use Rattle.connection_worker.specs.Streams.{Output, GaveFront}
-use Rattle.service_machine.specs.Single.{TimedRequest, turns}
+use Rattle.service_machine.specs.Single.{TimedRequest, arrival, turns}
+use Rattle.service_machine.specs.Step.{Fits}
+use Rattle.service_machine.proofs.AloneLemmas.{waiting_row}
 use Rattle.connection_worker.specs.Written.{given_by}
 use Rattle.connection_worker.specs.Serving.{World, place_of, IsOwed, owed, Asks, HasArrived, Gives}
 use Rattle.connection_worker.specs.Answering.{AnswersCall}
 use Rattle.connection_worker.proofs.StreamLemmas.{Gave-none, GaveFront-whole, GaveFront-more}
-use Rattle.connection_worker.proofs.AnswerLemmas.{row_with, given-idle}
+use Rattle.connection_worker.proofs.AnswerLemmas.{given-idle}
 use Rattle.connection_worker.proofs.RecordLemmas.{recorded-none, recorded-one, recorded-refused, given-turn}
 
 -- nothing was written, which is a prefix of anything
@@ -28,8 +32,9 @@ unread parts w serials o idle = ([], record { early = tt; refused = []; few = om
 -- nothing waits if nothing changed
 idle-still : (old new : Told) → new.conn ≡ old.conn → new.state ≡ old.state → IsOwed old [] → IsOwed new []
 idle-still old new conn state idle = record {
+  sound = subst IsSound (sym state) idle.sound;
   taken = idle.taken;
-  only = ap (λ (s : State). s.connections.rows) state ∙ idle.only ∙ ap (λ c. row_with c [] idle.taken ∷ []) (sym conn);
+  only = ap (λ (s : State). s.connections.rows) state ∙ idle.only ∙ ap (λ c. waiting_row c [] idle.taken ∷ []) (sym conn);
 }
 
 -- the request wasn't recorded
@@ -61,6 +66,10 @@ unasked parts request old new serials o end.Memory call idle asks = (
   rw asks.1 call,
 )
 unasked parts request old new serials o _ call idle asks = absurd asks
+
+-- a request that was recorded could be
+pub asked-fits : (old mid : World) (a : TimedRequest) → HasArrived old mid a → Fits old.told.state (arrival old.told.conn a)
+asked-fits old mid a so = (own-legal old.told.state (arrival old.told.conn a ∷ []) so.calls.answered).0
 
 -- what a request gives is what waits after it
 given-owed : (old mid : World) (a : TimedRequest) → HasArrived old mid a → given_by old.told.conn old.told.state (turns old.told.conn old.told.state (a ∷ [])) ≡ owed mid.told

@@ -6,8 +6,11 @@ mod MessageLemmas
 mod RecordLemmas
 mod ReplyLemmas
 mod SendingLemmas
+mod SentLemmas
 mod ServeLemmas
 mod ServingLemmas
 mod SingleLemmas
+mod SizeLemmas
 mod StreamLemmas
 mod TakenLemmas
+mod TogetherLemmas

@@ -5,6 +5,7 @@ use Rattle.dbus_auth.specs.Handshake as shaking
 use Rattle.dbus_auth.specs.Conversation.{continued}
 use Rattle.dbus_auth.proofs.HandshakeLemmas.{handshake-nothing, handshake-append}
 use Rattle.dbus_framing.specs.Framers.{Framing}
+use Rattle.service_tables.specs.Sound.{IsSound}
 use Rattle.service_tables.specs.State.{State}
 use Rattle.service_machine.specs.declared.event.Event.TheVariants as event
 use Rattle.service_machine.specs.declared.event.Output.TheVariants as output
@@ -41,8 +42,8 @@ goes-alone old new alone idle (inr (looks, missing)) =
     let e : true ≡ false = sym there ∙ missing in cc
 
 -- nothing waits for a connection that has just joined, and it has taken nothing
-pub joined-idle : (told : Told) → HasJoined told → IsOwed told []
-joined-idle told joined = record { taken = 0; only = joined }
+pub joined-idle : (told : Told) → HasJoined told → IsSound told.state → IsOwed told []
+joined-idle told joined sound = record { sound = sound; taken = 0; only = joined }
 
 taken-none : (told : Told) → HasJoined told → taken_by told.conn told.state.connections.rows ≡ 0
 taken-none told joined = rw joined (rw (same told.conn.0) refl)

@@ -1,18 +1,34 @@
--- The replies to the requests of one connection whose requests are served on one thread.
-use Rattle.std.specs.Prelude.{List, [], ◌∷◌, ◌++◌}
+-- The outputs of the requests of one connection whose requests are served on one thread, and the replies among them.
+use Rattle.std.specs.Prelude.{Bool, true, false, if◌then◌else◌, List, [], ◌∷◌, ◌++◌}
 use Rattle.kr_base.specs.declared.ids.ConnId.{ConnId}
 use Rattle.secret_calls.specs.declared.out.Out.{Out}
+use Rattle.secret_calls.specs.declared.out.Out.TheVariants as out
 use Rattle.service_tables.specs.State.{State}
 use Rattle.service_tables.specs.Connections.{sent_to}
-use Rattle.service_machine.specs.Step.{puts_out}
+use Rattle.service_machine.specs.Step.{message_of, puts_out, served}
 use Rattle.service_machine.specs.Replay.{replay}
-use Rattle.service_machine.specs.Single.{TimedRequest, arrival, turn}
+use Rattle.service_machine.specs.Single.{TimedRequest, arrival, recorded_of, turn}
 
--- the output of a request for its connection: its reply, if one is wanted
-abbrev pub reply_to : ConnId → State → TimedRequest → List Out
-reply_to conn state asked = sent_to conn (puts_out state (arrival conn asked))
+-- the outputs of a request for its connection: its reply, if one is wanted, and then the signals that it sends
+abbrev pub outputs_of : ConnId → State → TimedRequest → List Out
+outputs_of conn state asked = sent_to conn (puts_out state (arrival conn asked))
 
 -- the outputs of requests, one after the other, each in the state after those before it
+abbrev pub outputs_to : ConnId → State → List TimedRequest → List Out
+outputs_to conn state [] = []
+outputs_to conn state (asked ∷ more) = outputs_of conn state asked ++ outputs_to conn (replay state (turn conn state asked)) more
+
+-- whether an output is a reply, and no signal
+abbrev pub is_reply : Out → Bool
+is_reply (out.Return to body) = true
+is_reply (out.Error to name) = true
+is_reply (out.Signal signal) = false
+
+-- the reply to a request, if one is wanted: what its row of the table of calls answers
+abbrev pub reply_to : ConnId → State → TimedRequest → List Out
+reply_to conn state asked = if asked.request.wants_reply then message_of asked.request.serial (served (recorded_of conn asked) state).answer ∷ [] else []
+
+-- the replies to requests, one after the other, each in the state after those before it
 abbrev pub replies_to : ConnId → State → List TimedRequest → List Out
 replies_to conn state [] = []
 replies_to conn state (asked ∷ more) = reply_to conn state asked ++ replies_to conn (replay state (turn conn state asked)) more

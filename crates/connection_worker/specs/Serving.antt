@@ -4,6 +4,7 @@ use Rattle.kr_outside.specs.Clock.{GivesFirst}
 use Rattle.kr_outside.specs.Faults.{Rose}
 use Rattle.service_tables.specs.Connections.{new_row, waiting_for}
 use Rattle.service_tables.specs.Limits.{IsSpent}
+use Rattle.service_tables.specs.Sound.{IsSound}
 use Rattle.secret_calls.specs.declared.call.Request.{Request}
 use Rattle.secret_calls.specs.declared.out.Out.{Out}
 use Rattle.service_desk.specs.Places.{Told, Place}
@@ -37,8 +38,9 @@ world told has_seen coming desk clock salting = record { told = told desk; has_s
 abbrev pub HasJoined : Told → Type 0
 HasJoined told = told.state.connections.rows ≡ new_row told.conn ∷ []
 
--- The connection is the only one; these outputs wait for it, it has lost none, and it isn't leaving.
+-- The state is sound, and the connection is the only one; these outputs wait for it, it has lost none, and it isn't leaving.
 pub record IsOwed (told : Told) (outs : List Out) : Type 0 where
+  pub sound : IsSound told.state
   pub taken : ℕ
   pub only : told.state.connections.rows ≡ record { conn = told.conn; waiting = outs; overrun = false; leaving = false; taken = taken } ∷ []
 

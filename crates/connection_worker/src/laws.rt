@@ -1,21 +1,30 @@
 // Laws of the definitions of one thread. Each law is the contract of a function that does nothing.
-ghost use Rattle.std.specs.Prelude.{◌≡◌, List, []};
+ghost use Rattle.std.specs.Prelude.{◌≡◌, List, [], filter};
 ghost use Rattle.kr_base.specs.declared.ids.ConnId.{ConnId};
 ghost use Rattle.service_tables.specs.State.{State};
 ghost use Rattle.service_desk.specs.Places.{Told};
 ghost use Rattle.service_desk.specs.Records as records;
-ghost use Rattle.connection_worker.specs.Replies.{replies_to};
+ghost use Rattle.connection_worker.specs.Replies.{is_reply, outputs_to, replies_to};
 ghost use Rattle.connection_worker.specs.Serving.{IsOwed};
+ghost use Rattle.service_machine.specs.Replay.{Legal};
 ghost use Rattle.service_machine.specs.Single.{TimedRequest, single};
 ghost use Rattle.connection_worker.specs.Written.{given_by};
 
-/// What the only connection is given is the reply to each request that wants one, in the order of
-/// the requests, and nothing else: each reply is the one that the request's row of the table of
-/// calls gives in the state after the requests before it.
+/// What the only connection is given is the outputs of its requests, in order, and nothing else: of each
+/// request the reply, if it wants one, and then the signals that it sends, each as the request's row of
+/// the table of calls gives it in the state after the requests before it.
 pub fn each_request_is_answered_at_once()
     ensures { (told : Told) (asked : List TimedRequest) → IsOwed told []
+        → Legal told.state (single told.conn told.state asked)
         → given_by told.conn told.state (single told.conn told.state asked)
-        ≡ replies_to told.conn told.state asked }
+        ≡ outputs_to told.conn told.state asked }
+{}
+
+/// The replies among the outputs of requests are exactly one to each request that wants one, in the
+/// order of the requests: the answer that its row of the table of calls gives.
+pub fn each_request_has_one_reply()
+    ensures { (asked : List TimedRequest) (conn : ConnId) (state : State)
+        → filter is_reply (outputs_to conn state asked) ≡ replies_to conn state asked }
 {}
 
 /// What the events give to the only connection is what the calls of its desk returned: the outputs

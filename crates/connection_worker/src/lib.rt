@@ -16,7 +16,9 @@ mod serving;
 mod single;
 
 pub use ending::End;
-pub use laws::{each_request_is_answered_at_once, what_is_given_was_taken};
+pub use laws::{
+    each_request_has_one_reply, each_request_is_answered_at_once, what_is_given_was_taken,
+};
 pub use opening::handshake;
 pub use salts::{Salts, next_cells};
 pub use single::one_thread;

@@ -1,5 +1,6 @@
 // One connection on one thread.
 ghost use Rattle.std.specs.Prelude.{◌≡◌, IsTrue};
+ghost use Rattle.service_tables.specs.Sound.{IsSound};
 ghost use Rattle.connection_worker.specs.OneThread.{IsServed};
 ghost use Rattle.connection_worker.specs.Serving.{world, HasJoined};
 ghost use Rattle.connection_worker.specs.Streams.{input_of, output_of};
@@ -37,6 +38,7 @@ pub fn one_thread<R: AllocGlobal + Wait, I: Source, O: Sink, D: ReadDesk + Write
     requires fresh { auth.state ≡ State.WaitingForAuth }
     requires alone { IsTrue (D.told desk.old).is_alone }
     requires joined { HasJoined (D.told desk.old) }
+    requires sound { IsSound (D.told desk.old).state }
     ensures { IsServed auth.uid auth.guid
         (input_of I.left I.faults I.is_steady input.old)
         (input_of I.left I.faults I.is_steady input.new)

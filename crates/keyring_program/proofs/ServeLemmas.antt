@@ -11,6 +11,7 @@ use Rattle.service_machine.specs.declared.event.Event.TheVariants as event
 use Rattle.service_tables.specs.Connections.{has, new_row}
 use Rattle.service_machine.specs.Step.{Fits}
 use Rattle.service_tables.specs.Opened.{Contents, opened_state}
+use Rattle.service_tables.specs.Sound.{AreSoundContents}
 use Rattle.service_machine.specs.Replay.{Legal}
 use Rattle.service_desk.specs.Places.{Told}
 use Rattle.service_desk.proofs.RecordLemmas.{own-legal}
@@ -69,9 +70,9 @@ at-start : (contents : Contents) (conn : ConnId) (state : State) → conn ≡ th
 at-start contents conn state c s P p = subst (λ r. P the_connection r) s (subst (λ d. P d state) c p)
 
 pub serves : (contents : Contents) (uid : ℕ) (seed : List ℕ) (from to : Input) (sink behind : Output) (old new : World) (how : End)
-    → old.told.conn ≡ the_connection → old.told.state ≡ joined contents → old.told.count ≡ 1 → old.salting ≡ record { key = key_of seed; stream = the_connection.0; place = 0 }
+    → AreSoundContents contents → old.told.conn ≡ the_connection → old.told.state ≡ joined contents → old.told.count ≡ 1 → old.salting ≡ record { key = key_of seed; stream = the_connection.0; place = 0 }
     → IsServed uid (guid seed) from to sink behind old new how → Serves uid seed old.coming from to sink behind old.told.is_steady contents (status_of how)
-serves contents uid seed from to sink behind old new how conn state count salting so =
+serves contents uid seed from to sink behind old new how sound conn state count salting so =
     let run = handshake_run uid seed so.read in
     let text : concat run.answers ++ written old.told.conn old.told.state (single old.told.conn old.told.state so.asked) ≡ text_of contents run so.asked =
     λ i. concat run.answers ++ written (conn i) (state i) (single (conn i) (state i) so.asked) in
@@ -82,6 +83,7 @@ serves contents uid seed from to sink behind old new how conn state count saltin
       read = so.read;
       took = so.took;
       asked = so.asked;
+      sound = sound;
       legal = (joins contents, at-start contents old.told.conn old.told.state conn state (λ c s. Legal s (single c s so.asked)) (own-legal old.told.state (single old.told.conn old.told.state so.asked) so.recorded.answered));
       faultless = so.faultless;
       moments = have-moments old.coming new.coming so.asked so.refused so.moments;
@@ -94,13 +96,14 @@ serves contents uid seed from to sink behind old new how conn state count saltin
 
 -- there was no memory before the first byte
 pub serves-none : (contents : Contents) (uid : ℕ) (seed : List ℕ) (coming : Option (ℕ → ℕ)) (from : Input) (sink : Output) (steady : Bool)
-    → Serves uid seed coming from from sink sink steady contents status.Memory
-serves-none contents uid seed coming from sink steady =
+    → AreSoundContents contents → Serves uid seed coming from from sink sink steady contents status.Memory
+serves-none contents uid seed coming from sink steady sound =
     let text = text_of contents (handshake_run uid seed []) [] in
     record {
       read = [];
       took = record { consumed = Consumes-nil from.left; later = omega arith; steady = KeepsSteady-none from.is_steady from.faults };
       asked = [];
+      sound = sound;
       legal = (joins contents, (there contents, tt));
       faultless = λ _. tt;
       moments = none-given coming;

@@ -1,5 +1,5 @@
 -- What is written is determined by what was read.
-use Rattle.std.proofs.Common.{◌≡◌, ℕ, Bool, true, false, cond, List, [], ◌∷◌, ◌++◌, refl, sym, ◌∙◌, ap, subst, append_assoc, append-nil}
+use Rattle.std.proofs.Common.{◌≡◌, ℕ, ◌+◌, Bool, true, false, cond, List, [], ◌∷◌, ◌++◌, map, refl, sym, ◌∙◌, ap, subst, append_assoc, append-nil}
 use Rattle.std.specs.List.{concat}
 use Rattle.secret_calls.specs.declared.call.Request.{Request}
 use Rattle.secret_calls.proofs.SerialLemmas.{one_serial}
@@ -18,10 +18,11 @@ use Rattle.service_machine.specs.Replay.{replay, Legal}
 use Rattle.service_machine.proofs.EventLemmas.{fates_alike, step_alike, step_certain}
 use Rattle.connection_worker.specs.Arrivals.{calls_in, AreRequests}
 use Rattle.connection_worker.specs.Handshakes.{most_bytes}
+use Rattle.connection_worker.specs.Salts.{salt_of}
 use Rattle.connection_worker.specs.Causes.{AllServed}
 use Rattle.service_machine.specs.Single.{TimedRequest, requests_of, recorded_of, arrival, AllFaultless, is_owed, taking, turns}
 use Rattle.connection_worker.specs.Written.{given, given_by, spelled_behind}
-use Rattle.keyring_program.specs.Events.{the_connection, joined, events_of, text_of, HaveSameMoments, HaveSameFates}
+use Rattle.keyring_program.specs.Events.{the_connection, joined, events_of, text_of, AreGivenFrom, HaveSalts, HaveSameMoments, HaveSameFates}
 
 -- each message is one request
 abbrev pub OneCall : Type 0
@@ -33,21 +34,27 @@ AreAllAlike [] [] = Unit {0}
 AreAllAlike (one ∷ ones) (other ∷ others) = AreAlike (recorded_of the_connection one).arrival (recorded_of the_connection other).arrival × AreAllAlike ones others
 AreAllAlike _ _ = ⊥
 
-alike-of : OneCall → (calls : List Parts) (one other : List TimedRequest) → AreRequests calls (requests_of one) → AreRequests calls (requests_of other) → HaveSameMoments one other → AreAllAlike one other
-alike-of same [] [] [] p q moments = tt
-alike-of same [] [] (b ∷ other) p q moments = absurd q
-alike-of same [] (a ∷ one) other p q moments = absurd p
-alike-of same (parts ∷ calls) [] other p q moments = absurd p
-alike-of same (parts ∷ calls) (a ∷ one) [] p q moments = absurd q
-alike-of same (parts ∷ calls) (a ∷ one) (b ∷ other) p q moments = (
+-- the salts of requests
+abbrev salts_of : List TimedRequest → List (List ℕ)
+salts_of asked = map (λ (a : TimedRequest). a.salt) asked
+
+alike-of : OneCall → (give : ℕ → List ℕ) (calls : List Parts) (one other : List TimedRequest) (place : ℕ) → AreRequests calls (requests_of one) → AreRequests calls (requests_of other)
+    → AreGivenFrom place give (salts_of one) → AreGivenFrom place give (salts_of other) → HaveSameMoments one other → AreAllAlike one other
+alike-of same give [] [] [] place p q salts others moments = tt
+alike-of same give [] [] (b ∷ other) place p q salts others moments = absurd q
+alike-of same give [] (a ∷ one) other place p q salts others moments = absurd p
+alike-of same give (parts ∷ calls) [] other place p q salts others moments = absurd p
+alike-of same give (parts ∷ calls) (a ∷ one) [] place p q salts others moments = absurd q
+alike-of same give (parts ∷ calls) (a ∷ one) (b ∷ other) place p q salts others moments = (
   record {
     conn = refl;
     call = same parts a.request b.request p.0 q.0;
     serial = one_serial a.request.serial b.request.serial (p.0.serial ∙ sym q.0.serial);
     wants_reply = p.0.wants_reply ∙ sym q.0.wants_reply;
     moment = moments.0;
+    salt = λ takes. salts.0 ∙ sym others.0;
   },
-  alike-of same calls one other p.1 q.1 moments.1,
+  alike-of same give calls one other (place + 1) p.1 q.1 salts.1 others.1 moments.1,
 )
 
 given_by-append : (state : State) (events more : List Event) → given_by the_connection state (events ++ more) ≡ given_by the_connection state events ++ given_by the_connection (replay state events) more
@@ -111,27 +118,29 @@ given-all contents asked =
     given_by-append state (turns the_connection state asked) (event.Gone the_connection ∷ []) ∙ append-nil (given_by the_connection state (turns the_connection state asked))
 
 -- the requests that were read from the same bytes are alike
-all-alike : OneCall → (run : Run) (one other : List TimedRequest) (rest left : List ℕ) → AllServed run one rest → AllServed run other left → HaveSameMoments one other → AreAllAlike one other
-all-alike same run one other rest left p q moments =
+all-alike : OneCall → (seed : List ℕ) (run : Run) (one other : List TimedRequest) (rest left : List ℕ) → AllServed run one rest → AllServed run other left → HaveSalts seed one → HaveSalts seed other
+    → HaveSameMoments one other → AreAllAlike one other
+all-alike same seed run one other rest left p q salts others moments =
     let bytes : p.behind ≡ q.behind = let e = sym p.opened ∙ q.opened in cc in
     let stream = subst (λ l. Stream most_bytes l p.all.messages rest) bytes p.all.stream in
     let messages = (one_stream most_bytes q.behind rest left p.all.messages q.all.messages stream q.all.stream).0 in
     let are = subst (λ l. AreRequests (calls_in l) (requests_of one)) messages p.all.are in
-    alike-of same (calls_in q.all.messages) one other are q.all.are moments
+    alike-of same (salt_of seed the_connection.0) (calls_in q.all.messages) one other 0 are q.all.are salts others moments
 
 text-alike : (contents : Contents) (run : Run) (one other : List TimedRequest) → AreAllAlike one other → HaveSameFates one other → text_of contents run one ≡ text_of contents run other
 text-alike contents run one other alike fates =
     ap (λ outs. concat run.answers ++ spelled_behind 0 outs) (given-all contents one ∙ given-alike one other (joined contents) alike fates ∙ sym (given-all contents other))
 
-pub one-text : OneCall → (contents : Contents) (run : Run) (one other : List TimedRequest) (rest left : List ℕ) → AllServed run one rest → AllServed run other left → HaveSameMoments one other
-    → HaveSameFates one other → text_of contents run one ≡ text_of contents run other
-one-text same contents run one other rest left p q moments fates = text-alike contents run one other (all-alike same run one other rest left p q moments) fates
+pub one-text : OneCall → (contents : Contents) (seed : List ℕ) (run : Run) (one other : List TimedRequest) (rest left : List ℕ) → AllServed run one rest → AllServed run other left
+    → HaveSalts seed one → HaveSalts seed other → HaveSameMoments one other → HaveSameFates one other → text_of contents run one ≡ text_of contents run other
+one-text same contents seed run one other rest left p q salts others moments fates =
+    text-alike contents run one other (all-alike same seed run one other rest left p q salts others moments) fates
 
-pub steady-text : OneCall → (contents : Contents) (run : Run) (one other : List TimedRequest) (rest left : List ℕ) → AllServed run one rest → AllServed run other left → HaveSameMoments one other
-    → are_doubtful contents.aliases ≡ false → Legal (opened_state contents) (events_of contents one) → Legal (opened_state contents) (events_of contents other) → AllFaultless one → AllFaultless other
+pub steady-text : OneCall → (contents : Contents) (seed : List ℕ) (run : Run) (one other : List TimedRequest) (rest left : List ℕ) → AllServed run one rest → AllServed run other left
+    → HaveSalts seed one → HaveSalts seed other → HaveSameMoments one other → are_doubtful contents.aliases ≡ false → Legal (opened_state contents) (events_of contents one) → Legal (opened_state contents) (events_of contents other) → AllFaultless one → AllFaultless other
     → text_of contents run one ≡ text_of contents run other
-steady-text same contents run one other rest left p q moments certain legal legal' faultless faultless' =
-    let alike = all-alike same run one other rest left p q moments in
+steady-text same contents seed run one other rest left p q salts others moments certain legal legal' faultless faultless' =
+    let alike = all-alike same seed run one other rest left p q salts others moments in
     let start = joined contents in
     let gone = event.Gone the_connection ∷ [] in
     text-alike contents run one other alike (fates-agree one other start certain alike (legal-front start (turns the_connection start one) gone legal.1)

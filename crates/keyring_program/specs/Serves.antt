@@ -2,6 +2,7 @@
 use Rattle.std.specs.Prelude.{◌≡◌, ℕ, Bool, IsTrue, List, Option, length}
 use Rattle.dbus_auth.specs.Handshake.{Run, handshake}
 use Rattle.service_tables.specs.Opened.{Contents, opened_state}
+use Rattle.service_tables.specs.Sound.{AreSoundContents}
 use Rattle.service_machine.specs.Replay.{Legal}
 use Rattle.connection_worker.specs.declared.ending.End.{End}
 use Rattle.connection_worker.specs.Causes.{HasCause, HasWritten}
@@ -17,7 +18,7 @@ abbrev pub handshake_run : ℕ → List ℕ → List ℕ → Run
 handshake_run uid seed read = handshake uid (guid seed) read
 
 -- The run of the user's client under this seed, with a clock that returns these moments, over a service that starts with these
--- collections and aliases: these bytes were read, and these requests in them recorded, each with a moment and a salt; their events
+-- collections and aliases, which are sound: these bytes were read, and these requests in them recorded, each with a moment and a salt; their events
 -- are legal from the service's start, no device failed in them if the service's disk is steady, and
 -- their outputs were written after the handshake's answers. The connection's end has its cause, and the status is that
 -- of the end.
@@ -25,6 +26,7 @@ pub record Serves (uid : ℕ) (seed : List ℕ) (coming : Option (ℕ → ℕ)) 
   pub read : List ℕ
   pub took : Took from to read
   pub asked : List TimedRequest
+  pub sound : AreSoundContents contents
   pub legal : Legal (opened_state contents) (events_of contents asked)
   pub faultless : IsTrue steady → AllFaultless asked
   pub moments : HaveMoments coming asked

@@ -3,6 +3,7 @@ ghost use Rattle.std.specs.Prelude.{◌≡◌};
 ghost use Rattle.connection_worker.specs.Streams.{input_of, output_of};
 ghost use Rattle.service_history.specs.History.{opened_history};
 ghost use Rattle.service_tables.specs.Opened.{IsOpened, contents_of};
+ghost use Rattle.service_tables.specs.Sound.{AreSoundContents};
 ghost use Rattle.service_machine.specs.Fates.{is_steady};
 ghost use Rattle.keyring_program.specs.Serves.{Serves};
 
@@ -30,6 +31,7 @@ pub fn serve_client<R: AllocGlobal + Wait, I: Source, O: Sink, C: Clock, F: Fold
     service: Service<F>,
 ) -> Status
     requires starts { IsOpened service.history.state }
+    requires sound { AreSoundContents (contents_of service.history.state) }
     requires history { service.history ≡ opened_history service.history.state }
     ensures { Serves uid seed (C.coming clock.old)
         (input_of I.left I.faults I.is_steady input.old)

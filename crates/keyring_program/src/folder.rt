@@ -5,6 +5,7 @@ ghost use Rattle.kr_outside.specs.Host.{GivesOne, GivesOneAtMost};
 ghost use Rattle.kr_outside.specs.RenameDisk.{Image};
 ghost use Rattle.service_history.specs.History.{opened_history};
 ghost use Rattle.service_tables.specs.Opened.{IsOpened, contents_of};
+ghost use Rattle.service_tables.specs.Sound.{AreSoundContents};
 ghost use Rattle.service_machine.specs.Fates.{is_steady};
 ghost use Rattle.keyring_program.specs.Folder.{HasOpened};
 
@@ -23,6 +24,8 @@ pub fn open_service<H: Host>(
     path: &str,
 ) -> Result<Service<H::Dir>, OpenRefused>
     ensures starts { IfOk result (λ service. IsOpened service.history.state) }
+    ensures sound { IfOk result (λ service.
+        AreSoundContents (contents_of service.history.state)) }
     ensures history { IfOk result (λ service.
         service.history ≡ opened_history service.history.state) }
     ensures opened { (images : List ℕ → Image) → IsTrue (H.is_honest host.old)

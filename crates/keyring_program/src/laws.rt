@@ -1,31 +1,33 @@
 // Laws of the definitions of a run. Each law is the contract of a function that does nothing except
 // call the laws on which it rests.
-ghost use Rattle.std.specs.Prelude.{◌≡◌, ◌++◌, ℕ, List, false};
+ghost use Rattle.std.specs.Prelude.{◌≡◌, ◌++◌, ℕ, List, false, filter};
 ghost use Rattle.std.specs.List.{concat};
 ghost use Rattle.dbus_auth.specs.Handshake.{Run};
 ghost use Rattle.connection_worker.specs.Causes.{AllServed};
-ghost use Rattle.connection_worker.specs.Replies.{replies_to};
+ghost use Rattle.connection_worker.specs.Replies.{is_reply, outputs_to, replies_to};
 ghost use Rattle.service_machine.specs.Single.{TimedRequest, AllFaultless};
 ghost use Rattle.connection_worker.specs.Written.{spelled_behind};
-ghost use Rattle.keyring_program.specs.Events.{the_connection, joined, events_of, text_of, HaveSameMoments, HaveSameFates};
+ghost use Rattle.keyring_program.specs.Events.{the_connection, joined, events_of, text_of, HaveSalts, HaveSameMoments, HaveSameFates};
 ghost use Rattle.service_machine.specs.Replay.{Legal};
 ghost use Rattle.service_tables.specs.Aliases.{are_doubtful};
 ghost use Rattle.service_tables.specs.Opened.{Contents, opened_state};
+ghost use Rattle.service_tables.specs.Sound.{AreSoundContents};
 ghost use Rattle.keyring_program.specs.Serves.{handshake_run};
 
 use call_wire::a_message_is_one_request;
-use connection_worker::each_request_is_answered_at_once;
+use connection_worker::{each_request_has_one_reply, each_request_is_answered_at_once};
 
 /// What is written for the calls that were read is determined by the bytes that were read, the user,
 /// the seed, what the service starts with, and how the storings of files ended: runs over the same
 /// bytes that recorded each call in them write the same, if their storings ended alike. So it is also
 /// determined without these if no device failed and the file of the aliases isn't in doubt at the start.
-/// A moment matters only if its call stores it.
+/// A moment matters only if its call stores it, and a salt only if a prompt keeps it.
 pub fn what_is_written_is_one()
     ensures alike { (contents : Contents) (uid : ℕ) (seed read rest left : List ℕ)
         (one other : List TimedRequest)
         → AllServed (handshake_run uid seed read) one rest
         → AllServed (handshake_run uid seed read) other left
+        → HaveSalts seed one → HaveSalts seed other
         → HaveSameMoments one other → HaveSameFates one other
         → text_of contents (handshake_run uid seed read) one
         ≡ text_of contents (handshake_run uid seed read) other }
@@ -33,6 +35,7 @@ pub fn what_is_written_is_one()
         (one other : List TimedRequest)
         → AllServed (handshake_run uid seed read) one rest
         → AllServed (handshake_run uid seed read) other left
+        → HaveSalts seed one → HaveSalts seed other
         → HaveSameMoments one other → are_doubtful contents.aliases ≡ false
         → Legal (opened_state contents) (events_of contents one)
         → Legal (opened_state contents) (events_of contents other)
@@ -43,12 +46,18 @@ pub fn what_is_written_is_one()
     a_message_is_one_request();
 }
 
-/// What is written after the handshake's answers is the reply to each request that wants one, in the
-/// order of the requests, with serials from 1 on, and nothing else.
+/// What is written after the handshake's answers is the outputs of the requests, in their order, with
+/// serials from 1 on, and nothing else. The replies among these are exactly one to each request that
+/// wants one, as its row of the table of calls gives it; the others are the signals that requests send.
 pub fn each_request_has_its_reply()
-    ensures { (contents : Contents) (run : Run) (asked : List TimedRequest)
+    ensures outputs { (contents : Contents) (run : Run) (asked : List TimedRequest)
+        → AreSoundContents contents → Legal (opened_state contents) (events_of contents asked)
         → text_of contents run asked ≡ concat run.answers
-        ++ spelled_behind 0 (replies_to the_connection (joined contents) asked) }
+        ++ spelled_behind 0 (outputs_to the_connection (joined contents) asked) }
+    ensures replies { (contents : Contents) (asked : List TimedRequest)
+        → filter is_reply (outputs_to the_connection (joined contents) asked)
+        ≡ replies_to the_connection (joined contents) asked }
 {
     each_request_is_answered_at_once();
+    each_request_has_one_reply();
 }

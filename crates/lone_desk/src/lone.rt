@@ -1,6 +1,7 @@
 ghost use Rattle.std.specs.Prelude.{◌≡◌, ◌≤◌, ◌+◌, IfOk, IsErrOf};
 ghost use Rattle.service_machine.specs.Step.{step, IsCrowded, Fits};
 ghost use Rattle.service_tables.specs.Limits.{IsSpent};
+ghost use Rattle.service_tables.specs.Sound.{IsSound};
 ghost use Rattle.service_history.specs.Windows.{total};
 ghost use Rattle.service_desk.specs.Views.{IsView};
 ghost use Rattle.service_desk.specs.Places.{place, Looks, Extends};
@@ -30,6 +31,7 @@ impl<F: Folder> LoneDesk<F> {
         ensures joined { IfOk result (λ desk.
             desk.service.history.state ≡ step service.history.state (Event.Connect desk.conn)) }
         ensures fits { IfOk result (λ desk. Fits service.history.state (Event.Connect desk.conn)) }
+        ensures sound { IfOk result (λ desk. IsSound desk.service.history.state) }
         ensures disk { IfOk result (λ desk. desk.service.disk ≡ service.disk) }
         ensures count { IfOk result (λ desk.
             total desk.service.history.window ≡ total service.history.window + 1) }

@@ -1,11 +1,13 @@
--- The first Ask of a prompt above a number.
-use Rattle.std.proofs.Common.{◌≡◌, ℕ, ◌<◌, ◌-◌, Bool, true, false, nat_lt, List, [], ◌∷◌, filter, find, filter_map, Option, Some, None, refl, sym, ap, subst, ◌∙◌, arith}
-use Rattle.std.specs.List.{AllByRecursion}
+-- The first Ask of a prompt above a number, and those of all prompts.
+use Rattle.std.proofs.Common.{◌≡◌, ℕ, ◌<◌, ◌-◌, Bool, true, false, nat_lt, List, [], ◌∷◌, ◌++◌, filter, find, filter_map, map, Option, Some, None, refl, sym, ap, subst, ◌∙◌, arith, append-nil}
+use Rattle.std.specs.List.{AllByRecursion, cons_option}
 use Rattle.std.specs.BTreeMap.Range.{range_contains}
 use Rattle.std.specs.Map.{lookup, values_of}
 use Rattle.std.specs.Ordering.{nat_cmp}
 use Rattle.std.specs.declared.ops.Bound.TheVariants.{Excluded, Unbounded}
 use Rattle.std.proofs.lemmas.Bool.Decides.{nat_tests}
+use Rattle.std.proofs.lemmas.List.{map-append}
+use Rattle.std.proofs.lemmas.List.Elements.{filter_map-append}
 use Rattle.kr_base.specs.declared.ids.ConnId.{ConnId}
 use Rattle.prompt_state.specs.declared.row.Ask.{Ask}
 use Rattle.prompt_state.specs.declared.row.PromptRow.{PromptRow}
@@ -187,3 +189,17 @@ lookup-below test entries row n given there = lookup-all (λ other. other.prompt
 
 pub shrinks : (n k m : ℕ) → n < k → k < m → m - k < m - n
 shrinks n k m above below = omega (arith, above, below)
+
+-- ---- the Ask of each row
+
+module _ {X : Type 0} (agent : ConnId) (deref : X → PromptRow) where
+  all-push : (rows : List X) (row : X) → filter_map (ask_to agent) (map deref (rows ++ row ∷ [])) ≡ filter_map (ask_to agent) (map deref rows) ++ cons_option (ask_to agent (deref row)) []
+  all-push rows row = ap (filter_map (ask_to agent)) (map-append deref rows (row ∷ [])) ∙ filter_map-append (ask_to agent) (map deref rows) (deref row ∷ [])
+
+  -- one more row that is asked
+  pub asks-push : (rows : List X) (row : X) (ask : Ask) → ask_to agent (deref row) ≡ Some ask → filter_map (ask_to agent) (map deref (rows ++ row ∷ [])) ≡ filter_map (ask_to agent) (map deref rows) ++ ask ∷ []
+  asks-push rows row ask is = all-push rows row ∙ ap (λ one. filter_map (ask_to agent) (map deref rows) ++ cons_option one []) is
+
+  -- one more that isn't
+  pub asks-skip : (rows : List X) (row : X) → ask_to agent (deref row) ≡ None → filter_map (ask_to agent) (map deref (rows ++ row ∷ [])) ≡ filter_map (ask_to agent) (map deref rows)
+  asks-skip rows row is = all-push rows row ∙ ap (λ one. filter_map (ask_to agent) (map deref rows) ++ cons_option one []) is ∙ append-nil (filter_map (ask_to agent) (map deref rows))

@@ -211,7 +211,7 @@ rows-within : (rows : List PromptRow) → AllByRecursion (λ row. IsStage row.st
 rows-within [] rounds = refl
 rows-within (x ∷ xs) rounds = let same = stage-within x.stage rounds.0 in let rest = rows-within xs rounds.1 in λ i. record x { stage = same i } ∷ rest i
 
-keeps-unanswered : IsKeeping unanswered_row
+pub keeps-unanswered : IsKeeping unanswered_row
 keeps-unanswered = record { number = λ row. refl; owner = λ row. refl; stage = λ row is. stage-unanswered row.stage is }
 
 module _ (entries new : Entries) (agent : Option ConnId) (next : ℕ) (made : new ≡ map (λ e. (e.0, record e.1 { stage = unanswered_within e.1.stage })) entries) where

@@ -1,8 +1,8 @@
 mod AskLemmas
 mod EntryLemmas
-mod IndexLemmas
+pub mod IndexLemmas
 mod OnceLemmas
 mod PairLemmas
-mod SoundLemmas
+pub mod SoundLemmas
 mod TableLemmas
 mod TargetLemmas

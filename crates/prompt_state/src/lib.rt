@@ -1,8 +1,8 @@
 //! The prompts of all connections, and the agent that answers them (Secret Service API draft 0.2,
 //! interface Prompt; docs/SERVICE.md). A connection's calls find only its own prompts, the agent's
 //! find all. Callers may rely on these: a connection has at most 64 prompts, no number and no round
-//! is used twice, a prompt that ended is gone with its number, and only `begin` and `rows` take
-//! memory. The time of a call grows with the logarithm of the number of all prompts, and with the
+//! is used twice, a prompt that ended is gone with its number, and only `begin`, `rows` and `asks_to`
+//! take memory. The time of a call grows with the logarithm of the number of all prompts, and with the
 //! number of its connection's; `unregister`, and `gone` of the agent, go through all prompts, as
 //! does a caller that asks each again after `register`.
 #![tactic(auto)]

@@ -205,3 +205,21 @@ pub fn copies(alloc: Global, rows: &BTreeMap<u64, PromptRow>) -> Result<Vec<Prom
     }
     Ok(copies)
 }
+
+/// What an agent is sent for each row that is asked, in order.
+pub fn asks(
+    alloc: Global,
+    rows: &BTreeMap<u64, PromptRow>,
+    agent: ConnId,
+) -> Result<Vec<Ask>, OutOfMemory>
+    ensures { IfOk result (λ asks.
+        asks.items ≡ filter_map (ask_to agent) (values_of rows.now.entries)) }
+{
+    let mut asks = Vec::new(alloc);
+    for row in rows.values() {
+        if let Some(ask) = ask_to(agent, row) {
+            asks.push(ask)?;
+        }
+    }
+    Ok(asks)
+}

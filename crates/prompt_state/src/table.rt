@@ -3,7 +3,7 @@ ghost use Rattle.std.specs.Prelude.{◌^◌, ◌++◌, ◌∷◌, [], not, filte
 ghost use Rattle.std.specs.Map.{values_of};
 ghost use Rattle.std.specs.Option.{is_some, option_copied, option_map};
 ghost use Rattle.prompt_state.specs.Targets.{first_done, first_dropped};
-ghost use Rattle.prompt_state.specs.Prompts.{AreSound, abandoned, answered, asked, asked_again, ask_after, ask_at, begun, cleared, derives_in, ended, ended_row, first_of_row, is_agent, is_full, is_taken, last_round, next_round, no_prompts, one_more, owns, refusal, registered, row_at, targeted, unregistered, wronged};
+ghost use Rattle.prompt_state.specs.Prompts.{AreSound, abandoned, answered, asked, asked_again, asks, ask_after, ask_at, begun, cleared, derives_in, ended, ended_row, first_of_row, is_agent, is_full, is_taken, last_round, next_round, no_prompts, one_more, owns, refusal, registered, row_at, targeted, unregistered, wronged};
 ghost use Rattle.prompt_state.specs.Prompts.{AreGiven, AreRising, IsStage, is_of, staged, without};
 ghost use Rattle.prompt_state.specs.Kept.{AreIndexed, AreNumbered, entries_without, entry_at};
 
@@ -138,6 +138,13 @@ impl PromptState {
         self.next == u64::MAX || owned::count_of(&self.owned, owner.0) >= MOST_PROMPTS
     }
 
+    /// The number that the next prompt gets.
+    pub fn next(&self) -> PromptId
+        ensures { result.0 ≡ self.now.next }
+    {
+        PromptId(self.next)
+    }
+
     /// The agent, if there is one.
     pub fn agent(&self) -> Option<ConnId>
         ensures { result ≡ self.now.agent }
@@ -202,6 +209,15 @@ impl PromptState {
             Some(agent) => rows::ask_above(&self.rows, agent, after.0),
             None => None,
         }
+    }
+
+    /// What this connection would be sent as the agent when every prompt is asked again, as by Register: Ask
+    /// for each prompt that is asked, in order of their numbers. Its time grows with the number of all
+    /// prompts.
+    pub fn asks_to(&self, agent: ConnId) -> Result<Vec<Ask>, OutOfMemory>
+        ensures { IfOk result (λ listed. listed.items ≡ asks (registered agent self.now)) }
+    {
+        rows::asks(self.alloc, &self.rows, agent)
     }
 
     /// Why an answer or a refusal by the agent would be refused, if it would be, in this order: `NotAgent` if

@@ -3,13 +3,14 @@ ghost use Rattle.std.specs.Prelude.{◌≡◌};
 use crate::alias::AliasName;
 use crate::secret::Secret;
 use crate::{ErrorName, Serial};
-use kr_base::{Attributes, ItemId, SessionId, Stem, Text};
+use kr_base::{Attributes, ItemId, PromptId, SessionId, Stem, Text};
 use kr_items::Items;
 use kr_names::ObjectName;
 
 /// A call of the service, with what its arguments mean. The object that a call is made on is an argument
 /// too, and need not exist. A list of objects has all paths in the order given, and `ObjectName::Nothing`
-/// for a path that isn't one of the service. A session is None if the path given isn't a session's.
+/// for a path that isn't one of the service. A session or a prompt is None if the path given isn't that of
+/// one.
 #[derive(Drop)]
 pub enum Call {
     /// `org.freedesktop.DBus.Peer.Ping`, on any object.
@@ -24,10 +25,22 @@ pub enum Call {
         /// The session that the call is made on.
         session: SessionId,
     },
+    /// `Service.CreateCollection`.
+    CreateCollection {
+        /// The label, which is empty if none is given.
+        label: Text,
+        /// The alias that the collection gets, if one is given.
+        alias: Option<AliasName>,
+    },
     /// `Service.SearchItems`.
     SearchItems {
         /// The attributes to search for.
         wanted: Attributes,
+    },
+    /// `Service.Unlock`.
+    Unlock {
+        /// The objects to unlock.
+        objects: Items<ObjectName>,
     },
     /// `Service.Lock`.
     Lock {
@@ -103,6 +116,27 @@ pub enum Call {
         item: ItemId,
         /// The new secret.
         secret: Secret,
+    },
+    /// `Prompt.Prompt`. Its argument isn't kept: the agent needs no window of the caller.
+    Prompt {
+        /// The prompt that the call is made on.
+        prompt: PromptId,
+    },
+    /// `Prompt.Dismiss`.
+    Dismiss {
+        /// The prompt that the call is made on.
+        prompt: PromptId,
+    },
+    /// `Agent1.Register`: the caller becomes the agent.
+    Register,
+    /// `Agent1.Unregister`: the caller no longer is the agent.
+    Unregister,
+    /// `Agent1.Refuse`.
+    Refuse {
+        /// The prompt that is refused.
+        prompt: Option<PromptId>,
+        /// The round in which it was asked.
+        round: u64,
     },
 }
 

@@ -1,4 +1,4 @@
-mod HistoryLemmas
+pub mod HistoryLemmas
 mod KeptLemmas
 mod RoomLemmas
 mod WindowLemmas

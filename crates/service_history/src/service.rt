@@ -4,7 +4,8 @@ ghost use Rattle.service_tables.specs.Slots.{LeavesKnown, file_at};
 ghost use Rattle.folder_store.specs.Ring.{IsAsFound};
 ghost use Rattle.collection_table.specs.Entries.{rows_of as collections_of};
 ghost use Rattle.service_tables.specs.Disk.{IsLoaded, FailedToLoad, disk_state};
-ghost use Rattle.service_tables.specs.Opened.{IsOpened};
+ghost use Rattle.service_tables.specs.Opened.{IsOpened, contents_of};
+ghost use Rattle.service_tables.specs.Sound.{AreSoundContents};
 ghost use Rattle.service_tables.specs.Limits.{IsSpent, most_events};
 ghost use Rattle.service_machine.specs.Fates.{is_steady};
 ghost use Rattle.service_machine.specs.Rows.{rows_of};
@@ -59,6 +60,8 @@ impl<F: Folder> Service<F> {
     pub fn open(alloc: Global, folder: F) -> Result<Service<F>, OpenRefused>
         requires fresh { F.made folder ≡ [] }
         ensures opened { IfOk result (λ service. IsOpened service.history.state) }
+        ensures sound { IfOk result (λ service.
+            AreSoundContents (contents_of service.history.state)) }
         ensures begins { IfOk result (λ service.
             service.history ≡ opened_history service.history.state) }
         ensures loaded { IfOk result (λ service. IsLoaded (IsAsFound F.Cell.seen F.Cell.temporary

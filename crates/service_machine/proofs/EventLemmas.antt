@@ -2,12 +2,16 @@
 use Rattle.std.proofs.Common.{◌≡◌, ℕ, nat_le, Bool, true, false, cond, if◌then◌else◌, List, [], ◌∷◌, ◌++◌, length, Option, Some, None, Result, Ok, Err, refl, sym, ap, subst, ◌∙◌}
 use mathlib.Core.HLevel.{×_prop, Unit-prop}
 use Rattle.std.proofs.Props.{props}
-use Rattle.std.specs.Coded.{le_prop}
+use Rattle.std.specs.Coded.{le_prop, →_prop}
+use Rattle.std.specs.Str.{is_utf8}
 use Rattle.kr_base.specs.declared.ids.ConnId.{ConnId}
 use Rattle.kr_base.specs.declared.ids.ItemId.{ItemId}
+use Rattle.kr_base.specs.declared.ids.PromptId.{PromptId}
 use Rattle.kr_base.specs.declared.ids.SessionId.{SessionId}
 use Rattle.kr_names.specs.declared.object_name.ObjectName.{ObjectName}
 use Rattle.collection_table.specs.Rows.{has_item, is_open}
+use Rattle.prompt_state.specs.declared.targets.Target.{Target}
+use Rattle.service_prompts.specs.Unlocking.{targets_of, unlocked_there}
 use Rattle.secret_calls.specs.declared.call.Call.{Call}
 use Rattle.secret_calls.specs.declared.call.Call.TheVariants as call
 use Rattle.secret_calls.specs.declared.call.CallFault.{CallFault}
@@ -23,6 +27,7 @@ use Rattle.service_tables.specs.Objects.{alias_target, collection_named}
 use Rattle.service_tables.specs.Opened.{contents_of}
 use Rattle.service_tables.specs.Reading.{asked_collections}
 use Rattle.service_tables.specs.Slots.{IsFault}
+use Rattle.service_tables.specs.Sound.{IsTypedText}
 use Rattle.service_tables.specs.State.{State}
 use Rattle.service_tables.specs.Storing.{Add_item, Brought, Edit, IsResolve, IsStoring, Remove_item, Set_secret, storable_edit}
 use Rattle.service_tables.proofs.TypedLemmas.{alias-prop, item-prop, secret-prop}
@@ -30,14 +35,15 @@ use Rattle.service_tables.proofs.KeptLemmas.{certain-resolved, certain-set}
 use Rattle.service_machine.specs.declared.event.Event.{Event}
 use Rattle.service_machine.specs.declared.event.Event.TheVariants as event
 use Rattle.service_machine.specs.declared.event.Recorded.{Recorded}
+use Rattle.service_machine.specs.AgentCalls.{refuse}
 use Rattle.service_machine.specs.AliasCalls.{alias_settled, alias_stored, on_target, once_read}
 use Rattle.service_machine.specs.CollectionCalls.{by_fate, if_open, made, no_prompt, on_collection, secret_stored, storing, storing_secret}
 use Rattle.service_machine.specs.Fates.{AreFaultless, IsFaultless}
-use Rattle.service_machine.specs.Plan.{Change, Open_session, Close_session, Lock_collection, Demand, Store, Erase, Set_alias, Read_aliases, Plan, Questions, Ends, After, Asks, refused}
+use Rattle.service_machine.specs.Plan.{Change, Open_session, Close_session, Lock_collection, Begin_prompt, Ask_prompt, Finish_target, Drop_target, End_prompt, Become_agent, Leave_agent, Demand, Store, Erase, Set_alias, Read_aliases, Plan, Questions, Ends, After, Asks, refused}
 use Rattle.service_machine.specs.Run.{AreFates, AreNone, IsFateOf, Ran, asked, demanded, led, performed, performed_all, run, sending}
-use Rattle.service_machine.specs.ServiceCalls.{is_small}
+use Rattle.service_machine.specs.ServiceCalls.{is_small, unlocking}
 use Rattle.service_machine.specs.SessionCalls.{with_session}
-use Rattle.service_machine.specs.Step.{AreAlike, Fits, FitsRequest, HasTypes, TakesMoment, brought_by, message_of, plan_of, step, value_in, with_delivered}
+use Rattle.service_machine.specs.Step.{AreAlike, Fits, FitsRequest, HasTypes, IsSalt, IsTypedName, TakesMoment, TakesSalt, brought_by, message_of, plan_of, step, value_in, with_delivered}
 use Rattle.service_machine.specs.Stored.{StoresNothing}
 use Rattle.service_machine.proofs.RunLemmas.{EndsAtOnce, ended-alike, fates-none, no-fates, plan_for, quiet-row, state-limited}
 
@@ -81,6 +87,16 @@ fates-prop caller brought (After changes next) fates state =
 fates-prop caller brought (Asks demand next) [] state = λ a b. absurd a
 fates-prop caller brought (Asks demand next) (some ∷ fates) state = ×_prop (fate-prop demand some) (fates-prop caller brought (next some) fates (demanded brought demand some state))
 
+truth-prop : (b : Bool) → IsProp (b ≡ true)
+truth-prop b = Prim.hlevel props
+
+text-prop : (bytes : List ℕ) → IsProp (IsTypedText bytes)
+text-prop bytes one other = λ i. record { utf8 = truth-prop (is_utf8 bytes) one.utf8 other.utf8 i; no_zero = →_prop (λ e. absurd e) one.no_zero other.no_zero i }
+
+name-prop : (alias : Option (List ℕ)) → IsProp (IsTypedName alias)
+name-prop None = Unit-prop
+name-prop (Some alias) = alias-prop alias
+
 types-prop : (given : Result Call CallFault) → IsProp (HasTypes given)
 types-prop (Err fault) = Unit-prop
 types-prop (Ok call.Ping) = Unit-prop
@@ -97,12 +113,27 @@ types-prop (Ok (call.CreateItem collection label attributes secret replace)) = �
 types-prop (Ok (call.DeleteCollection collection)) = Unit-prop
 types-prop (Ok (call.DeleteItem stem item)) = Unit-prop
 types-prop (Ok (call.SetSecret stem item secret)) = secret-prop secret.value secret.content
+types-prop (Ok (call.CreateCollection label alias)) = ×_prop (text-prop label) (name-prop alias)
+types-prop (Ok (call.Unlock objects)) = Unit-prop
+types-prop (Ok (call.Prompt prompt)) = Unit-prop
+types-prop (Ok (call.Dismiss prompt)) = Unit-prop
+types-prop (Ok call.Register) = Unit-prop
+types-prop (Ok call.Unregister) = Unit-prop
+types-prop (Ok (call.Refuse prompt round)) = Unit-prop
+
+-- the random bytes
+number-prop : (m n : ℕ) → IsProp (m ≡ n)
+number-prop m n = Prim.hlevel props
+
+salt-prop : (salt : List ℕ) → IsProp (IsSalt salt)
+salt-prop salt one other = λ i. record { eight = number-prop (length salt) 8 one.eight other.eight i; bytes = λ n. le_prop (one.bytes n) (other.bytes n) i }
 
 request-prop : (came : Recorded) (state : State) → IsProp (FitsRequest came state)
 request-prop came state one other = λ i. record {
   moment = le_prop one.moment other.moment i;
+  salt = salt-prop came.arrival.salt one.salt other.salt i;
   types = types-prop came.arrival.request.call one.types other.types i;
-  fates = fates-prop came.arrival.conn (brought_by came.arrival) (plan_of came.arrival.request.call (asked came.arrival.conn (brought_by came.arrival) state)) came.fates state one.fates other.fates i;
+  fates = fates-prop came.arrival.conn (brought_by came.arrival) (plan_of came.arrival.salt came.arrival.request.call (asked came.arrival.conn (brought_by came.arrival) state)) came.fates state one.fates other.fates i;
 }
 
 -- that an event fits has at most one proof
@@ -120,12 +151,12 @@ abbrev brings : Result Call CallFault → ℕ → Brought
 brings given now = record { now = now; value = value_in given }
 
 -- the plan of a call
-abbrev plan : ConnId → State → Result Call CallFault → ℕ → Plan
-plan caller state given now = plan_of given (asked caller (brings given now) state)
+abbrev plan : ConnId → State → List ℕ → Result Call CallFault → ℕ → Plan
+plan caller state salt given now = plan_of salt given (asked caller (brings given now) state)
 
 -- what it leads to
-abbrev leads : ConnId → List Fate → State → Result Call CallFault → ℕ → Ran
-leads caller fates state given now = led caller (brings given now) (plan caller state given now) fates state
+abbrev leads : ConnId → List Fate → State → List ℕ → Result Call CallFault → ℕ → Ran
+leads caller fates state salt given now = led caller (brings given now) (plan caller state salt given now) fates state
 
 module _ (caller : ConnId) (state : State) where
   -- the removal of a file, whatever the request brings
@@ -260,73 +291,102 @@ module _ (caller : ConnId) (state : State) where
   target-fates one other alias None fates are = are
   target-fates one other alias (Some stem) fates are = settle-fates one other alias stem (are_doubtful state.aliases) (can-set alias stem state) fates are
 
-  secrets-same : (items : List ObjectName) (session : Option SessionId) (a b : ℕ) → plan caller state (Ok (call.GetSecrets items session)) a ≡ plan caller state (Ok (call.GetSecrets items session)) b
-  secrets-same items None a b = refl
-  secrets-same items (Some session) a b = refl
+  secrets-same : (items : List ObjectName) (session : Option SessionId) (a b : ℕ) (s t : List ℕ) → plan caller state s (Ok (call.GetSecrets items session)) a ≡ plan caller state t (Ok (call.GetSecrets items session)) b
+  secrets-same items None a b s t = refl
+  secrets-same items (Some session) a b s t = refl
 
-  secret-same : (stem : List ℕ) (item : ItemId) (session : Option SessionId) (a b : ℕ) → plan caller state (Ok (call.GetSecret stem item session)) a ≡ plan caller state (Ok (call.GetSecret stem item session)) b
-  secret-same stem item None a b = refl
-  secret-same stem item (Some session) a b = refl
+  secret-same : (stem : List ℕ) (item : ItemId) (session : Option SessionId) (a b : ℕ) (s t : List ℕ) → plan caller state s (Ok (call.GetSecret stem item session)) a ≡ plan caller state t (Ok (call.GetSecret stem item session)) b
+  secret-same stem item None a b s t = refl
+  secret-same stem item (Some session) a b s t = refl
+
+  unlock-same : (paths : List (List ℕ)) (targets : List Target) (one other : Brought) → unlocking paths targets (asked caller one state) ≡ unlocking paths targets (asked caller other state)
+  unlock-same paths [] one other = refl
+  unlock-same paths (target ∷ targets) one other = refl
+
+  refuse-same : (prompt : Option PromptId) (round : ℕ) (one other : Brought) → refuse prompt round (asked caller one state) ≡ refuse prompt round (asked caller other state)
+  refuse-same None round one other = refl
+  refuse-same (Some prompt) round one other = refl
 
   -- a call that stores nothing
-  quiet-alike : (given : Result Call CallFault) → StoresNothing given → (fates : List Fate) (a b : ℕ) → plan caller state given a ≡ plan caller state given b → leads caller fates state given a ≡ leads caller fates state given b
-  quiet-alike given nothing fates a b same =
-      ended-alike caller (brings given a) (brings given b) (plan caller state given a) fates state (quiet-row given (asked caller (brings given a) state) nothing)
+  quiet-alike : (given : Result Call CallFault) → StoresNothing given → (fates : List Fate) (a b : ℕ) (s t : List ℕ) → plan caller state s given a ≡ plan caller state t given b
+      → leads caller fates state s given a ≡ leads caller fates state t given b
+  quiet-alike given nothing fates a b s t same =
+      ended-alike caller (brings given a) (brings given b) (plan caller state s given a) fates state (quiet-row s given (asked caller (brings given a) state) nothing)
       ∙ ap (λ p. led caller (brings given b) p fates state) same
 
-  quiet-fates : (given : Result Call CallFault) → StoresNothing given → (fates : List Fate) (a b : ℕ) → AreFates caller (brings given a) (plan caller state given a) fates state
-      → AreFates caller (brings given b) (plan caller state given b) fates state
-  quiet-fates given nothing fates a b are =
-      let none = none-is fates (fates-none caller (brings given a) (plan caller state given a) fates state (quiet-row given (asked caller (brings given a) state) nothing) are) in
-      subst (λ f. AreFates caller (brings given b) (plan caller state given b) f state) (sym none)
-      (no-fates caller (brings given b) (plan caller state given b) state (quiet-row given (asked caller (brings given b) state) nothing))
+  quiet-fates : (given : Result Call CallFault) → StoresNothing given → (fates : List Fate) (a b : ℕ) (s t : List ℕ) → AreFates caller (brings given a) (plan caller state s given a) fates state
+      → AreFates caller (brings given b) (plan caller state t given b) fates state
+  quiet-fates given nothing fates a b s t are =
+      let none = none-is fates (fates-none caller (brings given a) (plan caller state s given a) fates state (quiet-row s given (asked caller (brings given a) state) nothing) are) in
+      subst (λ f. AreFates caller (brings given b) (plan caller state t given b) f state) (sym none)
+      (no-fates caller (brings given b) (plan caller state t given b) state (quiet-row t given (asked caller (brings given b) state) nothing))
 
-  -- the same call leads to the same at two moments, unless it takes the moment
-  pub moment-alike : (given : Result Call CallFault) (fates : List Fate) (a b : ℕ) → (TakesMoment given → a ≡ b) → leads caller fates state given a ≡ leads caller fates state given b
-  moment-alike (Err fault) fates a b same = quiet-alike (Err fault) tt fates a b refl
-  moment-alike (Ok call.Ping) fates a b same = quiet-alike (Ok call.Ping) tt fates a b refl
-  moment-alike (Ok (call.OpenSession algorithm)) fates a b same = quiet-alike (Ok (call.OpenSession algorithm)) tt fates a b refl
-  moment-alike (Ok (call.CloseSession session)) fates a b same = quiet-alike (Ok (call.CloseSession session)) tt fates a b refl
-  moment-alike (Ok (call.SearchItems wanted)) fates a b same = quiet-alike (Ok (call.SearchItems wanted)) tt fates a b refl
-  moment-alike (Ok (call.ReadAlias alias)) fates a b same = quiet-alike (Ok (call.ReadAlias alias)) tt fates a b refl
-  moment-alike (Ok (call.SetAlias alias object)) fates a b same =
+  -- the same call leads to the same at two moments and with two salts, unless it takes the moment or the salt
+  pub moment-alike : (given : Result Call CallFault) (fates : List Fate) (a b : ℕ) (s t : List ℕ) → (TakesMoment given → a ≡ b) → (TakesSalt given → s ≡ t)
+      → leads caller fates state s given a ≡ leads caller fates state t given b
+  moment-alike (Err fault) fates a b s t same salts = quiet-alike (Err fault) tt fates a b s t refl
+  moment-alike (Ok call.Ping) fates a b s t same salts = quiet-alike (Ok call.Ping) tt fates a b s t refl
+  moment-alike (Ok (call.OpenSession algorithm)) fates a b s t same salts = quiet-alike (Ok (call.OpenSession algorithm)) tt fates a b s t refl
+  moment-alike (Ok (call.CloseSession session)) fates a b s t same salts = quiet-alike (Ok (call.CloseSession session)) tt fates a b s t refl
+  moment-alike (Ok (call.SearchItems wanted)) fates a b s t same salts = quiet-alike (Ok (call.SearchItems wanted)) tt fates a b s t refl
+  moment-alike (Ok (call.ReadAlias alias)) fates a b s t same salts = quiet-alike (Ok (call.ReadAlias alias)) tt fates a b s t refl
+  moment-alike (Ok (call.SetAlias alias object)) fates a b s t same salts =
       target-alike (brings (Ok (call.SetAlias alias object)) a) (brings (Ok (call.SetAlias alias object)) b) alias (alias_target (asked_collections (contents_of state)) object) fates
-  moment-alike (Ok (call.Lock objects)) fates a b same = quiet-alike (Ok (call.Lock objects)) tt fates a b refl
-  moment-alike (Ok (call.GetSecrets items session)) fates a b same = quiet-alike (Ok (call.GetSecrets items session)) tt fates a b (secrets-same items session a b)
-  moment-alike (Ok (call.SearchCollection collection wanted)) fates a b same = quiet-alike (Ok (call.SearchCollection collection wanted)) tt fates a b refl
-  moment-alike (Ok (call.GetSecret stem item session)) fates a b same = quiet-alike (Ok (call.GetSecret stem item session)) tt fates a b (secret-same stem item session a b)
-  moment-alike (Ok (call.CreateItem collection label attributes secret replace)) fates a b same = ap (leads caller fates state (Ok (call.CreateItem collection label attributes secret replace))) (same tt)
-  moment-alike (Ok (call.DeleteCollection collection)) fates a b same =
+  moment-alike (Ok (call.Lock objects)) fates a b s t same salts = quiet-alike (Ok (call.Lock objects)) tt fates a b s t refl
+  moment-alike (Ok (call.GetSecrets items session)) fates a b s t same salts = quiet-alike (Ok (call.GetSecrets items session)) tt fates a b s t (secrets-same items session a b s t)
+  moment-alike (Ok (call.SearchCollection collection wanted)) fates a b s t same salts = quiet-alike (Ok (call.SearchCollection collection wanted)) tt fates a b s t refl
+  moment-alike (Ok (call.GetSecret stem item session)) fates a b s t same salts = quiet-alike (Ok (call.GetSecret stem item session)) tt fates a b s t (secret-same stem item session a b s t)
+  moment-alike (Ok (call.CreateItem collection label attributes secret replace)) fates a b s t same salts = ap (leads caller fates state s (Ok (call.CreateItem collection label attributes secret replace))) (same tt)
+  moment-alike (Ok (call.DeleteCollection collection)) fates a b s t same salts =
       on-alike (brings (Ok (call.DeleteCollection collection)) a) (brings (Ok (call.DeleteCollection collection)) b) (collection_named (asked_collections (contents_of state)) collection) fates
-  moment-alike (Ok (call.DeleteItem stem item)) fates a b same = ap (leads caller fates state (Ok (call.DeleteItem stem item))) (same tt)
-  moment-alike (Ok (call.SetSecret stem item secret)) fates a b same = ap (leads caller fates state (Ok (call.SetSecret stem item secret))) (same tt)
+  moment-alike (Ok (call.DeleteItem stem item)) fates a b s t same salts = ap (leads caller fates state s (Ok (call.DeleteItem stem item))) (same tt)
+  moment-alike (Ok (call.SetSecret stem item secret)) fates a b s t same salts = ap (leads caller fates state s (Ok (call.SetSecret stem item secret))) (same tt)
+  moment-alike (Ok (call.CreateCollection label alias)) fates a b s t same salts =
+      quiet-alike (Ok (call.CreateCollection label alias)) tt fates a b s t (ap (λ salt. plan caller state salt (Ok (call.CreateCollection label alias)) a) (salts tt))
+  moment-alike (Ok (call.Unlock objects)) fates a b s t same salts =
+      let asks = asked_collections (contents_of state) in
+      quiet-alike (Ok (call.Unlock objects)) tt fates a b s t
+      (unlock-same (unlocked_there asks objects) (targets_of asks objects) (brings (Ok (call.Unlock objects)) a) (brings (Ok (call.Unlock objects)) b))
+  moment-alike (Ok (call.Prompt prompt)) fates a b s t same salts = quiet-alike (Ok (call.Prompt prompt)) tt fates a b s t refl
+  moment-alike (Ok (call.Dismiss prompt)) fates a b s t same salts = quiet-alike (Ok (call.Dismiss prompt)) tt fates a b s t refl
+  moment-alike (Ok call.Register) fates a b s t same salts = quiet-alike (Ok call.Register) tt fates a b s t refl
+  moment-alike (Ok call.Unregister) fates a b s t same salts = quiet-alike (Ok call.Unregister) tt fates a b s t refl
+  moment-alike (Ok (call.Refuse prompt round)) fates a b s t same salts =
+      quiet-alike (Ok (call.Refuse prompt round)) tt fates a b s t (refuse-same prompt round (brings (Ok (call.Refuse prompt round)) a) (brings (Ok (call.Refuse prompt round)) b))
 
-  -- the fates of a call fit at both moments, unless it takes the moment
-  moment-fates : (given : Result Call CallFault) (fates : List Fate) (a b : ℕ) → (TakesMoment given → a ≡ b) → AreFates caller (brings given a) (plan caller state given a) fates state
-      → AreFates caller (brings given b) (plan caller state given b) fates state
-  moment-fates (Err fault) fates a b same are = are
-  moment-fates (Ok call.Ping) fates a b same are = are
-  moment-fates (Ok (call.OpenSession algorithm)) fates a b same are = quiet-fates (Ok (call.OpenSession algorithm)) tt fates a b are
-  moment-fates (Ok (call.CloseSession session)) fates a b same are = quiet-fates (Ok (call.CloseSession session)) tt fates a b are
-  moment-fates (Ok (call.SearchItems wanted)) fates a b same are = are
-  moment-fates (Ok (call.ReadAlias alias)) fates a b same are = are
-  moment-fates (Ok (call.SetAlias alias object)) fates a b same are =
+  -- the fates of a call fit at both moments and with both salts, unless it takes the moment
+  moment-fates : (given : Result Call CallFault) (fates : List Fate) (a b : ℕ) (s t : List ℕ) → (TakesMoment given → a ≡ b) → AreFates caller (brings given a) (plan caller state s given a) fates state
+      → AreFates caller (brings given b) (plan caller state t given b) fates state
+  moment-fates (Err fault) fates a b s t same are = are
+  moment-fates (Ok call.Ping) fates a b s t same are = are
+  moment-fates (Ok (call.OpenSession algorithm)) fates a b s t same are = quiet-fates (Ok (call.OpenSession algorithm)) tt fates a b s t are
+  moment-fates (Ok (call.CloseSession session)) fates a b s t same are = quiet-fates (Ok (call.CloseSession session)) tt fates a b s t are
+  moment-fates (Ok (call.SearchItems wanted)) fates a b s t same are = are
+  moment-fates (Ok (call.ReadAlias alias)) fates a b s t same are = are
+  moment-fates (Ok (call.SetAlias alias object)) fates a b s t same are =
       target-fates (brings (Ok (call.SetAlias alias object)) a) (brings (Ok (call.SetAlias alias object)) b) alias (alias_target (asked_collections (contents_of state)) object) fates are
-  moment-fates (Ok (call.Lock objects)) fates a b same are = quiet-fates (Ok (call.Lock objects)) tt fates a b are
-  moment-fates (Ok (call.GetSecrets items session)) fates a b same are = quiet-fates (Ok (call.GetSecrets items session)) tt fates a b are
-  moment-fates (Ok (call.SearchCollection collection wanted)) fates a b same are = quiet-fates (Ok (call.SearchCollection collection wanted)) tt fates a b are
-  moment-fates (Ok (call.GetSecret stem item session)) fates a b same are = quiet-fates (Ok (call.GetSecret stem item session)) tt fates a b are
-  moment-fates (Ok (call.CreateItem collection label attributes secret replace)) fates a b same are =
+  moment-fates (Ok (call.Lock objects)) fates a b s t same are = quiet-fates (Ok (call.Lock objects)) tt fates a b s t are
+  moment-fates (Ok (call.GetSecrets items session)) fates a b s t same are = quiet-fates (Ok (call.GetSecrets items session)) tt fates a b s t are
+  moment-fates (Ok (call.SearchCollection collection wanted)) fates a b s t same are = quiet-fates (Ok (call.SearchCollection collection wanted)) tt fates a b s t are
+  moment-fates (Ok (call.GetSecret stem item session)) fates a b s t same are = quiet-fates (Ok (call.GetSecret stem item session)) tt fates a b s t are
+  moment-fates (Ok (call.CreateItem collection label attributes secret replace)) fates a b s t same are =
       let given : Result Call CallFault = Ok (call.CreateItem collection label attributes secret replace) in
-      subst (λ now. AreFates caller (brings given now) (plan caller state given now) fates state) (same tt) are
-  moment-fates (Ok (call.DeleteCollection collection)) fates a b same are =
+      subst (λ now. AreFates caller (brings given now) (plan caller state s given now) fates state) (same tt) are
+  moment-fates (Ok (call.DeleteCollection collection)) fates a b s t same are =
       on-fates (brings (Ok (call.DeleteCollection collection)) a) (brings (Ok (call.DeleteCollection collection)) b) (collection_named (asked_collections (contents_of state)) collection) fates are
-  moment-fates (Ok (call.DeleteItem stem item)) fates a b same are =
+  moment-fates (Ok (call.DeleteItem stem item)) fates a b s t same are =
       let given : Result Call CallFault = Ok (call.DeleteItem stem item) in
-      subst (λ now. AreFates caller (brings given now) (plan caller state given now) fates state) (same tt) are
-  moment-fates (Ok (call.SetSecret stem item secret)) fates a b same are =
+      subst (λ now. AreFates caller (brings given now) (plan caller state s given now) fates state) (same tt) are
+  moment-fates (Ok (call.SetSecret stem item secret)) fates a b s t same are =
       let given : Result Call CallFault = Ok (call.SetSecret stem item secret) in
-      subst (λ now. AreFates caller (brings given now) (plan caller state given now) fates state) (same tt) are
+      subst (λ now. AreFates caller (brings given now) (plan caller state s given now) fates state) (same tt) are
+  moment-fates (Ok (call.CreateCollection label alias)) fates a b s t same are = quiet-fates (Ok (call.CreateCollection label alias)) tt fates a b s t are
+  moment-fates (Ok (call.Unlock objects)) fates a b s t same are = quiet-fates (Ok (call.Unlock objects)) tt fates a b s t are
+  moment-fates (Ok (call.Prompt prompt)) fates a b s t same are = quiet-fates (Ok (call.Prompt prompt)) tt fates a b s t are
+  moment-fates (Ok (call.Dismiss prompt)) fates a b s t same are = quiet-fates (Ok (call.Dismiss prompt)) tt fates a b s t are
+  moment-fates (Ok call.Register) fates a b s t same are = quiet-fates (Ok call.Register) tt fates a b s t are
+  moment-fates (Ok call.Unregister) fates a b s t same are = quiet-fates (Ok call.Unregister) tt fates a b s t are
+  moment-fates (Ok (call.Refuse prompt round)) fates a b s t same are = quiet-fates (Ok (call.Refuse prompt round)) tt fates a b s t are
 
 -- requests that are alike, and whose storings ended alike, lead to one state
 pub step_alike : (state : State) (one other : Recorded) → AreAlike one.arrival other.arrival → one.fates ≡ other.fates → step state (event.Arrive one) ≡ step state (event.Arrive other)
@@ -335,9 +395,9 @@ step_alike state one other alike fates =
     let given = one.arrival.request.call in
     let becomes : Ran → State =
     λ after. with_delivered ((if one.arrival.request.wants_reply then record { to = conn; out = message_of one.arrival.request.serial after.answer } ∷ [] else []) ++ after.sends) after.state in
-    ap becomes (moment-alike conn state given one.fates one.arrival.now other.arrival.now alike.moment)
+    ap becomes (moment-alike conn state given one.fates one.arrival.now other.arrival.now one.arrival.salt other.arrival.salt alike.moment alike.salt)
     ∙ (λ i.
-    let after = leads (alike.conn i) (fates i) state (alike.call i) other.arrival.now in
+    let after = leads (alike.conn i) (fates i) state other.arrival.salt (alike.call i) other.arrival.now in
     with_delivered ((if alike.wants_reply i then record { to = alike.conn i; out = message_of (alike.serial i) after.answer } ∷ [] else []) ++ after.sends) after.state)
 
 -- ---- plans that ask for no resolve
@@ -409,32 +469,39 @@ module _ (caller : ConnId) (brought : Brought) (fates : List Fate) (state : Stat
       rw certain (if-unread ((asked_aliases (contents_of state)).can_set alias stem) (Asks (Set_alias alias stem) (by_fate body.Empty)) name.LimitsExceeded (asks-unread (Set_alias alias stem) body.Empty fates tt))
 
   -- unless the file of the aliases is in doubt, no call asks for a resolve
-  row-unread : (given : Result Call CallFault) → are_doubtful state.aliases ≡ false → Unread (plan_of given (asked caller brought state))
-  row-unread (Err fault) certain = tt
-  row-unread (Ok call.Ping) certain = tt
-  row-unread (Ok (call.OpenSession algorithm)) certain = quiet-reads _ (quiet-row (Ok (call.OpenSession algorithm)) (asked caller brought state) tt)
-  row-unread (Ok (call.CloseSession session)) certain = quiet-reads _ (quiet-row (Ok (call.CloseSession session)) (asked caller brought state) tt)
-  row-unread (Ok (call.SearchItems wanted)) certain = tt
-  row-unread (Ok (call.ReadAlias alias)) certain = tt
-  row-unread (Ok (call.SetAlias alias object)) certain =
+  row-unread : (salt : List ℕ) (given : Result Call CallFault) → are_doubtful state.aliases ≡ false → Unread (plan_of salt given (asked caller brought state))
+  row-unread salt (Err fault) certain = tt
+  row-unread salt (Ok call.Ping) certain = tt
+  row-unread salt (Ok (call.OpenSession algorithm)) certain = quiet-reads _ (quiet-row salt (Ok (call.OpenSession algorithm)) (asked caller brought state) tt)
+  row-unread salt (Ok (call.CloseSession session)) certain = quiet-reads _ (quiet-row salt (Ok (call.CloseSession session)) (asked caller brought state) tt)
+  row-unread salt (Ok (call.SearchItems wanted)) certain = tt
+  row-unread salt (Ok (call.ReadAlias alias)) certain = tt
+  row-unread salt (Ok (call.SetAlias alias object)) certain =
       target-unread (alias_target (asked_collections (contents_of state)) object) (λ stem. alias_settled alias stem (asked caller brought state)) (λ stem. settled-unread alias stem certain)
-  row-unread (Ok (call.Lock objects)) certain = quiet-reads _ (quiet-row (Ok (call.Lock objects)) (asked caller brought state) tt)
-  row-unread (Ok (call.GetSecrets items session)) certain = quiet-reads _ (quiet-row (Ok (call.GetSecrets items session)) (asked caller brought state) tt)
-  row-unread (Ok (call.SearchCollection collection wanted)) certain = quiet-reads _ (quiet-row (Ok (call.SearchCollection collection wanted)) (asked caller brought state) tt)
-  row-unread (Ok (call.GetSecret stem item session)) certain = quiet-reads _ (quiet-row (Ok (call.GetSecret stem item session)) (asked caller brought state) tt)
-  row-unread (Ok (call.CreateItem collection label attributes secret replace)) certain =
+  row-unread salt (Ok (call.Lock objects)) certain = quiet-reads _ (quiet-row salt (Ok (call.Lock objects)) (asked caller brought state) tt)
+  row-unread salt (Ok (call.GetSecrets items session)) certain = quiet-reads _ (quiet-row salt (Ok (call.GetSecrets items session)) (asked caller brought state) tt)
+  row-unread salt (Ok (call.SearchCollection collection wanted)) certain = quiet-reads _ (quiet-row salt (Ok (call.SearchCollection collection wanted)) (asked caller brought state) tt)
+  row-unread salt (Ok (call.GetSecret stem item session)) certain = quiet-reads _ (quiet-row salt (Ok (call.GetSecret stem item session)) (asked caller brought state) tt)
+  row-unread salt (Ok (call.CreateItem collection label attributes secret replace)) certain =
       on-unread (collection_named (asked_collections (contents_of state)) collection) _
       (λ stem. secret-unread secret.session stem secret.content (Add_item label attributes secret.content replace) (made stem) (asked caller brought state))
-  row-unread (Ok (call.DeleteCollection collection)) certain =
+  row-unread salt (Ok (call.DeleteCollection collection)) certain =
       on-unread (collection_named (asked_collections (contents_of state)) collection) _
       (λ stem. if-unread (is_open stem state.collections) (Asks (Erase stem) (by_fate no_prompt)) name.IsLocked (asks-unread (Erase stem) no_prompt fates tt))
-  row-unread (Ok (call.DeleteItem stem item)) certain =
+  row-unread salt (Ok (call.DeleteItem stem item)) certain =
       let plan = storing stem (Remove_item item) (λ _. no_prompt) (storable_edit brought state.collections stem (Remove_item item)) in
       if-unread (has_item stem item.0 state.collections) (if_open stem (asked caller brought state) plan) name.NoSuchObject
       (if-unread (is_open stem state.collections) plan name.IsLocked (storing-unread stem (Remove_item item) (λ _. no_prompt) (storable_edit brought state.collections stem (Remove_item item))))
-  row-unread (Ok (call.SetSecret stem item secret)) certain =
+  row-unread salt (Ok (call.SetSecret stem item secret)) certain =
       if-unread (has_item stem item.0 state.collections) (secret_stored secret.session stem secret.content (Set_secret item secret.content) (λ _. body.Empty) (asked caller brought state)) name.NoSuchObject
       (secret-unread secret.session stem secret.content (Set_secret item secret.content) (λ _. body.Empty) (asked caller brought state))
+  row-unread salt (Ok (call.CreateCollection label alias)) certain = quiet-reads _ (quiet-row salt (Ok (call.CreateCollection label alias)) (asked caller brought state) tt)
+  row-unread salt (Ok (call.Unlock objects)) certain = quiet-reads _ (quiet-row salt (Ok (call.Unlock objects)) (asked caller brought state) tt)
+  row-unread salt (Ok (call.Prompt prompt)) certain = quiet-reads _ (quiet-row salt (Ok (call.Prompt prompt)) (asked caller brought state) tt)
+  row-unread salt (Ok (call.Dismiss prompt)) certain = quiet-reads _ (quiet-row salt (Ok (call.Dismiss prompt)) (asked caller brought state) tt)
+  row-unread salt (Ok call.Register) certain = quiet-reads _ (quiet-row salt (Ok call.Register) (asked caller brought state) tt)
+  row-unread salt (Ok call.Unregister) certain = quiet-reads _ (quiet-row salt (Ok call.Unregister) (asked caller brought state) tt)
+  row-unread salt (Ok (call.Refuse prompt round)) certain = quiet-reads _ (quiet-row salt (Ok (call.Refuse prompt round)) (asked caller brought state) tt)
 
 -- ---- fates without a fault
 
@@ -473,12 +540,12 @@ pub fates_alike : (state : State) (one other : Recorded) → AreAlike one.arriva
 fates_alike state one other alike fits others certain faultless faultless' =
     let conn = one.arrival.conn in
     let given = one.arrival.request.call in
-    let these = moment-fates conn state given one.fates one.arrival.now other.arrival.now alike.moment fits.1.fates in
-    let those : AreFates conn (brings given other.arrival.now) (plan conn state given other.arrival.now) other.fates state =
-    subst (λ (c : ConnId × Result Call CallFault). AreFates c.0 (brings c.1 other.arrival.now) (plan c.0 state c.1 other.arrival.now) other.fates state)
+    let these = moment-fates conn state given one.fates one.arrival.now other.arrival.now one.arrival.salt other.arrival.salt alike.moment fits.1.fates in
+    let those : AreFates conn (brings given other.arrival.now) (plan conn state other.arrival.salt given other.arrival.now) other.fates state =
+    subst (λ (c : ConnId × Result Call CallFault). AreFates c.0 (brings c.1 other.arrival.now) (plan c.0 state other.arrival.salt c.1 other.arrival.now) other.fates state)
     (λ i. (sym alike.conn i, sym alike.call i)) others.1.fates in
-    same-fates conn (brings given other.arrival.now) (plan conn state given other.arrival.now) one.fates other.fates state these those
-    (row-unread conn (brings given other.arrival.now) one.fates state given certain) faultless faultless'
+    same-fates conn (brings given other.arrival.now) (plan conn state other.arrival.salt given other.arrival.now) one.fates other.fates state these those
+    (row-unread conn (brings given other.arrival.now) one.fates state other.arrival.salt given certain) faultless faultless'
 
 -- ---- without a fault no doubt arises
 
@@ -487,6 +554,13 @@ aliases-all caller [] state = refl
 aliases-all caller (Open_session ∷ changes) state = aliases-all caller changes (performed caller Open_session state)
 aliases-all caller (Close_session session ∷ changes) state = aliases-all caller changes (performed caller (Close_session session) state)
 aliases-all caller (Lock_collection stem ∷ changes) state = aliases-all caller changes (performed caller (Lock_collection stem) state)
+aliases-all caller (Begin_prompt kind ∷ changes) state = aliases-all caller changes (performed caller (Begin_prompt kind) state)
+aliases-all caller (Ask_prompt prompt ∷ changes) state = aliases-all caller changes (performed caller (Ask_prompt prompt) state)
+aliases-all caller (Finish_target prompt ∷ changes) state = aliases-all caller changes (performed caller (Finish_target prompt) state)
+aliases-all caller (Drop_target prompt ∷ changes) state = aliases-all caller changes (performed caller (Drop_target prompt) state)
+aliases-all caller (End_prompt prompt dismissed created ∷ changes) state = aliases-all caller changes (performed caller (End_prompt prompt dismissed created) state)
+aliases-all caller (Become_agent ∷ changes) state = aliases-all caller changes (performed caller Become_agent state)
+aliases-all caller (Leave_agent ∷ changes) state = aliases-all caller changes (performed caller Leave_agent state)
 
 demanded-certain : (brought : Brought) (demand : Demand) (some : Fate) (state : State) → (IsFault some → ⊥) → are_doubtful state.aliases ≡ false → are_doubtful (demanded brought demand some state).aliases ≡ false
 demanded-certain brought (Store stem edit) some state well certain = certain

@@ -1,9 +1,12 @@
+pub mod AdvanceLemmas
 pub mod AliasLemmas
+pub mod AloneLemmas
 pub mod EventLemmas
 pub mod LeadsLemmas
 pub mod LockLemmas
 pub mod ReplayLemmas
 pub mod RunLemmas
+pub mod SendLemmas
 pub mod SmallLemmas
 pub mod SoundLemmas
 pub mod SteadyLemmas

@@ -1,12 +1,24 @@
 -- No reply is too large to wait for a connection for which nothing waits, whatever the state is.
 use Rattle.std.proofs.Common.{◌≡◌, ℕ, ◌^◌, ◌<◌, ◌≤◌, Bool, true, false, ◌||◌, nat_le, cond, List, [], ◌∷◌, filter, length, Option, Some, None, Result, Ok, Err, refl, arith}
 use Rattle.std.proofs.lemmas.Bool.{leb-false, leb-true}
+use Rattle.std.specs.Option.{option_and_then, option_map_or}
 use Rattle.kr_base.specs.declared.attributes.AttrValue.{AttrValue}
 use Rattle.kr_base.specs.declared.ids.ConnId.{ConnId}
 use Rattle.kr_base.specs.declared.ids.ItemId.{ItemId}
+use Rattle.kr_base.specs.declared.ids.PromptId.{PromptId}
 use Rattle.kr_base.specs.declared.ids.SessionId.{SessionId}
 use Rattle.collection_table.specs.Rows.{has_item, is_open}
 use Rattle.dbus_marshal.specs.Wire.{number_bytes}
+use Rattle.folder_store.specs.Limits.{the_limits}
+use Rattle.prompt_state.specs.Prompts as prompts
+use Rattle.prompt_state.specs.Prompts.{is_agent, is_taken, refusal, row_at}
+use Rattle.prompt_state.specs.Targets.{all_left}
+use Rattle.prompt_state.specs.declared.row.PromptKind.{PromptKind}
+use Rattle.prompt_state.specs.declared.row.PromptKind.TheVariants as kind
+use Rattle.prompt_state.specs.declared.table.PromptRefused.{PromptRefused}
+use Rattle.prompt_state.specs.declared.targets.Target.{Target}
+use Rattle.service_prompts.specs.Unlocking.{targets_of, unlocked_there}
+use Rattle.service_tables.specs.Targets.{are_light}
 use Rattle.secret_calls.specs.declared.call.Call.{Call}
 use Rattle.secret_calls.specs.declared.call.Call.TheVariants as call
 use Rattle.secret_calls.specs.declared.call.CallFault.{CallFault}
@@ -19,6 +31,7 @@ use Rattle.secret_calls.specs.Outs.{spelled_body, most_waiting}
 use Rattle.secret_calls.proofs.SizeLemmas.{error-short, return-waits, session-short}
 use Rattle.session_table.specs.Sessions.{rows_of, is_full, owns, most_sessions, last_session}
 use Rattle.service_machine.specs.declared.event.Recorded.{Recorded}
+use Rattle.service_machine.specs.AgentCalls.{refuse, unless_refused}
 use Rattle.service_machine.specs.AliasCalls.{alias_settled, alias_stored, on_target, once_read}
 use Rattle.service_machine.specs.CollectionCalls.{by_fate, if_open, made, no_prompt, on_collection, secret_stored, storing, storing_secret}
 use Rattle.service_tables.specs.Connections.{size_of}
@@ -30,9 +43,10 @@ use Rattle.service_tables.specs.Reading.{asked_collections}
 use Rattle.service_tables.specs.Storing.{Brought, Edit, Add_item, Set_secret, Remove_item, storable_edit}
 use Rattle.service_tables.specs.declared.fate.Fate.{Fate}
 use Rattle.service_tables.specs.declared.fate.Fate.TheVariants as fate
-use Rattle.service_machine.specs.Plan.{Change, Open_session, Close_session, Demand, Store, Erase, Set_alias, Read_aliases, Secret_of, Plan, Ends, After, Asks, refused, answered, given}
+use Rattle.service_machine.specs.Plan.{Change, Open_session, Close_session, Become_agent, Begin_prompt, End_prompt, Leave_agent, Demand, Store, Erase, Set_alias, Read_aliases, Secret_of, Plan, Ends, After, Asks, refused, answered, given}
+use Rattle.service_machine.specs.PromptCalls.{first_advance}
 use Rattle.service_machine.specs.Run.{asked, demanded, filled, led, run, bounded}
-use Rattle.service_machine.specs.ServiceCalls.{is_plain, is_small, locks}
+use Rattle.service_machine.specs.ServiceCalls.{answered_if_small, creating, is_plain, is_small, locks, next_prompt, no_collection, there_already, unlocking, with_new_prompt}
 use Rattle.service_machine.specs.SessionCalls.{with_session}
 use Rattle.service_tables.specs.State.{State}
 use Rattle.service_machine.specs.Step.{brought_by, plan_of, message_of, served}
@@ -196,31 +210,87 @@ module _ (caller : ConnId) (brought : Brought) (fates : List Fate) where
   target-small alias state None = tt
   target-small alias state (Some stem) = alias-small alias stem state
 
-  plan-small : (state : State) (call : Result Call CallFault) → StaysSmall (plan_of call (asked caller brought state)) state
-  plan-small state (Err fault) = tt
-  plan-small state (Ok call.Ping) = tt
-  plan-small state (Ok (call.OpenSession algorithm)) = opened-small state (is_plain algorithm)
-  plan-small state (Ok (call.CloseSession session)) = closed-small session state ((asked caller brought state).sessions.owns session)
-  plan-small state (Ok (call.SearchItems wanted)) = tt
-  plan-small state (Ok (call.ReadAlias alias)) = tt
-  plan-small state (Ok (call.SetAlias alias object)) = target-small alias state (alias_target (asked_collections (contents_of state)) object)
-  plan-small state (Ok (call.Lock objects)) =
+  -- a prompt begins, is asked, or ends
+  empty-stays : (changes : List Change) (state : State) → StaysSmall (answered body.Empty changes) state
+  empty-stays [] state = tt
+  empty-stays (change ∷ changes) state = empty-small
+
+  new-small : (fits : Bool) (returned : Option PromptId → Body) (kind : PromptKind) (state : State) → StaysSmall (with_new_prompt fits returned kind (asked caller brought state)) state
+  new-small fits returned kind state =
+      let body = returned (Some (next_prompt (asked caller brought state))) in
+      let small = answered-small body (Begin_prompt kind ∷ []) state (is_small body) refl in
+      let inner : (b : Bool) → StaysSmall (cond b (answered_if_small body (Begin_prompt kind ∷ [])) (refused name.LimitsExceeded)) state = elim [ true ↦ small | false ↦ tt ] in
+      let pass : (b : Bool) → StaysSmall (cond b (refused name.LimitsExceeded) (cond fits (answered_if_small body (Begin_prompt kind ∷ [])) (refused name.LimitsExceeded))) state =
+      elim [ true ↦ tt | false ↦ inner fits ] in
+      pass (prompts.is_full caller state.prompts)
+
+  unlocking-small : (state : State) (paths : List (List ℕ)) (targets : List Target) → StaysSmall (unlocking paths targets (asked caller brought state)) state
+  unlocking-small state paths [] = answered-small (body.ObjectsAndPrompt paths None) [] state (is_small (body.ObjectsAndPrompt paths None)) refl
+  unlocking-small state paths (target ∷ targets) = new-small (are_light (target ∷ targets)) (body.ObjectsAndPrompt paths) (kind.Unlock (all_left (target ∷ targets))) state
+
+  creating-small : (label : List ℕ) (alias : Option (List ℕ)) (salt : List ℕ) (state : State) → StaysSmall (creating label alias salt (asked caller brought state)) state
+  creating-small label alias salt state =
+      let new = kind.Create label (option_map_or (λ (name : List ℕ). name) alias []) salt in
+      let pass : (b : Bool) → StaysSmall (cond b (refused name.LimitsExceeded) (with_new_prompt true no_collection new (asked caller brought state))) state =
+      elim [ true ↦ tt | false ↦ new-small true no_collection new state ] in
+      pass (nat_le the_limits.collections (asked_collections (contents_of state)).count)
+
+  there-small : (state : State) (named : Option (List ℕ)) (plan : Plan) → StaysSmall plan state → StaysSmall (there_already named plan) state
+  there-small state None plan small = small
+  there-small state (Some stem) plan small = tt
+
+  unless-small : (state : State) (why : Option PromptRefused) (plan : Plan) → StaysSmall plan state → StaysSmall (unless_refused why plan) state
+  unless-small state None plan small = small
+  unless-small state (Some why) plan small = tt
+
+  round-small : (prompt : Option PromptId) (round : ℕ) (state : State) → StaysSmall (refuse prompt round (asked caller brought state)) state
+  round-small None round state =
+      let pass : (b : Bool) → StaysSmall (cond b (refused name.NoSuchObject) (refused name.AccessDenied)) state = elim [ true ↦ tt | false ↦ tt ] in
+      pass (is_agent caller state.prompts)
+  round-small (Some prompt) round state =
+      unless-small state (refusal prompt round caller state.prompts) (answered body.Empty (End_prompt prompt true None ∷ [])) (empty-stays (End_prompt prompt true None ∷ []) state)
+
+  plan-small : (salt : List ℕ) (state : State) (call : Result Call CallFault) → StaysSmall (plan_of salt call (asked caller brought state)) state
+  plan-small salt state (Err fault) = tt
+  plan-small salt state (Ok call.Ping) = tt
+  plan-small salt state (Ok (call.OpenSession algorithm)) = opened-small state (is_plain algorithm)
+  plan-small salt state (Ok (call.CloseSession session)) = closed-small session state ((asked caller brought state).sessions.owns session)
+  plan-small salt state (Ok (call.SearchItems wanted)) = tt
+  plan-small salt state (Ok (call.ReadAlias alias)) = tt
+  plan-small salt state (Ok (call.SetAlias alias object)) = target-small alias state (alias_target (asked_collections (contents_of state)) object)
+  plan-small salt state (Ok (call.Lock objects)) =
       let paths = paths_of (once (filter (is_there (asked_collections (contents_of state))) objects)) in
       answered-small (body.ObjectsAndPrompt paths None) (locks objects (asked caller brought state)) state (is_small (body.ObjectsAndPrompt paths None)) refl
-  plan-small state (Ok (call.GetSecrets items session)) = session-small session _ state (λ own. tt)
-  plan-small state (Ok (call.SearchCollection collection wanted)) = collection-small wanted state (collection_named (asked_collections (contents_of state)) collection)
-  plan-small state (Ok (call.GetSecret stem item session)) = secret-small stem item session state
-  plan-small state (Ok (call.CreateItem collection label attributes secret replace)) =
+  plan-small salt state (Ok (call.GetSecrets items session)) = session-small session _ state (λ own. tt)
+  plan-small salt state (Ok (call.SearchCollection collection wanted)) = collection-small wanted state (collection_named (asked_collections (contents_of state)) collection)
+  plan-small salt state (Ok (call.GetSecret stem item session)) = secret-small stem item session state
+  plan-small salt state (Ok (call.CreateItem collection label attributes secret replace)) =
       created-small (Add_item label attributes secret.content replace) secret.session secret.content state (collection_named (asked_collections (contents_of state)) collection)
-  plan-small state (Ok (call.DeleteCollection collection)) = erased-small state (collection_named (asked_collections (contents_of state)) collection)
-  plan-small state (Ok (call.DeleteItem stem item)) =
+  plan-small salt state (Ok (call.DeleteCollection collection)) = erased-small state (collection_named (asked_collections (contents_of state)) collection)
+  plan-small salt state (Ok (call.DeleteItem stem item)) =
       let edit = Remove_item item in
       let given = storable_edit brought state.collections stem edit in
       if-small (has_item stem item.0 state.collections) (if_open stem (asked caller brought state) (storing stem edit (λ _. no_prompt) given)) state name.NoSuchObject
       (if-small (is_open stem state.collections) (storing stem edit (λ _. no_prompt) given) state name.IsLocked (stored-small stem edit (λ _. no_prompt) state given))
-  plan-small state (Ok (call.SetSecret stem item secret)) =
+  plan-small salt state (Ok (call.SetSecret stem item secret)) =
       if-small (has_item stem item.0 state.collections) (secret_stored secret.session stem secret.content (Set_secret item secret.content) (λ _. body.Empty) (asked caller brought state)) state
       name.NoSuchObject (kept-small secret.session stem secret.content (Set_secret item secret.content) (λ _. body.Empty) state)
+  plan-small salt state (Ok (call.CreateCollection label alias)) =
+      there-small state (option_and_then (asked_collections (contents_of state)).alias alias) (creating label alias salt (asked caller brought state)) (creating-small label alias salt state)
+  plan-small salt state (Ok (call.Unlock objects)) =
+      unlocking-small state (unlocked_there (asked_collections (contents_of state)) objects) (targets_of (asked_collections (contents_of state)) objects)
+  plan-small salt state (Ok (call.Prompt prompt)) =
+      let row = row_at prompt state.prompts in
+      if-small (prompts.owns caller prompt state.prompts) (answered body.Empty (first_advance prompt (asked_collections (contents_of state)) row)) state name.NoSuchObject
+      (empty-stays (first_advance prompt (asked_collections (contents_of state)) row) state)
+  plan-small salt state (Ok (call.Dismiss prompt)) =
+      if-small (prompts.owns caller prompt state.prompts) (answered body.Empty (End_prompt prompt true None ∷ [])) state name.NoSuchObject (empty-stays (End_prompt prompt true None ∷ []) state)
+  plan-small salt state (Ok call.Register) =
+      let pass : (b : Bool) → StaysSmall (cond b (refused name.AgentTaken) (answered body.Empty (Become_agent ∷ []))) state = elim [ true ↦ tt | false ↦ empty-stays (Become_agent ∷ []) state ] in
+      pass (is_taken caller state.prompts.agent)
+  plan-small salt state (Ok call.Unregister) =
+      if-small (is_agent caller state.prompts) (answered body.Empty (Leave_agent ∷ [])) state name.AccessDenied (empty-stays (Leave_agent ∷ []) state)
+  plan-small salt state (Ok (call.Refuse prompt round)) = round-small prompt round state
 
 -- ---- the reply
 
@@ -234,7 +304,7 @@ pub answer-small : (came : Recorded) (state : State) → IsSmall (served came st
 answer-small came state =
     let caller = came.arrival.conn in
     let brought = brought_by came.arrival in
-    small-limited caller brought came.fates (plan_of came.arrival.request.call (asked caller brought state)) state (plan-small caller brought came.fates state came.arrival.request.call)
+    small-limited caller brought came.fates (plan_of came.arrival.salt came.arrival.request.call (asked caller brought state)) state (plan-small caller brought came.fates came.arrival.salt state came.arrival.request.call)
 
 pub reply-small : (came : Recorded) (state : State) → size_of (message_of came.arrival.request.serial (served came state).answer) ≤ most_waiting
 reply-small came state = message-small came.arrival.request (served came state).answer (answer-small came state)

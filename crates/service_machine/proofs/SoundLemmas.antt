@@ -1,16 +1,31 @@
 -- Each event keeps a sound state sound.
-use Rattle.std.proofs.Common.{◌≡◌, ℕ, ◌^◌, ◌<◌, ◌==◌, Bool, true, false, ◌&&◌, not, nat_le, cond, IfSome, List, Result, Ok, Err, [], ◌∷◌, length, filter, map, Option, Some, None, refl, ap, sym, subst, ◌∙◌, arith, inl, inr}
+use Rattle.std.proofs.Common.{◌≡◌, ℕ, ◌+◌, ◌^◌, ◌<◌, ◌≤◌, ◌⊎◌, ◌==◌, Bool, true, false, ◌&&◌, not, nat_le, cond, IfSome, List, Result, Ok, Err, [], ◌∷◌, ◌++◌, length, filter, map, Option, Some, None, refl, ap, sym, subst, ◌∙◌, arith, inl, inr}
 use Rattle.std.specs.List.{AllByRecursion, filter_map, list_any}
-use Rattle.std.proofs.lemmas.Bool.{eqb-true, or_cases, leb-false}
+use Rattle.std.specs.Option.{option_and_then, option_map, option_map_or}
+use Rattle.std.proofs.lemmas.Bool.{eqb-true, or_cases, leb-false, leb-true}
 use Rattle.kr_base.specs.declared.ids.ConnId.{ConnId}
 use Rattle.kr_base.specs.declared.attributes.AttrValue.{AttrValue}
 use Rattle.kr_base.specs.declared.ids.ItemId.{ItemId}
+use Rattle.kr_base.specs.declared.ids.PromptId.{PromptId}
 use Rattle.kr_base.specs.declared.ids.SessionId.{SessionId}
 use Rattle.kr_names.specs.declared.object_name.ObjectName.{ObjectName}
 use Rattle.kr_names.specs.declared.object_name.ObjectName.TheVariants as object
 use Rattle.kr_base.specs.Stem.{IsStem}
-use Rattle.kr_names.specs.Path.{IsAliasName, IsName}
-use Rattle.collection_table.specs.Rows.{has_item, is_open}
+use Rattle.kr_names.specs.Path.{IsAliasName, IsName, path_text}
+use Rattle.folder_store.specs.Limits.{the_limits}
+use Rattle.prompt_state.specs.Prompts as prompts
+use Rattle.prompt_state.specs.Prompts.{asked_again, begun, ended, is_agent, is_made, is_taken, kind_with, last_round, next_round, refusal, registered, round_of, row_at, targeted, unregistered}
+use Rattle.prompt_state.specs.Targets.{TargetLists, all_left, first_done, first_dropped}
+use Rattle.prompt_state.specs.declared.row.PromptKind.{PromptKind}
+use Rattle.prompt_state.specs.declared.row.PromptKind.TheVariants as kind
+use Rattle.prompt_state.specs.declared.row.PromptRow.{PromptRow}
+use Rattle.prompt_state.specs.declared.row.Prompts.{Prompts}
+use Rattle.prompt_state.specs.declared.row.Stage.{Stage}
+use Rattle.prompt_state.specs.declared.row.Stage.TheVariants.{Made, Asked, Deriving}
+use Rattle.prompt_state.specs.declared.table.PromptRefused.{PromptRefused}
+use Rattle.prompt_state.specs.declared.targets.Target.{Target}
+use Rattle.service_prompts.specs.Unlocking.{targets_of, unlocked_there}
+use Rattle.collection_table.specs.Rows.{has as has_collection, has_item, is_open}
 use Rattle.session_table.specs.declared.row.SessionRow.{SessionRow}
 use Rattle.secret_calls.specs.declared.call.Call.{Call}
 use Rattle.secret_calls.specs.declared.call.Call.TheVariants as call
@@ -22,39 +37,47 @@ use Rattle.secret_calls.specs.declared.out.ErrorName.{ErrorName}
 use Rattle.secret_calls.specs.declared.out.ErrorName.TheVariants as name
 use Rattle.secret_calls.proofs.SizeLemmas.{error-fits, error-short, return-waits}
 use Rattle.secret_calls.specs.declared.secret.ReturnedSecret.{ReturnedSecret}
-use Rattle.secret_calls.specs.Outs.{spelled_body, AreTyped, HasSpelling}
+use Rattle.secret_calls.specs.Outs.{spelled_body, ArePaths, AreTyped, HasSpelling}
 use Rattle.session_table.specs.Sessions.{is_of, owns, rows_of, is_full, most_sessions, last_session}
 use Rattle.service_tables.specs.State.{State}
 use Rattle.service_tables.specs.declared.rows.ConnRow.{ConnRow}
 use Rattle.service_tables.specs.declared.rows.ConnRows.{ConnRows}
 use Rattle.service_machine.specs.declared.event.Event.{Event}
 use Rattle.service_machine.specs.declared.event.Event.TheVariants as event
-use Rattle.service_tables.specs.Connections.{new_row, joined, has, changed, left, emptied, size_of, with_out, Sent}
-use Rattle.service_tables.specs.Limits.{most_body, most_content}
+use Rattle.service_tables.specs.Connections.{new_row, joined, has, changed, left, emptied, size_of, with_out}
+use Rattle.service_tables.specs.Targets.{are_light, weight}
+use Rattle.service_tables.specs.declared.rows.Sent.{Sent}
+use Rattle.service_tables.specs.Limits.{most_body, most_content, most_weight}
 use Rattle.service_machine.specs.declared.event.Recorded.{Recorded}
+use Rattle.service_machine.specs.AgentCalls.{refuse, unless_refused}
 use Rattle.service_machine.specs.AliasCalls.{alias_body, alias_settled, alias_stored, on_target, once_read}
 use Rattle.service_machine.specs.CollectionCalls.{by_fate, if_open, made, no_prompt, on_collection, secret_stored, storing, storing_secret}
 use Rattle.service_machine.specs.ItemCalls.{get_secret, secret_if_open}
 use Rattle.service_tables.specs.Objects.{alias_target, collection_around, collection_named, is_open_item, is_there, item_paths, once, paths_of}
 use Rattle.service_tables.specs.Opened.{Contents, contents_of, opened_state}
 use Rattle.service_tables.specs.Reading.{alias_of, asked_collections, secret_of}
-use Rattle.service_machine.specs.Plan.{Change, Open_session, Close_session, Lock_collection, Demand, Store, Erase, Set_alias, Read_aliases, Secret_of, Plan, Ends, After, Asks, refused, answered, given}
-use Rattle.service_machine.specs.Run.{asked, demanded, performed, performed_all, filled, Ran, run, bounded, limited, secret_returned}
-use Rattle.service_machine.specs.ServiceCalls.{is_plain, is_small, lock, locks, get_secrets}
+use Rattle.service_machine.specs.Plan.{Change, Open_session, Close_session, Lock_collection, Begin_prompt, Ask_prompt, Finish_target, Drop_target, End_prompt, Become_agent, Leave_agent, Demand, Store, Erase, Set_alias, Read_aliases, Secret_of, Plan, Ends, After, Asks, refused, answered, given}
+use Rattle.service_machine.specs.PromptCalls.{advance, first_advance, target_changes}
+use Rattle.service_machine.specs.Run.{asked, demanded, performed, performed_all, sent_all, sent_by, filled, Ran, run, bounded, limited, secret_returned}
+use Rattle.service_machine.specs.ServiceCalls.{answered_if_small, creating, is_plain, is_small, lock, locks, get_secrets, next_prompt, no_collection, there_already, unlocking, with_new_prompt}
 use Rattle.service_machine.specs.SessionCalls.{with_session}
-use Rattle.service_machine.specs.Step.{HasTypes, with_rows, with_delivered, brought_by, plan_of, message_of, served, put_out, puts_out, step, value_in, Fits, FitsRequest}
+use Rattle.service_machine.specs.Step.{HasTypes, IsSalt, IsTypedName, replies, with_rows, with_delivered, brought_by, plan_of, message_of, served, put_out, puts_out, step, value_in, Fits, FitsRequest}
 use Rattle.service_machine.specs.Replay.{replay, Legal}
 use Rattle.service_tables.specs.Storing.{AreEditTypes, Brought, Edit, Add_item, Set_secret, Remove_item, storable_edit}
 use Rattle.service_tables.specs.declared.fate.Fate.{Fate}
 use Rattle.service_tables.specs.declared.fate.Fate.TheVariants as fate
-use Rattle.service_tables.specs.Sound.{AreSecretTypes, CanWait, WaitsWell, AreOpened, AreSoundContents, IsSound}
+use Rattle.service_tables.specs.Sound.{AreSecretTypes, AreSoundPrompts, CanWait, HasLeft, IsSoundKind, IsSoundTarget, IsTypedAlias, IsTypedText, WaitsWell, AreOpened, AreSoundContents, IsSound}
 use Rattle.service_tables.proofs.CollectionLemmas.{alias-named, target-stem, path-of, found-in-paths, found-locked, found-unlocked, named-paths, once-each, open-named, secret-typed, secrets-typed, sound-locked, there-named}
-use Rattle.service_tables.proofs.EachLemmas.{each-weaker}
+use Rattle.service_prompts.proofs.PromptLemmas.{prompts-among, prompts-asked_again, prompts-begun, prompts-ended, prompts-gone, prompts-none, prompts-registered, prompts-targeted, prompts-unregistered, targets-done, targets-dropped}
+use Rattle.service_prompts.proofs.UnlockingLemmas.{targets-sound, unlocked-paths}
+use Rattle.service_prompts.proofs.SignalLemmas.{ask_sent-can, asks_sent-can, completed_sent-can}
+use Rattle.service_tables.proofs.EachLemmas.{each-append, each-weaker}
 use Rattle.service_tables.proofs.AliasLemmas.{is-alias}
 use Rattle.service_tables.proofs.KeptLemmas.{sound-resolved, sound-set}
 use Rattle.service_tables.proofs.StoredLemmas.{sound-erased, sound-stored, storable-named}
 use Rattle.service_machine.proofs.SmallLemmas.{IsSmall, answer-small, not-full}
-use Rattle.service_machine.proofs.RunLemmas.{connections-performed, connections-all, plan_for, state-limited, put_out-served}
+use Rattle.service_machine.proofs.AdvanceLemmas.{row-changed}
+use Rattle.service_machine.proofs.RunLemmas.{connections-performed, connections-all, plan_for, sends-limited, state-limited}
 use Rattle.service_tables.proofs.TableLemmas.{KeepsNumber, has-changed, connections-changed, sessions-among, keeps-with_out, well-with_out, has-push, connections-joined, connections-without, sessions-opened, sessions-fewer, sessions-without}
 
 pub sound-changed : (conn : ConnId) (change : ConnRow → ConnRow) → KeepsNumber change → ((row : ConnRow) → WaitsWell row → WaitsWell (change row)) → (state : State) → IsSound state
@@ -62,6 +85,7 @@ pub sound-changed : (conn : ConnId) (change : ConnRow → ConnRow) → KeepsNumb
 sound-changed conn change keeps well state sound = record {
   connections = connections-changed conn change keeps well state.connections sound.connections;
   sessions = sessions-among state.connections.rows (changed conn change state.connections.rows) (λ owner there. has-changed owner conn change keeps state.connections.rows ∙ there) state.sessions sound.sessions;
+  prompts = prompts-among state.connections.rows (changed conn change state.connections.rows) (λ owner there. has-changed owner conn change keeps state.connections.rows ∙ there) state.prompts sound.prompts;
   collections = sound.collections;
   aliases = sound.aliases;
 }
@@ -78,11 +102,27 @@ sound-delivered (one ∷ more) spelled state sound =
 
 -- ---- a plan
 
--- a change keeps a sound state sound if this holds: a session is opened only by a caller that can open one
+-- there is something to ask for
+abbrev pub HasMore : PromptId → State → Type 0
+HasMore prompt state = (row : PromptRow) → row_at prompt state.prompts ≡ Some row → HasLeft row.kind
+
+-- there is something to ask for after a change of the targets, or Prompt wasn't called yet
+abbrev pub KeepsMore : PromptId → (TargetLists → TargetLists) → State → Type 0
+KeepsMore prompt change state = (row : PromptRow) → row_at prompt state.prompts ≡ Some row → is_made row.stage ≡ false → HasLeft (kind_with change row.kind)
+
+-- A change keeps a sound state sound if this holds: a session is opened, and a prompt begun, only by a caller that can do so, and a prompt is
+-- asked only if there is something to ask for.
 abbrev pub IsAllowed : ConnId → Change → State → Type 0
 IsAllowed caller Open_session state = is_full caller state.sessions ≡ false
 IsAllowed caller (Close_session session) state = Unit {0}
 IsAllowed caller (Lock_collection stem) state = Unit {0}
+IsAllowed caller (Begin_prompt kind) state = (prompts.is_full caller state.prompts ≡ false) × IsSoundKind kind
+IsAllowed caller (Ask_prompt prompt) state = (next_round (row_at prompt state.prompts) ≤ last_round) × HasMore prompt state
+IsAllowed caller (Finish_target prompt) state = KeepsMore prompt first_done state
+IsAllowed caller (Drop_target prompt) state = KeepsMore prompt first_dropped state
+IsAllowed caller (End_prompt prompt dismissed created) state = IfSome created IsStem
+IsAllowed caller Become_agent state = Unit {0}
+IsAllowed caller Leave_agent state = Unit {0}
 
 -- the same for each of several changes
 abbrev pub AreAllowed : ConnId → List Change → State → Type 0
@@ -114,26 +154,40 @@ sound-demanded : (brought : Brought) (demand : Demand) (some : Fate) (state : St
 sound-demanded brought (Store stem edit) some state typed sound = record {
   connections = sound.connections;
   sessions = sound.sessions;
+  prompts = sound.prompts;
   collections = sound-stored brought.now typed.0 edit brought.value typed.1 stem some state.collections sound.collections;
   aliases = sound.aliases;
 }
 sound-demanded brought (Erase stem) some state typed sound = record {
   connections = sound.connections;
   sessions = sound.sessions;
+  prompts = sound.prompts;
   collections = sound-erased stem some state.collections sound.collections;
   aliases = sound.aliases;
 }
 sound-demanded brought (Set_alias alias stem) some state typed sound = record {
   connections = sound.connections;
   sessions = sound.sessions;
+  prompts = sound.prompts;
   collections = sound.collections;
   aliases = sound-set alias stem some (contents_of state) typed.0 typed.1 sound.aliases;
 }
 sound-demanded brought Read_aliases some state typed sound = record {
   connections = sound.connections;
   sessions = sound.sessions;
+  prompts = sound.prompts;
   collections = sound.collections;
   aliases = sound-resolved some state.aliases sound.aliases;
+}
+
+-- other prompts, which are sound
+with-prompts : (prompts : Prompts) (state : State) → IsSound state → AreSoundPrompts state.connections.rows prompts → IsSound (record state { prompts = prompts })
+with-prompts prompts state sound new = record {
+  connections = sound.connections;
+  sessions = sound.sessions;
+  prompts = new;
+  collections = sound.collections;
+  aliases = sound.aliases;
 }
 
 sound-performed : (caller : ConnId) (change : Change) (state : State) → has caller state.connections.rows ≡ true → IsAllowed caller change state → IsSound state
@@ -144,21 +198,35 @@ sound-performed caller Open_session state there allowed sound =
       connections = sound.connections;
       sessions = sessions-opened caller state.connections.rows state.sessions there (leb-false most_sessions (length (rows_of caller state.sessions.rows)) room.0)
           (leb-false last_session state.sessions.next room.1) sound.sessions;
+      prompts = sound.prompts;
       collections = sound.collections;
       aliases = sound.aliases;
     }
 sound-performed caller (Close_session session) state there allowed sound = record {
   connections = sound.connections;
   sessions = sessions-fewer state.connections.rows (λ row. not (is_of caller session row)) state.sessions sound.sessions;
+  prompts = sound.prompts;
   collections = sound.collections;
   aliases = sound.aliases;
 }
 sound-performed caller (Lock_collection stem) state there allowed sound = record {
   connections = sound.connections;
   sessions = sound.sessions;
+  prompts = sound.prompts;
   collections = sound-locked stem state.collections sound.collections;
   aliases = sound.aliases;
 }
+sound-performed caller (Begin_prompt kind) state there allowed sound = with-prompts (begun caller kind state.prompts) state sound (prompts-begun state.connections.rows caller kind state.prompts there allowed.0 allowed.1 sound.prompts)
+sound-performed caller (Ask_prompt prompt) state there allowed sound =
+    with-prompts (asked_again prompt state.prompts) state sound (prompts-asked_again state.connections.rows prompt state.prompts allowed.0 allowed.1 sound.prompts)
+sound-performed caller (Finish_target prompt) state there allowed sound =
+    with-prompts (targeted prompt first_done state.prompts) state sound (prompts-targeted first_done targets-done state.connections.rows prompt state.prompts allowed sound.prompts)
+sound-performed caller (Drop_target prompt) state there allowed sound =
+    with-prompts (targeted prompt first_dropped state.prompts) state sound (prompts-targeted first_dropped targets-dropped state.connections.rows prompt state.prompts allowed sound.prompts)
+sound-performed caller (End_prompt prompt dismissed created) state there allowed sound =
+    with-prompts (ended prompt state.prompts) state sound (prompts-ended state.connections.rows prompt state.prompts sound.prompts)
+sound-performed caller Become_agent state there allowed sound = with-prompts (registered caller state.prompts) state sound (prompts-registered state.connections.rows caller state.prompts there sound.prompts)
+sound-performed caller Leave_agent state there allowed sound = with-prompts (unregistered state.prompts) state sound (prompts-unregistered state.connections.rows state.prompts sound.prompts)
 
 sound-all : (caller : ConnId) (changes : List Change) (state : State) → has caller state.connections.rows ≡ true → AreAllowed caller changes state → IsSound state
     → IsSound (performed_all caller changes state)
@@ -176,6 +244,42 @@ sound-run caller brought (After changes next) fates state there may sound =
 sound-run caller brought (Asks demand next) [] state there may sound = sound
 sound-run caller brought (Asks demand next) (some ∷ fates) state there may sound =
     sound-run caller brought (next some) fates (demanded brought demand some state) there may.1 (sound-demanded brought demand some state may.0 sound)
+
+-- ---- what is sent
+
+-- what a change sends can wait
+waits-sent : (caller : ConnId) (change : Change) (state : State) → has caller state.connections.rows ≡ true → IsAllowed caller change state → IsSound state → AllByRecursion CanWait (sent_by caller change state)
+waits-sent caller Open_session state there allowed sound = tt
+waits-sent caller (Close_session session) state there allowed sound = tt
+waits-sent caller (Lock_collection stem) state there allowed sound = tt
+waits-sent caller (Begin_prompt kind) state there allowed sound = tt
+waits-sent caller (Ask_prompt prompt) state there allowed sound =
+    ask_sent-can state.connections.rows (asked_again prompt state.prompts) state.collections prompt (sound-performed caller (Ask_prompt prompt) state there allowed sound).prompts sound.collections
+waits-sent caller (Finish_target prompt) state there allowed sound = tt
+waits-sent caller (Drop_target prompt) state there allowed sound = tt
+waits-sent caller (End_prompt prompt dismissed created) state there allowed sound = completed_sent-can state.connections.rows state.prompts prompt dismissed created sound.prompts allowed
+waits-sent caller Become_agent state there allowed sound =
+    asks_sent-can state.connections.rows (registered caller state.prompts) state.collections (sound-performed caller Become_agent state there tt sound).prompts sound.collections
+waits-sent caller Leave_agent state there allowed sound = tt
+
+waits-all : (caller : ConnId) (changes : List Change) (state : State) → has caller state.connections.rows ≡ true → AreAllowed caller changes state → IsSound state
+    → AllByRecursion CanWait (sent_all caller changes state)
+waits-all caller [] state there allowed sound = tt
+waits-all caller (change ∷ changes) state there allowed sound =
+    each-append CanWait (sent_by caller change state) (sent_all caller changes (performed caller change state)) (waits-sent caller change state there allowed.0 sound)
+    (waits-all caller changes (performed caller change state) (ap (λ (c : ConnRows). has caller c.rows) (connections-performed caller change state) ∙ there) allowed.1
+    (sound-performed caller change state there allowed.0 sound))
+
+waits-run : (caller : ConnId) (brought : Brought) (plan : Plan) (fates : List Fate) (state : State) → has caller state.connections.rows ≡ true → MayRun caller brought plan fates state → IsSound state
+    → AllByRecursion CanWait (run caller brought plan fates state).sends
+waits-run caller brought (Ends answer changes) fates state there may sound = waits-all caller changes state there may.0 sound
+waits-run caller brought (After changes next) fates state there may sound =
+    let mid = performed_all caller changes state in
+    each-append CanWait (sent_all caller changes state) (run caller brought (next (asked caller brought mid)) fates mid).sends (waits-all caller changes state there may.0 sound)
+    (waits-run caller brought (next (asked caller brought mid)) fates mid (ap (λ (c : ConnRows). has caller c.rows) (connections-all caller changes state) ∙ there) may.1 (sound-all caller changes state there may.0 sound))
+waits-run caller brought (Asks demand next) [] state there may sound = tt
+waits-run caller brought (Asks demand next) (some ∷ fates) state there may sound =
+    waits-run caller brought (next some) fates (demanded brought demand some state) there may.1 (sound-demanded brought demand some state may.0 sound)
 
 typed-run : (caller : ConnId) (brought : Brought) (plan : Plan) (fates : List Fate) (state : State) → MayRun caller brought plan fates state → IsTypedAnswer (run caller brought plan fates state).answer
 typed-run caller brought (Ends answer changes) fates state may = may.1
@@ -195,6 +299,20 @@ typed-limited (Ends answer []) ran typed = typed-bounded ran.answer typed
 typed-limited (Ends answer (change ∷ changes)) ran typed = typed
 typed-limited (After changes next) ran typed = typed
 typed-limited (Asks demand next) ran typed = typed
+
+some-same : (one other : PromptRow) → Some one ≡ Some other → one ≡ other
+some-same one other is = cc
+
+-- a prompt on which Prompt wasn't called yet is asked in round 1
+made-first : (stage : Stage) → is_made stage ≡ true → round_of stage ≡ 0
+made-first Made made = refl
+made-first (Asked round) made = absurd (let no : false ≡ true = made in cc)
+made-first (Deriving round) made = absurd (let no : false ≡ true = made in cc)
+
+ask-round : (prompt : PromptId) (state : State) (row : PromptRow) → row_at prompt state.prompts ≡ Some row → is_made row.stage ≡ true → next_round (row_at prompt state.prompts) ≤ last_round
+ask-round prompt state row found made =
+    let one : next_round (row_at prompt state.prompts) ≡ 1 = ap next_round found ∙ ap (λ n. n + 1) (made-first row.stage made) in
+    omega (arith, one)
 
 module _ (caller : ConnId) (brought : Brought) (fates : List Fate) where
   -- ---- the table of calls
@@ -400,37 +518,160 @@ module _ (caller : ConnId) (brought : Brought) (fates : List Fate) where
   target-may alias state None named stems = (tt, tt)
   target-may alias state (Some stem) named stems = settled-may alias stem state (named, stems stem refl)
 
+  -- ---- calls of prompts
+
+  -- a number that is left has its type
+  prompt-number : (state : State) → IsSound state → state.prompts.next < 2 ^ 64
+  prompt-number state sound = omega (arith, sound.prompts.kept.numbered)
+
+  new-may : (fits : Bool) (returned : Option PromptId → Body) (kind : PromptKind) (state : State) → ((prompt : PromptId) → prompt.0 < 2 ^ 64 → AreTyped (returned (Some prompt))) → IsSound state
+      → (fits ≡ true → IsSoundKind kind) → MayRun caller brought (with_new_prompt fits returned kind (asked caller brought state)) fates state
+  new-may fits returned kind state typed sound is =
+      let next = next_prompt (asked caller brought state) in
+      let body = returned (Some next) in
+      let inner : (full : Bool) → prompts.is_full caller state.prompts ≡ full → (b : Bool) → fits ≡ b
+      → MayRun caller brought (cond full (refused name.LimitsExceeded) (cond b (answered_if_small body (Begin_prompt kind ∷ [])) (refused name.LimitsExceeded))) fates state =
+      elim [
+        | true ↦ λ full b fit. (tt, tt)
+        | false ↦ λ full. elim [
+          | true ↦ λ fit. small-may body (Begin_prompt kind ∷ []) state ((full, is fit), tt) (typed next (prompt-number state sound)) (is_small body)
+          | false ↦ λ fit. (tt, tt)
+        ]
+      ] in
+      inner (prompts.is_full caller state.prompts) refl fits refl
+
+  unlocking-may : (paths : List (List ℕ)) (targets : List Target) (state : State) → IsSound state → ArePaths paths → AllByRecursion IsSoundTarget targets
+      → MayRun caller brought (unlocking paths targets (asked caller brought state)) fates state
+  unlocking-may paths [] state sound typed each = small-may (body.ObjectsAndPrompt paths None) [] state tt (typed, tt) (is_small (body.ObjectsAndPrompt paths None))
+  unlocking-may paths (target ∷ targets) state sound typed each =
+      new-may (are_light (target ∷ targets)) (body.ObjectsAndPrompt paths) (kind.Unlock (all_left (target ∷ targets))) state (λ prompt number. (typed, number)) sound
+      (λ light. record { done = tt; left = each; light = omega (arith, leb-true (weight (target ∷ targets)) most_weight light) })
+
+  alias-text : (alias : Option (List ℕ)) → IsTypedName alias → (option_map_or (λ (name : List ℕ). name) alias [] ≡ []) ⊎ IsTypedAlias (option_map_or (λ (name : List ℕ). name) alias [])
+  alias-text None typed = inl refl
+  alias-text (Some alias) typed = inr typed
+
+  creating-may : (label : List ℕ) (alias : Option (List ℕ)) (salt : List ℕ) (state : State) → IsSound state → IsSalt salt → IsTypedText label × IsTypedName alias
+      → MayRun caller brought (creating label alias salt (asked caller brought state)) fates state
+  creating-may label alias salt state sound random typed =
+      let name_ = option_map_or (λ (name : List ℕ). name) alias [] in
+      let new = kind.Create label name_ salt in
+      let may = new-may true no_collection new state (λ prompt number. (path-of object.Nothing tt, number)) sound
+      (λ fits. record { label = typed.0; alias = alias-text alias typed.1; salt = random.eight; each = random.bytes }) in
+      let pass : (b : Bool) → MayRun caller brought (cond b (refused name.LimitsExceeded) (with_new_prompt true no_collection new (asked caller brought state))) fates state =
+      elim [ true ↦ (tt, tt) | false ↦ may ] in
+      pass (nat_le the_limits.collections (asked_collections (contents_of state)).count)
+
+  alias-stem : (state : State) → IsSound state → (alias : Option (List ℕ)) (stem : List ℕ) → option_and_then (asked_collections (contents_of state)).alias alias ≡ Some stem → IsStem stem
+  alias-stem state sound None stem is = absurd (let no : None ≡ Some stem = is in cc)
+  alias-stem state sound (Some alias) stem is = alias-named (contents_of state) sound.collections alias stem is
+
+  already-may : (state : State) (plan : Plan) (named : Option (List ℕ)) → ((stem : List ℕ) → named ≡ Some stem → AreTyped (body.ObjectAndPrompt (path_text (object.Collection stem)) None)) → MayRun caller brought plan fates state
+      → MayRun caller brought (there_already named plan) fates state
+  already-may state plan None typed may = may
+  already-may state plan (Some stem) typed may = (tt, typed stem refl)
+
+  unless-may : (why : Option PromptRefused) (plan : Plan) (state : State) → MayRun caller brought plan fates state → MayRun caller brought (unless_refused why plan) fates state
+  unless-may None plan state may = may
+  unless-may (Some why) plan state may = (tt, tt)
+
+  round-may : (prompt : Option PromptId) (round : ℕ) (state : State) → MayRun caller brought (refuse prompt round (asked caller brought state)) fates state
+  round-may None round state =
+      let pass : (b : Bool) → MayRun caller brought (cond b (refused name.NoSuchObject) (refused name.AccessDenied)) fates state = elim [ true ↦ (tt, tt) | false ↦ (tt, tt) ] in
+      pass (is_agent caller state.prompts)
+  round-may (Some prompt) round state = unless-may (refusal prompt round caller state.prompts) (answered body.Empty (End_prompt prompt true None ∷ [])) state ((tt, tt), tt)
+
+  -- a prompt on which Prompt wasn't called yet advances
+  made-keeps : (prompt : PromptId) (change : TargetLists → TargetLists) (state : State) (row : PromptRow) → row_at prompt state.prompts ≡ Some row → is_made row.stage ≡ true → KeepsMore prompt change state
+  made-keeps prompt change state row found made other is now =
+      let same : row ≡ other = some-same row other (sym found ∙ is) in
+      absurd (let no : true ≡ false = sym made ∙ ap (λ (r : PromptRow). is_made r.stage) same ∙ now in cc)
+
+  left-allowed : (prompt : PromptId) (left done : List Target) (state : State) (row : PromptRow) → row_at prompt state.prompts ≡ Some row → is_made row.stage ≡ true → row.kind ≡ kind.Unlock (record { done = done; left = left })
+      → AreAllowed caller (target_changes prompt (asked_collections (contents_of state)) left) state
+  left-allowed prompt [] done state row found made its = (tt, tt)
+  left-allowed prompt (target ∷ left) done state row found made its =
+      let asks = asked_collections (contents_of state) in
+      let finish : PromptRow → PromptRow = λ r. record r { kind = kind_with first_done r.kind } in
+      let drop : PromptRow → PromptRow = λ r. record r { kind = kind_with first_dropped r.kind } in
+      let finished : State = record state { prompts = targeted prompt first_done state.prompts } in
+      let dropped : State = record state { prompts = targeted prompt first_dropped state.prompts } in
+      let changes : Bool → Bool → List Change =
+      λ there unlocked. cond there (cond unlocked (Finish_target prompt ∷ target_changes prompt asks left) (Ask_prompt prompt ∷ [])) (Drop_target prompt ∷ target_changes prompt asks left) in
+      let after-finish = left-allowed prompt left (done ++ target ∷ []) finished (finish row) (row-changed prompt finish state.prompts (λ r. refl) ∙ ap (option_map finish) found) made (ap (kind_with first_done) its) in
+      let after-drop = left-allowed prompt left done dropped (drop row) (row-changed prompt drop state.prompts (λ r. refl) ∙ ap (option_map drop) found) made (ap (kind_with first_dropped) its) in
+      let more : HasMore prompt state = λ other is. subst (λ (r : PromptRow). HasLeft r.kind) (some-same row other (sym found ∙ is)) (subst HasLeft (sym its) refl) in
+      let first : next_round (row_at prompt state.prompts) ≤ last_round = ask-round prompt state row found made in
+      let pass : (there unlocked : Bool) → AreAllowed caller (changes there unlocked) state =
+      elim [
+        | true ↦ elim [ true ↦ (made-keeps prompt first_done state row found made, after-finish) | false ↦ ((first, more), tt) ]
+        | false ↦ λ unlocked. (made-keeps prompt first_dropped state row found made, after-drop)
+      ] in
+      pass (has_collection target.stem state.collections) (is_open target.stem state.collections)
+
+  kind-allowed : (prompt : PromptId) (state : State) (row : PromptRow) (k : PromptKind) → row_at prompt state.prompts ≡ Some row → is_made row.stage ≡ true → row.kind ≡ k
+      → AreAllowed caller (advance prompt (asked_collections (contents_of state)) k) state
+  kind-allowed prompt state row (kind.Unlock targets) found made its = left-allowed prompt targets.left targets.done state row found made its
+  kind-allowed prompt state row (kind.Create label alias salt) found made its =
+      let more : HasMore prompt state = λ other is. subst (λ (r : PromptRow). HasLeft r.kind) (some-same row other (sym found ∙ is)) (subst HasLeft (sym its) tt) in
+      ((ask-round prompt state row found made, more), tt)
+
+  first-may : (prompt : PromptId) (state : State) (row : Option PromptRow) → row_at prompt state.prompts ≡ row → AreAllowed caller (first_advance prompt (asked_collections (contents_of state)) row) state
+  first-may prompt state None found = tt
+  first-may prompt state (Some row) found =
+      let pass : (b : Bool) → is_made row.stage ≡ b → AreAllowed caller (cond b (advance prompt (asked_collections (contents_of state)) row.kind) []) state =
+      elim [ true ↦ λ made. kind-allowed prompt state row row.kind found made refl | false ↦ λ made. tt ] in
+      pass (is_made row.stage) refl
+
   -- each row's plan may be run
-  pub may-run : (state : State) (call : Result Call CallFault) → IsSound state → brought.now < 2 ^ 64 → HasTypes call → brought.value ≡ value_in call
-      → MayRun caller brought (plan_of call (asked caller brought state)) fates state
-  may-run state (Err fault) sound small types same = (tt, tt)
-  may-run state (Ok call.Ping) sound small types same = (tt, tt)
-  may-run state (Ok (call.OpenSession algorithm)) sound small types same = opened-may state (is_plain algorithm)
-  may-run state (Ok (call.CloseSession session)) sound small types same = closed-may session state ((asked caller brought state).sessions.owns session)
-  may-run state (Ok (call.SearchItems wanted)) sound small types same =
+  pub may-run : (salt : List ℕ) (state : State) (call : Result Call CallFault) → IsSound state → brought.now < 2 ^ 64 → IsSalt salt → HasTypes call → brought.value ≡ value_in call
+      → MayRun caller brought (plan_of salt call (asked caller brought state)) fates state
+  may-run salt state (Err fault) sound small random types same = (tt, tt)
+  may-run salt state (Ok call.Ping) sound small random types same = (tt, tt)
+  may-run salt state (Ok (call.OpenSession algorithm)) sound small random types same = opened-may state (is_plain algorithm)
+  may-run salt state (Ok (call.CloseSession session)) sound small random types same = closed-may session state ((asked caller brought state).sessions.owns session)
+  may-run salt state (Ok (call.SearchItems wanted)) sound small random types same =
       (tt, (found-unlocked wanted state.collections sound.collections, found-locked wanted state.collections sound.collections))
-  may-run state (Ok (call.ReadAlias alias)) sound small types same = (tt, alias-typed alias state sound)
-  may-run state (Ok (call.SetAlias alias given)) sound small types same =
+  may-run salt state (Ok (call.ReadAlias alias)) sound small random types same = (tt, alias-typed alias state sound)
+  may-run salt state (Ok (call.SetAlias alias given)) sound small random types same =
       target-may alias state (alias_target (asked_collections (contents_of state)) given) (is-alias alias types) (target-stem (contents_of state) sound.collections given)
-  may-run state (Ok (call.Lock objects)) sound small types same = lock-may objects state sound
-  may-run state (Ok (call.GetSecrets items session)) sound small types same = secrets-may items session state sound
-  may-run state (Ok (call.SearchCollection collection wanted)) sound small types same = collection-may wanted state sound (collection_named (asked_collections (contents_of state)) collection)
-  may-run state (Ok (call.GetSecret stem item session)) sound small types same = secret-may stem item session state sound
-  may-run state (Ok (call.CreateItem collection label attributes secret replace)) sound small types same =
+  may-run salt state (Ok (call.Lock objects)) sound small random types same = lock-may objects state sound
+  may-run salt state (Ok (call.GetSecrets items session)) sound small random types same = secrets-may items session state sound
+  may-run salt state (Ok (call.SearchCollection collection wanted)) sound small random types same = collection-may wanted state sound (collection_named (asked_collections (contents_of state)) collection)
+  may-run salt state (Ok (call.GetSecret stem item session)) sound small random types same = secret-may stem item session state sound
+  may-run salt state (Ok (call.CreateItem collection label attributes secret replace)) sound small random types same =
       created-may (Add_item label attributes secret.content replace) secret.session secret.content state sound
       (small, (types.0, subst (λ value. AreSecretTypes value secret.content) (sym same) types.1)) (collection_named (asked_collections (contents_of state)) collection)
-  may-run state (Ok (call.DeleteCollection collection)) sound small types same = erased-may state (collection_named (asked_collections (contents_of state)) collection)
-  may-run state (Ok (call.DeleteItem stem item)) sound small types same =
+  may-run salt state (Ok (call.DeleteCollection collection)) sound small random types same = erased-may state (collection_named (asked_collections (contents_of state)) collection)
+  may-run salt state (Ok (call.DeleteItem stem item)) sound small random types same =
       let edit = Remove_item item in
       let given = storable_edit brought state.collections stem edit in
       if-may (has_item stem item.0 state.collections) (if_open stem (asked caller brought state) (storing stem edit (λ _. no_prompt) given)) name.NoSuchObject state
       (if-may (is_open stem state.collections) (storing stem edit (λ _. no_prompt) given) name.IsLocked state
       (stored-may stem edit (λ _. no_prompt) given state (small, tt) (each-typed given _ (λ made. prompt-typed))))
-  may-run state (Ok (call.SetSecret stem item secret)) sound small types same =
+  may-run salt state (Ok (call.SetSecret stem item secret)) sound small random types same =
       let edit = Set_secret item secret.content in
       if-may (has_item stem item.0 state.collections) (secret_stored secret.session stem secret.content edit (λ _. body.Empty) (asked caller brought state)) name.NoSuchObject state
       (kept-may secret.session stem secret.content edit (λ _. body.Empty) state (small, subst (λ value. AreSecretTypes value secret.content) (sym same) types)
       (each-typed (storable_edit brought state.collections stem edit) _ (λ made. tt)))
+  may-run salt state (Ok (call.CreateCollection label alias)) sound small random types same =
+      already-may state (creating label alias salt (asked caller brought state)) (option_and_then (asked_collections (contents_of state)).alias alias)
+      (λ stem is. (path-of (object.Collection stem) (alias-stem state sound alias stem is), tt)) (creating-may label alias salt state sound random types)
+  may-run salt state (Ok (call.Unlock objects)) sound small random types same =
+      let asks = asked_collections (contents_of state) in
+      unlocking-may (unlocked_there asks objects) (targets_of asks objects) state sound (unlocked-paths (contents_of state) sound.collections objects) (targets-sound (contents_of state) sound.collections objects)
+  may-run salt state (Ok (call.Prompt prompt)) sound small random types same =
+      let asks = asked_collections (contents_of state) in
+      if-may (prompts.owns caller prompt state.prompts) (answered body.Empty (first_advance prompt asks (row_at prompt state.prompts))) name.NoSuchObject state
+      (first-may prompt state (row_at prompt state.prompts) refl, tt)
+  may-run salt state (Ok (call.Dismiss prompt)) sound small random types same =
+      if-may (prompts.owns caller prompt state.prompts) (answered body.Empty (End_prompt prompt true None ∷ [])) name.NoSuchObject state ((tt, tt), tt)
+  may-run salt state (Ok call.Register) sound small random types same =
+      let pass : (b : Bool) → MayRun caller brought (cond b (refused name.AgentTaken) (answered body.Empty (Become_agent ∷ []))) fates state = elim [ true ↦ (tt, tt) | false ↦ ((tt, tt), tt) ] in
+      pass (is_taken caller state.prompts.agent)
+  may-run salt state (Ok call.Unregister) sound small random types same =
+      if-may (is_agent caller state.prompts) (answered body.Empty (Leave_agent ∷ [])) name.AccessDenied state ((tt, tt), tt)
+  may-run salt state (Ok (call.Refuse prompt round)) sound small random types same = round-may prompt round state
 
 -- ---- what a request puts out
 
@@ -449,7 +690,7 @@ replies-wait false sent waits = tt
 
 -- a request that fits may be run
 came-may : (came : Recorded) (state : State) → IsSound state → FitsRequest came state → MayRun came.arrival.conn (brought_by came.arrival) (plan_for came state) came.fates state
-came-may came state sound fits = may-run came.arrival.conn (brought_by came.arrival) came.fates state came.arrival.request.call sound fits.moment fits.types refl
+came-may came state sound fits = may-run came.arrival.conn (brought_by came.arrival) came.fates came.arrival.salt state came.arrival.request.call sound fits.moment fits.salt fits.types refl
 
 -- the reply to a request, and all that it puts out
 pub reply-waits : (came : Recorded) (state : State) → IsSound state → FitsRequest came state
@@ -461,8 +702,19 @@ reply-waits came state sound fits =
     message-waits caller came.arrival.request (served came state).answer
     (typed-limited plan (run caller brought plan came.fates state) (typed-run caller brought plan came.fates state (came-may came state sound fits))) (answer-small came state)
 
-served-waits : (came : Recorded) (state : State) → IsSound state → FitsRequest came state → AllByRecursion CanWait (put_out came.arrival.conn came.arrival.request (served came state))
-served-waits came state sound fits = rw (put_out-served came state) (replies-wait came.arrival.request.wants_reply _ (reply-waits came state sound fits))
+-- what its changes send
+sends-wait : (came : Recorded) (state : State) → IsSound state → has came.arrival.conn state.connections.rows ≡ true → FitsRequest came state → AllByRecursion CanWait (served came state).sends
+sends-wait came state sound there fits =
+    let caller = came.arrival.conn in
+    let brought = brought_by came.arrival in
+    let plan = plan_for came state in
+    rw (sends-limited plan (run caller brought plan came.fates state)) (waits-run caller brought plan came.fates state there (came-may came state sound fits) sound)
+
+served-waits : (came : Recorded) (state : State) → IsSound state → has came.arrival.conn state.connections.rows ≡ true → FitsRequest came state
+    → AllByRecursion CanWait (put_out came.arrival.conn came.arrival.request (served came state))
+served-waits came state sound there fits =
+    each-append CanWait (replies came.arrival.conn came.arrival.request (served came state).answer) (served came state).sends
+    (replies-wait came.arrival.request.wants_reply _ (reply-waits came state sound fits)) (sends-wait came state sound there fits)
 
 sound-served : (came : Recorded) (state : State) → IsSound state → has came.arrival.conn state.connections.rows ≡ true → FitsRequest came state → IsSound (served came state).state
 sound-served came state sound there fits =
@@ -477,6 +729,7 @@ pub sound_start : (contents : Contents) → AreSoundContents contents → IsSoun
 sound_start contents sound = record {
   connections = record { joined = tt; apart = tt; few = omega arith; waiting = tt };
   sessions = record { opened = tt; once = λ number. omega arith; limited = λ owner. omega arith; owned = tt; numbered = omega arith };
+  prompts = prompts-none [];
   collections = sound.collections;
   aliases = sound.aliases;
 }
@@ -485,19 +738,21 @@ pub sound_step : (state : State) (event : Event) → IsSound state → Fits stat
 sound_step state (event.Connect conn) sound fits = record {
   connections = connections-joined conn state.connections fits.0 fits.1 sound.connections;
   sessions = sessions-among state.connections.rows (joined conn state.connections).rows (λ owner there. has-push owner state.connections.rows (new_row conn) there) state.sessions sound.sessions;
+  prompts = prompts-among state.connections.rows (joined conn state.connections).rows (λ owner there. has-push owner state.connections.rows (new_row conn) there) state.prompts sound.prompts;
   collections = sound.collections;
   aliases = sound.aliases;
 }
 sound_step state (event.Arrive came) sound fits =
     let ran = served came state in
     let sent = put_out came.arrival.conn came.arrival.request ran in
-    sound-delivered sent (each-weaker CanWait (λ sent. HasSpelling sent.out) (λ sent waits. waits.spelled) sent (served-waits came state sound fits.1))
+    sound-delivered sent (each-weaker CanWait (λ sent. HasSpelling sent.out) (λ sent waits. waits.spelled) sent (served-waits came state sound fits.0 fits.1))
     ran.state (sound-served came state sound fits.0 fits.1)
 sound_step state (event.Leave conn) sound fits = sound-changed conn left (λ row. refl) (λ row well. record { within = well.within; spelled = well.spelled }) state sound
 sound_step state (event.Take conn) sound fits = sound-changed conn emptied (λ row. refl) (λ row well. record { within = omega arith; spelled = tt }) state sound
 sound_step state (event.Gone conn) sound fits = record {
   connections = connections-without conn state.connections sound.connections;
   sessions = sessions-without conn state.connections.rows state.sessions sound.sessions;
+  prompts = prompts-gone conn state.connections.rows state.prompts sound.prompts;
   collections = sound.collections;
   aliases = sound.aliases;
 }
@@ -509,7 +764,7 @@ sound_replay state (event ∷ events) sound legal = sound_replay (step state eve
 -- what an event puts out can wait
 pub waits_step : (state : State) (event : Event) → IsSound state → Fits state event → AllByRecursion CanWait (puts_out state event)
 waits_step state (event.Connect conn) sound fits = tt
-waits_step state (event.Arrive came) sound fits = served-waits came state sound fits.1
+waits_step state (event.Arrive came) sound fits = served-waits came state sound fits.0 fits.1
 waits_step state (event.Leave conn) sound fits = tt
 waits_step state (event.Take conn) sound fits = tt
 waits_step state (event.Gone conn) sound fits = tt

@@ -1,9 +1,11 @@
+pub mod AgentCalls
 pub mod AliasCalls
 pub mod CollectionCalls
 pub mod Fates
 pub mod ItemCalls
 pub mod Machine
 pub mod Plan
+pub mod PromptCalls
 pub mod Replay
 pub mod Rows
 pub mod Run

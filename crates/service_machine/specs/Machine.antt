@@ -10,13 +10,15 @@ use Rattle.service_tables.specs.Connections.{desk_of}
 use Rattle.service_tables.specs.Desks.{Table}
 use Rattle.service_tables.specs.State.{State}
 use Rattle.service_machine.specs.Step.{IsMissing}
+use Rattle.prompt_state.specs.declared.row.Prompts.{Prompts}
 use Rattle.session_table.specs.declared.row.Sessions.{Sessions}
 
 -- the rows that the tables have
-abbrev pub rows_from : Table → Sessions → Rows → Option AliasRows → State
-rows_from connections sessions collections aliases = record {
+abbrev pub rows_from : Table → Sessions → Prompts → Rows → Option AliasRows → State
+rows_from connections sessions prompts collections aliases = record {
   connections = record { rows = connections.rows; next = connections.next };
   sessions = sessions;
+  prompts = prompts;
   collections = collections;
   aliases = aliases;
 }

@@ -3,12 +3,14 @@
 -- of every kind of change holds of all rows. No question shows the value of a secret: a plan says whose is given.
 use Rattle.std.specs.Prelude.{ℕ, Bool, List, [], Option}
 use Rattle.kr_base.specs.declared.ids.ItemId.{ItemId}
+use Rattle.kr_base.specs.declared.ids.PromptId.{PromptId}
 use Rattle.kr_base.specs.declared.ids.SessionId.{SessionId}
 use Rattle.kr_names.specs.declared.object_name.ObjectName.{ObjectName}
+use Rattle.prompt_state.specs.declared.row.PromptKind.{PromptKind}
 use Rattle.secret_calls.specs.declared.out.Body.{Body}
 use Rattle.secret_calls.specs.declared.out.ErrorName.{ErrorName}
 use Rattle.service_tables.specs.declared.fate.Fate.{Fate}
-use Rattle.service_tables.specs.Questions.{AliasQuestions, CollectionQuestions}
+use Rattle.service_tables.specs.Questions.{AliasQuestions, CollectionQuestions, PromptQuestions}
 use Rattle.service_tables.specs.Storing.{Edit}
 
 -- what a row may ask of the sessions, about its caller
@@ -25,6 +27,7 @@ pub record Questions : Type 0 where
   pub sessions : SessionQuestions
   pub collections : CollectionQuestions
   pub aliases : AliasQuestions
+  pub prompts : PromptQuestions
   -- the item that an edit of an unlocked collection would make, change or remove, if the edit keeps within all limits
   pub storable : List ℕ → Edit → Option ItemId
 
@@ -47,6 +50,20 @@ pub data Change : Type 0 where
   Close_session : (session : SessionId) → Change
   -- the collection of the stem is locked: its key and its items are dropped
   Lock_collection : (stem : List ℕ) → Change
+  -- the caller gets the next prompt, which isn't asked yet
+  Begin_prompt : (kind : PromptKind) → Change
+  -- the prompt is asked in its next round; the agent is sent Ask, if there is one
+  Ask_prompt : (prompt : PromptId) → Change
+  -- the prompt's first target that is left is done
+  Finish_target : (prompt : PromptId) → Change
+  -- the prompt's first target that is left is dropped
+  Drop_target : (prompt : PromptId) → Change
+  -- the prompt ends, dismissed or not, and with the collection that it created, if it did; its owner is sent Completed
+  End_prompt : (prompt : PromptId) → (dismissed : Bool) → (created : Option (List ℕ)) → Change
+  -- the caller is the agent; it is sent Ask for each prompt that is asked
+  Become_agent : Change
+  -- there is no agent; a prompt whose key is being derived is asked in its next round
+  Leave_agent : Change
 
 -- whose secrets are given to a session
 pub data Gift : Type 0 where

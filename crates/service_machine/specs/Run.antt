@@ -5,6 +5,8 @@ use Rattle.kr_base.specs.declared.ids.ConnId.{ConnId}
 use Rattle.alias_table.specs.Table.{AliasRows}
 use Rattle.collection_table.specs.Entries.{changed}
 use Rattle.collection_table.specs.Rows as collections
+use Rattle.prompt_state.specs.Prompts.{asked_again, begun, ended, registered, targeted, unregistered}
+use Rattle.prompt_state.specs.Targets.{first_done, first_dropped}
 use Rattle.secret_calls.specs.declared.out.Body.{Body}
 use Rattle.secret_calls.specs.declared.out.Body.TheVariants as body
 use Rattle.secret_calls.specs.declared.out.ErrorName.{ErrorName}
@@ -12,14 +14,15 @@ use Rattle.secret_calls.specs.declared.out.ErrorName.TheVariants as name
 use Rattle.secret_calls.specs.declared.secret.ReturnedSecret.{ReturnedSecret}
 use Rattle.secret_calls.specs.Outs.{spelled_body}
 use Rattle.session_table.specs.Sessions.{owns, is_full, opened, closed}
-use Rattle.service_tables.specs.Connections.{Sent}
+use Rattle.service_tables.specs.declared.rows.Sent.{Sent}
 use Rattle.service_tables.specs.Limits.{most_body}
 use Rattle.service_tables.specs.Aliases.{aliases_resolved, aliases_set, asked_aliases}
 use Rattle.service_tables.specs.Opened.{Contents, contents_of}
-use Rattle.service_tables.specs.Reading.{asked_collections, item_secret, secret_of}
+use Rattle.service_prompts.specs.Prompting.{ask_sent, asks_sent, completed_sent}
+use Rattle.service_tables.specs.Reading.{asked_collections, asked_prompts, item_secret, secret_of}
 use Rattle.service_tables.specs.Storing.{Brought, IsResolve, IsStoring, change_of, rows_erased, rows_stored, storable_edit}
 use Rattle.service_tables.specs.declared.fate.Fate.{Fate}
-use Rattle.service_machine.specs.Plan.{SessionQuestions, Questions, Demand, Store, Erase, Set_alias, Read_aliases, Change, Open_session, Close_session, Lock_collection, Gift, Secret_of, Secrets_of, Answer, Returns, Gives, Refuses, Plan, Ends, After, Asks}
+use Rattle.service_machine.specs.Plan.{SessionQuestions, Questions, Demand, Store, Erase, Set_alias, Read_aliases, Change, Open_session, Close_session, Lock_collection, Begin_prompt, Ask_prompt, Finish_target, Drop_target, End_prompt, Become_agent, Leave_agent, Gift, Secret_of, Secrets_of, Answer, Returns, Gives, Refuses, Plan, Ends, After, Asks}
 use Rattle.service_tables.specs.State.{State}
 
 -- ---- what is asked
@@ -38,6 +41,7 @@ asked caller brought state = record {
   sessions = asked_sessions caller state;
   collections = asked_collections (contents_of state);
   aliases = asked_aliases (contents_of state);
+  prompts = asked_prompts caller state.prompts;
   storable = storable_edit brought state.collections;
 }
 
@@ -48,17 +52,31 @@ abbrev pub performed : ConnId → Change → State → State
 performed caller Open_session state = record state { sessions = opened caller state.sessions }
 performed caller (Close_session session) state = record state { sessions = closed caller session state.sessions }
 performed caller (Lock_collection stem) state = record state { collections = changed stem collections.locked state.collections }
+performed caller (Begin_prompt kind) state = record state { prompts = begun caller kind state.prompts }
+performed caller (Ask_prompt prompt) state = record state { prompts = asked_again prompt state.prompts }
+performed caller (Finish_target prompt) state = record state { prompts = targeted prompt first_done state.prompts }
+performed caller (Drop_target prompt) state = record state { prompts = targeted prompt first_dropped state.prompts }
+performed caller (End_prompt prompt dismissed created) state = record state { prompts = ended prompt state.prompts }
+performed caller Become_agent state = record state { prompts = registered caller state.prompts }
+performed caller Leave_agent state = record state { prompts = unregistered state.prompts }
 
 -- changes in order
 abbrev pub performed_all : ConnId → List Change → State → State
 performed_all caller [] state = state
 performed_all caller (change ∷ changes) state = performed_all caller changes (performed caller change state)
 
--- what a change sends besides the reply: nothing is sent so far
+-- what a change sends besides the reply: Ask to the agent, for each prompt that is asked by it, and Completed to the owner of a prompt that ends
 abbrev pub sent_by : ConnId → Change → State → List Sent
 sent_by caller Open_session state = []
 sent_by caller (Close_session session) state = []
 sent_by caller (Lock_collection stem) state = []
+sent_by caller (Begin_prompt kind) state = []
+sent_by caller (Ask_prompt prompt) state = ask_sent prompt (asked_again prompt state.prompts) state.collections
+sent_by caller (Finish_target prompt) state = []
+sent_by caller (Drop_target prompt) state = []
+sent_by caller (End_prompt prompt dismissed created) state = completed_sent prompt dismissed created state.prompts
+sent_by caller Become_agent state = asks_sent (registered caller state.prompts) state.collections
+sent_by caller Leave_agent state = []
 
 -- what changes send, in order
 abbrev pub sent_all : ConnId → List Change → State → List Sent

@@ -1,6 +1,6 @@
 -- One event of the service, as a step from rows to rows. What an event puts out stands beside what becomes of it,
 -- so that laws can speak of the outputs before the limit on what waits.
-use Rattle.std.specs.Prelude.{◌≡◌, ℕ, ◌^◌, ◌<◌, ◌≤◌, ◌⊎◌, true, false, if◌then◌else◌, IsTrue, IsSomeAnd, List, [], ◌∷◌, ◌++◌, length, Result, Ok, Err}
+use Rattle.std.specs.Prelude.{◌≡◌, ℕ, ◌^◌, ◌<◌, ◌≤◌, ◌⊎◌, true, false, if◌then◌else◌, IsTrue, IsSomeAnd, List, [], ◌∷◌, ◌++◌, length, Option, Some, None, Result, Ok, Err}
 use Rattle.kr_base.specs.declared.ids.ConnId.{ConnId}
 use Rattle.secret_calls.specs.declared.call.Call.{Call}
 use Rattle.secret_calls.specs.declared.call.Call.TheVariants as call
@@ -12,24 +12,29 @@ use Rattle.secret_calls.specs.declared.out.Out.{Out}
 use Rattle.secret_calls.specs.declared.out.Out.TheVariants as out
 use Rattle.secret_calls.specs.declared.serial.Serial.{Serial}
 use Rattle.secret_calls.specs.Calls.{error_of}
+use Rattle.keyring_text.specs.Fields.{IsBytes}
+use Rattle.prompt_state.specs.Prompts as prompts
 use Rattle.session_table.specs.Sessions.{abandoned}
 use Rattle.service_tables.specs.declared.rows.ConnRow.{ConnRow}
 use Rattle.service_tables.specs.Storing.{Add_item, Brought}
-use Rattle.service_tables.specs.Sound.{AreItemTypes, AreSecretTypes, IsTypedAlias}
+use Rattle.service_tables.specs.Sound.{AreItemTypes, AreSecretTypes, IsTypedAlias, IsTypedText}
 use Rattle.service_machine.specs.declared.event.Arrival.{Arrival}
 use Rattle.service_machine.specs.declared.event.Recorded.{Recorded}
 use Rattle.service_machine.specs.declared.event.Event.{Event}
 use Rattle.service_machine.specs.declared.event.Event.TheVariants as event
 use Rattle.service_machine.specs.declared.event.Output.{Output}
 use Rattle.service_machine.specs.declared.event.Output.TheVariants as output
+use Rattle.service_machine.specs.AgentCalls.{refuse, register, unregister}
 use Rattle.service_machine.specs.AliasCalls.{read_alias, set_alias}
 use Rattle.service_machine.specs.CollectionCalls.{search_collection, create_item, delete_collection}
-use Rattle.service_tables.specs.Connections.{joined, has, changed, without, left, emptied, waiting_for, desk_of, Sent, delivered}
+use Rattle.service_tables.specs.Connections.{joined, has, changed, without, left, emptied, waiting_for, desk_of, delivered}
+use Rattle.service_tables.specs.declared.rows.Sent.{Sent}
 use Rattle.service_machine.specs.ItemCalls.{get_secret, delete_item, set_secret}
 use Rattle.service_tables.specs.Limits.{most_connections, last_connection}
 use Rattle.service_machine.specs.Plan.{Questions, Plan, refused}
+use Rattle.service_machine.specs.PromptCalls.{call_prompt, dismiss}
 use Rattle.service_machine.specs.Run.{Ran, ran, AreFatesOf}
-use Rattle.service_machine.specs.ServiceCalls.{open_session, search_items, lock, get_secrets}
+use Rattle.service_machine.specs.ServiceCalls.{open_session, create_collection, search_items, unlock, lock, get_secrets}
 use Rattle.service_machine.specs.SessionCalls.{ping, close_session}
 use Rattle.service_tables.specs.State.{State}
 
@@ -37,28 +42,35 @@ use Rattle.service_tables.specs.State.{State}
 abbrev pub with_rows : List ConnRow → State → State
 with_rows rows state = record state { connections = record state.connections { rows = rows } }
 
--- the table of calls: one row for each
-abbrev pub row_of : Call → Questions → Plan
-row_of call.Ping asked = ping asked
-row_of (call.OpenSession algorithm) asked = open_session algorithm asked
-row_of (call.CloseSession session) asked = close_session session asked
-row_of (call.SearchItems wanted) asked = search_items wanted asked
-row_of (call.ReadAlias alias) asked = read_alias alias asked
-row_of (call.SetAlias alias object) asked = set_alias alias object asked
-row_of (call.Lock objects) asked = lock objects asked
-row_of (call.GetSecrets items session) asked = get_secrets items session asked
-row_of (call.SearchCollection collection wanted) asked = search_collection collection wanted asked
-row_of (call.CreateItem collection label attributes secret replace) asked =
+-- the table of calls: one row for each. A prompt that creates a collection keeps the salt that comes with the request.
+abbrev pub row_of : List ℕ → Call → Questions → Plan
+row_of salt call.Ping asked = ping asked
+row_of salt (call.OpenSession algorithm) asked = open_session algorithm asked
+row_of salt (call.CloseSession session) asked = close_session session asked
+row_of salt (call.CreateCollection label alias) asked = create_collection label alias salt asked
+row_of salt (call.SearchItems wanted) asked = search_items wanted asked
+row_of salt (call.ReadAlias alias) asked = read_alias alias asked
+row_of salt (call.SetAlias alias object) asked = set_alias alias object asked
+row_of salt (call.Unlock objects) asked = unlock objects asked
+row_of salt (call.Lock objects) asked = lock objects asked
+row_of salt (call.GetSecrets items session) asked = get_secrets items session asked
+row_of salt (call.SearchCollection collection wanted) asked = search_collection collection wanted asked
+row_of salt (call.CreateItem collection label attributes secret replace) asked =
     create_item collection (Add_item label attributes secret.content replace) secret.session secret.content asked
-row_of (call.DeleteCollection collection) asked = delete_collection collection asked
-row_of (call.DeleteItem stem item) asked = delete_item stem item asked
-row_of (call.GetSecret stem item session) asked = get_secret stem item session asked
-row_of (call.SetSecret stem item secret) asked = set_secret stem item secret.session secret.content asked
+row_of salt (call.DeleteCollection collection) asked = delete_collection collection asked
+row_of salt (call.DeleteItem stem item) asked = delete_item stem item asked
+row_of salt (call.GetSecret stem item session) asked = get_secret stem item session asked
+row_of salt (call.SetSecret stem item secret) asked = set_secret stem item secret.session secret.content asked
+row_of salt (call.Prompt prompt) asked = call_prompt prompt asked
+row_of salt (call.Dismiss prompt) asked = dismiss prompt asked
+row_of salt call.Register asked = register asked
+row_of salt call.Unregister asked = unregister asked
+row_of salt (call.Refuse prompt round) asked = refuse prompt round asked
 
 -- a call's row; the fault of a message is answered first
-abbrev pub plan_of : Result Call CallFault → Questions → Plan
-plan_of (Ok call) asked = row_of call asked
-plan_of (Err fault) asked = refused (error_of fault)
+abbrev pub plan_of : List ℕ → Result Call CallFault → Questions → Plan
+plan_of salt (Ok call) asked = row_of salt call asked
+plan_of salt (Err fault) asked = refused (error_of fault)
 
 -- the message that answers a call
 abbrev pub message_of : Serial → Result Body ErrorName → Out
@@ -88,7 +100,7 @@ brought_by arrival = brought_with arrival.now arrival.request.call
 
 -- what a request leads to, in a state, with how each storing ended that it asked for
 abbrev pub served : Recorded → State → Ran
-served came state = ran came.arrival.conn (brought_by came.arrival) (plan_of came.arrival.request.call) came.fates state
+served came state = ran came.arrival.conn (brought_by came.arrival) (plan_of came.arrival.salt came.arrival.request.call) came.fates state
 
 -- what a request puts out: its reply, and then what its changes send
 abbrev pub put_out : ConnId → Request → Ran → List Sent
@@ -116,7 +128,10 @@ step state (event.Connect conn) = record state { connections = joined conn state
 step state (event.Arrive came) = arrived came state
 step state (event.Leave conn) = with_rows (changed conn left state.connections.rows) state
 step state (event.Take conn) = with_rows (changed conn emptied state.connections.rows) state
-step state (event.Gone conn) = with_rows (without conn state.connections.rows) (record state { sessions = abandoned conn state.sessions })
+step state (event.Gone conn) = with_rows (without conn state.connections.rows) (record state {
+  sessions = abandoned conn state.sessions;
+  prompts = prompts.abandoned conn state.prompts;
+})
 
 -- what an event answers
 abbrev pub output_of : State → Event → Output
@@ -138,19 +153,31 @@ IsCrowded state = (most_connections ≤ length state.connections.rows) ⊎ (last
 abbrev pub CanJoin : State → Type 0
 CanJoin state = (length state.connections.rows < most_connections) × (state.connections.next < last_connection)
 
+-- an alias that is given has its type
+abbrev pub IsTypedName : Option (List ℕ) → Type 0
+IsTypedName None = Unit {0}
+IsTypedName (Some alias) = IsTypedAlias alias
+
 -- the arguments of a call have their types
 abbrev pub HasTypes : Result Call CallFault → Type 0
 HasTypes (Ok (call.CreateItem collection label attributes secret replace)) = AreItemTypes label attributes × AreSecretTypes secret.value secret.content
 HasTypes (Ok (call.SetSecret stem item secret)) = AreSecretTypes secret.value secret.content
+HasTypes (Ok (call.CreateCollection label alias)) = IsTypedText label × IsTypedName alias
 HasTypes (Ok (call.SetAlias alias object)) = IsTypedAlias alias
 HasTypes _ = Unit {0}
 
--- A request can be recorded with these fates: its moment and the arguments of its call have their types, and there is one fate for each
--- storing and each resolve that it asks for.
+-- the random bytes that come with a request: 8 of them
+pub record IsSalt (salt : List ℕ) : Type 0 where
+  pub eight : length salt ≡ 8
+  pub bytes : IsBytes salt
+
+-- A request can be recorded with these fates: its moment, its salt and the arguments of its call have their types, and there is one fate for
+-- each storing and each resolve that it asks for.
 pub record FitsRequest (came : Recorded) (state : State) : Type 0 where
   pub moment : came.arrival.now < 2 ^ 64
+  pub salt : IsSalt came.arrival.salt
   pub types : HasTypes came.arrival.request.call
-  pub fates : AreFatesOf came.arrival.conn (brought_by came.arrival) (plan_of came.arrival.request.call) came.fates state
+  pub fates : AreFatesOf came.arrival.conn (brought_by came.arrival) (plan_of came.arrival.salt came.arrival.request.call) came.fates state
 
 -- what a call leads to depends on the moment at which it came: it may store the moment
 abbrev pub TakesMoment : Result Call CallFault → Type 0
@@ -159,6 +186,11 @@ TakesMoment (Ok (call.DeleteItem stem item)) = Unit {0}
 TakesMoment (Ok (call.SetSecret stem item secret)) = Unit {0}
 TakesMoment _ = ⊥
 
+-- what a call leads to depends on its salt: a prompt keeps it
+abbrev pub TakesSalt : Result Call CallFault → Type 0
+TakesSalt (Ok (call.CreateCollection label alias)) = Unit {0}
+TakesSalt _ = ⊥
+
 -- Two requests that differ in nothing on which their steps depend, except in how their storings end.
 pub record AreAlike (one other : Arrival) : Type 0 where
   pub conn : one.conn ≡ other.conn
@@ -166,6 +198,7 @@ pub record AreAlike (one other : Arrival) : Type 0 where
   pub serial : one.request.serial ≡ other.request.serial
   pub wants_reply : one.request.wants_reply ≡ other.request.wants_reply
   pub moment : TakesMoment one.request.call → one.now ≡ other.now
+  pub salt : TakesSalt one.request.call → one.salt ≡ other.salt
 
 -- the event can happen in the state
 abbrev pub Fits : State → Event → Type 0

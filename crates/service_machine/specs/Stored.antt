@@ -10,8 +10,11 @@ use Rattle.secret_calls.specs.declared.out.Body.{Body}
 use Rattle.secret_calls.specs.declared.out.Body.TheVariants as body
 use Rattle.secret_calls.specs.declared.out.ErrorName.{ErrorName}
 use Rattle.secret_calls.specs.declared.out.ErrorName.TheVariants as name
+use Rattle.secret_calls.specs.declared.out.Out.{Out}
 use Rattle.service_tables.specs.declared.fate.Fate.{Fate}
 use Rattle.service_tables.specs.declared.fate.Fate.TheVariants as fate
+use Rattle.service_tables.specs.declared.rows.Sent.{Sent}
+use Rattle.service_tables.specs.Connections.{HasRoomFor, Rooms}
 use Rattle.service_tables.specs.Disk.{DiskState}
 use Rattle.service_tables.specs.Opened.{Contents, contents_of}
 use Rattle.service_tables.specs.Slots.{StoresAliases, StoresAt}
@@ -35,6 +38,34 @@ StoresNothing (Ok (call.DeleteItem stem item)) = ⊥
 StoresNothing (Ok (call.SetSecret stem item secret)) = ⊥
 StoresNothing (Ok (call.SetAlias alias object)) = ⊥
 StoresNothing _ = Unit {0}
+
+-- a call that sends nothing besides its reply
+abbrev pub SendsNothing : Call → Type 0
+SendsNothing (call.Prompt prompt) = ⊥
+SendsNothing (call.Dismiss prompt) = ⊥
+SendsNothing call.Register = ⊥
+SendsNothing (call.Refuse prompt round) = ⊥
+SendsNothing _ = Unit {0}
+
+-- a call that neither stores something nor changes a prompt or the agent
+abbrev pub IsPlain : Call → Type 0
+IsPlain (call.CreateItem collection label attributes secret replace) = ⊥
+IsPlain (call.DeleteCollection collection) = ⊥
+IsPlain (call.DeleteItem stem item) = ⊥
+IsPlain (call.SetSecret stem item secret) = ⊥
+IsPlain (call.SetAlias alias object) = ⊥
+IsPlain (call.CreateCollection label alias) = ⊥
+IsPlain (call.Unlock objects) = ⊥
+IsPlain (call.Prompt prompt) = ⊥
+IsPlain (call.Dismiss prompt) = ⊥
+IsPlain call.Register = ⊥
+IsPlain call.Unregister = ⊥
+IsPlain (call.Refuse prompt round) = ⊥
+IsPlain _ = Unit {0}
+
+-- there is room for a reply to the caller, and for what is sent after it
+abbrev pub HasRoomToReply : ConnId → List Sent → Rooms → Type 0
+HasRoomToReply caller sends rooms = (reply : Out) → HasRoomFor (record { to = caller; out = reply } ∷ sends) rooms
 
 -- how something ended that was perhaps asked for
 abbrev pub fates_of : Option Fate → List Fate
@@ -87,12 +118,13 @@ module _ {F S : Type 0} (is_honest is_steady : S → Bool) (faults moment : S �
   -- what an event does to the disk: a request stores what its row asks for, and any other event leaves the disk alone
   abbrev pub StoresEvent : Event → State → DiskState F S → DiskState F S → Type 0
   StoresEvent (event.Arrive came) state old new =
-      StoresRow came.arrival.conn (brought_by came.arrival) (plan_of came.arrival.request.call) came.fates state old new
+      StoresRow came.arrival.conn (brought_by came.arrival) (plan_of came.arrival.salt came.arrival.request.call) came.fates state old new
   StoresEvent _ state old new = new ≡ old
 
-  -- A call leads to what its plan does: to this answer, to this state, and with these fates to this disk.
+  -- A call leads to what its plan does: to this answer, to this state, to what it sends, and with these fates to this disk.
   pub record Leads (caller : ConnId) (brought : Brought) (plan : Plan) (before after : State) (old new : DiskState F S) (done : Done) : Type 0 where
     pub answer : done.answer ≡ (led caller brought plan (fates_in done) before).answer
     pub state : after ≡ (led caller brought plan (fates_in done) before).state
+    pub sends : done.sends ≡ (led caller brought plan (fates_in done) before).sends
     pub fates : AreFates caller brought plan (fates_in done) before
     pub disk : StoresOf caller brought plan (fates_in done) before old new

@@ -55,12 +55,13 @@ impl<F: Folder> Machine<F> {
             F.Cell.left_since F.Cell.may_leave conn brought
             (alias_stored alias stem (asked conn brought (rows_of self.old)))
             (rows_of self.old) (rows_of self.new) (disk_of self.old) (disk_of self.new) result }
+        ensures silent { result.sends ≡ [] }
         ensures unread { result.read ≡ None }
         ensures room { self.new.connections ≡ self.old.connections }
     {
         match self.disk.store_aliases(change) {
-            Some(fate) => ended(Body::Empty, fate),
-            None => refused(ErrorName::LimitsExceeded),
+            Some(fate) => ended(self.alloc, Body::Empty, fate),
+            None => refused(self.alloc, ErrorName::LimitsExceeded),
         }
     }
 
@@ -75,6 +76,7 @@ impl<F: Folder> Machine<F> {
             F.Cell.left_since F.Cell.may_leave conn brought
             (alias_settled alias stem (asked conn brought (rows_of self.old)))
             (rows_of self.old) (rows_of self.new) (disk_of self.old) (disk_of self.new) result }
+        ensures silent { result.sends ≡ [] }
         ensures room { self.new.connections ≡ self.old.connections }
     {
         if !self.disk.has_doubtful_aliases() {
@@ -83,7 +85,7 @@ impl<F: Folder> Machine<F> {
         let (read, left) = self.disk.resolve_aliases(change);
         match left {
             Some(change) => self.store_alias(change).after(read),
-            None => unread(read),
+            None => unread(self.alloc, read),
         }
     }
 
@@ -99,18 +101,19 @@ impl<F: Folder> Machine<F> {
             F.Cell.left_since F.Cell.may_leave conn brought
             (set_alias alias.now object.now (asked conn brought (rows_of self.old)))
             (rows_of self.old) (rows_of self.new) (disk_of self.old) (disk_of self.new) done) }
+        ensures silent { IfOk result (λ done. done.sends ≡ []) }
         ensures room { self.new.connections ≡ self.old.connections }
         ensures unchanged { OnErr result ((rows_of self.new ≡ rows_of self.old)
             × (disk_of self.new ≡ disk_of self.old)) }
     {
         let _ = conn;
         let Some(stem) = self.disk.alias_target(object)? else {
-            return Ok(refused(ErrorName::NoSuchObject));
+            return Ok(refused(self.alloc, ErrorName::NoSuchObject));
         };
         let name = alias.as_text().copy()?;
         match self.disk.prepare_alias(name, stem)? {
             Some(change) => Ok(self.settle_alias(change)),
-            None => Ok(refused(ErrorName::LimitsExceeded)),
+            None => Ok(refused(self.alloc, ErrorName::LimitsExceeded)),
         }
     }
 }

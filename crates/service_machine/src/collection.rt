@@ -2,7 +2,6 @@
 ghost use Rattle.std.specs.Prelude.{◌≡◌, [], IfOk, map};
 ghost use Rattle.kr_base.specs.declared.ids.ConnId.{ConnId};
 ghost use Rattle.service_machine.specs.CollectionCalls.{search_collection};
-ghost use Rattle.service_tables.specs.Connections.{Sent};
 ghost use Rattle.service_machine.specs.Plan.{Lock_collection};
 ghost use Rattle.service_machine.specs.Rows.{rows_of, disk_of};
 ghost use Rattle.service_tables.specs.Storing.{Brought};

@@ -4,21 +4,28 @@
 //! on these: an event that is answered is the incoming one, fits the rows before it, and gives the
 //! step's rows and output; an event that is refused changes nothing, and each refusal has its cause;
 //! leaving, taking and going take no memory; a request uses the slots of the files that its row stores,
-//! removes or resolves, and no other event touches the folder or a slot that was made of it.
+//! removes or resolves, and no other event touches the folder or a slot that was made of it; what a
+//! request sends, Ask to the agent and Completed to the owners of prompts, waits after its reply, and
+//! there is room for all of it before anything changes.
 //! The time of an event grows with what it changes and puts out, and with the logarithm of the number
-//! of connections and sessions.
+//! of connections, sessions and prompts; Register, Unregister and the going of the agent pass over all
+//! prompts.
 #![tactic(auto)]
 
+mod agent;
 mod aliases;
 mod answer;
 mod collection;
+mod creating;
 mod event;
 mod item;
 mod laws;
 mod machine;
+mod prompt;
 mod service;
 mod session;
 mod storing;
+mod unlocking;
 
 pub use event::{ApplyRefused, Arrival, Arrived, Event, Incoming, JoinRefused, Output, Recorded};
 pub use laws::{

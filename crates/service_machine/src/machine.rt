@@ -1,9 +1,9 @@
-ghost use Rattle.std.specs.Prelude.{◌≡◌, ◌<◌, ◌≤◌, ◌^◌, ◌++◌, [], Some, Ok, true, false, IsTrue, IfOk, IfSome, OnOk, OnErr, IsErrOf, vec_capacity};
+ghost use Rattle.std.specs.Prelude.{◌≡◌, ℕ, List, ◌<◌, ◌≤◌, ◌^◌, ◌++◌, [], Ok, true, false, IsTrue, IfOk, IfSome, OnOk, OnErr, IsErrOf, vec_capacity};
 ghost use Rattle.kr_base.specs.Attributes.{value_at};
 ghost use Rattle.collection_table.specs.Entries.{rows_of as collections_of};
 ghost use Rattle.service_tables.specs.Slots.{LeavesKnown, file_at};
 ghost use Rattle.folder_store.specs.Ring.{IsAsFound};
-ghost use Rattle.service_tables.specs.Connections.{has, waiting_for, desk_of};
+ghost use Rattle.service_tables.specs.Connections.{HasRoom, has, waiting_for, desk_of};
 ghost use Rattle.service_tables.specs.Disk.{IsLoaded, FailedToLoad, disk_state};
 ghost use Rattle.service_machine.specs.Fates.{with_fates, AreFaultless, IsFaultless, is_steady};
 ghost use Rattle.service_machine.specs.Machine.{Records, IsDue, IsOfNone, IsConnect, TakesMemory};
@@ -11,28 +11,33 @@ ghost use Rattle.service_tables.specs.Opened.{IsOpened, contents_of};
 ghost use Rattle.service_tables.specs.Storing.{Brought};
 ghost use Rattle.service_machine.specs.Run.{asked, ran};
 ghost use Rattle.service_tables.specs.Sound.{AreSoundContents};
-ghost use Rattle.service_machine.specs.Step.{step, output_of, brought_by, brought_with, plan_of, row_of, message_of, replies, with_delivered, IsMissing, IsCrowded, CanJoin, HasTypes, Fits};
-ghost use Rattle.service_machine.specs.Stored.{Leads, StoresEvent, StoresNothing, fates_of};
+ghost use Rattle.service_machine.specs.Step.{step, output_of, brought_by, brought_with, plan_of, row_of, message_of, replies, with_delivered, IsMissing, IsCrowded, CanJoin, HasTypes, IsSalt, IsTypedName, Fits};
+ghost use Rattle.service_machine.specs.Stored.{HasRoomToReply, IsPlain, Leads, SendsNothing, StoresEvent, fates_of};
 
 use crate::answer::{Answer, bounded};
 use crate::storing::{Done, refused, unstored};
 use crate::{ApplyRefused, Arrival, Arrived, Event, Incoming, Output, Recorded};
+use keyring_text::known_bytes;
 use kr_base::{ConnId, OutOfMemory, Stem};
 use kr_items::Items;
 use kr_outside::Folder;
-use secret_calls::{Body, Call, CallFault, Out, Request, Serial};
+use prompt_state::PromptState;
+use secret_calls::{AliasName, Body, Call, CallFault, Out, Request, Serial};
 use service_tables::{
-    Connections, DeskRow, Disk, Fate, OpenRefused, Rows, known_alias, known_item, known_secret,
+    Connections, DeskRow, Disk, Fate, OpenRefused, Rows, Sent, known_alias, known_item,
+    known_secret, known_text,
 };
 use session_table::SessionTable;
 use std::alloc::Global;
 
-/// The service: its connections and sessions, what waits, and its folder with its collections and aliases.
+/// The service: its connections with what waits for each, its sessions and prompts, and its folder with its
+/// collections and aliases.
 #[derive(Drop)]
 pub struct Machine<F: Folder> {
     pub(crate) alloc: Global,
     pub(crate) connections: Connections,
     pub(crate) sessions: SessionTable,
+    pub(crate) prompts: PromptState,
     pub(crate) disk: Disk<F>,
 }
 
@@ -68,6 +73,7 @@ impl<F: Folder> Machine<F> {
             alloc,
             connections: Connections::new(alloc),
             sessions: SessionTable::new(alloc),
+            prompts: PromptState::new(alloc),
             disk,
         })
     }
@@ -186,9 +192,10 @@ impl<F: Folder> Machine<F> {
         self.connections.join()
     }
 
-    /// Answers the request of a connection that is there; the reply waits for it. It returns how each
-    /// storing and each resolve of a file ended that the request asked for. All memory is taken before the first call of a
-    /// device.
+    /// Answers the request of a connection that is there; the reply waits for it, and then the signals that the
+    /// request sends wait for their connections. It returns how each storing and each resolve of a file ended
+    /// that the request asked for. All memory is taken before the first call of a device, and before anything
+    /// changes.
     pub fn arrive(&mut self, arrival: &Arrival) -> Result<Items<Fate>, OutOfMemory>
         requires { has arrival.now.conn (rows_of self.old).connections.rows ≡ true }
         ensures fits { IfOk result (λ fates.
@@ -207,55 +214,101 @@ impl<F: Folder> Machine<F> {
             × (disk_of self.new ≡ disk_of self.old)) }
     {
         known_request(arrival);
-        self.connections.reserve(arrival.conn)?;
+        self.connections.reserve(arrival.conn, 1)?;
         let fates = Vec::with_capacity(self.alloc, 2)?;
-        let (answer, read, fate) = self.call(arrival)?.into_parts();
-        self.reply(arrival.conn, &arrival.request, answer);
+        let (answer, sends, read, fate) = self.call(arrival)?.into_parts();
+        self.reply(arrival.conn, &arrival.request, answer, sends);
         Ok(Items::new(with_fates(fates, read, fate)))
     }
 
-    // The reply to a request waits for its connection, if it is wanted. It takes no memory.
-    fn reply(&mut self, conn: ConnId, request: &Request, answer: Answer)
-        requires { self.old.connections.ready ≡ Some conn.0 }
+    // The reply to a request waits for its connection, if it is wanted, and what is sent after it waits. It
+    // takes no memory.
+    fn reply(&mut self, conn: ConnId, request: &Request, answer: Answer, sends: Items<Sent>)
+        requires { HasRoomToReply conn sends self.old.connections.rooms }
         ensures rows { rows_of self.new
-            ≡ with_delivered (replies conn request.now answer) (rows_of self.old) }
+            ≡ with_delivered (replies conn request.now answer ++ sends) (rows_of self.old) }
         ensures disk { disk_of self.new ≡ disk_of self.old }
     {
-        if request.wants_reply {
-            self.connections.push(conn, message(request.serial, answer));
+        if !request.wants_reply {
+            self.connections.deliver(sends.into_vec());
+            return;
         }
+        self.connections.push(conn, message(request.serial, answer));
+        self.connections.deliver(sends.into_vec());
     }
 
-    // Performs the row of a request's call, or answers the fault of its message. The connection's room
-    // stays.
+    // Performs the row of a request's call, or answers the fault of its message. There is room for the reply
+    // and for what is sent after it.
     fn call(&mut self, arrival: &Arrival) -> Result<Done, OutOfMemory>
+        requires { HasRoom 1 arrival.now.conn self.old.connections.rooms }
         ensures leads { IfOk result (Leads F.Cell.is_honest F.Cell.is_steady F.Cell.faults
             F.Cell.moment F.Cell.left_since F.Cell.may_leave arrival.entry.now.conn
             (brought_by arrival.entry.now)
-            (plan_of arrival.entry.now.request.call
+            (plan_of arrival.entry.now.salt arrival.entry.now.request.call
             (asked arrival.entry.now.conn (brought_by arrival.entry.now) (rows_of self.old)))
             (rows_of self.old) (rows_of self.new) (disk_of self.old) (disk_of self.new)) }
-        ensures room { self.new.connections ≡ self.old.connections }
+        ensures room { IfOk result (λ done.
+            HasRoomToReply arrival.entry.now.conn done.sends self.new.connections.rooms) }
         ensures unchanged { OnErr result ((rows_of self.new ≡ rows_of self.old)
             × (disk_of self.new ≡ disk_of self.old)) }
     {
         match &arrival.request.call {
-            Ok(call) => self.perform(arrival.conn, call, arrival.now),
-            Err(fault) => Ok(refused(fault.error())),
+            Ok(call) => self.perform(arrival.conn, call, arrival.now, arrival.salt),
+            Err(fault) => Ok(refused(self.alloc, fault.error())),
         }
     }
 
-    // Performs the row of a call. The connection's room stays.
-    fn perform(&mut self, conn: ConnId, call: &Call, now: u64) -> Result<Done, OutOfMemory>
+    // Performs the row of a call. There is room for the reply and for what is sent after it.
+    fn perform(
+        &mut self,
+        conn: ConnId,
+        call: &Call,
+        now: u64,
+        salt: [u8; 8],
+    ) -> Result<Done, OutOfMemory>
+        requires { HasRoom 1 conn self.old.connections.rooms }
         ensures leads { IfOk result (Leads F.Cell.is_honest F.Cell.is_steady F.Cell.faults
             F.Cell.moment F.Cell.left_since F.Cell.may_leave conn (brought_with now (Ok call.now))
-            (row_of call.now (asked conn (brought_with now (Ok call.now)) (rows_of self.old)))
+            (row_of salt call.now (asked conn (brought_with now (Ok call.now)) (rows_of self.old)))
             (rows_of self.old) (rows_of self.new) (disk_of self.old) (disk_of self.new)) }
+        ensures room { IfOk result (λ done.
+            HasRoomToReply conn done.sends self.new.connections.rooms) }
+        ensures unchanged { OnErr result ((rows_of self.new ≡ rows_of self.old)
+            × (disk_of self.new ≡ disk_of self.old)) }
+    {
+        match call {
+            Call::Prompt { prompt } => self.call_prompt(conn, *prompt),
+            Call::Dismiss { prompt } => self.dismiss(conn, *prompt),
+            Call::Register => self.register(conn),
+            Call::Refuse { prompt, round } => self.refuse(conn, *prompt, *round),
+            _ => self.perform_silently(conn, call, now, salt),
+        }
+    }
+
+    // Performs the row of a call that sends its reply alone. The connections' room stays.
+    fn perform_silently(
+        &mut self,
+        conn: ConnId,
+        call: &Call,
+        now: u64,
+        salt: [u8; 8],
+    ) -> Result<Done, OutOfMemory>
+        requires { SendsNothing call.now }
+        ensures leads { IfOk result (Leads F.Cell.is_honest F.Cell.is_steady F.Cell.faults
+            F.Cell.moment F.Cell.left_since F.Cell.may_leave conn (brought_with now (Ok call.now))
+            (row_of salt call.now (asked conn (brought_with now (Ok call.now)) (rows_of self.old)))
+            (rows_of self.old) (rows_of self.new) (disk_of self.old) (disk_of self.new)) }
+        ensures silent { IfOk result (λ done. done.sends ≡ []) }
         ensures room { self.new.connections ≡ self.old.connections }
         ensures unchanged { OnErr result ((rows_of self.new ≡ rows_of self.old)
             × (disk_of self.new ≡ disk_of self.old)) }
     {
         match call {
+            Call::CreateCollection { label, alias } => {
+                self.create_collection(conn, label, alias, salt)
+            }
+            Call::Unlock { objects } => self.unlock(conn, objects.as_slice()),
+            Call::Unregister => Ok(self.unregister(conn)),
             Call::CreateItem {
                 collection,
                 label,
@@ -269,18 +322,19 @@ impl<F: Folder> Machine<F> {
                 self.set_secret(conn, stem, *item, secret, now)
             }
             Call::SetAlias { alias, object } => self.set_alias(conn, alias, object),
-            _ => Ok(unstored(self.ask(conn, call)?)),
+            _ => Ok(unstored(self.alloc, self.ask(conn, call)?)),
         }
     }
 
-    // Performs the row of a call that stores nothing. The connection's room stays.
+    // Performs the row of a call that neither stores something nor changes a prompt or the agent. The
+    // connections' room stays.
     fn ask(&mut self, conn: ConnId, call: &Call) -> Result<Answer, OutOfMemory>
-        requires { StoresNothing (Ok call.now) }
-        ensures quiet { StoresNothing (Ok call.now) }
-        ensures answer { IfOk result (λ answer. (brought : Brought)
-            → answer ≡ (ran conn brought (row_of call.now) [] (rows_of self.old)).answer) }
-        ensures state { OnOk result ((brought : Brought) → rows_of self.new
-            ≡ (ran conn brought (row_of call.now) [] (rows_of self.old)).state) }
+        requires { IsPlain call.now }
+        ensures plain { IsPlain call.now }
+        ensures answer { (salt : List ℕ) → IfOk result (λ answer. (brought : Brought)
+            → answer ≡ (ran conn brought (row_of salt call.now) [] (rows_of self.old)).answer) }
+        ensures state { (salt : List ℕ) → OnOk result ((brought : Brought) → rows_of self.new
+            ≡ (ran conn brought (row_of salt call.now) [] (rows_of self.old)).state) }
         ensures room { self.new.connections ≡ self.old.connections }
         ensures disk { disk_of self.new ≡ disk_of self.old }
         ensures unchanged { OnErr result (rows_of self.new ≡ rows_of self.old) }
@@ -345,7 +399,8 @@ impl<F: Folder> Machine<F> {
         self.connections.take(conn)
     }
 
-    /// Removes a connection that is gone, and its sessions with it. It takes no memory.
+    /// Removes a connection that is gone, and with it its sessions and its prompts, and the agent if it was
+    /// that. It takes no memory.
     pub fn gone(&mut self, conn: ConnId)
         requires { Fits (rows_of self.old) (Event.Gone conn) }
         ensures stepped { rows_of self.new ≡ step (rows_of self.old) (Event.Gone conn) }
@@ -353,6 +408,7 @@ impl<F: Folder> Machine<F> {
     {
         self.connections.remove(conn);
         self.sessions.gone(conn);
+        self.prompts.gone(conn);
     }
 
     /// The connection's status, or None if it isn't there. It takes no memory.
@@ -362,15 +418,17 @@ impl<F: Folder> Machine<F> {
         self.connections.desk(conn)
     }
 
-    /// A copy of the connections and the sessions, as plain data, made in one pass over them.
+    /// A copy of the connections, the sessions and the prompts, as plain data, made in one pass over them.
     pub fn rows(&self) -> Result<Rows, OutOfMemory>
         ensures connections { IfOk result (λ rows.
             rows.connections ≡ (rows_of self.now).connections) }
         ensures sessions { IfOk result (λ rows. rows.sessions ≡ (rows_of self.now).sessions) }
+        ensures prompts { IfOk result (λ rows. rows.prompts ≡ (rows_of self.now).prompts) }
     {
         Ok(Rows {
             connections: self.connections.rows()?,
             sessions: self.sessions.rows()?,
+            prompts: self.prompts.rows()?,
         })
     }
 }
@@ -391,12 +449,14 @@ fn with_fates(fates: Vec<Fate>, read: Option<Fate>, fate: Option<Fate>) -> Vec<F
     fates
 }
 
-// What the types of a request's moment and of its call's arguments guarantee. It does nothing.
+// What the types of a request's moment, of its salt and of its call's arguments guarantee. It does nothing.
 fn known_request(arrival: &Arrival)
     ensures moment { arrival.entry.now.now < 2 ^ 64 }
+    ensures salt { IsSalt arrival.entry.now.salt }
     ensures types { HasTypes arrival.entry.now.request.call }
 {
     let _moment = arrival.now;
+    known_salt(&arrival.salt);
     match &arrival.request.call {
         Ok(
             Call::CreateItem {
@@ -410,9 +470,29 @@ fn known_request(arrival: &Arrival)
             known_secret(&secret.value, &secret.content);
         }
         Ok(Call::SetSecret { secret, .. }) => known_secret(&secret.value, &secret.content),
+        Ok(Call::CreateCollection { label, alias }) => {
+            known_text(label);
+            known_name(alias);
+        }
         Ok(Call::SetAlias { alias, .. }) => known_alias(alias.as_text()),
         _ => {}
     }
+}
+
+// What the type of an alias guarantees, if one is given. It does nothing.
+fn known_name(alias: &Option<AliasName>)
+    ensures { IsTypedName alias.now }
+{
+    if let Some(alias) = alias {
+        known_alias(alias.as_text());
+    }
+}
+
+// What the type of the random bytes guarantees. It does nothing.
+fn known_salt(salt: &[u8; 8])
+    ensures { IsSalt salt.now }
+{
+    known_bytes(salt.as_slice());
 }
 
 // The message that answers the call with this serial.

@@ -1,5 +1,5 @@
 // Calls that store something: each edits a collection, or removes one, and is answered by how that ended.
-ghost use Rattle.std.specs.Prelude.{◌≡◌, ℕ, List, None, Some, IfOk, OnErr, Err};
+ghost use Rattle.std.specs.Prelude.{◌≡◌, ℕ, List, [], None, Some, IfOk, OnErr, Err};
 ghost use Rattle.kr_base.specs.declared.ids.ConnId.{ConnId};
 ghost use Rattle.secret_calls.specs.declared.out.ErrorName.TheVariants.{IOError};
 ghost use Rattle.service_tables.specs.Storing.{Add_item, Brought, Edit, change_of, storable_at};
@@ -13,10 +13,11 @@ use crate::Machine;
 use crate::answer::{Answer, is_small};
 use collection_store::Change;
 use kr_base::{Attributes, ConnId, ItemId, OutOfMemory, SessionId, Stem, Text};
+use kr_items::Items;
 use kr_names::{ObjectName, path_of};
 use kr_outside::Folder;
 use secret_calls::{Body, ErrorName, Secret};
-use service_tables::{Fate, item_path};
+use service_tables::{Fate, Sent, item_path};
 use std::alloc::Global;
 
 /// The most bytes that the content type of a secret may have.
@@ -33,12 +34,14 @@ pub enum Returned {
     Nothing,
 }
 
-/// What a call led to: its answer, and how the resolve of a file in doubt ended that it asked for first, and
-/// then the storing, as far as it asked for them.
+/// What a call led to: its answer, what is sent after the reply, and how the resolve of a file in doubt ended
+/// that it asked for first, and then the storing, as far as it asked for them.
 #[derive(Drop)]
 pub struct Done {
     /// The answer.
     pub answer: Answer,
+    /// What is sent after the reply, in order.
+    pub sends: Items<Sent>,
     /// How the resolve ended.
     pub read: Option<Fate>,
     /// How the storing ended.
@@ -46,22 +49,28 @@ pub struct Done {
 }
 
 impl Done {
-    /// The answer, and how the resolve and the storing ended.
-    pub fn into_parts(self) -> (Answer, Option<Fate>, Option<Fate>)
+    /// The answer, what is sent after the reply, and how the resolve and the storing ended.
+    pub fn into_parts(self) -> (Answer, Items<Sent>, Option<Fate>, Option<Fate>)
         ensures answer { result.0 ≡ self.answer }
-        ensures read { result.1 ≡ self.read }
-        ensures fate { result.2 ≡ self.fate }
+        ensures sends { result.1 ≡ self.sends }
+        ensures read { result.2 ≡ self.read }
+        ensures fate { result.3 ≡ self.fate }
     {
-        (self.answer, self.read, self.fate)
+        (self.answer, self.sends, self.read, self.fate)
     }
 
     /// The same after a resolve that ended so.
     pub fn after(self, read: Fate) -> Done
-        ensures { result
-            ≡ record { answer = self.answer; read = Some read; fate = self.fate } }
+        ensures { result ≡ record {
+          answer = self.answer;
+          sends = self.sends;
+          read = Some read;
+          fate = self.fate;
+        } }
     {
         Done {
             answer: self.answer,
+            sends: self.sends,
             read: Some(read),
             fate: self.fate,
         }
@@ -69,33 +78,43 @@ impl Done {
 }
 
 /// A call that asked for a resolve, which failed.
-pub fn unread(read: Fate) -> Done
-    ensures { result ≡ record { answer = Err IOError; read = Some read; fate = None } }
+pub fn unread(alloc: Global, read: Fate) -> Done
+    ensures { result ≡ record { answer = Err IOError; sends = []; read = Some read; fate = None } }
 {
-    refused(ErrorName::IOError).after(read)
+    refused(alloc, ErrorName::IOError).after(read)
 }
 
-/// A call that asked for no storing.
-pub fn unstored(answer: Answer) -> Done
-    ensures { result ≡ record { answer = answer; read = None; fate = None } }
+/// A call that asked for no storing, after whose reply this is sent.
+pub fn sending(answer: Answer, sends: Vec<Sent>) -> Done
+    ensures { result
+        ≡ record { answer = answer; sends = sends.items; read = None; fate = None } }
 {
     Done {
         answer,
+        sends: Items::new(sends),
         read: None,
         fate: None,
     }
 }
 
-/// A call that is refused before anything is stored.
-pub fn refused(name: ErrorName) -> Done
-    ensures { result ≡ record { answer = Err name; read = None; fate = None } }
+/// A call that asked for no storing, and sends its reply alone.
+pub fn unstored(alloc: Global, answer: Answer) -> Done
+    ensures { result ≡ record { answer = answer; sends = []; read = None; fate = None } }
 {
-    unstored(Err(name))
+    sending(answer, Vec::new(alloc))
+}
+
+/// A call that is refused before anything is stored.
+pub fn refused(alloc: Global, name: ErrorName) -> Done
+    ensures { result ≡ record { answer = Err name; sends = []; read = None; fate = None } }
+{
+    unstored(alloc, Err(name))
 }
 
 /// A call that asked for a storing.
-pub fn ended(body: Body, fate: Fate) -> Done
-    ensures { result ≡ record { answer = answer_by body fate; read = None; fate = Some fate } }
+pub fn ended(alloc: Global, body: Body, fate: Fate) -> Done
+    ensures { result
+        ≡ record { answer = answer_by body fate; sends = []; read = None; fate = Some fate } }
 {
     let answer = match fate {
         Fate::Stored => Ok(body),
@@ -108,6 +127,7 @@ pub fn ended(body: Body, fate: Fate) -> Done
     };
     Done {
         answer,
+        sends: Items::empty(alloc),
         read: None,
         fate: Some(fate),
     }
@@ -148,21 +168,22 @@ impl<F: Folder> Machine<F> {
             (storing stem.now edit (body_of returned stem.now)
             (storable_at stem.now change now (rows_of self.old).collections))
             (rows_of self.old) (rows_of self.new) (disk_of self.old) (disk_of self.new) done) }
+        ensures silent { IfOk result (λ done. done.sends ≡ []) }
         ensures room { self.new.connections ≡ self.old.connections }
         ensures unchanged { OnErr result ((rows_of self.new ≡ rows_of self.old)
             × (disk_of self.new ≡ disk_of self.old)) }
     {
         let Some(item) = self.disk.answer_to(stem, &change) else {
-            return Ok(refused(ErrorName::LimitsExceeded));
+            return Ok(refused(self.alloc, ErrorName::LimitsExceeded));
         };
         let body = body_of(self.alloc, returned, stem, item)?;
         if !is_small(&body) {
-            return Ok(refused(ErrorName::LimitsExceeded));
+            return Ok(refused(self.alloc, ErrorName::LimitsExceeded));
         }
         let stored = self.disk.store(stem, change, now)?;
         match stored {
-            Some(fate) => Ok(ended(body, fate)),
-            None => Ok(refused(ErrorName::LimitsExceeded)),
+            Some(fate) => Ok(ended(self.alloc, body, fate)),
+            None => Ok(refused(self.alloc, ErrorName::LimitsExceeded)),
         }
     }
 
@@ -184,21 +205,22 @@ impl<F: Folder> Machine<F> {
             (secret_stored session stem.now content.now edit (body_of returned stem.now)
             (asked conn (record { now = now; value = value }) (rows_of self.old)))
             (rows_of self.old) (rows_of self.new) (disk_of self.old) (disk_of self.new) done) }
+        ensures silent { IfOk result (λ done. done.sends ≡ []) }
         ensures room { self.new.connections ≡ self.old.connections }
         ensures unchanged { OnErr result ((rows_of self.new ≡ rows_of self.old)
             × (disk_of self.new ≡ disk_of self.old)) }
     {
         let Some(session) = session else {
-            return Ok(refused(ErrorName::NoSession));
+            return Ok(refused(self.alloc, ErrorName::NoSession));
         };
         if !self.sessions.owned_by(session, conn) {
-            return Ok(refused(ErrorName::NoSession));
+            return Ok(refused(self.alloc, ErrorName::NoSession));
         }
         if !self.disk.collections.is_open(stem) {
-            return Ok(refused(ErrorName::IsLocked));
+            return Ok(refused(self.alloc, ErrorName::IsLocked));
         }
         if content.len() > MOST_CONTENT {
-            return Ok(refused(ErrorName::LimitsExceeded));
+            return Ok(refused(self.alloc, ErrorName::LimitsExceeded));
         }
         self.store_edit(stem, change, returned, now)
     }
@@ -222,12 +244,13 @@ impl<F: Folder> Machine<F> {
             secret.now.session secret.now.content
             (asked conn (record { now = now; value = secret.now.value }) (rows_of self.old)))
             (rows_of self.old) (rows_of self.new) (disk_of self.old) (disk_of self.new)) }
+        ensures silent { IfOk result (λ done. done.sends ≡ []) }
         ensures room { self.new.connections ≡ self.old.connections }
         ensures unchanged { OnErr result ((rows_of self.new ≡ rows_of self.old)
             × (disk_of self.new ≡ disk_of self.old)) }
     {
         let Some(stem) = self.disk.collection_named(collection) else {
-            return Ok(refused(ErrorName::NoSuchObject));
+            return Ok(refused(self.alloc, ErrorName::NoSuchObject));
         };
         let stem = stem.copy()?;
         let change = Change::Add {
@@ -259,21 +282,22 @@ impl<F: Folder> Machine<F> {
             F.Cell.left_since F.Cell.may_leave conn brought
             (delete_collection collection.now (asked conn brought (rows_of self.old)))
             (rows_of self.old) (rows_of self.new) (disk_of self.old) (disk_of self.new) done) }
+        ensures silent { IfOk result (λ done. done.sends ≡ []) }
         ensures room { self.new.connections ≡ self.old.connections }
         ensures unchanged { OnErr result ((rows_of self.new ≡ rows_of self.old)
             × (disk_of self.new ≡ disk_of self.old)) }
     {
         let _ = conn;
         let Some(stem) = self.disk.collection_named(collection) else {
-            return Ok(refused(ErrorName::NoSuchObject));
+            return Ok(refused(self.alloc, ErrorName::NoSuchObject));
         };
         let stem = stem.copy()?;
         if !self.disk.collections.is_open(&stem) {
-            return Ok(refused(ErrorName::IsLocked));
+            return Ok(refused(self.alloc, ErrorName::IsLocked));
         }
         let body = Body::Object(path_of(self.alloc, &ObjectName::Nothing)?);
         self.disk.reserve_spare()?;
-        Ok(ended(body, self.disk.erase(stem)))
+        Ok(ended(self.alloc, body, self.disk.erase(stem)))
     }
 
     /// Performs the row of Delete of an item. All memory is taken before the first call of the device.
@@ -290,16 +314,17 @@ impl<F: Folder> Machine<F> {
             (delete_item stem.now item
             (asked conn (record { now = now; value = value }) (rows_of self.old)))
             (rows_of self.old) (rows_of self.new) (disk_of self.old) (disk_of self.new) done) }
+        ensures silent { IfOk result (λ done. done.sends ≡ []) }
         ensures room { self.new.connections ≡ self.old.connections }
         ensures unchanged { OnErr result ((rows_of self.new ≡ rows_of self.old)
             × (disk_of self.new ≡ disk_of self.old)) }
     {
         let _ = conn;
         if !self.disk.collections.has_item(stem, item) {
-            return Ok(refused(ErrorName::NoSuchObject));
+            return Ok(refused(self.alloc, ErrorName::NoSuchObject));
         }
         if !self.disk.collections.is_open(stem) {
-            return Ok(refused(ErrorName::IsLocked));
+            return Ok(refused(self.alloc, ErrorName::IsLocked));
         }
         self.store_edit(stem, Change::Remove { id: item }, Returned::NoPrompt, now)
     }
@@ -319,12 +344,13 @@ impl<F: Folder> Machine<F> {
             (set_secret stem.now item secret.now.session secret.now.content
             (asked conn (record { now = now; value = secret.now.value }) (rows_of self.old)))
             (rows_of self.old) (rows_of self.new) (disk_of self.old) (disk_of self.new)) }
+        ensures silent { IfOk result (λ done. done.sends ≡ []) }
         ensures room { self.new.connections ≡ self.old.connections }
         ensures unchanged { OnErr result ((rows_of self.new ≡ rows_of self.old)
             × (disk_of self.new ≡ disk_of self.old)) }
     {
         if !self.disk.collections.has_item(stem, item) {
-            return Ok(refused(ErrorName::NoSuchObject));
+            return Ok(refused(self.alloc, ErrorName::NoSuchObject));
         }
         let change = Change::SetSecret {
             id: item,

@@ -87,7 +87,7 @@ has-item stem item rows all there =
       | Some row ↦ λ is.
           let sound = at-stem IsSoundCollection stem row rows all is in
           let shown : shows_item item.0 row ≡ true = rw is at there in
-          (sound.stem, shown-small item.0 row.clear.items sound.shown shown)
+          (sound.stem, shown-small item.0 row.clear.items sound.shown.items shown)
     ] in
     pass (value_at stem rows) refl
 
@@ -232,7 +232,7 @@ record AreSoundMatches (matches : Matches) : Type 0 where
 matches-sound : (wanted : List (List ℕ × AttrValue)) (row : List ℕ × CollectionRow) → IsSoundCollection row → AreSoundMatches (collections.found_in wanted row)
 matches-sound wanted row sound = record {
   stem = sound.stem;
-  ids = each-mapped (λ id. record { 0 = id }) IsSmall _ (found-small wanted row.1.clear row.1.held sound.shown sound.held);
+  ids = each-mapped (λ id. record { 0 = id }) IsSmall _ (found-small wanted row.1.clear row.1.held sound.shown.items sound.held);
 }
 
 if-open : (unlocked : Bool) (one other : List (List ℕ)) → ArePaths one → ArePaths other → ArePaths (cond unlocked one other)
@@ -298,7 +298,7 @@ content-known stem id rows content all is =
       | None ↦ λ at has. absurd (none-some content has)
       | Some row ↦ λ at has.
           each-found (λ (item : ClearItem). item.content) IsText (λ item. nat_eq item.id.0 id) row.clear.items content
-          (each-weaker IsKnownClearItem _ (λ item known. known.content) row.clear.items (at-stem IsSoundCollection stem row rows all at).shown) has
+          (each-weaker IsKnownClearItem _ (λ item known. known.content) row.clear.items (at-stem IsSoundCollection stem row rows all at).shown.items) has
     ] in
     pass (value_at stem rows) refl is
 

@@ -1,5 +1,5 @@
 -- Entries of a map in order, seen as rows: a look-up, a change of one, one more behind all, one less.
-use Rattle.std.proofs.Common.{◌≡◌, ℕ, ◌+◌, ◌<◌, ◌≤◌, ◌==◌, nat_le, length, min, Result, Ok, Err, OnOk, Bool, true, false, cond, List, [], ◌∷◌, ◌++◌, map, Option, Some, None, is_some, refl, ap, ◌∙◌, sym, arith, Less, Greater}
+use Rattle.std.proofs.Common.{◌≡◌, ℕ, ◌+◌, ◌<◌, ◌≤◌, ◌==◌, nat_le, length, min, Result, Ok, Err, OnOk, Bool, true, false, cond, List, [], ◌∷◌, ◌++◌, map, Some, None, is_some, refl, ap, ◌∙◌, sym, arith, Less, Greater}
 use Rattle.std.specs.Ordering.{nat_cmp}
 use Rattle.std.specs.Option.{option_map}
 use Rattle.std.specs.List.{AllByRecursion, find}
@@ -7,7 +7,6 @@ use Rattle.std.specs.List.Sorted.{IsStrictlySortedBy}
 use Rattle.std.specs.Map.{keys_of, set_value, remove_entry}
 use Rattle.std.specs.BTreeMap.{is_at, insert_entry}
 use Rattle.std.proofs.lemmas.Map.{keys-set_value}
-use Rattle.std.proofs.lemmas.Option.{none-some}
 use Rattle.std.proofs.lemmas.Map.Keys.{sorted_head, sorted_tail}
 use Rattle.std.proofs.lemmas.Bool.Decides.{nat_tests}
 use Rattle.std.proofs.lemmas.Bool.{eqb-true}
@@ -16,7 +15,7 @@ use Rattle.service_tables.specs.declared.rows.ConnRow.{ConnRow}
 use Rattle.secret_calls.specs.declared.out.Out.{Out}
 use Rattle.secret_calls.specs.Outs.{spelled, most_waiting}
 use Rattle.service_tables.specs.Connections.{is_row, has, changed, without, waiting_for, size_of, size_waiting, with_out}
-use Rattle.service_tables.specs.Desks.{row_of, kept, IsCounted, AreCounted, AreGiven, AreKept, HasRoom, HasRoomAt, Changes}
+use Rattle.service_tables.specs.Desks.{row_of, kept, IsCounted, AreCounted, AreGiven, AreKept, Changes}
 
 pub is_at_number : (conn k : ℕ) → is_at (nat_cmp conn) k ≡ (k == conn)
 is_at_number conn k = grind (arith, nat_tests)
@@ -199,27 +198,13 @@ changed-same conn (row ∷ rows) =
     let same : (b : Bool) → cond b row row ≡ row = elim [ true ↦ refl | false ↦ refl ] in
     rw (same (is_row (record { 0 = conn }) row), changed-same conn rows) refl
 
--- after a change no connection is said to have room
-pub kept_after : (next conn : ℕ) (ready : Option ℕ) (change : ConnRow → ConnRow) (old new : List (ℕ × Desk)) → AreKept next ready old → Changes conn change old new → AreKept next None new
-kept_after next conn ready change old new all changes = record {
+-- what was kept is kept after a change
+pub kept_after : (next conn : ℕ) (change : ConnRow → ConnRow) (old new : List (ℕ × Desk)) → AreKept next old → Changes conn change old new → AreKept next new
+kept_after next conn change old new all changes = record {
   ordered = rw changes.keys all.ordered;
   given = rw changes.keys all.given;
   counts = changes.counts all.counts;
-  room = λ other is. absurd (none-some other is);
 }
-
--- and after a reservation one has it
-pub kept_ready : (next conn : ℕ) (ready : Option ℕ) (change : ConnRow → ConnRow) (old new : List (ℕ × Desk)) → AreKept next ready old → Changes conn change old new → HasRoomAt conn new → AreKept next (Some conn) new
-kept_ready next conn ready change old new all changes room = record {
-  ordered = rw changes.keys all.ordered;
-  given = rw changes.keys all.given;
-  counts = changes.counts all.counts;
-  room = λ other is. let same : conn ≡ other = cc in rw (← same) room;
-}
-
--- room of what is kept of a connection is room at it
-pub room_at : (conn : ℕ) (new : Desk) (entries : List (ℕ × Desk)) → kept conn entries ≡ Some new → HasRoom new → HasRoomAt conn entries
-room_at conn new entries found room = λ desk is. let same : new ≡ desk = let both : Some new ≡ Some desk = sym found ∙ is in cc in rw (← same) room
 
 pub OnOk-more : {T E : Type 0} (r : Result T E) (P Q : Type 0) → (P → Q) → OnOk r P → OnOk r Q
 OnOk-more (Ok x) P Q more p = more p

@@ -1,7 +1,8 @@
 -- What holds of each element of a list.
-use Rattle.std.proofs.Common.{◌≡◌, Bool, true, false, List, [], ◌∷◌, ◌++◌, filter, map, Some, refl}
+use Rattle.std.proofs.Common.{◌≡◌, ℕ, ◌+◌, ◌<◌, Bool, true, false, List, [], ◌∷◌, ◌++◌, filter, length, get_or, map, take, Some, refl}
 use Rattle.std.specs.List.{AllByRecursion, find}
 use Rattle.std.specs.Option.{option_map}
+use Rattle.std.proofs.lemmas.List.{take_more}
 use Rattle.std.proofs.lemmas.Option.{none-some}
 
 pub each-append : {X : Type 0} (P : X → Type 0) (xs ys : List X) → AllByRecursion P xs → AllByRecursion P ys → AllByRecursion P (xs ++ ys)
@@ -58,3 +59,7 @@ each-found f P p (x ∷ xs) y all is =
       | false ↦ λ here. each-found f P p xs y all.1 (rw here at is)
     ] in
     pass (p x) refl
+
+-- those of a list's start, and the next one
+pub each-taken : {X : Type 0} (P : X → Type 0) (xs : List X) (i : ℕ) (x : X) → i < length xs → get_or xs i x ≡ x → AllByRecursion P (take i xs) → P x → AllByRecursion P (take (i + 1) xs)
+each-taken P xs i x within is all one = rw (take_more xs i x within, is) (each-append P (take i xs) (x ∷ []) all (one, tt))

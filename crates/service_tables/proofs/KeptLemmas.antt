@@ -1,7 +1,6 @@
 -- The aliases with what is known of their file: what a change of them and a resolve of the file make of them, and that they stay sound.
-use Rattle.std.proofs.Common.{◌≡◌, ◌↔◌, ℕ, nat_le, Bool, true, false, cond, not, IsTrue, IfSome, IsSome, List, length, Option, Some, None, Result, Ok, Err, refl, sym, ap, subst, ◌∙◌, arith}
+use Rattle.std.proofs.Common.{◌≡◌, ℕ, nat_le, Bool, true, false, cond, IfSome, IsSome, List, length, Option, Some, None, Result, Ok, Err, refl, sym, ap, subst, ◌∙◌, arith}
 use Rattle.std.specs.Map.{keys_of}
-use Rattle.std.specs.Option.{option_map, unwrap_or}
 use Rattle.std.proofs.lemmas.Bool.Decides.{nat_tests}
 use Rattle.kr_base.specs.Stem.{IsStem}
 use Rattle.kr_names.specs.Path.{IsAliasName}
@@ -15,7 +14,7 @@ use Rattle.alias_table.specs.declared.refused.AliasRefused.{AliasRefused}
 use Rattle.alias_table.specs.declared.refused.AliasRefused.TheVariants as refused
 use Rattle.alias_table.proofs.ChangedLemmas.{changed_are}
 use Rattle.alias_table.proofs.TableLemmas.{given_are}
-use Rattle.replace_slot.specs.Cell.{File, Known, Doubt, IsKnown, IsKnownImage, old_image}
+use Rattle.replace_slot.specs.Cell.{File, Known, Doubt, IsKnown, old_image}
 use Rattle.replace_slot.specs.Found.{found_file}
 use Rattle.replace_slot.specs.declared.images.Found.{Found}
 use Rattle.replace_slot.specs.declared.images.Found.TheVariants as image

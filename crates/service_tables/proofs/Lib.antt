@@ -9,6 +9,7 @@ pub mod KeptLemmas
 pub mod LoadedLemmas
 pub mod NotedLemmas
 pub mod ObjectLemmas
+pub mod RoomLemmas
 pub mod SlotLemmas
 pub mod StoredLemmas
 pub mod TableLemmas

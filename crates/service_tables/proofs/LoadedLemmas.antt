@@ -1,4 +1,5 @@
--- What a start lists has its types: a stem is that of a file's name, and the items of a clear part are those that a file spells.
+-- What a start lists has its types: a stem is that of a file's name, and the label and the items of a clear part are those that a file
+-- spells.
 use Rattle.std.proofs.Common.{◌≡◌, ℕ, List, [], ◌∷◌, map, codes, refl, sym, ap, subst, arith}
 use Rattle.std.specs.Cmp.Lexicographic.{slice_cmp}
 use Rattle.std.specs.List.{AllByRecursion}
@@ -53,11 +54,15 @@ clear-known image clear (area, text) =
     let these = text.text.is_first.is_second.is_second.is_second.is_second.list in
     items-known clear.minor clear.items these.back these.is_second
 
+label-known : (image : List ℕ) (clear : ClearPart) → HasClear image clear → IsText clear.name
+label-known image clear (area, text) = text.text.is_first.is_second.is_second.is_first.is_first.text
+
 -- ---- what is listed
 
--- the stem of a collection is one, and its items are those of a file
+-- the stem of a collection is one, and its label and its items are those of a file
 record IsSoundRing (ring : RingRow) : Type 0 where
   stem : IsStem ring.stem
+  label : IsText ring.clear.name
   items : AllByRecursion IsKnownClearItem ring.clear.items
 
 taken-sound : (limits : Limits) (name image : List ℕ) (opening next : Opening) → Takes limits name image opening next → AllByRecursion IsSoundRing opening.rings
@@ -66,7 +71,7 @@ taken-sound limits name image opening _ (other off) all = all
 taken-sound limits name image opening _ (left_alone stem named off) all = all
 taken-sound limits name image opening _ (listed stem clear named reads fits) all =
     each-append IsSoundRing opening.rings ((record { stem = stem; clear = clear; image = image }) ∷ []) all
-    (record { stem = named.is_stem; items = clear-known image clear reads }, tt)
+    (record { stem = named.is_stem; label = label-known image clear reads; items = clear-known image clear reads }, tt)
 
 opens-sound : (limits : Limits) (files : List (List ℕ × List ℕ)) (opening : Opening) → Opens limits files opening → AllByRecursion IsSoundRing opening.rings
 opens-sound limits _ _ none = tt
@@ -84,7 +89,7 @@ module _ {S : Type 0} where
   rows-sound (ring ∷ these) all = (
     record {
       stem = all.0.stem;
-      shown = all_by_number (λ (item : ClearItem). item.id.0) IsKnownClearItem ring.clear.items all.0.items;
+      shown = record { label = all.0.label; items = all_by_number (λ (item : ClearItem). item.id.0) IsKnownClearItem ring.clear.items all.0.items };
       other = tt;
       held = tt;
     },

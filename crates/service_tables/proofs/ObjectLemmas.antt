@@ -24,3 +24,16 @@ module _ {S : Type 0} (stem : List ℕ) (wanted : List (List ℕ × AttrValue)) 
   -- nothing is found where there is no collection of the stem
   pub found-missing : None ≡ value_at stem entries → [] ≡ ids_in (value_at stem (rows_of entries))
   found-missing none = sym (ap ids_in (value-rows stem entries ∙ ap (option_map row_of) (sym none)))
+
+module _ {S : Type 0} (stem : List ℕ) (entries : Entries S) where
+  -- the label of a collection, by its row
+  abbrev label_in : Option CollectionRow → List ℕ
+  label_in row = option_map_or (λ (row : CollectionRow). row.clear.name) row []
+
+  -- the label of the collection of the stem is that of its row
+  pub label-there : (c : CollectionState S) → Some c ≡ value_at stem entries → c.clear.name ≡ label_in (value_at stem (rows_of entries))
+  label-there c there = sym (ap label_in (value-rows stem entries ∙ ap (option_map row_of) (sym there)))
+
+  -- there is none where there is no collection of the stem
+  pub label-missing : None ≡ value_at stem entries → [] ≡ label_in (value_at stem (rows_of entries))
+  label-missing none = sym (ap label_in (value-rows stem entries ∙ ap (option_map row_of) (sym none)))

@@ -6,6 +6,7 @@ use Rattle.std.proofs.lemmas.Bool.{eqb-true, or_cases}
 use Rattle.std.proofs.lemmas.Bool.Decides.{nat_tests}
 use Rattle.std.proofs.lemmas.Option.{none-some}
 use Rattle.kr_base.specs.Attributes.{is_name, value_at}
+use Rattle.kr_base.specs.Text.{IsText}
 use Rattle.kr_base.specs.declared.attributes.AttrValue.{AttrValue}
 use Rattle.kr_base.specs.declared.ids.ItemId.{ItemId}
 use Rattle.kr_names.specs.declared.object_name.ObjectName.TheVariants as name
@@ -184,14 +185,14 @@ zip-rows : (these : List Row) → zip (map (λ (row : Row). row.0) these) (map (
 zip-rows [] = refl
 zip-rows (row ∷ these) = ap (λ more. row ∷ more) (zip-rows these)
 
--- the items of a content are sound
+-- the label and the items of a content are sound
 record IsSoundContent (content : Content) : Type 0 where
   shown : AreShown content.clear
   held : AreSound (rows content)
 
-stored-sound : (now : ℕ) (front : ClearPart) (these : List Row) → AreSound these → IsSoundContent (content_stored now front these)
-stored-sound now front these all = record {
-  shown = each-mapped (λ (row : Row). row.0) IsKnownClearItem these (each-weaker IsSoundItem _ (λ row sound. sound.clear) these all);
+stored-sound : (now : ℕ) (front : ClearPart) (these : List Row) → IsText front.name → AreSound these → IsSoundContent (content_stored now front these)
+stored-sound now front these label all = record {
+  shown = record { label = label; items = each-mapped (λ (row : Row). row.0) IsKnownClearItem these (each-weaker IsSoundItem _ (λ row sound. sound.clear) these all) };
   held = subst AreSound (sym (zip-rows these)) all;
 }
 
@@ -199,17 +200,24 @@ abbrev ContentSound : Result (Content × Changed) ItemFault → Type 0
 ContentSound (Ok made) = IsSoundContent made.0 × IfSome (item_in made.1) IsSmall
 ContentSound (Err fault) = Unit {0}
 
-as-sound : (now : ℕ) (front : ClearPart) (made : Result (List Row × Changed) ItemFault) → MadeSound made → ContentSound (as_content now front made)
-as-sound now front (Ok made) all = (stored-sound now front made.0 all.0, all.1)
-as-sound now front (Err fault) all = tt
+as-sound : (now : ℕ) (front : ClearPart) (made : Result (List Row × Changed) ItemFault) → IsText front.name → MadeSound made → ContentSound (as_content now front made)
+as-sound now front (Ok made) label all = (stored-sound now front made.0 label all.0, all.1)
+as-sound now front (Err fault) label all = tt
+
+-- no edit changes the label of a collection
+label-kept : (value : List ℕ) (edit : Edit) (label : List ℕ) → IsText label → IsText (name_made (change_of value edit) label)
+label-kept value (Add_item name attributes content replace) label is = is
+label-kept value (Set_secret item content) label is = is
+label-kept value (Remove_item item) label is = is
 
 -- ---- collections
 
 module _ (now : ℕ) (small : now < 2 ^ 64) (edit : Edit) (value : List ℕ) (types : AreEditTypes value edit) where
   -- what the edit makes of the rows of a sound collection
-  content-sound : (row : CollectionRow) (held : Held) → AreSound held.rows → ContentSound (content_changed (change_of value edit) now row.clear held.rows)
-  content-sound row held all =
-      as-sound now (record row.clear { name = name_made (change_of value edit) row.clear.name }) (rows_made (change_of value edit) now held.rows) (rows-sound now small edit value held.rows types all)
+  content-sound : (row : CollectionRow) (held : Held) → IsText row.clear.name → AreSound held.rows → ContentSound (content_changed (change_of value edit) now row.clear held.rows)
+  content-sound row held label all =
+      as-sound now (record row.clear { name = name_made (change_of value edit) row.clear.name }) (rows_made (change_of value edit) now held.rows) (label-kept value edit row.clear.name label)
+      (rows-sound now small edit value held.rows types all)
 
   after-sound : (stem : List ℕ) (row : CollectionRow) (held : Held) (some : Fate) (made : Result (Content × Changed) ItemFault) → IsSoundCollection (stem, row) → ContentSound made
       → IsSoundCollection (stem, row_after some held row made)
@@ -232,7 +240,7 @@ module _ (now : ℕ) (small : now < 2 ^ 64) (edit : Edit) (value : List ℕ) (ty
         | Some held ↦ λ is.
             let all : AreSound held.rows = subst (λ o. IfSome o AreSoundItems) is sound.held in
             subst (λ (r : CollectionRow). IsSoundCollection (stem, r)) (sym (ap becomes is))
-            (after-sound stem row held some (content_changed (change_of value edit) now row.clear held.rows) sound (content-sound row held all))
+            (after-sound stem row held some (content_changed (change_of value edit) now row.clear held.rows) sound (content-sound row held sound.shown.label all))
       ] in
       pass row.held refl
 
@@ -284,7 +292,7 @@ module _ (now : ℕ) (small : now < 2 ^ 64) (edit : Edit) (value : List ℕ) (ty
             let inner : (h : Option Held) → IfSome h AreSoundItems → option_and_then (λ (held : Held). placed these (storable given now (room_in these) row.file row.clear held)) h ≡ Some item → IsSmall item =
             elim [
               | None ↦ λ all got. absurd (none-some item got)
-              | Some held ↦ λ all got. sized-small these (most_for (room_in these) row.file) held (content_changed given now row.clear held.rows) item (content-sound row held all) got
+              | Some held ↦ λ all got. sized-small these (most_for (room_in these) row.file) held (content_changed given now row.clear held.rows) item (content-sound row held here.shown.label all) got
             ] in
             (here.stem, inner row.held here.held has)
       ] in

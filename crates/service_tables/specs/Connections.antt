@@ -1,7 +1,6 @@
--- The connections' rows: the outputs that wait for each, and what becomes of a row. This file is the table of
--- connections; another table has a file of its own.
-use Rattle.std.specs.Prelude.{ℕ, ◌+◌, Bool, true, false, ◌==◌, not, nat_le, nat_lt, if◌then◌else◌, List, [], ◌∷◌, ◌++◌, length, filter, map, min, sum_by, Option}
-use Rattle.std.specs.List.{list_any, find}
+-- The connections' rows: the outputs that wait for each, what becomes of a row, and for how many more outputs there is room.
+use Rattle.std.specs.Prelude.{◌≡◌, ℕ, ◌+◌, ◌≤◌, Bool, true, false, ◌==◌, not, nat_le, nat_lt, if◌then◌else◌, List, [], ◌∷◌, ◌++◌, length, filter, map, min, sum_by, Option}
+use Rattle.std.specs.List.{AllByRecursion, list_any, find}
 use Rattle.std.specs.Option.{option_map}
 use Rattle.kr_base.specs.declared.ids.ConnId.{ConnId}
 use Rattle.secret_calls.specs.declared.out.Out.{Out}
@@ -10,6 +9,7 @@ use Rattle.service_tables.specs.Limits.{most_taken}
 use Rattle.service_tables.specs.declared.rows.ConnRow.{ConnRow}
 use Rattle.service_tables.specs.declared.rows.ConnRows.{ConnRows}
 use Rattle.service_tables.specs.declared.rows.DeskRow.{DeskRow}
+use Rattle.service_tables.specs.declared.rows.Sent.{Sent}
 
 -- the row of a connection that joins
 abbrev pub new_row : ConnId → ConnRow
@@ -77,11 +77,6 @@ abbrev pub waiting_for : ConnId → List ConnRow → List Out
 waiting_for conn [] = []
 waiting_for conn (row ∷ rows) = if is_row conn row then row.waiting else waiting_for conn rows
 
--- an output on its way to a connection
-pub record Sent : Type 0 where
-  pub to : ConnId
-  pub out : Out
-
 -- the rows with the outputs delivered, in order
 abbrev pub delivered : List Sent → List ConnRow → List ConnRow
 delivered [] rows = rows
@@ -91,3 +86,33 @@ delivered (sent ∷ more) rows = delivered more (changed sent.to (with_out sent.
 abbrev pub sent_to : ConnId → List Sent → List Out
 sent_to conn [] = []
 sent_to conn (sent ∷ more) = if sent.to.0 == conn.0 then sent.out ∷ sent_to conn more else sent_to conn more
+
+-- ---- room
+
+-- for how many more outputs of each connection there is room, by the connection's number
+abbrev pub Rooms : Type 0
+Rooms = List (ℕ × ℕ)
+
+-- there is room for this many more outputs of a connection, if it is there
+abbrev pub HasRoom : ℕ → ConnId → Rooms → Type 0
+HasRoom count conn rooms = AllByRecursion (λ room. (room.0 == conn.0) ≡ true → count ≤ room.1) rooms
+
+-- no connection has room for fewer outputs than before
+abbrev pub KeepRooms : Rooms → Rooms → Type 0
+KeepRooms old new = (count : ℕ) (conn : ConnId) → HasRoom count conn old → HasRoom count conn new
+
+-- this many outputs of a connection, with one more if the connection is the one that gets it
+abbrev pub with_one : ConnId → ConnId → ℕ → ℕ
+with_one conn other count = if conn.0 == other.0 then count + 1 else count
+
+-- room is spent for one more output of a connection
+abbrev pub Spends : ConnId → Rooms → Rooms → Type 0
+Spends conn old new = (count : ℕ) (other : ConnId) → HasRoom (with_one conn other count) other old → HasRoom count other new
+
+-- how many of these outputs are on their way to the connection
+abbrev pub count_to : ConnId → List Sent → ℕ
+count_to conn outs = length (sent_to conn outs)
+
+-- there is room for all of these outputs
+abbrev pub HasRoomFor : List Sent → Rooms → Type 0
+HasRoomFor outs rooms = (conn : ConnId) → HasRoom (count_to conn outs) conn rooms

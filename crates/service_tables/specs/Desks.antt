@@ -1,5 +1,5 @@
 -- How the machine keeps its connections: a map from numbers to what is kept of each.
-use Rattle.std.specs.Prelude.{◌≡◌, ℕ, ◌<◌, ◌≤◌, List, map, Option, Some, vec_len, vec_capacity}
+use Rattle.std.specs.Prelude.{◌≡◌, ℕ, ◌-◌, ◌<◌, ◌≤◌, List, map, Option, vec_len, vec_capacity}
 use Rattle.std.specs.Ordering.{nat_cmp}
 use Rattle.std.specs.List.{AllByRecursion}
 use Rattle.std.specs.List.Sorted.{IsStrictlySortedBy}
@@ -8,7 +8,7 @@ use Rattle.std.specs.BTreeMap.{is_at}
 use Rattle.secret_calls.specs.Outs.{most_waiting}
 use Rattle.service_tables.specs.declared.desk.Desk.{Desk}
 use Rattle.service_tables.specs.declared.rows.ConnRow.{ConnRow}
-use Rattle.service_tables.specs.Connections.{size_waiting, changed}
+use Rattle.service_tables.specs.Connections.{Rooms, size_waiting, changed}
 
 -- the row that a number and a desk stand for
 abbrev pub row_of : ℕ × Desk → ConnRow
@@ -20,20 +20,24 @@ row_of entry = record {
   taken = entry.1.taken;
 }
 
--- the table as contracts see it: the rows, the number of the next connection, and the connection that has room for
--- one more output
+-- for how many more outputs a desk has room
+abbrev pub room_in : Desk → ℕ
+room_in desk = vec_capacity desk.waiting - vec_len desk.waiting
+
+-- the number of a connection, and for how many more outputs its desk has room
+abbrev pub room_of : ℕ × Desk → ℕ × ℕ
+room_of entry = (entry.0, room_in entry.1)
+
+-- the table as contracts see it: the rows, the number of the next connection, and for how many more outputs of each connection there is
+-- room
 pub record Table : Type 0 where
   pub rows : List ConnRow
   pub next : ℕ
-  pub ready : Option ℕ
+  pub rooms : Rooms
 
 -- the table that the entries stand for
-abbrev pub table_of : List (ℕ × Desk) → ℕ → Option ℕ → Table
-table_of entries next ready = record { rows = map row_of entries; next = next; ready = ready }
-
--- a desk has room for one more output
-abbrev pub HasRoom : Desk → Type 0
-HasRoom desk = vec_len desk.waiting < vec_capacity desk.waiting
+abbrev pub table_of : List (ℕ × Desk) → ℕ → Table
+table_of entries next = record { rows = map row_of entries; next = next; rooms = map room_of entries }
 
 -- the bytes that wait are counted, and aren't too many
 pub record IsCounted (desk : Desk) : Type 0 where
@@ -52,19 +56,14 @@ AreGiven next keys = AllByRecursion (λ key. key < next) keys
 abbrev pub kept : ℕ → List (ℕ × Desk) → Option Desk
 kept conn entries = lookup (is_at (nat_cmp conn)) entries
 
--- what is kept of the connection has room for one more output, if it is there
-abbrev pub HasRoomAt : ℕ → List (ℕ × Desk) → Type 0
-HasRoomAt conn entries = (desk : Desk) → kept conn entries ≡ Some desk → HasRoom desk
-
 -- the new entries are the old ones with a change of one connection's row
 pub record Changes (conn : ℕ) (change : ConnRow → ConnRow) (old new : List (ℕ × Desk)) : Type 0 where
   pub rows : map row_of new ≡ changed (record { 0 = conn }) change (map row_of old)
   pub keys : keys_of new ≡ keys_of old
   pub counts : AreCounted old → AreCounted new
 
--- the numbers rise and were given, what waits is counted, and the connection that is said to have room has it
-pub record AreKept (next : ℕ) (ready : Option ℕ) (entries : List (ℕ × Desk)) : Type 0 where
+-- the numbers rise and were given, and what waits is counted
+pub record AreKept (next : ℕ) (entries : List (ℕ × Desk)) : Type 0 where
   pub ordered : IsStrictlySortedBy nat_cmp (keys_of entries)
   pub given : AreGiven next (keys_of entries)
   pub counts : AreCounted entries
-  pub room : (conn : ℕ) → ready ≡ Some conn → HasRoomAt conn entries

@@ -11,3 +11,4 @@ pub mod Slots
 pub mod Sound
 pub mod State
 pub mod Storing
+pub mod Targets

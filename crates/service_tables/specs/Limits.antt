@@ -18,6 +18,10 @@ most_taken = 18446744073709551615
 abbrev pub most_body : ℕ
 most_body = 8388608
 
+-- the most that the targets of a prompt may weigh, so that the signal Completed isn't too long
+abbrev pub most_weight : ℕ
+most_weight = 8388608
+
 -- once so many events of a run are recorded, no connection joins or asks any more
 abbrev pub most_events : ℕ
 most_events = 18446744073709000000

@@ -3,6 +3,7 @@ use Rattle.std.specs.Prelude.{◌≡◌, [], Option}
 use Rattle.alias_table.specs.Table.{AliasRows}
 use Rattle.collection_table.specs.Rows.{Rows}
 use Rattle.session_table.specs.Sessions.{no_sessions}
+use Rattle.prompt_state.specs.Prompts.{no_prompts}
 use Rattle.service_tables.specs.State.{State}
 
 -- what a service starts with: the collections by rising stems, and the aliases with their file, None if it was left alone
@@ -15,6 +16,7 @@ abbrev pub opened_state : Contents → State
 opened_state contents = record {
   connections = record { rows = []; next = 1 };
   sessions = no_sessions;
+  prompts = no_prompts;
   collections = contents.collections;
   aliases = contents.aliases;
 }

@@ -1,8 +1,10 @@
--- What is read of the collections: which of them and which of their items are there, what a search finds, and secrets.
-use Rattle.std.specs.Prelude.{ℕ, if◌then◌else◌, List, [], Option, Some, None}
+-- What is read of the collections: which of them and which of their items are there, what a search finds, and secrets; and what is
+-- read of the prompts.
+use Rattle.std.specs.Prelude.{ℕ, if◌then◌else◌, List, [], length, Option, Some, None}
 use Rattle.std.specs.Option.{option_and_then, option_map, option_map_or}
 use Rattle.kr_base.specs.Attributes.{value_at}
 use Rattle.kr_base.specs.declared.attributes.AttrValue.{AttrValue}
+use Rattle.kr_base.specs.declared.ids.ConnId.{ConnId}
 use Rattle.kr_base.specs.declared.ids.ItemId.{ItemId}
 use Rattle.kr_base.specs.declared.ids.SessionId.{SessionId}
 use Rattle.kr_names.specs.declared.object_name.ObjectName.{ObjectName}
@@ -10,13 +12,15 @@ use Rattle.kr_names.specs.declared.object_name.ObjectName.TheVariants as object
 use Rattle.kr_names.specs.Naming.{is_alias}
 use Rattle.kr_names.specs.Path.{path_text}
 use Rattle.collection_table.specs.Rows as collections
-use Rattle.collection_table.specs.Rows.{Rows, content_of, found_in_all, has, has_item, is_open, item_of}
+use Rattle.collection_table.specs.Rows.{CollectionRow, Rows, content_of, found_in_all, has, has_item, is_open, item_of}
+use Rattle.prompt_state.specs.Prompts as prompting
+use Rattle.prompt_state.specs.declared.row.Prompts.{Prompts}
 use Rattle.secret_calls.specs.declared.secret.ItemSecret.{ItemSecret}
 use Rattle.secret_calls.specs.declared.secret.ReturnedSecret.{ReturnedSecret}
 use Rattle.service_tables.specs.Aliases.{pairs_of}
 use Rattle.service_tables.specs.Objects.{stem_where}
 use Rattle.service_tables.specs.Opened.{Contents}
-use Rattle.service_tables.specs.Questions.{CollectionQuestions}
+use Rattle.service_tables.specs.Questions.{CollectionQuestions, PromptQuestions}
 
 -- the stem of an alias, if there is a collection of that stem
 abbrev pub stem_there : Rows → Option (List ℕ) → Option (List ℕ)
@@ -27,6 +31,10 @@ stem_there rows (Some stem) = stem_where (has stem rows) stem
 abbrev pub alias_of : List ℕ → Contents → Option (List ℕ)
 alias_of alias contents = if is_alias alias then stem_there contents.collections (value_at alias (pairs_of contents.aliases)) else None
 
+-- the label of the collection of a stem, which is shown while it is locked, too; empty if there is none
+abbrev pub label_of : List ℕ → Rows → List ℕ
+label_of stem rows = option_map_or (λ (row : CollectionRow). row.clear.name) (value_at stem rows) []
+
 -- the items of one collection that match
 abbrev pub found_in : List ℕ → List (List ℕ × AttrValue) → Rows → List ItemId
 found_in stem wanted rows = option_map_or (λ row. (collections.found_in wanted (stem, row)).ids) (value_at stem rows) []
@@ -35,8 +43,10 @@ found_in stem wanted rows = option_map_or (λ row. (collections.found_in wanted 
 abbrev pub asked_collections : Contents → CollectionQuestions
 asked_collections contents = record {
   alias = λ alias. alias_of alias contents;
+  count = length contents.collections;
   has = λ stem. has stem contents.collections;
   is_open = λ stem. is_open stem contents.collections;
+  label = λ stem. label_of stem contents.collections;
   has_item = λ stem item. has_item stem item.0 contents.collections;
   found_in = λ stem wanted. found_in stem wanted contents.collections;
   found = λ wanted. found_in_all wanted contents.collections;
@@ -54,3 +64,15 @@ abbrev pub item_secret : SessionId → Rows → ObjectName → Option ItemSecret
 item_secret session rows (object.Item stem item) =
     option_map (λ secret. record { item = path_text (object.Item stem item); secret = secret }) (secret_of session rows stem item)
 item_secret session rows _ = None
+
+-- the answers to a caller's questions about the prompts
+abbrev pub asked_prompts : ConnId → Prompts → PromptQuestions
+asked_prompts caller prompts = record {
+  owns = λ prompt. prompting.owns caller prompt prompts;
+  is_full = prompting.is_full caller prompts;
+  next = prompts.next;
+  row = λ prompt. prompting.row_at prompt prompts;
+  is_agent = prompting.is_agent caller prompts;
+  is_taken = prompting.is_taken caller prompts.agent;
+  refusal = λ prompt round. prompting.refusal prompt round caller prompts;
+}

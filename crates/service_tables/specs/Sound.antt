@@ -1,13 +1,14 @@
 -- What every state has that a start leads to, and a state has to have from which lists of events may begin: a number
 -- in use was given, and is given to no other; a session's owner is there; the connections, the sessions of each and the bytes
 -- that wait are within their limits, and each output that waits has a spelling; the collections' stems rise, and what is
--- known of a collection has its types; the aliases are those that their file gives. Laws over lists from any start take it as their premise.
-use Rattle.std.specs.Prelude.{◌≡◌, ℕ, ◌^◌, ◌==◌, ◌<◌, ◌≤◌, IsTrue, IfSome, false, true, List, [], Option, Some, None, ◌∷◌, length, filter}
+-- known of a collection has its types; the aliases are those that their file gives; a prompt's owner is there, and so is the agent, and
+-- what a prompt has can be sent. Laws over lists from any start take it as their premise.
+use Rattle.std.specs.Prelude.{◌≡◌, ◌⊎◌, ℕ, ◌+◌, ◌^◌, ◌==◌, ◌<◌, ◌≤◌, IsTrue, IfSome, IsSome, false, true, List, [], Option, Some, None, ◌∷◌, length, filter}
 use Rattle.std.specs.List.{AllByRecursion}
 use Rattle.std.specs.Str.{is_utf8}
 use Rattle.kr_base.specs.Attributes.{IsInOrder}
 use Rattle.kr_base.specs.Stem.{IsStem}
-use Rattle.kr_base.specs.Text.{HasZero}
+use Rattle.kr_base.specs.Text.{HasZero, IsText}
 use Rattle.kr_base.specs.declared.attributes.AttrValue.{AttrValue}
 use Rattle.kr_base.specs.declared.attributes.AttrValue.TheVariants as value
 use Rattle.kr_base.specs.declared.ids.ConnId.{ConnId}
@@ -19,6 +20,14 @@ use Rattle.keyring_file.specs.Known.{IsKnownClearItem, IsKnownItem}
 use Rattle.keyring_seal.specs.Arranged.{Row}
 use Rattle.collection_store.specs.State.{Held}
 use Rattle.collection_table.specs.Rows as collections
+use Rattle.dbus_types.specs.Paths.{is_object_path}
+use Rattle.prompt_state.specs.Prompts.{AreSound, is_made}
+use Rattle.prompt_state.specs.Targets.{TargetLists, first_left}
+use Rattle.prompt_state.specs.declared.row.PromptKind.{PromptKind}
+use Rattle.prompt_state.specs.declared.row.PromptKind.TheVariants.{Unlock, Create}
+use Rattle.prompt_state.specs.declared.row.PromptRow.{PromptRow}
+use Rattle.prompt_state.specs.declared.row.Prompts.{Prompts}
+use Rattle.prompt_state.specs.declared.targets.Target.{Target}
 use Rattle.secret_calls.specs.Outs.{HasSpelling, most_waiting}
 use Rattle.session_table.specs.declared.row.SessionRow.{SessionRow}
 use Rattle.session_table.specs.declared.row.Sessions.{Sessions}
@@ -28,8 +37,10 @@ use Rattle.service_tables.specs.Opened.{Contents}
 use Rattle.service_tables.specs.State.{State}
 use Rattle.service_tables.specs.declared.rows.ConnRow.{ConnRow}
 use Rattle.service_tables.specs.declared.rows.ConnRows.{ConnRows}
-use Rattle.service_tables.specs.Connections.{has, size_of, size_waiting, Sent}
-use Rattle.service_tables.specs.Limits.{most_connections}
+use Rattle.service_tables.specs.declared.rows.Sent.{Sent}
+use Rattle.service_tables.specs.Connections.{has, size_of, size_waiting}
+use Rattle.service_tables.specs.Limits.{most_connections, most_weight}
+use Rattle.service_tables.specs.Targets.{weight}
 
 -- each connection's number is below the next one
 abbrev pub AreJoined : ℕ → List ConnRow → Type 0
@@ -94,11 +105,12 @@ pub record IsSoundItem (row : Row) : Type 0 where
 abbrev pub AreSoundItems : Held → Type 0
 AreSoundItems held = AllByRecursion IsSoundItem held.rows
 
--- the items of a clear part have their types
-abbrev pub AreShown : ClearPart → Type 0
-AreShown clear = AllByRecursion IsKnownClearItem clear.items
+-- the label and the items of a clear part have their types
+pub record AreShown (clear : ClearPart) : Type 0 where
+  pub label : IsText clear.name
+  pub items : AllByRecursion IsKnownClearItem clear.items
 
--- what is known of a collection has its types: its stem is one, and the items are those of a file
+-- what is known of a collection has its types: its stem is one, and the label and the items are those of a file
 pub record IsSoundCollection (collection : List ℕ × collections.CollectionRow) : Type 0 where
   pub stem : IsStem collection.0
   pub shown : AreShown collection.1.clear
@@ -115,6 +127,57 @@ abbrev pub AreSoundAliases : Option AliasRows → Type 0
 AreSoundAliases None = Unit {0}
 AreSoundAliases (Some rows) = AreGiven rows.file rows.aliases rows.newer
 
+-- the bytes of a text
+pub record IsTypedText (bytes : List ℕ) : Type 0 where
+  pub utf8 : is_utf8 bytes ≡ true
+  pub no_zero : HasZero bytes → ⊥
+
+-- the name that an alias may be set under
+abbrev pub IsTypedAlias : List ℕ → Type 0
+IsTypedAlias alias = is_alias alias ≡ true
+
+-- a sound target: what was given is an object path, and its collection's stem is one
+pub record IsSoundTarget (target : Target) : Type 0 where
+  pub given : IsTrue (is_object_path target.given)
+  pub stem : IsStem target.stem
+
+-- sound targets, which aren't too many
+pub record AreSoundTargets (targets : TargetLists) : Type 0 where
+  pub done : AllByRecursion IsSoundTarget targets.done
+  pub left : AllByRecursion IsSoundTarget targets.left
+  pub light : weight targets.done + weight targets.left ≤ most_weight
+
+-- what a collection is created with has its types; there is no alias if its name is empty
+pub record AreCreateTypes (name given bytes : List ℕ) : Type 0 where
+  pub label : IsTypedText name
+  pub alias : (given ≡ []) ⊎ IsTypedAlias given
+  pub salt : length bytes ≡ 8
+  pub each : IsBytes bytes
+
+-- what a prompt is for is sound
+abbrev pub IsSoundKind : PromptKind → Type 0
+IsSoundKind (Unlock targets) = AreSoundTargets targets
+IsSoundKind (Create label alias salt) = AreCreateTypes label alias salt
+
+-- there is a target for which a prompt is asked, unless it creates a collection
+abbrev pub HasLeft : PromptKind → Type 0
+HasLeft (Unlock targets) = IsSome (first_left targets)
+HasLeft (Create label alias salt) = Unit {0}
+
+-- a sound prompt: once Prompt is called on it, there is something to ask for
+pub record IsSoundPrompt (row : PromptRow) : Type 0 where
+  pub number : row.prompt.0 < 2 ^ 64
+  pub wrong : row.wrong < 2 ^ 32
+  pub kind : IsSoundKind row.kind
+  pub left : is_made row.stage ≡ false → HasLeft row.kind
+
+-- sound prompts, among the connections that are there
+pub record AreSoundPrompts (connections : List ConnRow) (prompts : Prompts) : Type 0 where
+  pub kept : AreSound prompts
+  pub each : AllByRecursion IsSoundPrompt prompts.rows
+  pub owned : AllByRecursion (λ row. IsTrue (has row.owner connections)) prompts.rows
+  pub agent : IfSome prompts.agent (λ agent. IsTrue (has agent connections))
+
 -- what a start finds is sound, and the file of the aliases isn't in doubt
 pub record AreSoundContents (contents : Contents) : Type 0 where
   pub collections : AreSoundCollections contents.collections
@@ -125,19 +188,11 @@ pub record AreSoundContents (contents : Contents) : Type 0 where
 pub record IsSound (state : State) : Type 0 where
   pub connections : AreSoundConnections state.connections
   pub sessions : AreSoundSessions state.connections.rows state.sessions
+  pub prompts : AreSoundPrompts state.connections.rows state.prompts
   pub collections : AreSoundCollections state.collections
   pub aliases : AreSoundAliases state.aliases
 
 -- ---- what a call brings: what its types guarantee, as facts that have one proof at most
-
--- the bytes of a text
-pub record IsTypedText (bytes : List ℕ) : Type 0 where
-  pub utf8 : is_utf8 bytes ≡ true
-  pub no_zero : HasZero bytes → ⊥
-
--- the name that an alias may be set under
-abbrev pub IsTypedAlias : List ℕ → Type 0
-IsTypedAlias alias = is_alias alias ≡ true
 
 -- the value of an attribute
 abbrev pub IsTypedValue : AttrValue → Type 0

@@ -1,28 +1,30 @@
 // The connections, by their numbers. Finding one takes steps by the logarithm of how many there are.
-ghost use Rattle.std.specs.Prelude.{◌≡◌, ℕ, ◌+◌, ◌<◌, ◌≤◌, ◌⊎◌, [], ◌∷◌, ◌++◌, length, Some, None, false, true, IfOk, OnOk, OnErr};
+ghost use Rattle.std.specs.Prelude.{◌≡◌, ℕ, List, ◌+◌, ◌<◌, ◌≤◌, ◌⊎◌, [], ◌∷◌, ◌++◌, length, false, true, IfOk, OnOk, OnErr};
+ghost use Rattle.std.specs.List.{AllByRecursion};
+ghost use Rattle.secret_calls.specs.declared.out.Out.{Out};
 ghost use Rattle.service_tables.specs.Limits.{most_connections, last_connection};
-ghost use Rattle.service_tables.specs.Connections.{new_row, has, changed, without, with_out, left, emptied, waiting_for, desk_of};
+ghost use Rattle.service_tables.specs.Connections.{new_row, has, changed, without, with_out, left, emptied, waiting_for, desk_of, delivered, HasRoom, HasRoomFor, KeepRooms};
+ghost use Rattle.service_tables.specs.declared.rows.Sent.{Sent};
 
 use crate::desk::Desk;
-use crate::{ConnRows, DeskRow, desks};
+use crate::{ConnRows, DeskRow, Sent, desks};
 use kr_base::{ConnId, OutOfMemory};
 use kr_items::Items;
 use secret_calls::Out;
-use std::alloc::Global;
+use std::alloc::{AllocError, Global};
 use std::collections::BTreeMap;
 use std::marker::Model;
 
 /// How many connections may be there at once.
 const MOST_CONNECTIONS: usize = 256;
 
-/// The connections. A contract sees their rows by rising number, the number of the next one, and the
-/// one that has room for one more output.
+/// The connections. A contract sees their rows by rising number, the number of the next one, and for
+/// how many more outputs of each there is room.
 #[derive(Drop)]
 pub struct Connections {
     alloc: Global,
     desks: BTreeMap<u64, Desk>,
     next: u64,
-    ready: Option<u64>,
 }
 
 impl Model for Connections {
@@ -32,21 +34,20 @@ impl Model for Connections {
 
     ghost use Rattle.service_tables.specs.Desks.{table_of, AreKept};
 
-    ghost view = { λ t. table_of t.desks.entries t.next t.ready };
+    ghost view = { λ t. table_of t.desks.entries t.next };
 
-    ghost invariant = { λ t. AreKept t.next t.ready t.desks.entries };
+    ghost invariant = { λ t. AreKept t.next t.desks.entries };
 }
 
 impl Connections {
     /// No connection is there, and the first gets the number 1. It takes no memory.
     pub fn new(alloc: Global) -> Connections
-        ensures { result ≡ record { rows = []; next = 1; ready = None } }
+        ensures { result ≡ record { rows = []; next = 1; rooms = [] } }
     {
         Connections {
             alloc,
             desks: BTreeMap::new(alloc),
             next: 1,
-            ready: None,
         }
     }
 
@@ -70,7 +71,6 @@ impl Connections {
             × (self.new.next ≡ self.old.next)) }
     {
         let number = self.next;
-        self.ready = None;
         desks::add(&mut self.desks, number, Desk::new(self.alloc))?;
         self.next = number + 1;
         Ok(ConnId(number))
@@ -90,26 +90,65 @@ impl Connections {
         desks::told(&self.desks, conn.0)
     }
 
-    /// Makes room for one more output of the connection.
-    pub fn reserve(&mut self, conn: ConnId) -> Result<(), OutOfMemory>
-        ensures ready { OnOk result (self.new.ready ≡ Some conn.0) }
+    /// Makes room for this many more outputs of the connection.
+    pub fn reserve(&mut self, conn: ConnId, more: usize) -> Result<(), OutOfMemory>
+        ensures room { OnOk result (HasRoom more conn self.new.rooms) }
+        ensures kept { KeepRooms self.old.rooms self.new.rooms }
         ensures unchanged { self.new.rows ≡ self.old.rows }
         ensures next { self.new.next ≡ self.old.next }
     {
-        self.ready = None;
-        desks::reserve(&mut self.desks, conn.0)?;
-        self.ready = Some(conn.0);
+        desks::reserve(&mut self.desks, conn.0, more)
+    }
+
+    /// Makes room for one more output of the caller, and for all of these.
+    pub fn reserve_for(&mut self, caller: ConnId, outs: &[Sent]) -> Result<(), OutOfMemory>
+        ensures room { OnOk result ((reply : Out)
+            → HasRoomFor (record { to = caller; out = reply } ∷ outs.now) self.new.rooms) }
+        ensures unchanged { self.new.rows ≡ self.old.rows }
+        ensures next { self.new.next ≡ self.old.next }
+    {
+        let Some(most) = outs.len().checked_add(1) else {
+            return Err(AllocError);
+        };
+        self.reserve(caller, most)?;
+        self.reserve_each(outs, most)
+    }
+
+    // Makes room for this many more outputs of each connection to which one of these goes.
+    fn reserve_each(&mut self, outs: &[Sent], more: usize) -> Result<(), OutOfMemory>
+        ensures room { OnOk result (AllByRecursion
+            (λ sent. HasRoom more sent.to self.new.rooms) outs.now) }
+        ensures kept { KeepRooms self.old.rooms self.new.rooms }
+        ensures unchanged { self.new.rows ≡ self.old.rows }
+        ensures next { self.new.next ≡ self.old.next }
+    {
+        for sent in outs {
+            self.reserve(sent.to, more)?;
+        }
         Ok(())
     }
 
     /// Puts an output behind those that wait for the connection. It takes no memory.
     pub fn push(&mut self, conn: ConnId, out: Out)
-        requires { self.old.ready ≡ Some conn.0 }
+        requires { HasRoom 1 conn self.old.rooms }
         ensures rows { self.new.rows ≡ changed conn (with_out out) self.old.rows }
         ensures next { self.new.next ≡ self.old.next }
+        ensures room { (outs : List Sent)
+            → HasRoomFor (record { to = conn; out = out } ∷ outs) self.old.rooms
+            → HasRoomFor outs self.new.rooms }
     {
-        self.ready = None;
         desks::put(&mut self.desks, conn.0, out);
+    }
+
+    /// Queues each of these outputs for its connection, in order. It takes no memory.
+    pub fn deliver(&mut self, outs: Vec<Sent>)
+        requires { HasRoomFor outs.items self.old.rooms }
+        ensures rows { self.new.rows ≡ delivered outs.items self.old.rows }
+        ensures next { self.new.next ≡ self.old.next }
+    {
+        for sent in outs {
+            self.push(sent.to, sent.out);
+        }
     }
 
     /// Marks that the connection asks no more. It takes no memory.
@@ -117,7 +156,6 @@ impl Connections {
         ensures rows { self.new.rows ≡ changed conn left self.old.rows }
         ensures next { self.new.next ≡ self.old.next }
     {
-        self.ready = None;
         desks::leave(&mut self.desks, conn.0);
     }
 
@@ -127,7 +165,6 @@ impl Connections {
         ensures rows { self.new.rows ≡ changed conn emptied self.old.rows }
         ensures next { self.new.next ≡ self.old.next }
     {
-        self.ready = None;
         desks::take(self.alloc, &mut self.desks, conn.0)
     }
 
@@ -136,7 +173,6 @@ impl Connections {
         ensures rows { self.new.rows ≡ without conn self.old.rows }
         ensures next { self.new.next ≡ self.old.next }
     {
-        self.ready = None;
         desks::remove(&mut self.desks, conn.0);
     }
 

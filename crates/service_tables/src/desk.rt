@@ -1,7 +1,7 @@
 // What is kept of one connection.
-ghost use Rattle.std.specs.Prelude.{◌≡◌, ℕ, ◌<◌, vec_len, vec_capacity, OnOk, IfOk};
+ghost use Rattle.std.specs.Prelude.{◌≡◌, ℕ, ◌+◌, ◌<◌, ◌≤◌, OnOk, IfOk};
 ghost use Rattle.service_tables.specs.Connections.{new_row, with_out, left, emptied, told_of};
-ghost use Rattle.service_tables.specs.Desks.{row_of, HasRoom, IsCounted};
+ghost use Rattle.service_tables.specs.Desks.{row_of, room_in, IsCounted};
 
 use crate::{ConnRow, DeskRow};
 use kr_base::{ConnId, OutOfMemory};
@@ -54,22 +54,24 @@ impl Desk {
         }
     }
 
-    /// Makes room for one more output.
-    pub fn reserve(&mut self) -> Result<(), OutOfMemory>
-        ensures room { OnOk result (HasRoom self.new) }
+    /// Makes room for this many more outputs.
+    pub fn reserve(&mut self, more: usize) -> Result<(), OutOfMemory>
+        ensures room { OnOk result (more ≤ room_in self.new) }
+        ensures kept { room_in self.old ≤ room_in self.new }
         ensures row { (conn : ℕ) → row_of (conn, self.new) ≡ row_of (conn, self.old) }
         ensures counts { IsCounted self.old → IsCounted self.new }
     {
-        self.waiting.reserve(1)
+        self.waiting.reserve(more)
     }
 
     /// Puts an output behind those that wait, or drops it where too much would wait. It takes no
     /// memory.
     pub fn put(&mut self, out: Out)
-        requires room { HasRoom self.old }
+        requires room { 0 < room_in self.old }
         requires counts { IsCounted self.old }
         ensures row { (conn : ℕ)
             → row_of (conn, self.new) ≡ with_out out (row_of (conn, self.old)) }
+        ensures left { room_in self.old ≤ room_in self.new + 1 }
         ensures counts { IsCounted self.new }
     {
         if self.overrun {

@@ -3,8 +3,8 @@ ghost use Rattle.std.specs.Prelude.{◌≡◌, ℕ, ◌∷◌, ◌++◌, [], map
 ghost use Rattle.std.specs.Ordering.{nat_cmp};
 ghost use Rattle.std.specs.List.Sorted.{IsStrictlySortedBy};
 ghost use Rattle.std.specs.Map.{keys_of};
-ghost use Rattle.service_tables.specs.Connections.{has, without, with_out, left, emptied, waiting_for, desk_of};
-ghost use Rattle.service_tables.specs.Desks.{row_of, AreCounted, AreGiven, HasRoomAt, Changes};
+ghost use Rattle.service_tables.specs.Connections.{has, without, with_out, left, emptied, waiting_for, desk_of, HasRoom, KeepRooms, Spends};
+ghost use Rattle.service_tables.specs.Desks.{row_of, room_of, AreCounted, AreGiven, Changes};
 
 use crate::desk::Desk;
 use crate::{ConnRow, DeskRow};
@@ -44,22 +44,26 @@ pub fn add(desks: &mut BTreeMap<u64, Desk>, conn: u64, desk: Desk) -> Result<(),
     }
 }
 
-/// Makes room for one more output of the connection.
-pub fn reserve(desks: &mut BTreeMap<u64, Desk>, conn: u64) -> Result<(), OutOfMemory>
-    ensures room { OnOk result (HasRoomAt conn desks.new.entries) }
+/// Makes room for this many more outputs of the connection.
+pub fn reserve(desks: &mut BTreeMap<u64, Desk>, conn: u64, more: usize) -> Result<(), OutOfMemory>
+    ensures room { OnOk result (HasRoom more (record { 0 = conn })
+        (map room_of desks.new.entries)) }
+    ensures kept { KeepRooms (map room_of desks.old.entries) (map room_of desks.new.entries) }
     ensures changes { Changes conn (λ row. row) desks.old.entries desks.new.entries }
 {
     let Some(desk) = desks.get_mut(&conn) else {
         return Ok(());
     };
-    desk.reserve()
+    desk.reserve(more)
 }
 
 /// Puts an output behind those that wait for the connection.
 pub fn put(desks: &mut BTreeMap<u64, Desk>, conn: u64, out: Out)
-    requires room { HasRoomAt conn desks.old.entries }
+    requires room { HasRoom 1 (record { 0 = conn }) (map room_of desks.old.entries) }
     requires counts { AreCounted desks.old.entries }
-    ensures { Changes conn (with_out out) desks.old.entries desks.new.entries }
+    ensures changes { Changes conn (with_out out) desks.old.entries desks.new.entries }
+    ensures spent { Spends (record { 0 = conn }) (map room_of desks.old.entries)
+        (map room_of desks.new.entries) }
 {
     let Some(desk) = desks.get_mut(&conn) else {
         return;

@@ -33,8 +33,8 @@ fn known_attributes(attributes: &Attributes)
     }
 }
 
-// A law: what the type of a text guarantees, as a fact that has one proof at most. The call does nothing.
-fn known_text(text: &Text)
+/// A law: what the type of a text guarantees, as a fact that has one proof at most. The call does nothing.
+pub fn known_text(text: &Text)
     ensures { IsTypedText text.now }
 {
     let _text = text.as_str();

@@ -1,6 +1,7 @@
 //! The tables of the service: its connections with what waits for each, and its disk, which is the folder
 //! and what was loaded from it. Callers may rely on these: a change of one connection's row leaves all
-//! others as they are, and at most 256 are there; outputs wait in order, up to a limit of bytes; a disk
+//! others as they are, and at most 256 are there; outputs wait in order, up to a limit of bytes, and once
+//! there is room for several of them, to whichever connections, they wait without taking memory; a disk
 //! that is opened has each slot that was made of its folder, and its collections are those of the folder's
 //! files, all of them locked; objects, searches and secrets are read of the collections and of the
 //! aliases as the Secret Service API has them; and a change that is stored, and a file that is removed,
@@ -26,6 +27,8 @@ pub use aliases::KeptAliases;
 pub use connections::Connections;
 pub use disk::{Disk, OpenRefused};
 pub use fate::Fate;
-pub use known::{known_alias, known_item, known_secret};
-pub use paths::{collection_path, item_path, item_paths, locked_paths, unlocked_paths};
-pub use rows::{ConnRow, ConnRows, DeskRow, Rows};
+pub use known::{known_alias, known_item, known_secret, known_text};
+pub use paths::{
+    collection_path, is_new, item_path, item_paths, locked_paths, put_path, unlocked_paths,
+};
+pub use rows::{ConnRow, ConnRows, DeskRow, Rows, Sent};

@@ -90,8 +90,8 @@ impl<F: Folder> Disk<F> {
         }
     }
 
-    // The collection that is locked with an object, if the object is there.
-    fn collection_around<'a>(&'a self, object: &'a ObjectName) -> Option<&'a Stem>
+    /// The collection that is locked with an object, if the object is there.
+    pub fn collection_around<'a>(&'a self, object: &'a ObjectName) -> Option<&'a Stem>
         ensures around { option_copied result
             ≡ collection_around (asked_collections (contents_in self.now)) object.now }
         ensures path { IfSome result (λ _. HasPath object.now) }

@@ -77,8 +77,8 @@ pub fn locked_paths(alloc: Global, found: &[Matches]) -> Result<Vec<Text>, OutOf
     Ok(paths)
 }
 
-// Notes a path, and returns whether it is new: it wasn't noted before.
-fn is_new(noted: &mut BTreeSet<Text>, path: Text) -> Result<bool, OutOfMemory>
+/// Notes a path, and returns whether it is new: it wasn't noted before.
+pub fn is_new(noted: &mut BTreeSet<Text>, path: Text) -> Result<bool, OutOfMemory>
     ensures new { IfOk result (λ new. new ≡ not (is_listed path noted.old.keys)) }
     ensures noted { OnOk result ((other : List ℕ) → is_listed other noted.new.keys
         ≡ (pointwise nat_eq other path || is_listed other noted.old.keys)) }

@@ -1,18 +1,37 @@
 // What is read of the collections: the items that match, and secrets.
-ghost use Rattle.std.specs.Prelude.{◌≡◌, IfOk};
+ghost use Rattle.std.specs.Prelude.{◌≡◌, [], IfOk};
+ghost use Rattle.std.specs.Option.{option_copied, option_map, option_map_or};
 ghost use Rattle.std.specs.List.{filter_map};
 ghost use Rattle.service_tables.specs.Disk.{contents_in};
-ghost use Rattle.service_tables.specs.Reading.{found_in, item_secret, secret_of};
+ghost use Rattle.service_tables.specs.Reading.{asked_collections, found_in, item_secret, secret_of};
 
 use crate::Disk;
 use crate::paths::item_path;
-use kr_base::{Attributes, ItemId, OutOfMemory, SessionId, Stem};
+use kr_base::{Attributes, ItemId, OutOfMemory, SessionId, Stem, Text};
 use kr_names::ObjectName;
 use kr_outside::Folder;
 use secret_calls::{ItemSecret, ReturnedSecret};
 use std::alloc::Global;
 
 impl<F: Folder> Disk<F> {
+    /// The number of collections.
+    pub fn count(&self) -> usize
+        ensures { result ≡ (asked_collections (contents_in self.now)).count }
+    {
+        self.collections.len()
+    }
+
+    /// The label of the collection of a stem, also while it is locked. None if there is none.
+    pub fn label(&self, stem: &Stem) -> Option<&Text>
+        ensures { option_map_or (λ label. label) (option_copied result) []
+            ≡ (asked_collections (contents_in self.now)).label stem.now }
+    {
+        match self.collections.get(stem) {
+            Some(collection) => Some(collection.label()),
+            None => None,
+        }
+    }
+
     /// The items of one collection that match.
     pub fn found_in(
         &self,

@@ -1,5 +1,6 @@
 use kr_base::ConnId;
 use kr_items::Items;
+use prompt_state::Prompts;
 use secret_calls::Out;
 use session_table::Sessions;
 
@@ -38,11 +39,22 @@ pub struct DeskRow {
     pub leaving: bool,
 }
 
-/// The connections and the sessions of the service at a moment, with no trace of how they are kept.
+/// An output on its way to a connection.
+#[derive(Drop)]
+pub struct Sent {
+    /// The connection.
+    pub to: ConnId,
+    /// The output.
+    pub out: Out,
+}
+
+/// The connections, the sessions and the prompts of the service at a moment, with no trace of how they are kept.
 #[derive(Drop)]
 pub struct Rows {
     /// The connections.
     pub connections: ConnRows,
     /// The sessions.
     pub sessions: Sessions,
+    /// The prompts, and the agent.
+    pub prompts: Prompts,
 }

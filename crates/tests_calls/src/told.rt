@@ -1,7 +1,7 @@
 // Requests as texts.
 
 use crate::words::{decimal, joined};
-use kr_base::{AttrValue, Attributes, ItemId, SessionId, Stem, Text};
+use kr_base::{AttrValue, Attributes, ItemId, PromptId, SessionId, Stem, Text};
 use kr_names::{ObjectName, path_of};
 use secret_calls::{AliasName, Call, CallFault, Request, Secret};
 use std::alloc::Global;
@@ -208,6 +208,20 @@ fn setting_told(alloc: Global, stem: &Stem, item: ItemId, secret: &Secret) -> Re
     item_call_told(alloc, "SetSecret", stem, item, rest.as_str())
 }
 
+fn collection_told(alloc: Global, label: &Text, alias: &Option<AliasName>) -> Result<String, Fail> {
+    let alias = match alias {
+        Some(alias) => alias.as_text().as_str(),
+        None => "none",
+    };
+    let front = joined(alloc, &["Ok(CreateCollection \"", label.as_str()])?;
+    joined(alloc, &[front.as_str(), "\" as ", alias, ")"])
+}
+
+fn unlock_told(alloc: Global, objects: &[ObjectName]) -> Result<String, Fail> {
+    let objects = paths_told(alloc, objects)?;
+    joined(alloc, &["Ok(Unlock ", objects.as_str(), ")"])
+}
+
 fn alias_read_told(alloc: Global, name: &Text) -> Result<String, Fail> {
     joined(alloc, &["Ok(ReadAlias \"", name.as_str(), "\")"])
 }
@@ -233,6 +247,32 @@ fn alias_told(
     )
 }
 
+fn prompt_told(alloc: Global, call: &str, prompt: PromptId) -> Result<String, Fail> {
+    let number = decimal(alloc, prompt.0)?;
+    joined(alloc, &["Ok(", call, " ", number.as_str(), ")"])
+}
+
+// The call of the agent about a prompt in a round.
+fn round_told(
+    alloc: Global,
+    call: &str,
+    prompt: &Option<PromptId>,
+    round: u64,
+) -> Result<String, Fail> {
+    let prompt = match prompt {
+        Some(prompt) => decimal(alloc, prompt.0)?,
+        None => String::from_str(alloc, "none")?,
+    };
+    let round = decimal(alloc, round)?;
+    let front = joined(alloc, &["Ok(", call, " ", prompt.as_str()])?;
+    joined(alloc, &[front.as_str(), " in ", round.as_str()])
+}
+
+fn refusal_told(alloc: Global, prompt: &Option<PromptId>, round: u64) -> Result<String, Fail> {
+    let asked = round_told(alloc, "Refuse", prompt, round)?;
+    joined(alloc, &[asked.as_str(), ")"])
+}
+
 fn fault_told(alloc: Global, fault: CallFault) -> Result<String, Fail> {
     Ok(format!(in alloc; "Err({fault:?})")?)
 }
@@ -242,7 +282,9 @@ fn good_call_told(alloc: Global, call: &Call) -> Result<String, Fail> {
         Call::Ping => Ok(String::from_str(alloc, "Ok(Ping)")?),
         Call::OpenSession { algorithm } => opening_told(alloc, algorithm),
         Call::CloseSession { session } => closing_told(alloc, *session),
+        Call::CreateCollection { label, alias } => collection_told(alloc, label, alias),
         Call::SearchItems { wanted } => search_told(alloc, wanted),
+        Call::Unlock { objects } => unlock_told(alloc, objects.as_slice()),
         Call::Lock { objects } => lock_told(alloc, objects.as_slice()),
         Call::GetSecrets { items, session } => secrets_told(alloc, items.as_slice(), session),
         Call::ReadAlias { name } => alias_read_told(alloc, name),
@@ -268,6 +310,11 @@ fn good_call_told(alloc: Global, call: &Call) -> Result<String, Fail> {
             session,
         } => reading_told(alloc, stem, *item, session),
         Call::SetSecret { stem, item, secret } => setting_told(alloc, stem, *item, secret),
+        Call::Prompt { prompt } => prompt_told(alloc, "Prompt", *prompt),
+        Call::Dismiss { prompt } => prompt_told(alloc, "Dismiss", *prompt),
+        Call::Register => Ok(String::from_str(alloc, "Ok(Register)")?),
+        Call::Unregister => Ok(String::from_str(alloc, "Ok(Unregister)")?),
+        Call::Refuse { prompt, round } => refusal_told(alloc, prompt, *round),
     }
 }
 

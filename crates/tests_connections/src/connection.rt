@@ -1,5 +1,6 @@
 ghost use Rattle.std.specs.Prelude.{IsTrue};
 ghost use Rattle.connection_worker.specs.Serving.{HasJoined};
+ghost use Rattle.service_tables.specs.Sound.{IsSound};
 
 use crate::checks::{cell, length, same_bytes, same_number, same_text};
 use connection_worker::{End, Salts, handshake, one_thread};
@@ -313,6 +314,7 @@ fn served<R: AllocGlobal + Wait, I: Source, O: Sink, D: ReadDesk + WriteDesk>(
 ) -> &'static str
     requires alone { IsTrue (D.told desk.old).is_alone }
     requires joined { HasJoined (D.told desk.old) }
+    requires sound { IsSound (D.told desk.old).state }
 {
     let mut clock = ListedClock::new(Vec::new(rt.alloc()));
     let mut salts = salts_of(ConnId(1));

@@ -22,6 +22,10 @@ mod machine;
 #[cfg(test)]
 mod members;
 #[cfg(test)]
+mod prompt_words;
+#[cfg(test)]
+mod prompts;
+#[cfg(test)]
 mod storing;
 #[cfg(test)]
 mod words;

@@ -1,6 +1,7 @@
 // Calls from words, and outputs in words.
 
 use crate::checks::{cell, number};
+use crate::prompt_words::prompt_call_of;
 use kr_base::{Attributes, Bytes, ItemId, PromptId, SessionId, Stem, Text};
 use kr_items::Items;
 use kr_names::{ObjectName, parse_path};
@@ -18,7 +19,8 @@ fn closing(session: &str) -> Result<Call, Fail> {
     Ok(Call::CloseSession { session })
 }
 
-fn text(alloc: Global, text: &str) -> Result<Text, Fail> {
+/// A text without a zero byte.
+pub fn text(alloc: Global, text: &str) -> Result<Text, Fail> {
     Ok(Text::from_str(alloc, text)?.ok_or("a zero byte")?)
 }
 
@@ -41,7 +43,8 @@ fn object(alloc: Global, below: &str) -> Result<ObjectName, Fail> {
     Ok(parse_path(alloc, path.as_str())?.unwrap_or(ObjectName::Nothing))
 }
 
-fn objects(alloc: Global, words: &str) -> Result<Items<ObjectName>, Fail> {
+/// The objects with the paths that continue `/org/freedesktop/secrets/` like these words.
+pub fn objects(alloc: Global, words: &str) -> Result<Items<ObjectName>, Fail> {
     let mut objects = Vec::new(alloc);
     for below in words.split(' ') {
         objects.push(object(alloc, below)?)?;
@@ -197,7 +200,7 @@ pub fn call_of(alloc: Global, row: &str) -> Result<Result<Call, CallFault>, Fail
         "set" => Ok(Ok(setting(alloc, cell(row, 2))?)),
         "read" => Ok(Ok(reading(alloc, cell(row, 2))?)),
         "alias" => Ok(Ok(aliasing(alloc, cell(row, 2))?)),
-        _ => Ok(Ok(Call::Ping)),
+        _ => prompt_call_of(alloc, row),
     }
 }
 
@@ -213,18 +216,17 @@ pub fn session_told(alloc: Global, session: u64) -> Result<String, Fail> {
     Ok(told)
 }
 
-// A path after a space, without what all paths begin with.
-fn add_path(told: &mut String, path: &Text) -> Result<(), Fail> {
+/// A path after a space, without what all paths of objects begin with.
+pub fn add_path(told: &mut String, path: &Text) -> Result<(), Fail> {
+    let path = path.as_str();
+    let below = path.strip_prefix("/org/freedesktop/secrets/");
     told.push_str(" ")?;
-    told.push_str(
-        path.as_str()
-            .strip_prefix("/org/freedesktop/secrets/")
-            .ok_or("a path")?,
-    )?;
+    told.push_str(below.unwrap_or(path))?;
     Ok(())
 }
 
-fn add_paths(told: &mut String, paths: &[Text]) -> Result<(), Fail> {
+/// Paths, each after a space.
+pub fn add_paths(told: &mut String, paths: &[Text]) -> Result<(), Fail> {
     for path in paths {
         add_path(told, path)?;
     }
@@ -300,7 +302,8 @@ fn error_told(name: ErrorName) -> &'static str {
     }
 }
 
-fn out_told(alloc: Global, out: &Out) -> Result<String, Fail> {
+/// An output in words.
+pub fn out_told(alloc: Global, out: &Out) -> Result<String, Fail> {
     match out {
         Out::Return { to: _, body } => body_told(alloc, body),
         Out::Error { to: _, name } => Ok(String::from_str(alloc, error_told(*name))?),

@@ -13,6 +13,7 @@ pub mod ItemStore
 pub mod CollectionStore
 pub mod CollectionTable
 pub mod SessionTable
+pub mod PromptState
 pub mod SecretCalls
 pub mod ServiceTables
 pub mod ServiceMachine

@@ -8,6 +8,7 @@ use Rattle.service_machine.specs.contracts.event.Event as Event
 use Rattle.service_machine.specs.contracts.event.Recorded as Recorded
 use Rattle.service_machine.specs.contracts.machine.Machine as Machine
 use Rattle.tests_threads.proofs.Sends.KrItems.{Items-send}
+use Rattle.tests_threads.proofs.Sends.PromptState.{PromptState-send}
 use Rattle.tests_threads.proofs.Sends.SecretCalls.{Request-send}
 use Rattle.tests_threads.proofs.Sends.ServiceTables.{Connections-send, Disk-send, Fate-send}
 use Rattle.tests_threads.proofs.Sends.SessionTable.{SessionTable-send}
@@ -22,4 +23,4 @@ pub Event-send : IsSend Event.the_row
 Event-send = search (Recorded-send, sendable) depth 40
 
 pub Machine-send : (F S : RattleType) (s : slot.Ghosts S.Denot) → IsSend F → IsSend S → IsSend (Machine.the_field F S s).row
-Machine-send F S s of-folder of-slot = search (Disk-send, Connections-send, SessionTable-send, sendable, heap.crosses) depth 40
+Machine-send F S s of-folder of-slot = search (Disk-send, Connections-send, SessionTable-send, PromptState-send, sendable, heap.crosses) depth 40

@@ -2,7 +2,7 @@ use Rattle.dbus_framing.specs.Messages.{parts_of}
 use Rattle.service_desk.specs.Places.{place}
 use Rattle.connection_worker.specs.Streams.{output_of}
 use Rattle.connection_worker.specs.Serving.{world}
-use Rattle.connection_worker.proofs.CallLemmas.{unread, unasked, answers}
+use Rattle.connection_worker.proofs.CallLemmas.{asked-fits, unread, unasked, answers}
 use Rattle.connection_worker.proofs.AnswerLemmas.{arrived-owed}
 use Rattle.connection_worker.proofs.serving.answer_call.Goals as goal
 
@@ -21,7 +21,7 @@ returns-in-Err g c =
 pub give-requires-clause-owed : goal.give-requires-clause-owed
 give-requires-clause-owed g c =
     let asks = c.in_default-ask.ensures in
-    arrived-owed (g.D.Desk.told c.args.desk.now) (g.D.Desk.told c.ask.new.desk) asks.0 c.requires.idle asks.2.calls.same.conn asks.2.calls.state
+    arrived-owed (g.D.Desk.told c.args.desk.now) (g.D.Desk.told c.ask.new.desk) asks.0 c.requires.idle (asked-fits _ _ asks.0 asks.2) asks.2.calls.same.conn asks.2.calls.state
 
 -- and was taken
 pub returns : goal.returns
@@ -33,4 +33,4 @@ returns g c =
     let mid = world told g.D.Desk.has_seen g.C.Clock.coming c.ask.new.desk c.ask.new.clock c.ask.new.salts in
     answers (parts_of c.args.message.now) c.in-Ok.request old mid (place told g.D.Desk.has_seen c.give.new.desk) c.args.serials.now c.give.new.serials
     (output_of sink.written sink.faults sink.is_steady c.args.output.now) (output_of sink.written sink.faults sink.is_steady c.give.new.output) c.give.result c.in-Ok.ensures
-    (arrived-owed (told c.args.desk.now) (told c.ask.new.desk) asks.0 c.requires.idle asks.2.calls.same.conn asks.2.calls.state) asks c.give.ensures
+    (arrived-owed (told c.args.desk.now) (told c.ask.new.desk) asks.0 c.requires.idle (asked-fits _ _ asks.0 asks.2) asks.2.calls.same.conn asks.2.calls.state) asks c.give.ensures

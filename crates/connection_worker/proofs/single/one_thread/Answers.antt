@@ -14,11 +14,11 @@ returns-in-Err g c =
     served-not c.args.auth.uid c.args.auth.guid (input_of source.left source.faults source.is_steady c.args.input.now) (input_of source.left source.faults source.is_steady c.handshake.new.input)
     (output_of sink.written sink.faults sink.is_steady c.args.output.now) (output_of sink.written sink.faults sink.is_steady c.handshake.new.output)
     (world desk.told desk.has_seen g.C.Clock.coming c.args.desk.now c.args.clock.now c.args.salts.now) (place desk.told desk.has_seen c.gone.new.self) c.in-Err.end c.in-Err.ensures
-    (goes-alone (place desk.told desk.has_seen c.args.desk.now) (place desk.told desk.has_seen c.gone.new.self) c.requires.alone (joined-idle _ c.requires.joined) c.gone.ensures)
+    (goes-alone (place desk.told desk.has_seen c.args.desk.now) (place desk.told desk.has_seen c.gone.new.self) c.requires.alone (joined-idle _ c.requires.joined c.requires.sound) c.gone.ensures)
 
 -- nothing waits for a connection that has just joined
 pub serve-end-requires-clause-idle : goal.serve-end-requires-clause-idle
-serve-end-requires-clause-idle g c = joined-idle _ c.requires.joined
+serve-end-requires-clause-idle g c = joined-idle _ c.requires.joined c.requires.sound
 
 pub serve-end-requires-clause-most : goal.serve-end-requires-clause-most
 serve-end-requires-clause-most g c = c.in-Ok.ensures.ends.1

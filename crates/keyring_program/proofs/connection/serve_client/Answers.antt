@@ -42,10 +42,10 @@ returns g c =
     let name = ap (λ (e : Exchange). e.guid) c.new-auth.ensures ∙ c.guid_of.ensures in
     let served = subst (λ u. IsServed u (guid c.args.seed) from to sink behind old new c.one_thread-end.result) uid
     (subst (λ n. IsServed c.new-auth.result.uid n from to sink behind old new c.one_thread-end.result) name c.one_thread-end.ensures) in
-    rw (c.of_end.ensures, sym c.in-Ok.ensures.disk) (serves contents c.args.uid c.args.seed from to sink behind old new c.one_thread-end.result conn state count salting served)
+    rw (c.of_end.ensures, sym c.in-Ok.ensures.disk) (serves contents c.args.uid c.args.seed from to sink behind old new c.one_thread-end.result c.requires.sound conn state count salting served)
 
 -- there was no memory for the joining
 pub returns-in-Err-OutOfMemory : goal.returns-in-Err-OutOfMemory
 returns-in-Err-OutOfMemory g c =
     serves-none (contents_of c.args.service.history.state) c.args.uid c.args.seed (g.C.Clock.coming c.args.clock.now) (input_of g.I.Source.left g.I.Source.faults g.I.Source.is_steady c.args.input.now)
-    (output_of g.O.Sink.written g.O.Sink.faults g.O.Sink.is_steady c.args.output.now) _
+    (output_of g.O.Sink.written g.O.Sink.faults g.O.Sink.is_steady c.args.output.now) _ c.requires.sound

@@ -1,6 +1,9 @@
-use Rattle.std.proofs.Common.{◌++◌, true, false, refl, ap}
+use Rattle.std.proofs.Common.{◌++◌, true, refl, ap, false}
 use Rattle.std.specs.List.{concat}
-use Rattle.service_tables.specs.Opened.{Contents}
+use Rattle.service_machine.specs.declared.event.Event.TheVariants as event
+use Rattle.service_machine.proofs.SoundLemmas.{sound_start, sound_step}
+use Rattle.service_tables.specs.Opened.{Contents, opened_state}
+use Rattle.service_tables.specs.Sound.{IsSound}
 use Rattle.service_desk.specs.Places.{Told}
 use Rattle.connection_worker.specs.Written.{spelled_behind}
 use Rattle.keyring_program.specs.Events.{the_connection, joined}
@@ -10,6 +13,11 @@ use Rattle.keyring_program.proofs.laws.each_request_has_its_reply.Goals as goal
 told : Contents → Told
 told contents = record { conn = the_connection; state = joined contents; count = 1; is_alone = true; is_steady = true; is_waiting = false }
 
-pub returns : goal.returns
+pub returns-clause-outputs : goal.returns-clause-outputs
 unfolding told
-returns c contents run asked = ap (λ outs. concat run.answers ++ spelled_behind 0 outs) (c.each_request_is_answered_at_once.ensures (told contents) asked (record { taken = 0; only = refl }))
+returns-clause-outputs c contents run asked sound legal =
+    let joins : IsSound (joined contents) = sound_step (opened_state contents) (event.Connect the_connection) (sound_start contents sound) legal.0 in
+    ap (λ outs. concat run.answers ++ spelled_behind 0 outs) (c.each_request_is_answered_at_once.ensures (told contents) asked (record { sound = joins; taken = 0; only = refl }) legal.1)
+
+pub returns-clause-replies : goal.returns-clause-replies
+returns-clause-replies c = λ contents asked. c.each_request_has_one_reply.ensures asked the_connection (joined contents)

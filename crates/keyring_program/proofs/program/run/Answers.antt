@@ -1,5 +1,8 @@
-use Rattle.std.proofs.Common.{[], inr, sym, ◌∙◌, None}
+use Rattle.std.proofs.Common.{[], inr, refl, sym, ◌∙◌, None}
+use Rattle.kr_base.proofs.AttributeLemmas.{IsInOrder-nil}
+use Rattle.collection_table.specs.Rows.{CollectionRow}
 use Rattle.service_tables.specs.Opened.{Contents, contents_of}
+use Rattle.service_tables.specs.Sound.{AreSoundContents}
 use Rattle.connection_worker.specs.Streams.{input_of, output_of}
 use Rattle.keyring_program.proofs.CommandLemmas.{one_user, one_folder}
 use Rattle.keyring_program.proofs.CompleteLemmas.{complete, never-usage}
@@ -10,6 +13,10 @@ use Rattle.keyring_program.proofs.program.run.Goals as goal
 -- a service that starts with nothing
 nothing : Contents
 nothing = record { collections = []; aliases = None }
+
+nothing-sound : AreSoundContents nothing
+unfolding nothing
+nothing-sound = record { collections = record { ordered = IsInOrder-nil CollectionRow; each = tt }; aliases = tt; certain = refl }
 
 -- the arguments are invalid
 pub returns-in_default-clause-opened : goal.returns-in_default-clause-opened
@@ -61,5 +68,5 @@ returns-in-Err-OutOfMemory-clause-served g c uid words =
       nothing,
       λ had. absurd had,
       serves-none nothing uid c.args.seed (g.H.Host.coming c.args.host.now)
-          (input_of g.I.Source.left g.I.Source.faults g.I.Source.is_steady c.args.input.now) (output_of g.O.Sink.written g.O.Sink.faults g.O.Sink.is_steady c.args.output.now) _,
+          (input_of g.I.Source.left g.I.Source.faults g.I.Source.is_steady c.args.input.now) (output_of g.O.Sink.written g.O.Sink.faults g.O.Sink.is_steady c.args.output.now) _ nothing-sound,
     )

@@ -1,7 +1,7 @@
-use Rattle.std.proofs.Common.{IsSome, ap, sym, refl, ◌∙◌}
-use Rattle.std.proofs.lemmas.Option.{none-some}
-use Rattle.service_tables.specs.Desks.{kept}
-use Rattle.service_tables.proofs.DeskLemmas.{changes_one, changes_none, room_at, OnOk-more}
+use Rattle.std.proofs.Common.{sym, ◌≤◌}
+use Rattle.service_tables.specs.Desks.{room_in}
+use Rattle.service_tables.proofs.DeskLemmas.{changes_one, changes_none, OnOk-more}
+use Rattle.service_tables.proofs.RoomLemmas.{keep-set, room-none, room-set}
 use Rattle.service_tables.proofs.desks.reserve.Goals as goal
 
 -- what is written changes one row
@@ -14,10 +14,15 @@ returns-in_default-clause-changes c = rw c.get_mut.follows.holds-at-none (change
 
 pub returns-clause-room : goal.returns-clause-room
 returns-clause-room c =
-    let there : IsSome (kept c.args.conn c.args.desks.now.entries) = rw (← c.in-Some.ensures.value) refl in
-    let found = ((c.get_mut.follows.holds c.reserve.new.self).3 there).1 in
-    OnOk-more c.reserve.result _ _ (room_at c.args.conn c.reserve.new.self (c.get_mut.follows.lender c.reserve.new.self).entries found) c.reserve.ensures.room
+    let set = λ (room : c.args.more ≤ room_in c.reserve.new.self). room-set c.args.more c.args.conn c.in-Some.desk.now c.reserve.new.self c.args.desks.now.entries c.get_mut.ensures.ordered (sym c.in-Some.ensures.value) room in
+    OnOk-more c.reserve.result _ _ (λ room. rw (c.get_mut.follows.holds c.reserve.new.self).0 (set room)) c.reserve.ensures.room
 
 pub returns-in_default-clause-room : goal.returns-in_default-clause-room
-returns-in_default-clause-room c = λ desk is.
-    absurd (none-some desk (c.in_default.ensures.value ∙ sym (ap (λ m. kept c.args.conn m.entries) c.get_mut.follows.holds-at-none) ∙ is))
+returns-in_default-clause-room c = rw c.get_mut.follows.holds-at-none (room-none c.args.more c.args.conn c.args.desks.now.entries (sym c.in_default.ensures.value))
+
+-- no room falls
+pub returns-clause-kept : goal.returns-clause-kept
+returns-clause-kept c = rw (c.get_mut.follows.holds c.reserve.new.self).0 (keep-set c.args.conn c.in-Some.desk.now c.reserve.new.self c.args.desks.now.entries (sym c.in-Some.ensures.value) c.reserve.ensures.kept)
+
+pub returns-in_default-clause-kept : goal.returns-in_default-clause-kept
+returns-in_default-clause-kept c = rw c.get_mut.follows.holds-at-none (λ count conn room. room)

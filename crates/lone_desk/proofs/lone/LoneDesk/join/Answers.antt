@@ -3,6 +3,7 @@ use Rattle.service_tables.specs.State.{State}
 use Rattle.service_machine.specs.Step.{step}
 use Rattle.service_machine.specs.declared.event.Event.TheVariants as event
 use Rattle.service_history.specs.History.{History}
+use Rattle.service_history.proofs.HistoryLemmas.{history-sound}
 use Rattle.lone_desk.proofs.DeskLemmas.{counts-stored, state-cut}
 use Rattle.lone_desk.proofs.lone.LoneDesk.join.Goals as goal
 
@@ -10,6 +11,10 @@ use Rattle.lone_desk.proofs.lone.LoneDesk.join.Goals as goal
 pub returns-in-Ok-clause-joined : goal.returns-in-Ok-clause-joined
 returns-in-Ok-clause-joined g c =
     ap (λ (h : History). h.state) c.in-Ok.ensures.stores.appends ∙ ap (λ (s : State). step s (event.Connect c.in-Ok.conn)) (state-cut c.args.service.history)
+
+-- every service's state is sound
+pub returns-in-Ok-clause-sound : goal.returns-in-Ok-clause-sound
+returns-in-Ok-clause-sound g c = history-sound c.join.new.self.history c.join.ensures.history
 
 pub returns-in-Ok-clause-count : goal.returns-in-Ok-clause-count
 returns-in-Ok-clause-count g c = counts-stored c.args.service.history c.join.new.self.history (event.Connect c.in-Ok.conn) c.in-Ok.ensures.stores

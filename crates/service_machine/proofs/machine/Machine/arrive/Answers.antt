@@ -19,8 +19,9 @@ returns-clause-stepped g c =
     λ i. record old { connections = record { rows = c.reserve.ensures.unchanged i; next = c.reserve.ensures.next i } } in
     let fates : c.new.result ≡ fates_in done =
     c.new.ensures ∙ c.with_fates.ensures ∙ (λ i. fates_of (c.into_parts-answer.ensures.read i) ++ fates_of (c.into_parts-answer.ensures.fate i)) in
-    let replied : rows_of c.reply.new.self ≡ with_delivered (replies arrival.conn arrival.request done.answer) (rows_of c.call.new.self) =
-    c.reply.ensures.rows ∙ ap (λ answer. with_delivered (replies arrival.conn arrival.request answer) (rows_of c.call.new.self)) c.into_parts-answer.ensures.answer in
+    let replied : rows_of c.reply.new.self ≡ with_delivered (replies arrival.conn arrival.request done.answer ++ done.sends) (rows_of c.call.new.self) =
+    c.reply.ensures.rows
+    ∙ (λ i. with_delivered (replies arrival.conn arrival.request (c.into_parts-answer.ensures.answer i) ++ c.into_parts-answer.ensures.sends i) (rows_of c.call.new.self)) in
     leads-stepped slot.is_honest slot.is_steady slot.faults slot.moment slot.left_since slot.may_leave arrival done old _ (rows_of c.call.new.self) (rows_of c.reply.new.self)
     (disk_of c.args.self.now) (disk_of c.call.new.self) same c.in_ok-call.ensures.leads replied
     ∙ ap (λ its. step old (with_fates arrival its)) (sym fates)
@@ -37,7 +38,7 @@ returns-clause-fits g c =
     c.new.ensures ∙ c.with_fates.ensures ∙ (λ i. fates_of (c.into_parts-answer.ensures.read i) ++ fates_of (c.into_parts-answer.ensures.fate i)) in
     subst (λ its. Fits old (with_fates arrival its)) (sym fates)
     (leads-fits slot.is_honest slot.is_steady slot.faults slot.moment slot.left_since slot.may_leave arrival done old _ (rows_of c.call.new.self) (rows_of c.reply.new.self)
-    (disk_of c.args.self.now) (disk_of c.call.new.self) same c.in_ok-call.ensures.leads c.known_request.ensures.moment c.known_request.ensures.types c.requires)
+    (disk_of c.args.self.now) (disk_of c.call.new.self) same c.in_ok-call.ensures.leads c.known_request.ensures.moment c.known_request.ensures.salt c.known_request.ensures.types c.requires)
 
 -- the reply leaves the disk as the call left it
 pub returns-clause-disk : goal.returns-clause-disk
@@ -68,7 +69,7 @@ returns-clause-faultless g c = λ steady.
     c.new.ensures ∙ c.with_fates.ensures ∙ (λ i. fates_of (c.into_parts-answer.ensures.read i) ++ fates_of (c.into_parts-answer.ensures.fate i)) in
     subst AreFaultless (sym fates)
     (stores-faultless slot.is_honest slot.is_steady slot.faults slot.moment slot.left_since slot.may_leave g.F.Folder.is_steady arrival.conn (brought_by arrival)
-    (plan_of arrival.request.call (asked arrival.conn (brought_by arrival) before)) (fates_in done) before (disk_of c.args.self.now) (disk_of c.call.new.self) leads.fates leads.disk steady)
+    (plan_of arrival.salt arrival.request.call (asked arrival.conn (brought_by arrival) before)) (fates_in done) before (disk_of c.args.self.now) (disk_of c.call.new.self) leads.fates leads.disk steady)
 
 pub returns-clause-steady : goal.returns-clause-steady
 returns-clause-steady g c =
@@ -79,4 +80,8 @@ returns-clause-steady g c =
     let leads = c.in_ok-call.ensures.leads in
     ap (is_steady g.F.Folder.is_steady slot.is_steady) c.reply.ensures.disk
     ∙ stores-steady slot.is_honest slot.is_steady slot.faults slot.moment slot.left_since slot.may_leave g.F.Folder.is_steady arrival.conn (brought_by arrival)
-    (plan_of arrival.request.call (asked arrival.conn (brought_by arrival) before)) (fates_in done) before (disk_of c.args.self.now) (disk_of c.call.new.self) leads.disk
+    (plan_of arrival.salt arrival.request.call (asked arrival.conn (brought_by arrival) before)) (fates_in done) before (disk_of c.args.self.now) (disk_of c.call.new.self) leads.disk
+
+-- there is room for the reply, and for what is sent after it
+pub reply-requires : goal.reply-requires
+reply-requires g c = λ reply. rw c.into_parts-answer.ensures.sends (c.in_ok-call.ensures.room reply)

@@ -1,4 +1,4 @@
-use Rattle.std.proofs.Common.{◌≡◌, cond, true, None, Some, sym, ap, ◌∙◌}
+use Rattle.std.proofs.Common.{◌≡◌, cond, true, [], None, Some, sym, ap, ◌∙◌}
 use Rattle.collection_table.specs.Rows.{is_open}
 use Rattle.secret_calls.specs.declared.out.Body.TheVariants as body
 use Rattle.secret_calls.specs.declared.out.ErrorName.TheVariants as name
@@ -28,8 +28,8 @@ returns-clause-leads g c = λ brought.
     let plan : delete_collection c.args.collection.now (asked conn brought old) ≡ Asks (Erase stem) (by_fate no_prompt) =
     ap (λ o. on_collection o (λ stem. if_open stem (asked conn brought old) (Asks (Erase stem) (by_fate no_prompt)))) named
     ∙ ap (λ b. cond b (Asks (Erase stem) (by_fate no_prompt)) (refused name.IsLocked)) unlocked in
-    let done : c.ended.result ≡ record { answer = answer_by no_prompt some; read = None; fate = Some some } =
-    c.ended.ensures ∙ ap (λ path. record { answer = answer_by (body.Object path) some; read = None; fate = Some some }) c.in_ok-path_of.ensures.spelled in
+    let done : c.ended.result ≡ record { answer = answer_by no_prompt some; sends = []; read = None; fate = Some some } =
+    c.ended.ensures ∙ ap (λ path. record { answer = answer_by (body.Object path) some; sends = []; read = None; fate = Some some }) c.in_ok-path_of.ensures.spelled in
     let same = c.in_ok-reserve_spare.ensures in
     let rows = ap (λ (contents : Contents). contents.collections) c.erase.ensures.erased ∙ ap (λ (contents : Contents). rows_erased stem some contents.collections) same.contents in
     let state = ap (λ (contents : Contents). record old { collections = contents.collections; aliases = contents.aliases })

@@ -1,4 +1,4 @@
-use Rattle.std.proofs.Common.{◌≡◌, ◌⊎◌, false, true, None, Some, inl, inr, refl, sym, ap, ◌∙◌}
+use Rattle.std.proofs.Common.{◌≡◌, ◌⊎◌, false, true, [], None, Some, inl, inr, refl, sym, ap, ◌∙◌}
 use Rattle.secret_calls.specs.declared.out.ErrorName.TheVariants as name
 use Rattle.service_tables.specs.Opened.{Contents}
 use Rattle.service_tables.specs.Storing.{Brought, rows_stored, storable_at}
@@ -57,8 +57,8 @@ returns-in-Some-stored-clause-leads g c = λ conn edit value is.
     let some = c.in-Some-stored.fate in
     let made : storable_at stem c.args.change c.args.now old.collections ≡ Some c.in-Some.item = of-some _ c.in_ok-stored.stored some c.in-Some-stored.is c.in_ok-stored.ensures.fits ∙ sym (c.in-Some.ensures c.args.now) in
     let small : is_small (returned c.in-Some.item) ≡ true = ap is_small (sym c.in_ok-body.ensures) ∙ sym c.is_small.ensures ∙ c.if-not-is_small.false in
-    let done : c.ended.result ≡ record { answer = answer_by (returned c.in-Some.item) some; read = None; fate = Some some } =
-    c.ended.ensures ∙ ap (λ body. record { answer = answer_by body some; read = None; fate = Some some }) c.in_ok-body.ensures in
+    let done : c.ended.result ≡ record { answer = answer_by (returned c.in-Some.item) some; sends = []; read = None; fate = Some some } =
+    c.ended.ensures ∙ ap (λ body. record { answer = answer_by body some; sends = []; read = None; fate = Some some }) c.in_ok-body.ensures in
     let stored = of-some _ c.in_ok-stored.stored some c.in-Some-stored.is c.in_ok-stored.ensures.stored in
     let rows = ap (λ (contents : Contents). contents.collections) stored ∙ ap (λ given. rows_stored stem given c.args.now some old.collections) is in
     let state = ap (λ (contents : Contents). record old { collections = contents.collections; aliases = contents.aliases }) stored

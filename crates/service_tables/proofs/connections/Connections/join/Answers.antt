@@ -1,5 +1,4 @@
 use Rattle.std.proofs.Common.{◌<◌, ◌∷◌, ◌++◌, [], arith, ap, map}
-use Rattle.std.proofs.lemmas.Option.{none-some}
 use Rattle.std.proofs.lemmas.List.{map-append}
 use Rattle.service_tables.specs.Desks.{row_of}
 use Rattle.service_tables.proofs.EachLemmas.{each-append, each-weaker}
@@ -11,7 +10,6 @@ invariant_of-self-2 c = record {
   ordered = c.add.ensures.ordered;
   given = rw (c.in_ok-add.ensures.added, map-append) (each-append _ _ _ (each-weaker (λ k. k < c.self.inside.next) _ (λ k below. omega (arith, below)) _ c.self.invariant.given) (omega arith, tt));
   counts = rw c.in_ok-add.ensures.added (each-append _ _ _ c.self.invariant.counts (c.new.ensures.counts, tt));
-  room = λ other is. absurd (none-some other is);
 }
 
 pub returns-clause-joined : goal.returns-clause-joined

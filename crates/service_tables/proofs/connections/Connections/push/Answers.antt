@@ -1,13 +1,16 @@
-use Rattle.std.proofs.Common.{ap, ◌∙◌}
 use Rattle.service_tables.proofs.DeskLemmas.{kept_after}
+use Rattle.service_tables.proofs.RoomLemmas.{spent-for}
 use Rattle.service_tables.proofs.connections.Connections.push.Goals as goal
 
 pub invariant_of-self : goal.invariant_of-self
-invariant_of-self c = kept_after c.self.inside.next c.args.conn.0 c.self.inside.ready _ c.self.inside.desks.entries c.put.new.desks.entries c.self.invariant c.put.ensures
+invariant_of-self c = kept_after c.self.inside.next c.args.conn.0 _ c.self.inside.desks.entries c.put.new.desks.entries c.self.invariant c.put.ensures.changes
 
 pub returns-clause-rows : goal.returns-clause-rows
-returns-clause-rows c = rw (← c.self.view_is) c.put.ensures.rows
+returns-clause-rows c = rw (← c.self.view_is) c.put.ensures.changes.rows
 
--- the connection that has room is this one
+-- room for one output is spent
+pub returns-clause-room : goal.returns-clause-room
+returns-clause-room c = λ outs room. spent-for (record { to = c.args.conn; out = c.args.out }) outs _ _ c.put.ensures.spent (rw (← c.self.view_is) at room)
+
 pub put-requires-clause-room : goal.put-requires-clause-room
-put-requires-clause-room c = c.self.invariant.room c.args.conn.0 (ap (λ t. t.ready) c.self.view_is ∙ c.requires)
+put-requires-clause-room c = rw (← c.self.view_is) at c.requires

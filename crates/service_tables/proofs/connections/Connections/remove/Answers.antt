@@ -1,4 +1,3 @@
-use Rattle.std.proofs.lemmas.Option.{none-some}
 use Rattle.service_tables.proofs.connections.Connections.remove.Goals as goal
 
 pub invariant_of-self : goal.invariant_of-self
@@ -6,7 +5,6 @@ invariant_of-self c = record {
   ordered = c.remove.ensures.ordered;
   given = c.remove.ensures.given _ c.self.invariant.given;
   counts = c.remove.ensures.counts c.self.invariant.counts;
-  room = λ other is. absurd (none-some other is);
 }
 
 pub returns-clause-rows : goal.returns-clause-rows

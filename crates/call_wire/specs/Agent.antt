@@ -1,0 +1,29 @@
+-- The interface of the agent, which asks for passwords: docs/SERVICE.md, "Interfaces".
+use Rattle.std.specs.Prelude.{ℕ, List, Option, Result, Ok, codes, ok_or, option_map, option_and_then}
+use Rattle.dbus_types.specs.Values.{Val, Vals}
+use Rattle.dbus_framing.specs.Headers.{two_of}
+use Rattle.secret_calls.specs.declared.call.Call.{Call}
+use Rattle.secret_calls.specs.declared.call.Call.TheVariants as call
+use Rattle.secret_calls.specs.declared.call.CallFault.{CallFault}
+use Rattle.secret_calls.specs.declared.call.CallFault.TheVariants as fault
+use Rattle.call_arguments.specs.Arguments.{without_arguments, long_in, prompt_in}
+
+-- its name
+abbrev pub interface : List ℕ
+interface = codes "org.keyringd.Agent1"
+
+-- Register, which takes no arguments
+abbrev pub register : Vals → Result Call CallFault
+register values = without_arguments (Ok call.Register) values
+
+-- Unregister, which takes no arguments
+abbrev pub unregister : Vals → Result Call CallFault
+unregister values = without_arguments (Ok call.Unregister) values
+
+-- Refuse with these two arguments: the prompt, and the round in which it was asked
+abbrev pub refused_with : Val × Val → Option Call
+refused_with arguments = option_and_then (λ prompt. option_map (λ round. call.Refuse prompt round) (long_in arguments.1)) (prompt_in arguments.0)
+
+-- Refuse
+abbrev pub refuse : Vals → Result Call CallFault
+refuse values = ok_or (option_and_then refused_with (two_of values)) fault.InvalidArgs

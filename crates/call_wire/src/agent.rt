@@ -1,0 +1,53 @@
+// The interface of the agent, which asks for passwords (docs/SERVICE.md, "Interfaces").
+ghost use Rattle.std.specs.Prelude.{◌≡◌, IfOk};
+ghost use Rattle.dbus_types.specs.ValueViews.{value_of, values_of};
+ghost use Rattle.call_wire.specs.Agent.{register, unregister, refused_with, refuse};
+
+use crate::OutOfMemory;
+use call_arguments::{long_in, prompt_in, two_in, without_arguments};
+use dbus_types::Value;
+use secret_calls::{Call, CallFault};
+use std::alloc::Global;
+
+/// The name of the interface.
+pub const INTERFACE: &str = "org.keyringd.Agent1";
+
+/// Reads a call of Register, which takes no arguments.
+pub fn register(values: &[Value]) -> Result<Call, CallFault>
+    ensures { result ≡ register (values_of values.now) }
+{
+    without_arguments(Ok(Call::Register), values)
+}
+
+/// Reads a call of Unregister, which takes no arguments.
+pub fn unregister(values: &[Value]) -> Result<Call, CallFault>
+    ensures { result ≡ unregister (values_of values.now) }
+{
+    without_arguments(Ok(Call::Unregister), values)
+}
+
+// Refuse with these two arguments.
+fn refused_with(alloc: Global, prompt: &Value, round: &Value) -> Result<Option<Call>, OutOfMemory>
+    ensures { IfOk result (λ call. call ≡ refused_with (value_of prompt.now, value_of round.now)) }
+{
+    let Some(prompt) = prompt_in(alloc, prompt)? else {
+        return Ok(None);
+    };
+    match long_in(round) {
+        Some(round) => Ok(Some(Call::Refuse { prompt, round })),
+        None => Ok(None),
+    }
+}
+
+/// Reads a call of Refuse.
+pub fn refuse(alloc: Global, values: &[Value]) -> Result<Result<Call, CallFault>, OutOfMemory>
+    ensures { IfOk result (λ call. call ≡ refuse (values_of values.now)) }
+{
+    let Some((prompt, round)) = two_in(values) else {
+        return Ok(Err(CallFault::InvalidArgs));
+    };
+    match refused_with(alloc, prompt, round)? {
+        Some(call) => Ok(Ok(call)),
+        None => Ok(Err(CallFault::InvalidArgs)),
+    }
+}

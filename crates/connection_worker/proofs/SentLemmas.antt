@@ -1,0 +1,120 @@
+-- What a request sends beside its reply is signals, so the only reply among its outputs is its own.
+use Rattle.std.proofs.Common.{◌≡◌, ℕ, Bool, true, false, cond, List, [], ◌∷◌, ◌++◌, filter, ◌==◌, Option, Some, None, Result, Ok, Err, refl, ◌∙◌, ap}
+use Rattle.std.specs.List.{AllByRecursion, cons_option, filter_map}
+use Rattle.std.specs.Option.{option_and_then, option_map}
+use Rattle.kr_base.specs.declared.ids.ConnId.{ConnId}
+use Rattle.kr_base.specs.declared.ids.PromptId.{PromptId}
+use Rattle.collection_table.specs.Rows.{Rows}
+use Rattle.prompt_state.specs.Prompts.{ask_at, asked_again, asks, ended_row, registered, row_at}
+use Rattle.prompt_state.specs.declared.row.Ask.{Ask}
+use Rattle.prompt_state.specs.declared.row.PromptRow.{PromptRow}
+use Rattle.prompt_state.specs.declared.row.Prompts.{Prompts}
+use Rattle.secret_calls.specs.declared.out.Body.{Body}
+use Rattle.secret_calls.specs.declared.out.ErrorName.{ErrorName}
+use Rattle.secret_calls.specs.declared.out.Out.{Out}
+use Rattle.secret_calls.specs.declared.serial.Serial.{Serial}
+use Rattle.service_tables.specs.Connections.{sent_to}
+use Rattle.service_tables.specs.State.{State}
+use Rattle.service_tables.specs.Storing.{Brought}
+use Rattle.service_tables.specs.declared.fate.Fate.{Fate}
+use Rattle.service_tables.specs.declared.rows.Sent.{Sent}
+use Rattle.service_tables.proofs.EachLemmas.{each-append}
+use Rattle.service_prompts.specs.Prompting.{ask_sent, ask_signal, ask_signal_in, completed_sent, completed_signal}
+use Rattle.service_machine.specs.declared.event.Recorded.{Recorded}
+use Rattle.service_machine.specs.Plan.{Change, Open_session, Close_session, Lock_collection, Begin_prompt, Ask_prompt, Finish_target, Drop_target, End_prompt, Become_agent, Leave_agent, Plan, Ends, After, Asks}
+use Rattle.service_machine.specs.Run.{asked, demanded, led, performed, performed_all, run, sent_all, sent_by}
+use Rattle.service_machine.specs.Step.{brought_by, message_of, put_out, served}
+use Rattle.service_machine.proofs.RunLemmas.{plan_for}
+use Rattle.connection_worker.specs.Replies.{is_reply}
+use Rattle.connection_worker.proofs.ServingLemmas.{same}
+
+-- each of them is a signal
+abbrev AreSignals : List Sent → Type 0
+AreSignals sent = AllByRecursion (λ (one : Sent). is_reply one.out ≡ false) sent
+
+-- ---- what is sent
+
+asks-signals : (collections : Rows) (prompts : Prompts) (ask : Ask) (more : List Sent) → AreSignals more → AreSignals (cons_option (ask_signal_in collections prompts ask) more)
+asks-signals collections prompts ask more rest =
+    let pass : (o : Option PromptRow) → AreSignals (cons_option (option_map (λ (row : PromptRow). ask_signal collections row.kind ask) o) more) = elim [ None ↦ rest | Some row ↦ (refl, rest) ] in
+    pass (row_at ask.prompt prompts)
+
+ask-signals : (collections : Rows) (prompts : Prompts) (prompt : PromptId) → AreSignals (ask_sent prompt prompts collections)
+ask-signals collections prompts prompt =
+    let pass : (o : Option Ask) → AreSignals (cons_option (option_and_then (ask_signal_in collections prompts) o) []) = elim [ None ↦ tt | Some ask ↦ asks-signals collections prompts ask [] tt ] in
+    pass (ask_at prompt prompts)
+
+each-signals : (collections : Rows) (prompts : Prompts) (these : List Ask) → AreSignals (filter_map (ask_signal_in collections prompts) these)
+each-signals collections prompts [] = tt
+each-signals collections prompts (ask ∷ these) = asks-signals collections prompts ask (filter_map (ask_signal_in collections prompts) these) (each-signals collections prompts these)
+
+completed-signals : (prompt : PromptId) (dismissed : Bool) (created : Option (List ℕ)) (prompts : Prompts) → AreSignals (completed_sent prompt dismissed created prompts)
+completed-signals prompt dismissed created prompts =
+    let pass : (o : Option PromptRow) → AreSignals (cons_option (option_map (λ (row : PromptRow). completed_signal dismissed created (ended_row row)) o) []) = elim [ None ↦ tt | Some row ↦ (refl, tt) ] in
+    pass (row_at prompt prompts)
+
+change-signals : (caller : ConnId) (change : Change) (state : State) → AreSignals (sent_by caller change state)
+change-signals caller Open_session state = tt
+change-signals caller (Close_session session) state = tt
+change-signals caller (Lock_collection stem) state = tt
+change-signals caller (Begin_prompt kind) state = tt
+change-signals caller (Ask_prompt prompt) state = ask-signals state.collections (asked_again prompt state.prompts) prompt
+change-signals caller (Finish_target prompt) state = tt
+change-signals caller (Drop_target prompt) state = tt
+change-signals caller (End_prompt prompt dismissed created) state = completed-signals prompt dismissed created state.prompts
+change-signals caller Become_agent state = each-signals state.collections (registered caller state.prompts) (asks (registered caller state.prompts))
+change-signals caller Leave_agent state = tt
+
+all-signals : (caller : ConnId) (changes : List Change) (state : State) → AreSignals (sent_all caller changes state)
+all-signals caller [] state = tt
+all-signals caller (change ∷ changes) state =
+    let next = performed caller change state in
+    each-append (λ (one : Sent). is_reply one.out ≡ false) (sent_by caller change state) (sent_all caller changes next) (change-signals caller change state) (all-signals caller changes next)
+
+run-signals : (caller : ConnId) (brought : Brought) (plan : Plan) (fates : List Fate) (state : State) → AreSignals (run caller brought plan fates state).sends
+run-signals caller brought (Ends answer changes) fates state = all-signals caller changes state
+run-signals caller brought (After changes next) fates state =
+    let mid = performed_all caller changes state in
+    each-append (λ (one : Sent). is_reply one.out ≡ false) (sent_all caller changes state) (run caller brought (next (asked caller brought mid)) fates mid).sends (all-signals caller changes state)
+    (run-signals caller brought (next (asked caller brought mid)) fates mid)
+run-signals caller brought (Asks demand next) [] state = tt
+run-signals caller brought (Asks demand next) (fate ∷ fates) state = run-signals caller brought (next fate) fates (demanded brought demand fate state)
+
+led-signals : (caller : ConnId) (brought : Brought) (plan : Plan) (fates : List Fate) (state : State) → AreSignals (led caller brought plan fates state).sends
+led-signals caller brought (Ends answer []) fates state = tt
+led-signals caller brought (Ends answer (change ∷ changes)) fates state = all-signals caller (change ∷ changes) state
+led-signals caller brought (After changes next) fates state = run-signals caller brought (After changes next) fates state
+led-signals caller brought (Asks demand next) fates state = run-signals caller brought (Asks demand next) fates state
+
+-- ---- the replies among the outputs
+
+-- there is none among signals
+no-reply : (conn : ConnId) (sent : List Sent) → AreSignals sent → filter is_reply (sent_to conn sent) ≡ []
+no-reply conn [] are = refl
+no-reply conn (one ∷ more) are =
+    let rest = no-reply conn more are.1 in
+    let here : filter is_reply (one.out ∷ sent_to conn more) ≡ [] = ap (λ b. cond b (one.out ∷ filter is_reply (sent_to conn more)) (filter is_reply (sent_to conn more))) are.0 ∙ rest in
+    let pass : (b : Bool) → filter is_reply (cond b (one.out ∷ sent_to conn more) (sent_to conn more)) ≡ [] = elim [ true ↦ here | false ↦ rest ] in
+    pass (one.to.0 == conn.0)
+
+-- the message that answers a call is a reply
+message-replies : (serial : Serial) (answer : Result Body ErrorName) → is_reply (message_of serial answer) ≡ true
+message-replies serial (Ok body) = refl
+message-replies serial (Err name) = refl
+
+first-reply : (wanted : Bool) (conn : ConnId) (reply : Out) (sends : List Sent) → is_reply reply ≡ true → AreSignals sends
+    → filter is_reply (sent_to conn (cond wanted (record { to = conn; out = reply } ∷ []) [] ++ sends)) ≡ cond wanted (reply ∷ []) []
+first-reply true conn reply sends is are =
+    let rest = no-reply conn sends are in
+    ap (λ b. filter is_reply (cond b (reply ∷ sent_to conn sends) (sent_to conn sends))) (same conn.0)
+    ∙ ap (λ b. cond b (reply ∷ filter is_reply (sent_to conn sends)) (filter is_reply (sent_to conn sends))) is
+    ∙ ap (λ l. reply ∷ l) rest
+first-reply false conn reply sends is are = no-reply conn sends are
+
+pub ran-replies : (came : Recorded) (state : State)
+    → filter is_reply (sent_to came.arrival.conn (put_out came.arrival.conn came.arrival.request (served came state)))
+    ≡ cond came.arrival.request.wants_reply (message_of came.arrival.request.serial (served came state).answer ∷ []) []
+ran-replies came state =
+    let ran = served came state in
+    first-reply came.arrival.request.wants_reply came.arrival.conn (message_of came.arrival.request.serial ran.answer) ran.sends (message-replies came.arrival.request.serial ran.answer)
+    (led-signals came.arrival.conn (brought_by came.arrival) (plan_for came state) came.fates state)

@@ -1,0 +1,3 @@
+pub mod PromptLemmas
+pub mod SignalLemmas
+pub mod UnlockingLemmas

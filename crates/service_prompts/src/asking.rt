@@ -1,0 +1,126 @@
+// The signal Ask.
+ghost use Rattle.std.specs.Prelude.{◌≡◌, IfOk};
+ghost use Rattle.prompt_state.specs.Prompts.{registered};
+ghost use Rattle.secret_calls.specs.Outs.{shown_label};
+ghost use Rattle.service_tables.specs.Disk.{contents_in};
+ghost use Rattle.service_prompts.specs.Prompting.{ask_sent, ask_signal, ask_signal_in, asks_sent, label_asked, purpose_of};
+
+use kr_base::{ConnId, OutOfMemory, PromptId, Text};
+use kr_outside::Folder;
+use prompt_state::{Ask, PromptKind, PromptState};
+use secret_calls::{AskKind, Out, Signal, no_label, shown_label};
+use service_tables::{Disk, Sent};
+use std::alloc::Global;
+
+// What the password is for.
+fn purpose_of(kind: &PromptKind) -> AskKind
+    ensures { result ≡ purpose_of kind.now }
+{
+    match kind {
+        PromptKind::Unlock(_) => AskKind::Unlock,
+        PromptKind::Create { .. } => AskKind::Create,
+    }
+}
+
+// The label that Ask contains.
+fn label_shown<F: Folder>(
+    alloc: Global,
+    disk: &Disk<F>,
+    kind: &PromptKind,
+) -> Result<Text, OutOfMemory>
+    ensures { IfOk result (λ shown.
+        shown ≡ shown_label (label_asked (contents_in disk.now).collections kind.now)) }
+{
+    match kind {
+        PromptKind::Unlock(targets) => {
+            let Some(target) = targets.first() else {
+                return Ok(no_label(alloc));
+            };
+            match disk.label(&target.stem) {
+                Some(label) => shown_label(alloc, label),
+                None => Ok(no_label(alloc)),
+            }
+        }
+        PromptKind::Create { label, .. } => shown_label(alloc, label),
+    }
+}
+
+/// The signal Ask for a prompt of this kind.
+pub fn ask_signal<F: Folder>(
+    alloc: Global,
+    disk: &Disk<F>,
+    kind: &PromptKind,
+    ask: Ask,
+) -> Result<Sent, OutOfMemory>
+    ensures { IfOk result (λ sent.
+        sent ≡ ask_signal (contents_in disk.now).collections kind.now ask) }
+{
+    let label = label_shown(alloc, disk, kind)?;
+    Ok(Sent {
+        to: ask.agent,
+        out: Out::Signal(Signal::Ask {
+            prompt: ask.prompt,
+            round: ask.round,
+            kind: purpose_of(kind),
+            label,
+            wrong: ask.wrong,
+        }),
+    })
+}
+
+// The signal Ask, if the prompt is there.
+fn ask_signal_in<F: Folder>(
+    alloc: Global,
+    disk: &Disk<F>,
+    prompts: &PromptState,
+    ask: Ask,
+) -> Result<Option<Sent>, OutOfMemory>
+    ensures { IfOk result (λ sent.
+        sent ≡ ask_signal_in (contents_in disk.now).collections prompts.now ask) }
+{
+    match prompts.row(ask.prompt) {
+        Some(row) => Ok(Some(ask_signal(alloc, disk, &row.kind, ask)?)),
+        None => Ok(None),
+    }
+}
+
+/// What is sent when a prompt is asked: Ask to the agent, if there is an agent and the prompt is at a stage in
+/// which it is asked.
+pub fn ask_sent<F: Folder>(
+    alloc: Global,
+    disk: &Disk<F>,
+    prompts: &PromptState,
+    prompt: PromptId,
+) -> Result<Vec<Sent>, OutOfMemory>
+    ensures { IfOk result (λ sent. sent.items
+        ≡ ask_sent prompt prompts.now (contents_in disk.now).collections) }
+{
+    let mut outs = Vec::new(alloc);
+    if let Some(ask) = prompts.ask_of(prompt) {
+        if let Some(sent) = ask_signal_in(alloc, disk, prompts, ask)? {
+            outs.push(sent)?;
+        }
+    }
+    Ok(outs)
+}
+
+/// What a connection that becomes the agent is sent: Ask for each prompt that is asked, in order of their
+/// numbers.
+pub fn asks_sent_to<F: Folder>(
+    alloc: Global,
+    disk: &Disk<F>,
+    prompts: &PromptState,
+    agent: ConnId,
+) -> Result<Vec<Sent>, OutOfMemory>
+    ensures { IfOk result (λ sent. sent.items
+        ≡ asks_sent (registered agent prompts.now) (contents_in disk.now).collections) }
+{
+    let asks = prompts.asks_to(agent)?;
+    let mut outs = Vec::new(alloc);
+    for ask in &asks {
+        if let Some(sent) = ask_signal_in(alloc, disk, prompts, *ask)? {
+            outs.push(sent)?;
+        }
+    }
+    Ok(outs)
+}
