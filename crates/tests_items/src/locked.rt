@@ -33,11 +33,16 @@ other= |
 =3 |
 ";
 
-// The rest of a number by 7 and the number: odd ones as numbers, even ones as texts.
+// What marks the values of an item as numbers: those of odd ones are numbers, those of even ones texts.
+fn mark_of(number: u32) -> &'static str {
+    if number % 2 == 0 { "" } else { "#" }
+}
+
+// The rest of a number by 7 and the number.
 fn words_of(alloc: Global, number: u32) -> Result<String, Fail> {
+    let mark = mark_of(number);
     let rest = decimal(alloc, number % 7)?;
     let own = decimal(alloc, number)?;
-    let mark = if number % 2 == 0 { "" } else { "#" };
     joined(
         alloc,
         &["rest=", mark, rest.as_str(), " own=", mark, own.as_str()],
