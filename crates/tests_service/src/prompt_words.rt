@@ -102,36 +102,24 @@ fn label_told(alloc: Global, label: &Text) -> Result<String, Fail> {
     Ok(String::from_str(alloc, label.as_str())?)
 }
 
-// A prompt, a round, what a password is for, a label and how many answers were wrong.
-fn ask_told(
-    alloc: Global,
-    numbers: &str,
-    kind: AskKind,
-    label: &Text,
-    wrong: u32,
-) -> Result<String, Fail> {
+// A prompt, a round and what a password is for.
+fn round_told(alloc: Global, prompt: PromptId, round: u64, kind: AskKind) -> Result<String, Fail> {
+    let prompt = decimal(alloc, prompt.0)?;
+    let round = decimal(alloc, round)?;
+    joined(
+        alloc,
+        &[prompt.as_str(), ", ", round.as_str(), ", ", kind.as_str()],
+    )
+}
+
+// A round, the label that is shown, and how many answers were wrong.
+fn ask_told(alloc: Global, round: &str, label: &Text, wrong: u32) -> Result<String, Fail> {
     let label = label_told(alloc, label)?;
     let wrong = decimal(alloc, wrong as u64)?;
     joined(
         alloc,
-        &[
-            "Ask ",
-            numbers,
-            ", ",
-            kind.as_str(),
-            ", ",
-            label.as_str(),
-            ", ",
-            wrong.as_str(),
-        ],
+        &["Ask ", round, ", ", label.as_str(), ", ", wrong.as_str()],
     )
-}
-
-// A prompt and a round.
-fn numbers_told(alloc: Global, prompt: PromptId, round: u64) -> Result<String, Fail> {
-    let prompt = decimal(alloc, prompt.0)?;
-    let round = decimal(alloc, round)?;
-    joined(alloc, &[prompt.as_str(), ", ", round.as_str()])
 }
 
 fn completion_told(alloc: Global, completion: &Completion) -> Result<String, Fail> {
@@ -180,8 +168,8 @@ fn signal_told(alloc: Global, signal: &Signal) -> Result<String, Fail> {
             label,
             wrong,
         } => {
-            let numbers = numbers_told(alloc, *prompt, *round)?;
-            ask_told(alloc, numbers.as_str(), *kind, label, *wrong)
+            let round = round_told(alloc, *prompt, *round, *kind)?;
+            ask_told(alloc, round.as_str(), label, *wrong)
         }
         Signal::Completed {
             prompt,
