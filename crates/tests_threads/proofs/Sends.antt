@@ -9,6 +9,7 @@ pub mod ReplaceSlot
 pub mod AliasTable
 pub mod FolderStore
 pub mod AttributeIndex
+pub mod HashedIndex
 pub mod ItemStore
 pub mod CollectionStore
 pub mod CollectionTable

@@ -6,12 +6,13 @@ use Rattle.kr_outside.specs.declared.slot.Slot as slot
 use Rattle.collection_store.specs.contracts.collection.Collection as Collection
 use Rattle.collection_store.specs.contracts.holding.Open as Open
 use Rattle.collection_store.specs.contracts.told.Told as Told
+use Rattle.tests_threads.proofs.Sends.HashedIndex.{HashedIndex-send}
 use Rattle.tests_threads.proofs.Sends.ItemStore.{ItemStore-send}
 use Rattle.tests_threads.proofs.Sends.KeyringFile.{Clear-send}
 use Rattle.tests_threads.proofs.Sends.ReplaceSlot.{FileCell-send}
 
 Told-send : IsSend Told.the_row
-Told-send = search (Clear-send, sendable) depth 40
+Told-send = search (Clear-send, HashedIndex-send, sendable) depth 40
 
 Open-send : IsSend Open.the_row
 Open-send = search (ItemStore-send, Told-send, sendable) depth 40
