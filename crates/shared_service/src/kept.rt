@@ -22,10 +22,10 @@ impl<F: Folder> Model for Moment<F> {
     ghost view = { λ m. record { state = rows_of m.machine; steady = m.steady } };
 }
 
-/// The service that threads use by turns.
+/// The service that threads use by turns, in a box, so that a turn moves few bytes.
 #[derive(Drop)]
 pub struct Kept<F: Folder> {
-    pub(crate) service: Service<F>,
+    pub(crate) service: Box<Service<F>>,
 }
 
 impl<F: Folder> Chronicle for Kept<F> {
@@ -35,13 +35,13 @@ impl<F: Folder> Chronicle for Kept<F> {
 
     type Event = Event;
 
-    ghost start = { λ kept. start_of F.is_steady F.Cell.is_steady kept.service };
+    ghost start = { λ kept. start_of F.is_steady F.Cell.is_steady kept.service.value };
 
-    ghost before = { λ kept. kept.service.history.window.era };
+    ghost before = { λ kept. kept.service.value.history.window.era };
 
-    ghost events = { λ kept. kept.service.history.window.events };
+    ghost events = { λ kept. kept.service.value.history.window.events };
 
-    ghost stands = { λ kept. IsLedTo F.is_steady F.Cell.is_steady kept.service };
+    ghost stands = { λ kept. IsLedTo F.is_steady F.Cell.is_steady kept.service.value };
 
-    ghost newest = { λ kept. newest kept.service.history.window.events };
+    ghost newest = { λ kept. newest kept.service.value.history.window.events };
 }

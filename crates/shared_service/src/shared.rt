@@ -21,7 +21,7 @@ use secret_calls::{Refused, Request, Taken};
 use service_history::Service;
 use service_machine::{Arrival, JoinRefused};
 use shared_turn::Turn;
-use std::alloc::Global;
+use std::alloc::{AllocError, Global};
 use std::marker::Model;
 use std::sync::Wait;
 
@@ -39,12 +39,30 @@ impl<F: Folder> Model for SharedService<F> {
     ghost view = { λ shared. shared.turn };
 }
 
-// How many events the run has had.
-fn total<F: Folder>(service: &Service<F>) -> u64
+// How many events the run of a service has had.
+fn total_of<F: Folder>(service: &Service<F>) -> u64
     ensures count { result ≡ total service.now.history.window }
     ensures history { IsHistory service.now.history }
 {
     service.era() + service.events().len() as u64
+}
+
+// How many events the run has had.
+fn total<F: Folder>(kept: &Kept<F>) -> u64
+    ensures count { result ≡ total kept.now.service.value.history.window }
+    ensures history { IsHistory kept.now.service.value.history }
+{
+    total_of(&kept.service)
+}
+
+// Moves a service into a box; it is dropped if no memory is left.
+fn boxed<F: Folder>(alloc: Global, service: Service<F>) -> Result<Box<Service<F>>, OutOfMemory>
+    ensures { IfOk result (λ made. made.value ≡ service) }
+{
+    match Box::new(alloc, service) {
+        Ok(made) => Ok(made),
+        Err(_) => Err(AllocError),
+    }
 }
 
 impl<F: Folder> SharedService<F> {
@@ -58,8 +76,10 @@ impl<F: Folder> SharedService<F> {
         ensures { IfOk result (λ both. both.1 ≡ opened both.0
             (is_steady F.is_steady F.Cell.is_steady service.disk) service.history.window) }
     {
-        let count = total(&service);
-        let (turn, inner) = Turn::open(alloc, Kept { service }, count)?;
+        let service = boxed(alloc, service)?;
+        let kept = Kept { service };
+        let count = total(&kept);
+        let (turn, inner) = Turn::open(alloc, kept, count)?;
         Ok((SharedService { turn }, Pass { inner }))
     }
 
@@ -67,15 +87,16 @@ impl<F: Folder> SharedService<F> {
     fn end(&self, inner: &mut shared_turn::Pass<Kept<F>>, kept: Kept<F>, count: u64)
         requires table { inner.old.table ≡ self.now }
         requires inside { inner.old.has_turn ≡ true }
-        requires ended { IsEnd kept.service.history count inner.old }
-        requires steady { IsAsSteady (is_steady F.is_steady F.Cell.is_steady kept.service.disk)
-            inner.old }
-        ensures same { total kept.service.history.window ≡ count → inner.new ≡ outside inner.old }
-        ensures recorded { (event : Event) → (total kept.service.history.window ≡ count → ⊥)
-            → newest kept.service.history.window.events ≡ event ∷ []
+        requires ended { IsEnd kept.service.value.history count inner.old }
+        requires steady { IsAsSteady (is_steady F.is_steady F.Cell.is_steady
+            kept.service.value.disk) inner.old }
+        ensures same { total kept.service.value.history.window ≡ count
+            → inner.new ≡ outside inner.old }
+        ensures recorded { (event : Event) → (total kept.service.value.history.window ≡ count → ⊥)
+            → newest kept.service.value.history.window.events ≡ event ∷ []
             → inner.new ≡ recorded event inner.old }
     {
-        if total(&kept.service) == count {
+        if total(&kept) == count {
             self.turn.give_back(inner, kept);
         } else {
             self.turn.record(inner, kept);
@@ -92,7 +113,7 @@ impl<F: Folder> SharedService<F> {
             (spot conn pass.old.steady pass.new.view) }
     {
         let mut kept = self.turn.enter(rt, &mut pass.inner);
-        let count = total(&kept.service);
+        let count = total(&kept);
         kept.service.leave(conn);
         self.end(&mut pass.inner, kept, count);
     }
@@ -106,7 +127,7 @@ impl<F: Folder> SharedService<F> {
             (spot conn pass.old.steady pass.new.view) }
     {
         let mut kept = self.turn.enter(rt, &mut pass.inner);
-        let count = total(&kept.service);
+        let count = total(&kept);
         kept.service.gone(conn);
         self.end(&mut pass.inner, kept, count);
     }
@@ -119,7 +140,7 @@ impl<F: Folder> SharedService<F> {
         ensures tried { Tries conn pass.old.view result.0 pass.new.view }
     {
         let mut kept = self.turn.enter(rt, &mut pass.inner);
-        let count = total(&kept.service);
+        let count = total(&kept);
         let taken = kept.service.take(conn);
         self.end(&mut pass.inner, kept, count);
         (taken, count)
@@ -177,7 +198,7 @@ impl<F: Folder> SharedService<F> {
             salt,
         };
         let mut kept = self.turn.enter(rt, &mut pass.inner);
-        let count = total(&kept.service);
+        let count = total(&kept);
         let arrived = kept.service.arrive(arrival);
         self.end(&mut pass.inner, kept, count);
         arrived
@@ -195,7 +216,7 @@ impl<F: Folder> SharedService<F> {
             IsRefused pass.old.steady refused pass.old.view pass.new.view) }
     {
         let mut kept = self.turn.enter(rt, &mut pass.inner);
-        let count = total(&kept.service);
+        let count = total(&kept);
         let joined = kept.service.join();
         self.end(&mut pass.inner, kept, count);
         joined
@@ -260,6 +281,6 @@ impl<F: Folder> SharedService<F> {
     {
         let kept = self.turn.enter(rt, &mut pass.inner);
         let Kept { service } = kept;
-        service
+        Box::into_inner(service)
     }
 }

@@ -13,7 +13,7 @@ use Rattle.tests_threads.proofs.Sends.SharedTurn.{Pass-send as TurnPass-send, Tu
 
 module _ (F S : RattleType) (f : folder.Ghosts F.Denot S.Denot) (s : slot.Ghosts S.Denot) where
   Kept-send : IsSend F → IsSend S → IsSend (Kept.the_row F S f s)
-  Kept-send of-folder of-slot = search (Service-send, sendable) depth 40
+  Kept-send of-folder of-slot = search (Service-send, sendable, heap.crosses) depth 40
 
   pub Pass-send : IsSend F → IsSend S → IsSend (Pass.the_row F S f s)
   Pass-send of-folder of-slot = search (TurnPass-send, Kept-send, sendable) depth 40 fits 20000

@@ -15,8 +15,8 @@ use Rattle.shared_service.proofs.shared.SharedService.arrive.Goals as goal
 pub end-requires-clause-ended : goal.end-requires-clause-ended
 end-requires-clause-ended g c =
     let e = c.enter-kept.ensures in
-    let service = c.enter-kept.result.service.history in
-    let found = c.enter-kept.result.service.disk in
+    let service = c.enter-kept.result.service.value.history in
+    let found = c.enter-kept.result.service.value.disk in
     let old = c.pass.inside.inner in
     let steady = steady_or old.start in
     let new = c.arrive-arrived.new.self.history in
@@ -26,23 +26,23 @@ end-requires-clause-ended g c =
     let same : is_steady g.F.Folder.is_steady g.F.Cell.Slot.is_steady found ≡ steady =
     steady-found old c.enter-kept.new.pass e.between e.is c.pass.invariant (is_steady g.F.Folder.is_steady g.F.Cell.Slot.is_steady found) (λ start at. (e.stands start at).steady) in
     let cell = g.F.Cell.Slot in
-    let stored : Event → Type 0 = StoresOn cell.is_honest cell.is_steady cell.faults cell.moment cell.left_since cell.may_leave c.enter-kept.result.service c.arrive-arrived.new.self in
-    let stores : OnOk result (StoresRequest steady stored service arrival new) = subst (λ b. OnOk result (StoresRequest b stored service arrival new)) same c.arrive-arrived.ensures.stores in
+    let stored : Event → Type 0 = StoresOn cell.is_honest cell.is_steady cell.faults cell.moment cell.left_since cell.may_leave c.enter-kept.result.service.value c.arrive-arrived.new.self in
+    let stores : OnOk result (StoresRequest steady stored service arrival new) = subst (λ b. OnOk result (StoresRequest b stored service arrival new)) same (rw c.deref_mut.ensures.value at c.arrive-arrived.ensures.stores) in
     let event : Unit {0} → Event = λ _. with_fates arrival (fates_if steady stored service arrival new result stores) in
     let recorded = stores-if steady stored service arrival new result stores in
-    let went = went-if event service new result recorded c.arrive-arrived.ensures.unchanged c.arrive-arrived.ensures.history in
+    let went = went-if event service new result recorded (rw c.deref_mut.ensures.value at c.arrive-arrived.ensures.unchanged) c.arrive-arrived.ensures.history in
     end-some old c.enter-kept.new.pass e.between e.is c.pass.invariant service stands (event_if event result) new c.total-count.result went c.total-count.ensures.count
 
 pub end-requires-clause-steady : goal.end-requires-clause-steady
 end-requires-clause-steady g c =
     let e = c.enter-kept.ensures in
-    steady-still c.pass.inside.inner c.enter-kept.new.pass e.between e.is c.pass.invariant _ (λ start at. (e.stands start at).steady) _ c.arrive-arrived.ensures.steady
+    steady-still c.pass.inside.inner c.enter-kept.new.pass e.between e.is c.pass.invariant _ (λ start at. (e.stands start at).steady) _ (rw c.deref_mut.ensures.value at c.arrive-arrived.ensures.steady)
 
 pub invariant_of-pass : goal.invariant_of-pass
 invariant_of-pass g c =
     let e = c.enter-kept.ensures in
-    let service = c.enter-kept.result.service.history in
-    let found = c.enter-kept.result.service.disk in
+    let service = c.enter-kept.result.service.value.history in
+    let found = c.enter-kept.result.service.value.disk in
     let old = c.pass.inside.inner in
     let steady = steady_or old.start in
     let new = c.arrive-arrived.new.self.history in
@@ -52,11 +52,11 @@ invariant_of-pass g c =
     let same : is_steady g.F.Folder.is_steady g.F.Cell.Slot.is_steady found ≡ steady =
     steady-found old c.enter-kept.new.pass e.between e.is c.pass.invariant (is_steady g.F.Folder.is_steady g.F.Cell.Slot.is_steady found) (λ start at. (e.stands start at).steady) in
     let cell = g.F.Cell.Slot in
-    let stored : Event → Type 0 = StoresOn cell.is_honest cell.is_steady cell.faults cell.moment cell.left_since cell.may_leave c.enter-kept.result.service c.arrive-arrived.new.self in
-    let stores : OnOk result (StoresRequest steady stored service arrival new) = subst (λ b. OnOk result (StoresRequest b stored service arrival new)) same c.arrive-arrived.ensures.stores in
+    let stored : Event → Type 0 = StoresOn cell.is_honest cell.is_steady cell.faults cell.moment cell.left_since cell.may_leave c.enter-kept.result.service.value c.arrive-arrived.new.self in
+    let stores : OnOk result (StoresRequest steady stored service arrival new) = subst (λ b. OnOk result (StoresRequest b stored service arrival new)) same (rw c.deref_mut.ensures.value at c.arrive-arrived.ensures.stores) in
     let event : Unit {0} → Event = λ _. with_fates arrival (fates_if steady stored service arrival new result stores) in
     let recorded = stores-if steady stored service arrival new result stores in
-    let went = went-if event service new result recorded c.arrive-arrived.ensures.unchanged c.arrive-arrived.ensures.history in
+    let went = went-if event service new result recorded (rw c.deref_mut.ensures.value at c.arrive-arrived.ensures.unchanged) c.arrive-arrived.ensures.history in
     let end = done old c.enter-kept.new.pass e.between e.is c.pass.invariant service stands (event_if event result) new c.total-count.result c.end.new.inner (fits-if event service new result recorded) went
     c.total-count.ensures.count c.end.ensures.same c.end.ensures.recorded in
     end.0
@@ -64,8 +64,8 @@ invariant_of-pass g c =
 pub returns-clause-same : goal.returns-clause-same
 returns-clause-same g c =
     let e = c.enter-kept.ensures in
-    let service = c.enter-kept.result.service.history in
-    let found = c.enter-kept.result.service.disk in
+    let service = c.enter-kept.result.service.value.history in
+    let found = c.enter-kept.result.service.value.disk in
     let old = c.pass.inside.inner in
     let steady = steady_or old.start in
     let new = c.arrive-arrived.new.self.history in
@@ -75,11 +75,11 @@ returns-clause-same g c =
     let same : is_steady g.F.Folder.is_steady g.F.Cell.Slot.is_steady found ≡ steady =
     steady-found old c.enter-kept.new.pass e.between e.is c.pass.invariant (is_steady g.F.Folder.is_steady g.F.Cell.Slot.is_steady found) (λ start at. (e.stands start at).steady) in
     let cell = g.F.Cell.Slot in
-    let stored : Event → Type 0 = StoresOn cell.is_honest cell.is_steady cell.faults cell.moment cell.left_since cell.may_leave c.enter-kept.result.service c.arrive-arrived.new.self in
-    let stores : OnOk result (StoresRequest steady stored service arrival new) = subst (λ b. OnOk result (StoresRequest b stored service arrival new)) same c.arrive-arrived.ensures.stores in
+    let stored : Event → Type 0 = StoresOn cell.is_honest cell.is_steady cell.faults cell.moment cell.left_since cell.may_leave c.enter-kept.result.service.value c.arrive-arrived.new.self in
+    let stores : OnOk result (StoresRequest steady stored service arrival new) = subst (λ b. OnOk result (StoresRequest b stored service arrival new)) same (rw c.deref_mut.ensures.value at c.arrive-arrived.ensures.stores) in
     let event : Unit {0} → Event = λ _. with_fates arrival (fates_if steady stored service arrival new result stores) in
     let recorded = stores-if steady stored service arrival new result stores in
-    let went = went-if event service new result recorded c.arrive-arrived.ensures.unchanged c.arrive-arrived.ensures.history in
+    let went = went-if event service new result recorded (rw c.deref_mut.ensures.value at c.arrive-arrived.ensures.unchanged) c.arrive-arrived.ensures.history in
     let end = done old c.enter-kept.new.pass e.between e.is c.pass.invariant service stands (event_if event result) new c.total-count.result c.end.new.inner (fits-if event service new result recorded) went
     c.total-count.ensures.count c.end.ensures.same c.end.ensures.recorded in
     end.1 ∙ ap (λ (s : Seen). s.table) c.pass.view_is
@@ -87,8 +87,8 @@ returns-clause-same g c =
 pub returns-clause-steady : goal.returns-clause-steady
 returns-clause-steady g c =
     let e = c.enter-kept.ensures in
-    let service = c.enter-kept.result.service.history in
-    let found = c.enter-kept.result.service.disk in
+    let service = c.enter-kept.result.service.value.history in
+    let found = c.enter-kept.result.service.value.disk in
     let old = c.pass.inside.inner in
     let steady = steady_or old.start in
     let new = c.arrive-arrived.new.self.history in
@@ -98,11 +98,11 @@ returns-clause-steady g c =
     let same : is_steady g.F.Folder.is_steady g.F.Cell.Slot.is_steady found ≡ steady =
     steady-found old c.enter-kept.new.pass e.between e.is c.pass.invariant (is_steady g.F.Folder.is_steady g.F.Cell.Slot.is_steady found) (λ start at. (e.stands start at).steady) in
     let cell = g.F.Cell.Slot in
-    let stored : Event → Type 0 = StoresOn cell.is_honest cell.is_steady cell.faults cell.moment cell.left_since cell.may_leave c.enter-kept.result.service c.arrive-arrived.new.self in
-    let stores : OnOk result (StoresRequest steady stored service arrival new) = subst (λ b. OnOk result (StoresRequest b stored service arrival new)) same c.arrive-arrived.ensures.stores in
+    let stored : Event → Type 0 = StoresOn cell.is_honest cell.is_steady cell.faults cell.moment cell.left_since cell.may_leave c.enter-kept.result.service.value c.arrive-arrived.new.self in
+    let stores : OnOk result (StoresRequest steady stored service arrival new) = subst (λ b. OnOk result (StoresRequest b stored service arrival new)) same (rw c.deref_mut.ensures.value at c.arrive-arrived.ensures.stores) in
     let event : Unit {0} → Event = λ _. with_fates arrival (fates_if steady stored service arrival new result stores) in
     let recorded = stores-if steady stored service arrival new result stores in
-    let went = went-if event service new result recorded c.arrive-arrived.ensures.unchanged c.arrive-arrived.ensures.history in
+    let went = went-if event service new result recorded (rw c.deref_mut.ensures.value at c.arrive-arrived.ensures.unchanged) c.arrive-arrived.ensures.history in
     let end = done old c.enter-kept.new.pass e.between e.is c.pass.invariant service stands (event_if event result) new c.total-count.result c.end.new.inner (fits-if event service new result recorded) went
     c.total-count.ensures.count c.end.ensures.same c.end.ensures.recorded in
     end.3 ∙ ap (λ (s : Seen). s.steady) c.pass.view_is
@@ -110,8 +110,8 @@ returns-clause-steady g c =
 pub returns-clause-recorded : goal.returns-clause-recorded
 returns-clause-recorded g c =
     let e = c.enter-kept.ensures in
-    let service = c.enter-kept.result.service.history in
-    let found = c.enter-kept.result.service.disk in
+    let service = c.enter-kept.result.service.value.history in
+    let found = c.enter-kept.result.service.value.disk in
     let old = c.pass.inside.inner in
     let steady = steady_or old.start in
     let new = c.arrive-arrived.new.self.history in
@@ -121,23 +121,23 @@ returns-clause-recorded g c =
     let same : is_steady g.F.Folder.is_steady g.F.Cell.Slot.is_steady found ≡ steady =
     steady-found old c.enter-kept.new.pass e.between e.is c.pass.invariant (is_steady g.F.Folder.is_steady g.F.Cell.Slot.is_steady found) (λ start at. (e.stands start at).steady) in
     let cell = g.F.Cell.Slot in
-    let stored : Event → Type 0 = StoresOn cell.is_honest cell.is_steady cell.faults cell.moment cell.left_since cell.may_leave c.enter-kept.result.service c.arrive-arrived.new.self in
-    let stores : OnOk result (StoresRequest steady stored service arrival new) = subst (λ b. OnOk result (StoresRequest b stored service arrival new)) same c.arrive-arrived.ensures.stores in
+    let stored : Event → Type 0 = StoresOn cell.is_honest cell.is_steady cell.faults cell.moment cell.left_since cell.may_leave c.enter-kept.result.service.value c.arrive-arrived.new.self in
+    let stores : OnOk result (StoresRequest steady stored service arrival new) = subst (λ b. OnOk result (StoresRequest b stored service arrival new)) same (rw c.deref_mut.ensures.value at c.arrive-arrived.ensures.stores) in
     let event : Unit {0} → Event = λ _. with_fates arrival (fates_if steady stored service arrival new result stores) in
     let recorded = stores-if steady stored service arrival new result stores in
-    let went = went-if event service new result recorded c.arrive-arrived.ensures.unchanged c.arrive-arrived.ensures.history in
+    let went = went-if event service new result recorded (rw c.deref_mut.ensures.value at c.arrive-arrived.ensures.unchanged) c.arrive-arrived.ensures.history in
     let end = done old c.enter-kept.new.pass e.between e.is c.pass.invariant service stands (event_if event result) new c.total-count.result c.end.new.inner (fits-if event service new result recorded) went
     c.total-count.ensures.count c.end.ensures.same c.end.ensures.recorded in
     let view : View = view_of old in
     let stood = stands-view old c.enter-kept.new.pass e.between e.is c.pass.invariant service stands in
     subst (λ (s : Seen). OnOk result (Arrives (spot c.args.conn s.steady s.view) (spot c.args.conn s.steady (view_of c.end.new.inner)) arrival)) c.pass.view_is
-    (arrives-if c.args.conn steady view (view_of c.end.new.inner) e.between service stood stored arrival new result stores c.arrive-arrived.ensures.not_spent end.2)
+    (arrives-if c.args.conn steady view (view_of c.end.new.inner) e.between service stood stored arrival new result stores (rw c.deref_mut.ensures.value at c.arrive-arrived.ensures.not_spent) end.2)
 
 pub returns-clause-looked : goal.returns-clause-looked
 returns-clause-looked g c =
     let e = c.enter-kept.ensures in
-    let service = c.enter-kept.result.service.history in
-    let found = c.enter-kept.result.service.disk in
+    let service = c.enter-kept.result.service.value.history in
+    let found = c.enter-kept.result.service.value.disk in
     let old = c.pass.inside.inner in
     let steady = steady_or old.start in
     let new = c.arrive-arrived.new.self.history in
@@ -147,11 +147,11 @@ returns-clause-looked g c =
     let same : is_steady g.F.Folder.is_steady g.F.Cell.Slot.is_steady found ≡ steady =
     steady-found old c.enter-kept.new.pass e.between e.is c.pass.invariant (is_steady g.F.Folder.is_steady g.F.Cell.Slot.is_steady found) (λ start at. (e.stands start at).steady) in
     let cell = g.F.Cell.Slot in
-    let stored : Event → Type 0 = StoresOn cell.is_honest cell.is_steady cell.faults cell.moment cell.left_since cell.may_leave c.enter-kept.result.service c.arrive-arrived.new.self in
-    let stores : OnOk result (StoresRequest steady stored service arrival new) = subst (λ b. OnOk result (StoresRequest b stored service arrival new)) same c.arrive-arrived.ensures.stores in
+    let stored : Event → Type 0 = StoresOn cell.is_honest cell.is_steady cell.faults cell.moment cell.left_since cell.may_leave c.enter-kept.result.service.value c.arrive-arrived.new.self in
+    let stores : OnOk result (StoresRequest steady stored service arrival new) = subst (λ b. OnOk result (StoresRequest b stored service arrival new)) same (rw c.deref_mut.ensures.value at c.arrive-arrived.ensures.stores) in
     let event : Unit {0} → Event = λ _. with_fates arrival (fates_if steady stored service arrival new result stores) in
     let recorded = stores-if steady stored service arrival new result stores in
-    let went = went-if event service new result recorded c.arrive-arrived.ensures.unchanged c.arrive-arrived.ensures.history in
+    let went = went-if event service new result recorded (rw c.deref_mut.ensures.value at c.arrive-arrived.ensures.unchanged) c.arrive-arrived.ensures.history in
     let end = done old c.enter-kept.new.pass e.between e.is c.pass.invariant service stands (event_if event result) new c.total-count.result c.end.new.inner (fits-if event service new result recorded) went
     c.total-count.ensures.count c.end.ensures.same c.end.ensures.recorded in
     let view : View = view_of old in
@@ -162,8 +162,8 @@ returns-clause-looked g c =
 pub returns-clause-cause : goal.returns-clause-cause
 returns-clause-cause g c =
     let e = c.enter-kept.ensures in
-    let service = c.enter-kept.result.service.history in
-    let found = c.enter-kept.result.service.disk in
+    let service = c.enter-kept.result.service.value.history in
+    let found = c.enter-kept.result.service.value.disk in
     let old = c.pass.inside.inner in
     let steady = steady_or old.start in
     let new = c.arrive-arrived.new.self.history in
@@ -173,14 +173,14 @@ returns-clause-cause g c =
     let same : is_steady g.F.Folder.is_steady g.F.Cell.Slot.is_steady found ≡ steady =
     steady-found old c.enter-kept.new.pass e.between e.is c.pass.invariant (is_steady g.F.Folder.is_steady g.F.Cell.Slot.is_steady found) (λ start at. (e.stands start at).steady) in
     let cell = g.F.Cell.Slot in
-    let stored : Event → Type 0 = StoresOn cell.is_honest cell.is_steady cell.faults cell.moment cell.left_since cell.may_leave c.enter-kept.result.service c.arrive-arrived.new.self in
-    let stores : OnOk result (StoresRequest steady stored service arrival new) = subst (λ b. OnOk result (StoresRequest b stored service arrival new)) same c.arrive-arrived.ensures.stores in
+    let stored : Event → Type 0 = StoresOn cell.is_honest cell.is_steady cell.faults cell.moment cell.left_since cell.may_leave c.enter-kept.result.service.value c.arrive-arrived.new.self in
+    let stores : OnOk result (StoresRequest steady stored service arrival new) = subst (λ b. OnOk result (StoresRequest b stored service arrival new)) same (rw c.deref_mut.ensures.value at c.arrive-arrived.ensures.stores) in
     let event : Unit {0} → Event = λ _. with_fates arrival (fates_if steady stored service arrival new result stores) in
     let recorded = stores-if steady stored service arrival new result stores in
-    let went = went-if event service new result recorded c.arrive-arrived.ensures.unchanged c.arrive-arrived.ensures.history in
+    let went = went-if event service new result recorded (rw c.deref_mut.ensures.value at c.arrive-arrived.ensures.unchanged) c.arrive-arrived.ensures.history in
     let end = done old c.enter-kept.new.pass e.between e.is c.pass.invariant service stands (event_if event result) new c.total-count.result c.end.new.inner (fits-if event service new result recorded) went
     c.total-count.ensures.count c.end.ensures.same c.end.ensures.recorded in
     let view : View = view_of old in
     let stood = stands-view old c.enter-kept.new.pass e.between e.is c.pass.invariant service stands in
     subst (λ (s : Seen). IfErr result (λ refused. IsRefusal refused (told c.args.conn s.steady (view_of c.end.new.inner)))) c.pass.view_is
-    (refused-if c.args.conn steady view (view_of c.end.new.inner) e.between service stood event result c.arrive-arrived.ensures.spent c.arrive-arrived.ensures.not_spent c.arrive-arrived.ensures.gone end.2)
+    (refused-if c.args.conn steady view (view_of c.end.new.inner) e.between service stood event result (rw c.deref_mut.ensures.value at c.arrive-arrived.ensures.spent) (rw c.deref_mut.ensures.value at c.arrive-arrived.ensures.not_spent) (rw c.deref_mut.ensures.value at c.arrive-arrived.ensures.gone) end.2)

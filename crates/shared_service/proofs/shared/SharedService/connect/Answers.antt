@@ -11,45 +11,45 @@ use Rattle.shared_service.proofs.shared.SharedService.connect.Goals as goal
 
 pub end-requires-clause-ended : goal.end-requires-clause-ended
 end-requires-clause-ended g c =
-    let e = c.enter-kept.ensures in let service = c.enter-kept.result.service.history in
-    end-some c.pass.inside.inner c.enter-kept.new.pass e.between e.is c.pass.invariant service (λ start at. (e.stands start at).history) (event_if (λ conn. event.Connect conn) c.join-joined.result) c.join-joined.new.self.history c.total-count.result (went-if (λ conn. event.Connect conn) service c.join-joined.new.self.history c.join-joined.result c.join-joined.ensures.stores c.join-joined.ensures.unchanged c.join-joined.ensures.history) c.total-count.ensures.count
+    let e = c.enter-kept.ensures in let service = c.enter-kept.result.service.value.history in
+    end-some c.pass.inside.inner c.enter-kept.new.pass e.between e.is c.pass.invariant service (λ start at. (e.stands start at).history) (event_if (λ conn. event.Connect conn) c.join-joined.result) c.join-joined.new.self.history c.total-count.result (went-if (λ conn. event.Connect conn) service c.join-joined.new.self.history c.join-joined.result (rw c.deref_mut.ensures.value at c.join-joined.ensures.stores) (rw c.deref_mut.ensures.value at c.join-joined.ensures.unchanged) c.join-joined.ensures.history) c.total-count.ensures.count
 
 pub end-requires-clause-steady : goal.end-requires-clause-steady
 end-requires-clause-steady g c =
     let e = c.enter-kept.ensures in
-    steady-still c.pass.inside.inner c.enter-kept.new.pass e.between e.is c.pass.invariant _ (λ start at. (e.stands start at).steady) _ (ap (is_steady g.F.Folder.is_steady g.F.Cell.Slot.is_steady) c.join-joined.ensures.disk)
+    steady-still c.pass.inside.inner c.enter-kept.new.pass e.between e.is c.pass.invariant _ (λ start at. (e.stands start at).steady) _ (ap (is_steady g.F.Folder.is_steady g.F.Cell.Slot.is_steady) (rw c.deref_mut.ensures.value at c.join-joined.ensures.disk))
 
 pub invariant_of-pass : goal.invariant_of-pass
 invariant_of-pass g c =
-    let e = c.enter-kept.ensures in let service = c.enter-kept.result.service.history in
-    (done c.pass.inside.inner c.enter-kept.new.pass e.between e.is c.pass.invariant service (λ start at. (e.stands start at).history) (event_if (λ conn. event.Connect conn) c.join-joined.result) c.join-joined.new.self.history c.total-count.result c.end.new.inner (fits-if (λ conn. event.Connect conn) service c.join-joined.new.self.history c.join-joined.result c.join-joined.ensures.stores) (went-if (λ conn. event.Connect conn) service c.join-joined.new.self.history c.join-joined.result c.join-joined.ensures.stores c.join-joined.ensures.unchanged c.join-joined.ensures.history) c.total-count.ensures.count c.end.ensures.same c.end.ensures.recorded).0
+    let e = c.enter-kept.ensures in let service = c.enter-kept.result.service.value.history in
+    (done c.pass.inside.inner c.enter-kept.new.pass e.between e.is c.pass.invariant service (λ start at. (e.stands start at).history) (event_if (λ conn. event.Connect conn) c.join-joined.result) c.join-joined.new.self.history c.total-count.result c.end.new.inner (fits-if (λ conn. event.Connect conn) service c.join-joined.new.self.history c.join-joined.result (rw c.deref_mut.ensures.value at c.join-joined.ensures.stores)) (went-if (λ conn. event.Connect conn) service c.join-joined.new.self.history c.join-joined.result (rw c.deref_mut.ensures.value at c.join-joined.ensures.stores) (rw c.deref_mut.ensures.value at c.join-joined.ensures.unchanged) c.join-joined.ensures.history) c.total-count.ensures.count c.end.ensures.same c.end.ensures.recorded).0
 
 pub returns-clause-same : goal.returns-clause-same
 returns-clause-same g c =
-    let e = c.enter-kept.ensures in let service = c.enter-kept.result.service.history in
-    (done c.pass.inside.inner c.enter-kept.new.pass e.between e.is c.pass.invariant service (λ start at. (e.stands start at).history) (event_if (λ conn. event.Connect conn) c.join-joined.result) c.join-joined.new.self.history c.total-count.result c.end.new.inner (fits-if (λ conn. event.Connect conn) service c.join-joined.new.self.history c.join-joined.result c.join-joined.ensures.stores) (went-if (λ conn. event.Connect conn) service c.join-joined.new.self.history c.join-joined.result c.join-joined.ensures.stores c.join-joined.ensures.unchanged c.join-joined.ensures.history) c.total-count.ensures.count c.end.ensures.same c.end.ensures.recorded).1 ∙ ap (λ (s : Seen). s.table) c.pass.view_is
+    let e = c.enter-kept.ensures in let service = c.enter-kept.result.service.value.history in
+    (done c.pass.inside.inner c.enter-kept.new.pass e.between e.is c.pass.invariant service (λ start at. (e.stands start at).history) (event_if (λ conn. event.Connect conn) c.join-joined.result) c.join-joined.new.self.history c.total-count.result c.end.new.inner (fits-if (λ conn. event.Connect conn) service c.join-joined.new.self.history c.join-joined.result (rw c.deref_mut.ensures.value at c.join-joined.ensures.stores)) (went-if (λ conn. event.Connect conn) service c.join-joined.new.self.history c.join-joined.result (rw c.deref_mut.ensures.value at c.join-joined.ensures.stores) (rw c.deref_mut.ensures.value at c.join-joined.ensures.unchanged) c.join-joined.ensures.history) c.total-count.ensures.count c.end.ensures.same c.end.ensures.recorded).1 ∙ ap (λ (s : Seen). s.table) c.pass.view_is
 
 pub returns-clause-steady : goal.returns-clause-steady
 returns-clause-steady g c =
-    let e = c.enter-kept.ensures in let service = c.enter-kept.result.service.history in
-    (done c.pass.inside.inner c.enter-kept.new.pass e.between e.is c.pass.invariant service (λ start at. (e.stands start at).history) (event_if (λ conn. event.Connect conn) c.join-joined.result) c.join-joined.new.self.history c.total-count.result c.end.new.inner (fits-if (λ conn. event.Connect conn) service c.join-joined.new.self.history c.join-joined.result c.join-joined.ensures.stores) (went-if (λ conn. event.Connect conn) service c.join-joined.new.self.history c.join-joined.result c.join-joined.ensures.stores c.join-joined.ensures.unchanged c.join-joined.ensures.history) c.total-count.ensures.count c.end.ensures.same c.end.ensures.recorded).3 ∙ ap (λ (s : Seen). s.steady) c.pass.view_is
+    let e = c.enter-kept.ensures in let service = c.enter-kept.result.service.value.history in
+    (done c.pass.inside.inner c.enter-kept.new.pass e.between e.is c.pass.invariant service (λ start at. (e.stands start at).history) (event_if (λ conn. event.Connect conn) c.join-joined.result) c.join-joined.new.self.history c.total-count.result c.end.new.inner (fits-if (λ conn. event.Connect conn) service c.join-joined.new.self.history c.join-joined.result (rw c.deref_mut.ensures.value at c.join-joined.ensures.stores)) (went-if (λ conn. event.Connect conn) service c.join-joined.new.self.history c.join-joined.result (rw c.deref_mut.ensures.value at c.join-joined.ensures.stores) (rw c.deref_mut.ensures.value at c.join-joined.ensures.unchanged) c.join-joined.ensures.history) c.total-count.ensures.count c.end.ensures.same c.end.ensures.recorded).3 ∙ ap (λ (s : Seen). s.steady) c.pass.view_is
 
 pub returns-clause-joined : goal.returns-clause-joined
 returns-clause-joined g c =
-    let e = c.enter-kept.ensures in let service = c.enter-kept.result.service.history in
-    let last = (done c.pass.inside.inner c.enter-kept.new.pass e.between e.is c.pass.invariant service (λ start at. (e.stands start at).history) (event_if (λ conn. event.Connect conn) c.join-joined.result) c.join-joined.new.self.history c.total-count.result c.end.new.inner (fits-if (λ conn. event.Connect conn) service c.join-joined.new.self.history c.join-joined.result c.join-joined.ensures.stores) (went-if (λ conn. event.Connect conn) service c.join-joined.new.self.history c.join-joined.result c.join-joined.ensures.stores c.join-joined.ensures.unchanged c.join-joined.ensures.history) c.total-count.ensures.count c.end.ensures.same c.end.ensures.recorded).2 in
+    let e = c.enter-kept.ensures in let service = c.enter-kept.result.service.value.history in
+    let last = (done c.pass.inside.inner c.enter-kept.new.pass e.between e.is c.pass.invariant service (λ start at. (e.stands start at).history) (event_if (λ conn. event.Connect conn) c.join-joined.result) c.join-joined.new.self.history c.total-count.result c.end.new.inner (fits-if (λ conn. event.Connect conn) service c.join-joined.new.self.history c.join-joined.result (rw c.deref_mut.ensures.value at c.join-joined.ensures.stores)) (went-if (λ conn. event.Connect conn) service c.join-joined.new.self.history c.join-joined.result (rw c.deref_mut.ensures.value at c.join-joined.ensures.stores) (rw c.deref_mut.ensures.value at c.join-joined.ensures.unchanged) c.join-joined.ensures.history) c.total-count.ensures.count c.end.ensures.same c.end.ensures.recorded).2 in
     let view : View = view_of c.pass.inside.inner in
     let steady = steady_or c.pass.inside.inner.start in
     let stands = stands-view c.pass.inside.inner c.enter-kept.new.pass e.between e.is c.pass.invariant service (λ start at. (e.stands start at).history) in
     subst (λ (s : Seen). IfOk c.join-joined.result (λ conn. Extends (spot conn s.steady s.view) (spot conn s.steady (view_of c.end.new.inner)) (event.Connect conn) (output.Joined conn))) c.pass.view_is
-    (joins-if steady view (view_of c.end.new.inner) e.between service stands c.join-joined.new.self.history c.join-joined.result c.join-joined.ensures.stores last)
+    (joins-if steady view (view_of c.end.new.inner) e.between service stands c.join-joined.new.self.history c.join-joined.result (rw c.deref_mut.ensures.value at c.join-joined.ensures.stores) last)
 
 pub returns-clause-refused : goal.returns-clause-refused
 returns-clause-refused g c =
-    let e = c.enter-kept.ensures in let service = c.enter-kept.result.service.history in
-    let last = (done c.pass.inside.inner c.enter-kept.new.pass e.between e.is c.pass.invariant service (λ start at. (e.stands start at).history) (event_if (λ conn. event.Connect conn) c.join-joined.result) c.join-joined.new.self.history c.total-count.result c.end.new.inner (fits-if (λ conn. event.Connect conn) service c.join-joined.new.self.history c.join-joined.result c.join-joined.ensures.stores) (went-if (λ conn. event.Connect conn) service c.join-joined.new.self.history c.join-joined.result c.join-joined.ensures.stores c.join-joined.ensures.unchanged c.join-joined.ensures.history) c.total-count.ensures.count c.end.ensures.same c.end.ensures.recorded).2 in
+    let e = c.enter-kept.ensures in let service = c.enter-kept.result.service.value.history in
+    let last = (done c.pass.inside.inner c.enter-kept.new.pass e.between e.is c.pass.invariant service (λ start at. (e.stands start at).history) (event_if (λ conn. event.Connect conn) c.join-joined.result) c.join-joined.new.self.history c.total-count.result c.end.new.inner (fits-if (λ conn. event.Connect conn) service c.join-joined.new.self.history c.join-joined.result (rw c.deref_mut.ensures.value at c.join-joined.ensures.stores)) (went-if (λ conn. event.Connect conn) service c.join-joined.new.self.history c.join-joined.result (rw c.deref_mut.ensures.value at c.join-joined.ensures.stores) (rw c.deref_mut.ensures.value at c.join-joined.ensures.unchanged) c.join-joined.ensures.history) c.total-count.ensures.count c.end.ensures.same c.end.ensures.recorded).2 in
     let view : View = view_of c.pass.inside.inner in
     let steady = steady_or c.pass.inside.inner.start in
     let stands = stands-view c.pass.inside.inner c.enter-kept.new.pass e.between e.is c.pass.invariant service (λ start at. (e.stands start at).history) in
     subst (λ (s : Seen). IfErr c.join-joined.result (λ refused. IsRefused s.steady refused s.view (view_of c.end.new.inner))) c.pass.view_is
-    (crowded-if steady view (view_of c.end.new.inner) e.between service stands c.join-joined.result c.join-joined.ensures.spent c.join-joined.ensures.crowded last)
+    (crowded-if steady view (view_of c.end.new.inner) e.between service stands c.join-joined.result (rw c.deref_mut.ensures.value at c.join-joined.ensures.spent) (rw c.deref_mut.ensures.value at c.join-joined.ensures.crowded) last)

@@ -15,5 +15,5 @@ pub returns-else-total-count-clause-recorded : goal.returns-else-total-count-cla
 returns-else-total-count-clause-recorded g c =
     let one = c.requires.ended.one (search rules) in
     λ event not is.
-    let stands = subst (λ e. StandsFor c.args.kept.service.history c.args.inner.now (e ∷ [])) (one-of one.0 event (sym one.1 ∙ is)) one.2 in
+    let stands = subst (λ e. StandsFor c.args.kept.service.value.history c.args.inner.now (e ∷ [])) (one-of one.0 event (sym one.1 ∙ is)) one.2 in
     c.record.ensures event record { newest_is = is; stands = λ start at. record { history = stands start at; steady = c.requires.steady start at } }

@@ -10,33 +10,33 @@ use Rattle.shared_service.proofs.shared.SharedService.gone.Goals as goal
 
 pub end-requires-clause-ended : goal.end-requires-clause-ended
 end-requires-clause-ended g c =
-    let e = c.enter-kept.ensures in let service = c.enter-kept.result.service.history in
-    end-some c.pass.inside.inner c.enter-kept.new.pass e.between e.is c.pass.invariant service (λ start at. (e.stands start at).history) (gone_event c.args.conn (told c.args.conn service)) c.gone.new.self.history c.total-count.result (went-with service c.gone.new.self.history (gone_event c.args.conn (told c.args.conn service)) (gone-fits c.args.conn service (told c.args.conn service) refl) (c.gone.ensures.recorded ∙ gone-some c.args.conn service (told c.args.conn service)) c.gone.ensures.history) c.total-count.ensures.count
+    let e = c.enter-kept.ensures in let service = c.enter-kept.result.service.value.history in
+    end-some c.pass.inside.inner c.enter-kept.new.pass e.between e.is c.pass.invariant service (λ start at. (e.stands start at).history) (gone_event c.args.conn (told c.args.conn service)) c.gone.new.self.history c.total-count.result (went-with service c.gone.new.self.history (gone_event c.args.conn (told c.args.conn service)) (gone-fits c.args.conn service (told c.args.conn service) refl) ((rw c.deref_mut.ensures.value at c.gone.ensures.recorded) ∙ gone-some c.args.conn service (told c.args.conn service)) c.gone.ensures.history) c.total-count.ensures.count
 
 pub end-requires-clause-steady : goal.end-requires-clause-steady
 end-requires-clause-steady g c =
     let e = c.enter-kept.ensures in
-    steady-still c.pass.inside.inner c.enter-kept.new.pass e.between e.is c.pass.invariant _ (λ start at. (e.stands start at).steady) _ (ap (is_steady g.F.Folder.is_steady g.F.Cell.Slot.is_steady) c.gone.ensures.disk)
+    steady-still c.pass.inside.inner c.enter-kept.new.pass e.between e.is c.pass.invariant _ (λ start at. (e.stands start at).steady) _ (ap (is_steady g.F.Folder.is_steady g.F.Cell.Slot.is_steady) (rw c.deref_mut.ensures.value at c.gone.ensures.disk))
 
 pub invariant_of-pass : goal.invariant_of-pass
 invariant_of-pass g c =
-    let e = c.enter-kept.ensures in let service = c.enter-kept.result.service.history in
-    (done c.pass.inside.inner c.enter-kept.new.pass e.between e.is c.pass.invariant service (λ start at. (e.stands start at).history) (gone_event c.args.conn (told c.args.conn service)) c.gone.new.self.history c.total-count.result c.end.new.inner (gone-fits c.args.conn service (told c.args.conn service) refl) (went-with service c.gone.new.self.history (gone_event c.args.conn (told c.args.conn service)) (gone-fits c.args.conn service (told c.args.conn service) refl) (c.gone.ensures.recorded ∙ gone-some c.args.conn service (told c.args.conn service)) c.gone.ensures.history) c.total-count.ensures.count c.end.ensures.same c.end.ensures.recorded).0
+    let e = c.enter-kept.ensures in let service = c.enter-kept.result.service.value.history in
+    (done c.pass.inside.inner c.enter-kept.new.pass e.between e.is c.pass.invariant service (λ start at. (e.stands start at).history) (gone_event c.args.conn (told c.args.conn service)) c.gone.new.self.history c.total-count.result c.end.new.inner (gone-fits c.args.conn service (told c.args.conn service) refl) (went-with service c.gone.new.self.history (gone_event c.args.conn (told c.args.conn service)) (gone-fits c.args.conn service (told c.args.conn service) refl) ((rw c.deref_mut.ensures.value at c.gone.ensures.recorded) ∙ gone-some c.args.conn service (told c.args.conn service)) c.gone.ensures.history) c.total-count.ensures.count c.end.ensures.same c.end.ensures.recorded).0
 
 pub returns-clause-same : goal.returns-clause-same
 returns-clause-same g c =
-    let e = c.enter-kept.ensures in let service = c.enter-kept.result.service.history in
-    (done c.pass.inside.inner c.enter-kept.new.pass e.between e.is c.pass.invariant service (λ start at. (e.stands start at).history) (gone_event c.args.conn (told c.args.conn service)) c.gone.new.self.history c.total-count.result c.end.new.inner (gone-fits c.args.conn service (told c.args.conn service) refl) (went-with service c.gone.new.self.history (gone_event c.args.conn (told c.args.conn service)) (gone-fits c.args.conn service (told c.args.conn service) refl) (c.gone.ensures.recorded ∙ gone-some c.args.conn service (told c.args.conn service)) c.gone.ensures.history) c.total-count.ensures.count c.end.ensures.same c.end.ensures.recorded).1 ∙ ap (λ (s : Seen). s.table) c.pass.view_is
+    let e = c.enter-kept.ensures in let service = c.enter-kept.result.service.value.history in
+    (done c.pass.inside.inner c.enter-kept.new.pass e.between e.is c.pass.invariant service (λ start at. (e.stands start at).history) (gone_event c.args.conn (told c.args.conn service)) c.gone.new.self.history c.total-count.result c.end.new.inner (gone-fits c.args.conn service (told c.args.conn service) refl) (went-with service c.gone.new.self.history (gone_event c.args.conn (told c.args.conn service)) (gone-fits c.args.conn service (told c.args.conn service) refl) ((rw c.deref_mut.ensures.value at c.gone.ensures.recorded) ∙ gone-some c.args.conn service (told c.args.conn service)) c.gone.ensures.history) c.total-count.ensures.count c.end.ensures.same c.end.ensures.recorded).1 ∙ ap (λ (s : Seen). s.table) c.pass.view_is
 
 pub returns-clause-steady : goal.returns-clause-steady
 returns-clause-steady g c =
-    let e = c.enter-kept.ensures in let service = c.enter-kept.result.service.history in
-    (done c.pass.inside.inner c.enter-kept.new.pass e.between e.is c.pass.invariant service (λ start at. (e.stands start at).history) (gone_event c.args.conn (told c.args.conn service)) c.gone.new.self.history c.total-count.result c.end.new.inner (gone-fits c.args.conn service (told c.args.conn service) refl) (went-with service c.gone.new.self.history (gone_event c.args.conn (told c.args.conn service)) (gone-fits c.args.conn service (told c.args.conn service) refl) (c.gone.ensures.recorded ∙ gone-some c.args.conn service (told c.args.conn service)) c.gone.ensures.history) c.total-count.ensures.count c.end.ensures.same c.end.ensures.recorded).3 ∙ ap (λ (s : Seen). s.steady) c.pass.view_is
+    let e = c.enter-kept.ensures in let service = c.enter-kept.result.service.value.history in
+    (done c.pass.inside.inner c.enter-kept.new.pass e.between e.is c.pass.invariant service (λ start at. (e.stands start at).history) (gone_event c.args.conn (told c.args.conn service)) c.gone.new.self.history c.total-count.result c.end.new.inner (gone-fits c.args.conn service (told c.args.conn service) refl) (went-with service c.gone.new.self.history (gone_event c.args.conn (told c.args.conn service)) (gone-fits c.args.conn service (told c.args.conn service) refl) ((rw c.deref_mut.ensures.value at c.gone.ensures.recorded) ∙ gone-some c.args.conn service (told c.args.conn service)) c.gone.ensures.history) c.total-count.ensures.count c.end.ensures.same c.end.ensures.recorded).3 ∙ ap (λ (s : Seen). s.steady) c.pass.view_is
 
 pub returns-clause-gone : goal.returns-clause-gone
 returns-clause-gone g c =
-    let e = c.enter-kept.ensures in let service = c.enter-kept.result.service.history in
-    let last = (done c.pass.inside.inner c.enter-kept.new.pass e.between e.is c.pass.invariant service (λ start at. (e.stands start at).history) (gone_event c.args.conn (told c.args.conn service)) c.gone.new.self.history c.total-count.result c.end.new.inner (gone-fits c.args.conn service (told c.args.conn service) refl) (went-with service c.gone.new.self.history (gone_event c.args.conn (told c.args.conn service)) (gone-fits c.args.conn service (told c.args.conn service) refl) (c.gone.ensures.recorded ∙ gone-some c.args.conn service (told c.args.conn service)) c.gone.ensures.history) c.total-count.ensures.count c.end.ensures.same c.end.ensures.recorded).2 in
+    let e = c.enter-kept.ensures in let service = c.enter-kept.result.service.value.history in
+    let last = (done c.pass.inside.inner c.enter-kept.new.pass e.between e.is c.pass.invariant service (λ start at. (e.stands start at).history) (gone_event c.args.conn (told c.args.conn service)) c.gone.new.self.history c.total-count.result c.end.new.inner (gone-fits c.args.conn service (told c.args.conn service) refl) (went-with service c.gone.new.self.history (gone_event c.args.conn (told c.args.conn service)) (gone-fits c.args.conn service (told c.args.conn service) refl) ((rw c.deref_mut.ensures.value at c.gone.ensures.recorded) ∙ gone-some c.args.conn service (told c.args.conn service)) c.gone.ensures.history) c.total-count.ensures.count c.end.ensures.same c.end.ensures.recorded).2 in
     let view : View = view_of c.pass.inside.inner in
     let steady = steady_or c.pass.inside.inner.start in
     let here = goes c.args.conn steady view e.between service (stands-view c.pass.inside.inner c.enter-kept.new.pass e.between e.is c.pass.invariant service (λ start at. (e.stands start at).history)) (told c.args.conn service) refl in
