@@ -1,0 +1,3 @@
+pub mod MakingLemmas
+pub mod OpeningLemmas
+pub mod ResolvingLemmas

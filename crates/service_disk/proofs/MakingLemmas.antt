@@ -1,0 +1,70 @@
+-- How long the file of a new collection is.
+use Rattle.std.proofs.Common.{◌≡◌, ℕ, ◌+◌, ◌≤◌, ◌++◌, [], length, min, nat_eq, nat_le, refl, sym, ap, ◌∙◌, arith}
+use Rattle.std.specs.List.{IsDistinct}
+use Rattle.std.proofs.lemmas.List.{length-append}
+use Rattle.keyring_text.specs.Fields.{number, string, time}
+use Rattle.keyring_file.specs.Canonical.{front_text, zeros}
+use Rattle.keyring_file.specs.Clear.{ClearPart}
+use Rattle.keyring_file.specs.ClearText.{magic, most_iterations, version}
+use Rattle.key_derivation.specs.Kdf.{key_of, vector_of}
+use Rattle.keyring_seal.specs.Room.{measure}
+use Rattle.keyring_seal.specs.Whole.{most_bytes}
+use Rattle.keyring_seal.proofs.RoomLemmas.{length_number, length_time}
+use Rattle.keyring_seal.proofs.SealLemmas.{length-sealed}
+use Rattle.collection_table.specs.Rows.{Rows, room_in}
+use Rattle.service_disk.specs.Making.{Plan, content_of, file_of, has_room}
+
+-- what comes before the number of items
+long-front : (clear : ClearPart) → length clear.salt ≡ 8 → length (front_text clear) ≡ 76 + length clear.name
+long-front clear salt =
+    let last = clear.salt ++ zeros 16 in
+    let iterations = number clear.iterations ++ last in
+    let timeout = number clear.timeout ++ iterations in
+    let flags = number clear.flags ++ timeout in
+    let modified = time clear.modified ++ flags in
+    let created = time clear.created ++ modified in
+    let name = string clear.name ++ created in
+    let minor = version clear.minor ++ name in
+    let first : length magic ≡ 16 = refl in
+    let second : length (version clear.minor) ≡ 4 = refl in
+    let reserved : length (zeros 16) ≡ 16 = refl in
+    let whole = length-append magic minor in
+    let after_magic = length-append (version clear.minor) name in
+    let after_version = length-append (string clear.name) created in
+    let label = length-append (number (length clear.name)) clear.name in
+    let after_name = length-append (time clear.created) modified in
+    let after_created = length-append (time clear.modified) flags in
+    let after_modified = length-append (number clear.flags) timeout in
+    let after_flags = length-append (number clear.timeout) iterations in
+    let after_timeout = length-append (number clear.iterations) last in
+    let after_iterations = length-append clear.salt (zeros 16) in
+    let long_name = length_number (length clear.name) in
+    let long_created = length_time clear.created in
+    let long_modified = length_time clear.modified in
+    let long_flags = length_number clear.flags in
+    let long_timeout = length_number clear.timeout in
+    let long_iterations = length_number clear.iterations in
+    omega (arith, salt, first, second, reserved, whole, after_magic, after_version, label, after_name, after_created, after_modified, after_flags, after_timeout, after_iterations, long_name, long_created, long_modified, long_flags, long_timeout, long_iterations)
+
+no-items : IsDistinct nat_eq []
+unfolding IsDistinct
+no-items = tt
+
+-- the file of a collection without items has 100 bytes besides its label
+pub long-file : (plan : Plan) → length plan.key.salt ≡ 8 → plan.key.iterations ≤ most_iterations → length (file_of plan) ≡ 100 + length plan.label
+long-file plan salt few =
+    let content = content_of plan in
+    let whole : length (file_of plan) ≡ measure content =
+    length-sealed content (key_of plan.key) (vector_of plan.key) (record { counted = refl; distinct = no-items; iterations = few }) in
+    let measured : measure content ≡ (length (front_text content.clear) + 8) + 0 + 0 + 16 = refl in
+    let front = long-front content.clear salt in
+    omega (arith, whole, measured, front)
+
+zero-plus : (n : ℕ) → 0 + n ≡ n
+zero-plus n = omega arith
+
+-- so it has room if so many bytes have
+pub room-tested : (plan : Plan) (these : Rows) → length plan.key.salt ≡ 8 → plan.key.iterations ≤ most_iterations
+    → nat_le (100 + length plan.label) (min most_bytes (room_in these)) ≡ has_room plan these
+room-tested plan these salt few =
+    ap (λ n. nat_le n (min most_bytes (room_in these))) (sym (long-file plan salt few)) ∙ ap (λ n. nat_le (length (file_of plan)) (min most_bytes n)) (sym (zero-plus (room_in these)))
