@@ -111,21 +111,25 @@ def escaped(text):
     return "".join(f"\\x{byte:02x}" for byte in bytes.fromhex(text))
 
 
-def keyring_file(path, items):
-    """Writes a keyring file of so many items under the password of the program, and gives the length of its area."""
+def keyring_file(path, items, shared=False):
+    """Writes a keyring file of so many items under the password of the program, and gives the length of its area. If it is
+    asked for, each item has a second pair, which all have."""
     number = lambda n: n.to_bytes(4, "big")
     string = lambda text: number(len(text)) + text
-    pair = lambda value: string(b"user") + number(0) + string(value)
     md5 = lambda text: hashlib.md5(text).hexdigest().encode()
-    user = lambda n: b"user%d@example.org" % n
+
+    def attributes(n, shown):
+        pairs = [(b"group", b"all")] * shared + [(b"user", b"user%d@example.org" % n)]
+        return number(len(pairs)) + b"".join(string(name) + number(0) + string(shown(value)) for name, value in pairs)
+
     area = b"".join(string(b"Password of user%d" % n) + string(b"the secret of user %d" % n) + bytes(16) + number(0xffffffff) + bytes(16)
-                    + number(1) + pair(user(n)) + number(0) for n in range(items))
+                    + attributes(n, bytes) + number(0) for n in range(items))
     area += bytes(-len(area) % 16)
     area = hashlib.md5(area).digest() + area
     digest = hashlib.sha256(b"passwordsaltsalt").digest()
     words = ["openssl", "enc", "-aes-128-cbc", "-nopad", "-K", digest[:16].hex(), "-iv", digest[16:].hex()]
     hidden = subprocess.run(words, input=area, capture_output=True, check=True).stdout
-    clear = b"".join(number(n) + number(0) + number(1) + pair(md5(user(n))) for n in range(items))
+    clear = b"".join(number(n) + number(0) + attributes(n, md5) for n in range(items))
     path.write_bytes(b"GnomeKeyring\n\r\0\n" + bytes(4) + string(b"login") + bytes(16) + bytes(8) + number(1) + b"saltsalt" + bytes(16)
                      + number(items) + clear + number(len(area)) + hidden)
     return len(area)
