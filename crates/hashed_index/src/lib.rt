@@ -1,8 +1,8 @@
 //! Which items of a locked collection have which hashed attributes (GNOME keyring file format): for each
 //! hashed attribute of the clear part a key, made of its name and its hash, with the place of its item, in
-//! order of the keys. Callers may rely on these: a search returns the ids of the items whose hashes match;
-//! it compares the hashes only of items that have a key of the rarest wanted attribute; and an attribute
-//! takes two words of memory.
+//! order of the keys. Callers may rely on this: a search returns the ids of exactly the items whose hashes
+//! match. No clause says which items it compares, or how large an entry is: it compares those that have a
+//! key of the rarest wanted attribute, and an entry takes two words.
 #![tactic(auto)]
 
 mod entries;
