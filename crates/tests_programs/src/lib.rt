@@ -6,4 +6,6 @@
 #[cfg(test)]
 mod checks;
 #[cfg(test)]
+mod conversations;
+#[cfg(test)]
 mod runs;
