@@ -46,7 +46,7 @@ module _ (k : List ℕ × List ℕ) where
   gone-at : (es : Names) → IsSorted es → (q : List ℕ × List ℕ) → lookup (is_pair q) (remove_entry (is_pair k) es) ≡ cond (is_pair k q) None (lookup (is_pair q) es)
   gone-at es s q = lookup-remove_entry pair_equiv (is_pair k) (one_pair k) q es (IsDistinct-from_sorted pair_cmp (keys_of es) s)
 
-  -- the ids at each pair, where one has other ids
+  -- the ids at each pair, if one has other ids
   ids-at : (f : List ℕ → List ℕ) (es new : Names) (value : Option (List ℕ)) → ((q : List ℕ × List ℕ) → lookup (is_pair q) new ≡ cond (is_pair k q) value (lookup (is_pair q) es)) → or_none value ≡ f (or_none (lookup (is_pair k) es))
       → (q : List ℕ × List ℕ) → or_none (lookup (is_pair q) new) ≡ cond (is_pair k q) (f (or_none (lookup (is_pair q) es))) (or_none (lookup (is_pair q) es))
   ids-at f es new value updates here q =
@@ -58,7 +58,7 @@ module _ (k : List ℕ × List ℕ) where
       (λ off. rw off refl)
       (cases_Bool (is_pair k q)))
 
-  -- no pair is without ids, where one has some ids
+  -- no pair is without ids, if one has some ids
   lean-at : (es new : Names) (value : Option (List ℕ)) → ((q : List ℕ × List ℕ) → lookup (is_pair q) new ≡ cond (is_pair k q) value (lookup (is_pair q) es)) → (value ≡ Some [] → ⊥) → IsLean es → IsLean new
   lean-at es new value updates here lean name text =
       subst (λ (o : Option (List ℕ)). o ≡ Some [] → ⊥) (sym (updates (name, text)))

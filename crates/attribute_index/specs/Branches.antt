@@ -23,7 +23,7 @@ pairs_after (Before b) = []
 pairs_after (After b) = all_of b.value
 pairs_after (Both h b c) = all_of c.value
 
--- the pairs of a branch, where there is one
+-- the pairs of a branch, if there is one
 abbrev pub pairs_of : Option (Box Branch Global) → Names
 pairs_of None = []
 pairs_of (Some b) = all_of b.value
@@ -42,7 +42,7 @@ height_after (Before b) = 0
 height_after (After b) = height b.value
 height_after (Both h b c) = height c.value
 
--- the height of a branch, where there is one
+-- the height of a branch, if there is one
 abbrev pub height_of : Option (Box Branch Global) → ℕ
 height_of None = 0
 height_of (Some b) = height b.value

@@ -90,7 +90,7 @@ IsPutThere (Some result) pair id old new = (ids : List ℕ) × (lookup (is_pair 
 abbrev pub IsTakenThere : Bool → List ℕ × List ℕ → ℕ → Names → Names → Type 0
 IsTakenThere left pair id old new = (new ≡ set_value (is_pair pair) old (without_id id (or_none (lookup (is_pair pair) old)))) × (left ≡ is_none_left (lookup (is_pair pair) new))
 
--- the id is at just the names and texts of the pairs
+-- the id is at exactly the names and texts of the pairs
 abbrev pub IsAtJust : List (List ℕ × AttrValue) → ℕ → Names → Type 0
 IsAtJust pairs id names = (name text : List ℕ) → has_id (ids_in_names names name text) id ≡ has_pair name text pairs
 

@@ -113,7 +113,8 @@ pub fn take_all(
     }
 }
 
-/// Puts an id, which is at just the pairs that these attributes have, at each of the other pairs too.
+/// Puts an id, which is at exactly the pairs that these attributes have, at each of the other pairs
+/// too.
 pub fn put_all(
     alloc: Global,
     names: &mut Pairs,

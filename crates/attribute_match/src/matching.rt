@@ -56,8 +56,8 @@ fn is_same_pair(one: &(Text, AttrValue), other: &(Text, AttrValue)) -> bool
     is_same(one.0.as_bytes(), other.0.as_bytes()) && is_shown_alike(&one.1, &other.1)
 }
 
-/// Whether both have the same names with the same texts, where a number is shown in decimal. It takes no
-/// memory.
+/// Whether both have the same names with the same texts, with a number shown in decimal. It takes
+/// no memory.
 pub fn is_equal(one: &Attributes, other: &Attributes) -> bool
     ensures value { result ≡ is_equal_to one.now other.now }
     ensures same { IsTrue result ↔ (texts_of one.now ≡ texts_of other.now) }

@@ -151,7 +151,7 @@ there_in cs es rising same = ap (λ (t : List Row). map (λ (row : Row). row.0) 
 pub hashed_in : (cs : List ClearItem) (es : Rows) → IsStrictlyIncreasing (ids_of cs) → ids_of cs ≡ keys_of es → AreHashed (zip cs (map (λ row. row.1.item) es)) → AreHashed (looked cs es)
 hashed_in cs es rising same hashed = subst AreHashed (sym (looked_in cs es rising same)) hashed
 
--- if a change keeps a fact of a row, the fact holds of all rows after it if it did before
+-- if a change keeps a fact of a row, the fact is true of all rows after it if it was before
 changed_all : (P : Row → Type 0) (id : ℕ) (h : Row → Row) → ((row : Row) → P row → P (h row)) → (rows : List Row) → AllByRecursion P rows → AllByRecursion P (rows_changed id h rows)
 changed_all P id h keeps [] all = tt
 changed_all P id h keeps (row ∷ more) all =

@@ -47,11 +47,11 @@ pub record Fits (file : File) (clear : ClearPart) (held : Option Held) (from : I
   pub salt : from.salt ≡ clear.salt
   pub iterations : from.iterations ≡ clear.iterations
 
--- the bytes open under the key and the vector, to a content of which this holds
+-- the bytes open under the key and the vector, to a content that has this property
 abbrev pub Opens : List ℕ → List ℕ → List ℕ → (Content → Type 0) → Type 0
 Opens bytes key vector Holds = IfOk (opened bytes key vector) Holds × IsOk (opened bytes key vector)
 
--- how an attempt to unlock ends by what opening the file gives; a file whose clear part is known has no fault there
+-- how an attempt to unlock ends, by what opening the file returns; a file whose clear part is known has no fault there
 abbrev pub Unlocks : Result Content OpenFault → UnlockRefused → Type 0
 Unlocks (Ok content) refused = ⊥
 Unlocks (Err (open_fault.Clear fault)) refused = ⊥

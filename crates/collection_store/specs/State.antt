@@ -1,5 +1,5 @@
 -- A collection as the service's state has it (Secret Service API, interface Collection): its file, the clear part that is shown, and
--- what it holds while it is unlocked.
+-- what it keeps while it is unlocked.
 use Rattle.std.specs.Prelude.{◌≡◌, ℕ, Bool, ◌||◌, if◌then◌else◌, List, [], length, map, max, Option, None, Some, Ok}
 use Rattle.std.specs.List.{zip, AllByRecursion}
 use Rattle.std.specs.List.Sorted.{IsStrictlyIncreasing}
@@ -49,7 +49,7 @@ by_id clear = record clear { items = by_number (λ (item : ClearItem). item.id.0
 abbrev pub IsById : ClearPart → Type 0
 IsById clear = IsStrictlyIncreasing (ids_of clear.items)
 
--- the image that is shown: the known one, or the older one of a doubt, or the newer one where the older is no file
+-- the image that is shown: the known one, or the older one of a doubt, or the newer one if the older is no file
 abbrev pub shown_image : File → Image
 shown_image (Known image) = image
 shown_image (Doubt None new) = new

@@ -93,7 +93,7 @@ impl<S: Slot> Collection<S> {
         })
     }
 
-    /// Makes a collection without items and stores it. It is unlocked.
+    /// Creates a collection without items and stores it. It is unlocked.
     ///
     /// Refused with `TooLarge`, before any call of the device, if its file would be longer than 67,108,864
     /// bytes or longer than `room`; with `FaultBefore` if the file couldn't be written; and with `FaultUnsure`

@@ -95,7 +95,7 @@ module _ {V : Type 0} where
         let same : x ≡ (stem, is.value) = read ∙ get_or_from_slice_get entries place (stem, is.value) x is.at in
         (λ i. slice_set entries place ((same i).0, new)) ∙ set_at entries place is.value new ordered is.at (made ∙ ap (λ (y : List ℕ × V). f y.1) same)
 
-    -- nothing changes where the stem isn't there
+    -- nothing changes if the stem isn't there
     pub unchanged_none : (entries : List (List ℕ × V)) → value_at stem entries ≡ None → entries ≡ changed stem f entries
     unchanged_none [] none = refl
     unchanged_none (e ∷ more) none =
@@ -327,6 +327,6 @@ module _ {V : Type 0} where
   with_room (Ok answer) made before after ok is = is
   with_room (Err fault) made before after ok is = absurd (let no : false ≡ true = ok in cc)
 
-  -- a search doesn't hit where the stem isn't there
+  -- a search doesn't hit if the stem isn't there
   pub missed : (stem : List ℕ) (entries : List (List ℕ × V)) (place : ℕ) → IsInOrder entries → value_at stem entries ≡ None → IsPlaceOf stem entries place → ⊥
   missed stem entries place ordered none is = let found : Some is.value ≡ None = sym (found_there entries stem place is.value ordered is.at) ∙ none in absurd cc

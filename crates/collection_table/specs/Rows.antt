@@ -17,7 +17,7 @@ use Rattle.collection_store.specs.State.{HasMostItems, Held, most_items}
 use Rattle.collection_table.specs.declared.matches.Matches.{Matches}
 
 -- a collection without its slot: what is known of its file, the clear part that is shown, the other one of a doubt between two files,
--- and what it holds while it is unlocked
+-- and what it keeps while it is unlocked
 pub record CollectionRow : Type 0 where
   pub file : File
   pub clear : ClearPart
@@ -80,12 +80,12 @@ found_in_all wanted rows = map (found_in wanted) rows
 abbrev pub most : ℕ
 most = 18446744073709551615
 
--- all collections together have so many items; one in doubt has the greater number of its two images
+-- all collections together have this many items; one in doubt has the greater number of its two images
 abbrev pub AddUp : Rows → ℕ → Type 0
 AddUp [] total = total ≡ 0
 AddUp (row ∷ rows) total = (one : ℕ) × (others : ℕ) × HasMostItems row.1.file one × AddUp rows others × (total ≡ one + others)
 
--- so many items are counted
+-- this many items are counted
 abbrev pub HaveItems : Rows → ℕ → Type 0
 HaveItems rows count = (total : ℕ) × AddUp rows total × (count ≡ min total most)
 
@@ -93,7 +93,7 @@ HaveItems rows count = (total : ℕ) × AddUp rows total × (count ≡ min total
 abbrev pub items_in : Rows → ℕ
 items_in rows = sum_by (λ row. most_items row.1.file row.1.clear row.1.other) rows
 
--- all collections' files together have so many bytes; one in doubt has those of its longer image
+-- all collections' files together have this many bytes; one in doubt has those of its longer image
 abbrev pub bytes_in : Rows → ℕ
 bytes_in rows = sum_by (λ row. longest_of row.1.file) rows
 

@@ -12,23 +12,24 @@ ghost use Rattle.collection_table.specs.Rows.{perhaps_removed, perhaps_stored, s
 
 use kr_outside::Slot;
 
-/// A law: where a collection that was lent is changed, its row changes with it, and no other row. It does
-/// nothing.
+/// A law: if a collection that was lent is changed, its row changes with it, and no other row does.
+/// It does nothing.
 pub fn a_changed_collection_changes_its_row<S: Slot>()
     ensures { (stem : List ℕ) (collection : CollectionState S) (entries : Entries S)
         → rows_of (changed stem (λ _. collection) entries)
         ≡ changed stem (λ _. row_of collection) (rows_of entries) }
 {}
 
-/// A law: where a collection that was lent is changed, its slot takes the place of the old one, and all
-/// other slots stay. It does nothing.
+/// A law: if a collection that was lent is changed, its slot takes the place of the old one, and
+/// all other slots stay. It does nothing.
 pub fn a_changed_collection_changes_its_slot<S: Slot>()
     ensures { (stem : List ℕ) (collection : CollectionState S) (entries : Entries S)
         → slots_of (changed stem (λ _. collection) entries)
         ≡ changed stem (λ _. collection.slot) (slots_of entries) }
 {}
 
-/// A law: what a change left of a collection is one row, by whether its content was stored. It does nothing.
+/// A law: what a change left of a collection is one row, given whether its content was stored. It
+/// does nothing.
 pub fn a_stored_content_is_a_row<S: Slot>()
     ensures stored { (content : Content) (key vector : List ℕ) (new : CollectionState S)
         → IsStored content key vector new → row_of new ≡ stored content key vector }
@@ -38,8 +39,8 @@ pub fn a_stored_content_is_a_row<S: Slot>()
     ensures same { (old new : CollectionState S) → IsSame old new → row_of new ≡ row_of old }
 {}
 
-/// A law: what a change left of an unlocked collection is the row that the definitions say, by whether it
-/// was stored. It does nothing.
+/// A law: what a change left of an unlocked collection is the row of the definitions, given whether
+/// it was stored. It does nothing.
 pub fn a_change_leaves_its_row<S: Slot>()
     ensures changed { (change : Change) (now : ℕ) (old : CollectionState S) (held : Held)
         (new : CollectionState S) (answer : Changed) → old.held ≡ Some held

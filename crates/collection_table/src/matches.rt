@@ -6,7 +6,8 @@ use kr_items::Items;
 pub struct Matches {
     /// The collection's stem.
     pub stem: Stem,
-    /// Whether the collection is unlocked, so that the items were compared and not their hashes alone.
+    /// Whether the collection is unlocked, so that the items were compared and not just their
+    /// hashes.
     pub is_open: bool,
     /// The items that match, by rising ids.
     pub ids: Items<ItemId>,

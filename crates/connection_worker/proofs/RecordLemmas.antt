@@ -95,7 +95,7 @@ recorded-one old mid new a p q =
 pub recorded-refused : (old new : World) (a : TimedRequest) → HasAsked old new a → Recorded old new [] (a ∷ [])
 recorded-refused old new a p = record { calls = p.calls; moments = (new.coming, p.moment, refl); salts = (p.salt, p.salting) }
 
--- to take what waits is no call of a device
+-- taking what waits isn't a call of a device
 pub taking-faultless : (conn : ConnId) (state : State) → AllByRecursion IsFaultless (taking conn state)
 taking-faultless conn state =
     let pass : (b : Bool) → AllByRecursion IsFaultless (cond b (event.Take conn ∷ []) []) = elim [ true ↦ (tt, tt) | false ↦ tt ] in

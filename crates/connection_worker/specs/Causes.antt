@@ -45,7 +45,7 @@ HasCause end.ReadFault run asked count from to sink after =
     Rose from.faults to.faults × ((Awaits run.end × (asked ≡ [])) ⊎ ((rest : List ℕ) × AllServed run asked rest))
 -- the output's count rose
 HasCause end.WriteFault run asked count from to sink after = Rose sink.faults after.faults × FirstServed run asked × IsStill from to
--- all events that can be counted were
+-- all events that can be counted were recorded
 HasCause end.EventsSpent run asked count from to sink after = IsSpent count × FirstServed run asked × IsStill from to
 -- at any time
 HasCause end.Memory run asked count from to sink after = FirstServed run asked × IsStill from to

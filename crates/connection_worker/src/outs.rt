@@ -1,4 +1,4 @@
-// Outputs that were taken are made into bytes and written.
+// Outputs that were taken are turned into bytes and written.
 ghost use Rattle.std.specs.Prelude.{◌≡◌, ◌++◌, IfOk, OnErr, IsErrOf};
 ghost use Rattle.connection_worker.specs.Streams.{output_of};
 ghost use Rattle.connection_worker.specs.Sending.{Spells, Sends};

@@ -174,7 +174,7 @@ open_line _ _ _ _ (refuses at line behind fault is s) rest e = cc e
 abbrev pub AllError : List (List ℕ) → Type 0
 AllError = AllByRecursion (λ answer. answer ≡ error_line)
 
--- if the client should begin, OK is in force; or it should begin before the first line, and nothing but
+-- if the client should begin, OK is in force; or it should begin before the first line, and only
 -- ERROR was answered
 to_begin : (at : Exchange) (bytes : List ℕ) (answers : List (List ℕ)) (end : End) → Runs at bytes answers end → (place : Exchange) (left : List ℕ) → end ≡ waiting place left
     → place.state ≡ WaitingForBegin → OkStands at.guid answers ⊎ ((at.state ≡ WaitingForBegin) × AllError answers)

@@ -102,7 +102,7 @@ pub record HasLine (at : Exchange) (bytes : List ℕ) (answers : List (List ℕ)
   pub stands : Stands at lines answers state
   pub so : P (in_state at state) line rest
 
--- OK is in force: it was answered, and nothing but ERROR since
+-- OK is in force: it was answered, and only ERROR since
 pub record OkStands (guid : List ℕ) (answers : List (List ℕ)) : Type 0 where
   pub before : List (List ℕ)
   pub since : List (List ℕ)

@@ -90,8 +90,8 @@ pub fn ok_answers_an_accepted_argument()
         → HasLine (fresh uid guid) bytes front (λ at line rest. GivesAccepted at line) }
 {}
 
-/// A law: a handshake is open exactly after a `BEGIN` line before which `OK` was answered, and
-/// nothing but `ERROR` since.
+/// A law: a handshake is open exactly after a `BEGIN` line before which `OK` was answered, and only
+/// `ERROR` since.
 pub fn only_begin_opens()
     ensures { (uid : ℕ) (guid bytes : List ℕ) (answers : List (List ℕ)) (rest : List ℕ) →
         (run (fresh uid guid) bytes ≡ record { answers = answers; end = opened rest })

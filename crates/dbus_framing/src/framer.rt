@@ -164,9 +164,9 @@ fn let_go(bytes: &mut Vec<u8>, taken: usize)
     }
 }
 
-// Removes the bytes that messages consumed, unless there are more others, which would have to be
-// moved. Returns the position of the others then. So the consumed bytes that stay are never more
-// than the others.
+// Removes the bytes that messages consumed, unless there are more other bytes, which would have to
+// be moved: in that case it returns the position of these. So the consumed bytes that stay are
+// never more than the others.
 fn make_room(bytes: &mut Vec<u8>, taken: usize) -> usize
     requires { taken ≤ vec_len bytes.old }
     ensures rest { drop result bytes.new.items ≡ drop taken bytes.old.items }

@@ -5,7 +5,7 @@ use Rattle.dbus_types.specs.declared.complete_type.BasicType.TheVariants as basi
 use Rattle.dbus_types.specs.Types.{Ty, Tys}
 
 mutual
-  -- A value. A number of a basic type stands for its bits, a text for its bytes; an array has the type of its elements,
+  -- A value. A number of a basic type is given by its bits, a text by its bytes; an array has the type of its elements,
   -- and an array of bytes is the bytes.
   pub data Val : Type 0 where
     number : BasicType → ℕ → Val

@@ -114,7 +114,7 @@ where-without p rows id rising =
     ∙ ⊎_elim (λ is. rw is (sym (has-without id (ids_where p rows) x ∙ ap (λ b. has_id (ids_where p rows) x && not b) is ∙ and-false (has_id (ids_where p rows) x))))
     (λ off. rw off (sym (has-without id (ids_where p rows) x ∙ ap (λ b. has_id (ids_where p rows) x && not b) off ∙ and-true (has_id (ids_where p rows) x) ∙ has-where p rows rising x))) (cases_Bool (x == id)))
 
--- where the row doesn't pass, its id isn't among them
+-- if the row doesn't pass, its id isn't among them
 lacks-none : (p : Row → Bool) (rows : Rows) (id : ℕ) (row : Row) → IsRising rows → row_at id rows ≡ Some row → cond (p row) (without_id id (ids_where p rows)) (ids_where p rows) ≡ without_id id (ids_where p rows)
 lacks-none p rows id row rising there =
     ⊎_elim

@@ -152,7 +152,7 @@ value-spelled (value.Number n) known short = joined (number 1) (number n) refl (
 attribute-spelled : (p : List ℕ × AttrValue) → IsKnownPair p → IsShortAttribute p → SpellsAttribute p (attribute_text p)
 attribute-spelled p known short = joined (string p.0) (value_text p.1) (text-spelled p.0 known.name short.name) (value-spelled p.1 known.value short.value)
 
--- a pair that comes before a list in order is put in front of it
+-- a pair that comes before a list in order is put before it
 in_order-with : {V : Type 0} (pair : List ℕ × V) (xs : List (List ℕ × V)) → IsInOrder (pair ∷ xs) → with_pair pair xs ≡ pair ∷ xs
 unfolding IsStrictlySortedBy
 in_order-with pair [] h = refl

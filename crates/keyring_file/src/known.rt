@@ -49,7 +49,7 @@ fn known_access(entries: &[Access])
     }
 }
 
-/// What the type of an item of the area guarantees of its values. The call does nothing but read it.
+/// What the type of an item of the area guarantees of its values. The call only reads it.
 pub fn known_item(item: &FullItem)
     ensures { IsKnownItem item.now }
 {
@@ -61,7 +61,7 @@ pub fn known_item(item: &FullItem)
     known_access(item.access.as_slice());
 }
 
-/// What the types of items of the area guarantee of their values. The call does nothing but read them.
+/// What the types of items of the area guarantee of their values. The call only reads them.
 pub fn known_items(items: &[FullItem])
     ensures { AllByRecursion IsKnownItem items.now }
 {
@@ -70,8 +70,8 @@ pub fn known_items(items: &[FullItem])
     }
 }
 
-/// What the type of an item of the clear part guarantees of its values, except for its hashes. The call
-/// does nothing but read it.
+/// What the type of an item of the clear part guarantees of its values, except for its hashes. The
+/// call only reads it.
 pub fn known_clear_item(item: &ClearItem)
     ensures { IsKnownClearItem item.now }
 {
@@ -80,8 +80,8 @@ pub fn known_clear_item(item: &ClearItem)
     let _content = item.content.as_str();
 }
 
-/// What the types of items of the clear part guarantee of their values, except for their hashes. The call
-/// does nothing but read them.
+/// What the types of items of the clear part guarantee of their values, except for their hashes.
+/// The call only reads them.
 pub fn known_clear_items(items: &[ClearItem])
     ensures { AllByRecursion IsKnownClearItem items.now }
 {
@@ -96,8 +96,8 @@ fn known_salt(salt: &[u8; 8])
     let _salt = *salt;
 }
 
-/// What the type of a clear part guarantees of its values, except for its items. The call does nothing but
-/// read it.
+/// What the type of a clear part guarantees of its values, except for its items. The call only
+/// reads it.
 pub fn known_clear(clear: &Clear)
     ensures { IsKnownClear clear.now }
 {

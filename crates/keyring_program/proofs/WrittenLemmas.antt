@@ -81,7 +81,7 @@ given-alike (a ∷ one) (b ∷ other) state p fates =
     ∙ sym (given_by-append here take (turns the_connection next other))
     ∙ ap (λ s. given_by the_connection s (behind s other)) (step_alike state (recorded_of the_connection a) (recorded_of the_connection b) p.0 fates.0)
 
--- ---- storings that end alike, since no device failed
+-- ---- each storing ends the same way, since no device failed
 
 legal-front : (state : State) (events more : List Event) → Legal state (events ++ more) → Legal state events
 legal-front state [] more legal = tt

@@ -48,7 +48,7 @@ abbrev pub HaveSameMoments : List TimedRequest → List TimedRequest → Type 0
 HaveSameMoments (one ∷ ones) (other ∷ others) = (TakesMoment one.request.call → one.now ≡ other.now) × HaveSameMoments ones others
 HaveSameMoments _ _ = Unit {0}
 
--- the storings of two runs ended alike
+-- each storing ended the same way in two runs
 abbrev pub HaveSameFates : List TimedRequest → List TimedRequest → Type 0
 HaveSameFates (one ∷ ones) (other ∷ others) = (one.fates ≡ other.fates) × HaveSameFates ones others
 HaveSameFates _ _ = Unit {0}

@@ -23,7 +23,7 @@ IsOnlyEnd end.OtherEnded = ⊥
 IsOnlyEnd end.Overrun = ⊥
 IsOnlyEnd _ = Unit {0}
 
--- the status of a run whose connection ended in this way; the last row stands for the ends that can't come
+-- the status of a run whose connection ended in this way; the last row is for the ends that can't come
 abbrev pub status_of : End → Status
 status_of end.Done = status.Done
 status_of (end.Violation cause) = status.Violation cause

@@ -18,7 +18,7 @@ pub enum Status {
     ReadFault,
     /// The output failed: its count of faults rose. A prefix of the output was written.
     WriteFault,
-    /// The folder couldn't be opened, or it or a file of it failed while it was loaded.
+    /// The folder couldn't be opened, or the folder or one of its files failed while it was loaded.
     FolderFault,
     /// A message breaks a rule, or isn't complete at the end (D-Bus Specification, "Message Format").
     Violation(Violation),

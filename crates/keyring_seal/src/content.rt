@@ -13,7 +13,7 @@ pub struct Content {
 }
 
 /// A law, stated by the contract: what the types of a content guarantee of its values. The call
-/// does nothing but read the content.
+/// only reads the content.
 pub fn known_content(content: &Content)
     ensures { IsKnown content.now }
 {

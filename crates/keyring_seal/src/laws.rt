@@ -40,7 +40,7 @@ pub fn what_is_arranged_rises()
 
 /// A law, stated by the contract: if two contents are equal except for the value of one item, which
 /// is as long in both, a reader of their sealed files who doesn't know the key sees files of one
-/// length with one clear part. The call does nothing but read the two.
+/// length with one clear part. The call only reads the two.
 pub fn same_shape(one: &Content, two: &Content, key: &Derived)
     requires first { IsSealable one.now }
     requires second { IsSealable two.now }

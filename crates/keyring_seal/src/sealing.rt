@@ -131,7 +131,7 @@ pub fn seal(alloc: Global, content: &Content, key: &Derived) -> Result<Vec<u8>, 
     content_sealed(alloc, content, key.key(), key.vector())
 }
 
-/// What the types of borrowed rows guarantee of their values. The call does nothing but read them.
+/// What the types of borrowed rows guarantee of their values. The call only reads them.
 fn known_rows(rows: &[(&ClearItem, &FullItem)])
     ensures { AllByRecursion IsKnownLent rows.now }
 {
@@ -195,8 +195,8 @@ fn rows_sealed(
 }
 
 /// The file of a front and borrowed rows under a key and a vector: the one that `seal` returns for the same
-/// content, and it opens to just this content. The rows are in order of their numbers and have the hashes
-/// of their own attributes, which the caller keeps; the items of the front are ignored.
+/// content, and it opens to exactly this content. The rows are in order of their numbers and have
+/// the hashes of their own attributes, which the caller keeps; the items of the front are ignored.
 ///
 /// Refused with `TooLarge` exactly if the file would have more bytes than there is room, or more than
 /// 67,108,864; that is measured before anything is built. Items are copied only into the file.

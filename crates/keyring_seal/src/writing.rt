@@ -1,4 +1,4 @@
-// The items of a content are written as they are borrowed, in the order that the caller chooses,
+// The borrowed items of a content are written, in the order that the caller chooses,
 // each with the hashes of its own attributes. Nothing is copied except into the file.
 
 ghost use Rattle.std.specs.Prelude.{◌≡◌, ◌<◌, ◌^◌, [], ◌++◌, length, map, OnOk};

@@ -1,7 +1,7 @@
 //! keyringd, the program: it keeps passwords and other secrets for mail clients, browsers and scripts,
-//! and serves them by the Secret Service API (draft 0.2) over D-Bus messages. Today it opens and loads its
-//! folder, and serves one client on its standard streams: the handshake, and the calls Ping, OpenSession
-//! and Close.
+//! and serves them by the Secret Service API (draft 0.2) over D-Bus messages. Today it opens and
+//! loads its folder, and serves one client on its standard streams: the handshake, and the calls of
+//! docs/SERVICE.md.
 //!
 //! All that it does is `run` of keyring_program, a function of its arguments, its streams, its host
 //! and a seed. Here are only the real streams and the real host, and the exit code of the process:
@@ -22,7 +22,7 @@ fn ended(rt: &HostRuntime, status: Status) -> ExitCode
     ensures number { exit_status result ≡ number_of status }
 {
     if status != Status::Done {
-        // If standard error fails too, there is nobody to tell.
+        // If standard error fails too, there is nobody left to report that to.
         let _ = eprintln!(rt; "keyringd: {status}");
     }
     ExitCode::from(status.number())

@@ -13,6 +13,6 @@ pub record IsStem (bytes : List ℕ) : Type 0 where
   pub fits : length bytes ≤ stem_limit
   pub no_slash : ¬ (Contains bytes 47)
 
--- why a text is no stem: it is empty, too long, or contains `/` or a zero byte
+-- why a text isn't a stem: it is empty, too long, or contains `/` or a zero byte
 abbrev pub IsNoStem : List ℕ → Type 0
 IsNoStem bytes = (bytes ≡ []) ⊎ (stem_limit < length bytes) ⊎ Contains bytes 47 ⊎ HasZero bytes

@@ -167,7 +167,7 @@ fn close(chunks: &mut Vec<Chunk>, place: usize)
     }
 }
 
-/// Counts again how many ids come before each chunk.
+/// Recounts how many ids come before each chunk.
 fn count(chunks: &mut Vec<Chunk>)
     requires { length (ids_in chunks.old.items) ≤ 4294967296 }
     ensures parts { parts chunks.new.items ≡ parts chunks.old.items }

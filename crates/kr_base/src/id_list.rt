@@ -87,7 +87,7 @@ impl IdList {
         }
     }
 
-    /// Inserts an id at its position in the order. An id that is in the list already stays there once.
+    /// Inserts an id at its position in the order. Nothing changes if the list has the id already.
     pub fn insert(&mut self, alloc: Global, id: ItemId) -> Result<(), OutOfMemory>
         ensures put { OnOk result (self.new ≡ with_id id.0 self.old) }
         ensures unchanged { OnErr result (self.new ≡ self.old) }

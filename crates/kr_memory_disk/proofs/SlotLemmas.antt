@@ -90,7 +90,7 @@ failed_time old call new result (unrecorded takes is) failed = same_time old new
 failed_time old call new result (recorded end planned not_done is) failed =
     push_time old new (record { call = call; end = end }) result (ap (λ s. s.image) is, ap (λ s. s.calls) is)
 
--- time goes on with each call
+-- time advances with each call
 pub noted_time : {U T E : Type 0} (old : SlotState) (call : SlotCall) (new : SlotState) (noted : Result U refused.Failed) (result : Result T E) → IsNoted old call new noted
     → (IsOk result → IsOk noted) → Elapses slot_moment slot_left_since slot_may_leave old new result
 noted_time old call new (Ok none) result is as_noted = push_time old new (record { call = call; end = Done }) result (ap (λ s. s.image) is.1, ap (λ s. s.calls) is.1)

@@ -52,7 +52,7 @@ stands_for stood disk = record { name = stood; others = disk.name ∷ disk.other
 abbrev pub counts_also : Stood → Disk → Disk
 counts_also stood disk = record { name = disk.name; others = stood ∷ disk.others; temporary = disk.temporary }
 
--- the temporary file is another one from now on
+-- the temporary file is a different one from now on
 abbrev pub with_temporary : Temporary → Disk → Disk
 with_temporary temporary disk = record { name = disk.name; others = disk.others; temporary = temporary }
 

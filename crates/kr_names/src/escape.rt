@@ -77,7 +77,7 @@ pub fn escaped_stem(alloc: Global, stem: &Stem) -> Result<Text, OutOfMemory>
 
 /// The stem that a path spells like this.
 ///
-/// None if no stem is spelled so: the text isn't in that form, or the bytes that it spells
+/// None if no stem is spelled in this way: the text isn't in that form, or the bytes that it spells
 /// aren't a stem.
 pub fn stem_of_escaped(alloc: Global, text: &str) -> Result<Option<Stem>, OutOfMemory>
     ensures { IfOk result (Reads (λ stem. IsEscapeOf stem text.now)) }

@@ -1,4 +1,4 @@
--- What a service records, as a desk over it tells it.
+-- What a service records, as a desk over it reports it.
 use Rattle.std.proofs.Common.{◌≡◌, ◌+◌, ◌<◌, ◌≤◌, Bool, true, false, [], Option, Some, None, Result, Ok, Err, OnOk, IsTrue, refl, ap, ◌∙◌, sym, subst, arith, inl, inr}
 use Rattle.std.proofs.lemmas.List.{length_push}
 use Rattle.kr_base.specs.declared.ids.ConnId.{ConnId}
@@ -22,7 +22,7 @@ use Rattle.service_desk.specs.Views.{View, IsView, with_others, with_own}
 use Rattle.service_desk.specs.Calls.{Arrives, Leaves, Goes, Takes}
 use Rattle.service_desk.proofs.ViewLemmas.{view-others, view-own}
 
--- where the desk of a connection over a service with this history stands, whose disk is steady or not
+-- where the desk of a connection is over a service with this history, whose disk is steady or not
 abbrev pub spot : ConnId → Bool → History → Place
 spot conn steady history = record {
   told = record { conn = conn; state = history.state; count = total history.window; is_alone = true; is_steady = steady; is_waiting = false };

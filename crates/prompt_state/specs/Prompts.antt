@@ -256,7 +256,7 @@ abbrev pub asks_of : Option ConnId → List PromptRow → List Ask
 asks_of None rows = []
 asks_of (Some agent) rows = filter_map (ask_to agent) rows
 
--- what is sent when every prompt is asked again: Ask for each prompt that is asked, by rising number
+-- what is sent when every prompt is asked again: Ask for each prompt that is asked, in order of their numbers
 abbrev pub asks : Prompts → List Ask
 asks prompts = asks_of prompts.agent prompts.rows
 

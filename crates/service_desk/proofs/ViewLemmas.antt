@@ -1,4 +1,4 @@
--- Views go on: after events of others, and after those of their own.
+-- Views continue: after events of others, and after those of their own.
 use Rattle.std.proofs.Common.{◌≡◌, ℕ, ◌+◌, ◌≤◌, List, [], ◌∷◌, ◌++◌, length, refl, ap, ◌∙◌, sym, arith, length-append, append-nil}
 use Rattle.std.proofs.lemmas.List.{length_push}
 use Rattle.service_tables.specs.State.{State}

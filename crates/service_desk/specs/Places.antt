@@ -1,4 +1,4 @@
--- Where a desk is in the service's history, and how one of its calls goes on from there.
+-- Where a desk is in the service's history, and how one of its calls continues from there.
 use Rattle.std.specs.Prelude.{◌≡◌, ℕ, ◌+◌, Bool, IsTrue, List, [], length}
 use Rattle.kr_base.specs.declared.ids.ConnId.{ConnId}
 use Rattle.service_tables.specs.State.{State}

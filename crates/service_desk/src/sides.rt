@@ -7,8 +7,8 @@ use secret_calls::{Refused, Request, Taken};
 
 /// The desk of a connection's reader.
 pub trait ReadDesk: Desk {
-    /// Records a request of the connection, at `now` in seconds since 1970, with random bytes in case a
-    /// key is derived, and how each file that it stored or removed ended.
+    /// Records a request of the connection, at `now` in seconds since 1970, with random bytes in
+    /// case a key is derived, and how each storing or removal of a file that it led to ended.
     ///
     /// Refused with `EventsSpent` if all the events that can be counted have been recorded, then with
     /// `Gone` if the connection isn't there; `OutOfMemory` may come in place of any result.

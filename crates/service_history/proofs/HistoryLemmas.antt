@@ -23,7 +23,7 @@ use Rattle.service_history.proofs.RoomLemmas.{room-few}
 pub history-sound : (history : History) → IsHistory history → IsSound history.state
 history-sound history is = rw is.replayed (sound_replay history.window.base history.window.events is.sound is.legal)
 
--- what sure events take behind an event
+-- what sure events take after an event
 pub room-behind : (state : State) (event : Event) → IsSound state → Fits state event → room (step state event).connections.rows ≤ 768
 room-behind state event sound fits =
     omega (arith, room-few (step state event).connections.rows, (sound_step state event sound fits).connections.few)

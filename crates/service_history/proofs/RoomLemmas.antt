@@ -1,4 +1,4 @@
--- The room for events that are sure to come: it is as much as three for each connection, and one less behind each of
+-- The room for events that are sure to come: it is as much as three for each connection, and one less after each of
 -- them.
 use Rattle.std.proofs.Common.{◌≡◌, ◌+◌, ◌*◌, ◌≤◌, Bool, true, false, cond, List, [], ◌∷◌, length, IsSomeAnd, refl, arith}
 use Rattle.kr_base.specs.declared.ids.ConnId.{ConnId}
@@ -42,7 +42,7 @@ room-changed conn change less (row ∷ rows) =
     ] in
     pass (is_row conn row) refl
 
--- and of the connection's row, of which P is told, for one less
+-- and of the connection's row, of which P is true, for one less
 pub room-changed_one : (P : DeskRow → Type 0) (conn : ConnId) (change : ConnRow → ConnRow) → AsksNoMore change
     → ((row : ConnRow) → P (record { waits = waits row; overrun = row.overrun; leaving = row.leaving }) → room_of (change row) + 1 ≤ room_of row)
     → (rows : List ConnRow) → IsSomeAnd (desk_of conn rows) P → room (changed conn change rows) + 1 ≤ room rows

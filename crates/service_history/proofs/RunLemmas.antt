@@ -27,7 +27,7 @@ choice : (window : Window) (b : Bool) (x y : History) → GoesOn window x.window
 choice window true x y p q = p
 choice window false x y p q = q
 
--- a cut is due only where there are events
+-- a cut is due only if there are events
 cut-some : (events : List Event) → (nat_le most_stored (length events) || (nat_le most_cost (cost events) || list_any may_hide events)) ≡ true → 0 < length events
 cut-some [] due = let no : ⊥ = cc in absurd no
 cut-some (event ∷ events) due = omega arith
@@ -60,7 +60,7 @@ gone_goes conn (Some desk) old = one-more (event.Gone conn) old
 
 -- ---- one call after another
 
--- a window that goes on begins as it did
+-- a window that continues begins as it did
 begins-on : (start old new : Window) → Begins start old → GoesOn old new → Legal new.base new.events → Begins start new
 begins-on start old new begins on legal = record {
   era = ap (λ (w : Window). w.era) on.is ∙ begins.era;
@@ -68,7 +68,7 @@ begins-on start old new begins on legal = record {
   legal = legal;
 }
 
--- a window in front of windows that follow on it
+-- a window before windows that follow it
 row-front : (start window : Window) (windows : List Window) → Begins start window → 0 < length window.events → AreInRow (next_window window) windows → AreInRow start (window ∷ windows)
 row-front start window [] begins some row = begins
 row-front start window (next ∷ windows) begins some row = (begins, some, row)

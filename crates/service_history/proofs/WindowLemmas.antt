@@ -1,4 +1,4 @@
--- The windows of a run, one behind the other, are one list of events.
+-- The windows of a run, one after the other, are one list of events.
 use Rattle.std.proofs.Common.{◌≡◌, ◌+◌, List, [], ◌∷◌, ◌++◌, length, refl, ap, ◌∙◌, sym, arith, length-append}
 use Rattle.std.proofs.lemmas.List.{append-nil}
 use Rattle.service_machine.specs.declared.event.Output.{Output}

@@ -68,8 +68,8 @@ pub record Stores (old : History) (event : Event) (new : History) : Type 0 where
 pub record StoresOn {F S : Type 0} (is_honest is_steady : S → Bool) (faults moment : S → ℕ) (left_since : S → ℕ → Image → Type 0) (may_leave : S → Image → Type 0) (old new : ServiceState F S) (event : Event) : Type 0 where
   pub did : StoresEvent is_honest is_steady faults moment left_since may_leave event old.history.state old.disk new.disk
 
--- This request is recorded, after a cut if one is due, with how its storings ended, of which none is a fault if the disk is steady; and
--- this is what they did to the disk.
+-- This request is recorded, after a cut if one is due, with how each storing ended, none of which is a fault if the disk is steady; and
+-- this is what was done to the disk.
 pub record StoresRequest (steady : Bool) (stored : Event → Type 0) (old : History) (arrival : Arrival) (new : History) : Type 0 where
   pub fates : List Fate
   pub stores : Stores old (with_fates arrival fates) new
@@ -99,7 +99,7 @@ pub record IsAppended (old : History) (came : Incoming) (answer : Output) (new :
   pub answers : answer ≡ output_of old.state event
   pub appends : new ≡ with_event event old
 
--- the events that `event` takes: a connection joins, or asks for something
+-- the events that `event` takes: a connection joins, or makes a request
 abbrev pub IsAsked : Incoming → Type 0
 IsAsked incoming.Connect = Unit {0}
 IsAsked (incoming.Arrive arrival) = Unit {0}

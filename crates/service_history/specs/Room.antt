@@ -1,5 +1,5 @@
--- The events for which room is kept, so that they never want memory: for each connection that it leaves, where it
--- hasn't; that it takes, where something waits; and that it is gone.
+-- The events for which room is kept, so that they never need memory: for each connection, that it leaves, if it hasn't;
+-- that it takes, if something waits; and that it is gone.
 use Rattle.std.specs.Prelude.{ℕ, ◌+◌, if◌then◌else◌, List, [], ◌∷◌}
 use Rattle.service_tables.specs.declared.rows.ConnRow.{ConnRow}
 use Rattle.service_tables.specs.Connections.{waits}

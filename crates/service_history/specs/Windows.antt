@@ -59,8 +59,8 @@ pub record Begins (start window : Window) : Type 0 where
   pub base : window.base ≡ start.base
   pub legal : Legal window.base window.events
 
--- The windows stand one behind the other, and the first begins as that one does. Each that another stands behind has
--- an event.
+-- The windows follow one another, and the first begins as that one does. Each that is followed by another one has an
+-- event.
 abbrev pub AreInRow : Window → List Window → Type 0
 AreInRow start [] = Unit {0}
 AreInRow start (window ∷ []) = Begins start window
@@ -70,7 +70,7 @@ AreInRow start (window ∷ next ∷ windows) = Begins start window × (0 < lengt
 abbrev pub AreWindows : State → List Window → Type 0
 AreWindows start windows = AreInRow (first_window start) windows
 
--- the history of a run: the events of its windows, one behind the other
+-- the history of a run: the events of its windows, one after the other
 abbrev pub history_of : List Window → List Event
 history_of windows = flat_map (λ window. window.events) windows
 

@@ -23,8 +23,8 @@ pub fn windows_are_one_history()
         → (window_behind (first_window start) windows).era ≡ length (history_of windows) }
 {}
 
-/// Each call of a service goes on in its window, or ends it and begins the next one: so the windows that
-/// a service is in, one call after another, are the windows of a run.
+/// Each call of a service continues in its window, or ends it and begins the next one: so the
+/// windows that a service is in, one call after another, are the windows of a run.
 #[tactic(auto, using(crate::proofs::RunLemmas::stored_follows, crate::proofs::RunLemmas::recorded_follows, crate::proofs::RunLemmas::take_goes, crate::proofs::RunLemmas::leave_goes, crate::proofs::RunLemmas::gone_goes, crate::proofs::RunLemmas::calls_row))]
 pub fn calls_yield_windows_in_a_row()
     ensures stores { (old new : History) (event : Event) → Stores old event new

@@ -4,9 +4,9 @@
 //! rely on these: an event is recorded exactly if it is answered, as its own arguments say, and its
 //! answer is that of the machine's step; a cut is made exactly when one is due; leaving, taking and
 //! going need no memory, since each event makes the room for those that it makes possible; a request
-//! touches only the slots of the files that it stores or removes, and any other event none. An event
-//! takes no longer for the events that are stored. A cut copies no row: the base exists for contracts
-//! alone.
+//! touches only the slots of the files that it stores or removes, and any other event none. An
+//! event takes no longer because of the events that are stored. A cut copies no row: the base
+//! exists for contracts alone.
 #![tactic(auto)]
 
 mod laws;

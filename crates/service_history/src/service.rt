@@ -26,7 +26,7 @@ use service_machine::{
 use std::alloc::Global;
 use std::marker::Model;
 
-/// Once so many events of a run are recorded, no more is.
+/// Once this many events of a run are recorded, no more are.
 const LIMIT: u64 = 18_446_744_073_709_000_000;
 
 /// The service and the window that it is in. A contract sees its history: the state, and of the window
@@ -125,8 +125,8 @@ impl<F: Folder> Service<F> {
         Ok(conn)
     }
 
-    /// Records that a connection asks for something, and how each file that it stored or removed ended. A
-    /// cut that is due is made first, as in `join`.
+    /// Records a request of a connection, and how each storing or removal of a file that it led to
+    /// ended. A cut that is due is made first, as in `join`.
     ///
     /// Refused with `EventsSpent` if all events that can be counted are recorded, then with `Gone` if
     /// the connection isn't there.
@@ -158,8 +158,8 @@ impl<F: Folder> Service<F> {
         Ok(())
     }
 
-    /// Records an event, a connection that joins or asks, and returns its answer: `join` and `arrive`
-    /// for a caller that has the event as a value.
+    /// Records an event, a connection that joins or makes a request, and returns its answer: `join`
+    /// and `arrive` for a caller that has the event as a value.
     ///
     /// Refused with `EventsSpent` if all events that can be counted are recorded, then with
     /// `NoConnection` if the connection isn't there, and `TooManyConnections` if 256 are there or no
@@ -229,8 +229,8 @@ impl<F: Folder> Service<F> {
         Taken::Closed
     }
 
-    /// Records that the connection asks no more, if it is there and isn't leaving already. It takes no
-    /// memory.
+    /// Records that the connection makes no more requests, if it is there and isn't leaving
+    /// already. It takes no memory.
     pub fn leave(&mut self, conn: ConnId)
         ensures recorded { self.new.history
             ≡ left_by conn (told conn self.old.history) self.old.history }

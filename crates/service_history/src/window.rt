@@ -14,16 +14,16 @@ use std::alloc::Global;
 use std::marker::Model;
 use std::snapshot::Snapshot;
 
-/// With so many stored events a cut is due.
+/// With this many stored events a cut is due.
 const MOST_EVENTS: usize = 65_536;
 
-/// With stored events of so much cost a cut is due.
+/// With stored events of this cost a cut is due.
 const MOST_COST: u64 = 268_435_456;
 
 /// What a stored event costs besides the bytes of its request.
 const EVENT_COST: u64 = 64;
 
-/// Room for an event and for all that 256 connections may bring without memory: three of each.
+/// Room for an event and for all that 256 connections may bring without memory: three for each.
 const ROOM: usize = 769;
 
 /// A window of a run. A contract sees its era, which is the number of all events before it, its base,

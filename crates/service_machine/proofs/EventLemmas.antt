@@ -388,7 +388,7 @@ module _ (caller : ConnId) (state : State) where
   moment-fates (Ok call.Unregister) fates a b s t same are = quiet-fates (Ok call.Unregister) tt fates a b s t are
   moment-fates (Ok (call.Refuse prompt round)) fates a b s t same are = quiet-fates (Ok (call.Refuse prompt round)) tt fates a b s t are
 
--- requests that are alike, and whose storings ended alike, lead to one state
+-- requests that are alike, each storing of which ended the same way, lead to one state
 pub step_alike : (state : State) (one other : Recorded) → AreAlike one.arrival other.arrival → one.fates ≡ other.fates → step state (event.Arrive one) ≡ step state (event.Arrive other)
 step_alike state one other alike fates =
     let conn = one.arrival.conn in

@@ -1,4 +1,5 @@
--- A disk that was loaded is steady exactly if its folder is; storings keep it as steady as it was, and over a steady one none has a fault.
+-- A disk that was loaded is steady exactly if its folder is; each storing keeps it as steady as it was, and over a steady one none has a
+-- fault.
 use Rattle.std.proofs.Common.{◌≡◌, ℕ, Bool, true, false, ◌&&◌, List, [], ◌∷◌, map, Option, Some, None, refl, ap, sym, ◌∙◌}
 use Rattle.std.specs.List.{AllByRecursion, list_all}
 use Rattle.std.proofs.lemmas.List.Elements.{All-from_recursion, recursion_from_All}

@@ -43,8 +43,8 @@ by_fate body fate.New = refused name.IOError
 by_fate body fate.Other = refused name.IOError
 by_fate body fate.ReadFailed = refused name.IOError
 
--- An edit of an unlocked collection is stored: LimitsExceeded if a limit is in the way or the return would be too large, which none
--- is of a stem that is one, and IOError if the disk fails.
+-- An edit of an unlocked collection is stored: LimitsExceeded if a limit is in the way or the return would be too large, which
+-- never happens if the stem is one, and IOError if the disk fails.
 abbrev pub storing : List ℕ → Edit → (ItemId → Body) → Option ItemId → Plan
 storing stem edit returned None = refused name.LimitsExceeded
 storing stem edit returned (Some item) =

@@ -13,7 +13,7 @@ use Rattle.service_machine.specs.Fates.{AreFaultless}
 use Rattle.service_machine.specs.Step.{step}
 use Rattle.service_machine.specs.Replay.{replay}
 
--- a request as it is recorded: with the moment at which it came, its salt, and how each storing ended that it asked for
+-- a request, as recorded: with the moment at which it came, its salt, and how each storing that it asked for ended
 pub record TimedRequest : Type 0 where
   pub request : Request
   pub now : ℕ
@@ -43,7 +43,7 @@ AllFaultless asked = AllByRecursion (λ (a : TimedRequest). AreFaultless a.fates
 abbrev pub is_owed : ConnId → State → Bool
 is_owed conn state = nat_lt 0 (length (waiting_for conn state.connections.rows))
 
--- what waits for the connection is taken, where anything does
+-- what waits for the connection is taken, if anything does
 abbrev pub taking : ConnId → State → List Event
 taking conn state = if is_owed conn state then event.Take conn ∷ [] else []
 
@@ -56,6 +56,6 @@ abbrev pub turns : ConnId → State → List TimedRequest → List Event
 turns conn state [] = []
 turns conn state (asked ∷ more) = turn conn state asked ++ turns conn (replay state (turn conn state asked)) more
 
--- all events of the connection behind its Connect: its requests, and at last it is gone
+-- all events of the connection after its Connect: its requests, and at last it is gone
 abbrev pub single : ConnId → State → List TimedRequest → List Event
 single conn state asked = turns conn state asked ++ event.Gone conn ∷ []

@@ -11,7 +11,7 @@ use kr_base::{ConnId, ItemId, OutOfMemory, SessionId, Stem};
 use kr_outside::Folder;
 use secret_calls::{Body, ErrorName, ReturnedSecret};
 
-// The return that has a secret.
+// The return with a secret.
 fn secret_returned(secret: Option<ReturnedSecret>) -> Answer
     ensures { result ≡ secret_returned secret }
 {

@@ -46,7 +46,7 @@ use Rattle.service_tables.proofs.EachLemmas.{each-append, each-filter, each-foun
 
 -- ---- the collection of a stem
 
--- what holds of each collection holds of the one that a stem finds
+-- what is true of each collection is true of the one that a stem finds
 pub at-stem : {V : Type 0} (P : List ℕ × V → Type 0) (stem : List ℕ) (value : V) (entries : List (List ℕ × V)) → AllByRecursion P entries → value_at stem entries ≡ Some value → P (stem, value)
 at-stem P stem value [] all is = absurd (none-some value is)
 at-stem P stem value (e ∷ es) all is =

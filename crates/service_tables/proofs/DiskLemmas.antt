@@ -127,7 +127,7 @@ module _ {V : Type 0} (stem : List ℕ) where
       let off : is_name stem e.0 ≡ false = ap is_eq above.0 in
       rw off (ap (λ t. e ∷ t) (above-kept more above.1))
 
-  -- ---- what holds of each value
+  -- ---- what is true of each value
 
   module _ (test : V → Bool) where
     abbrev all : List (List ℕ × V) → Bool

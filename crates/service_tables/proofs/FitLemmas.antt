@@ -1,4 +1,4 @@
--- What is told of a connection, and whether it is there.
+-- The status of a connection, and whether it is there.
 use Rattle.std.proofs.Common.{◌≡◌, Bool, true, false, List, [], ◌∷◌, Some, None, IfSome, IsSomeAnd, refl}
 use Rattle.std.proofs.lemmas.Bool.{or_right}
 use Rattle.kr_base.specs.declared.ids.ConnId.{ConnId}
@@ -17,7 +17,7 @@ told_of-there P conn (row ∷ rows) there told =
     ] in
     pass (is_row conn row) refl
 
--- a connection of which something is told is there
+-- a connection that has a status is there
 pub has-told : (conn : ConnId) (rows : List ConnRow) (desk : DeskRow) → Some desk ≡ desk_of conn rows → has conn rows ≡ true
 has-told conn [] desk told = cc
 has-told conn (row ∷ rows) desk told =
@@ -28,7 +28,7 @@ has-told conn (row ∷ rows) desk told =
     ] in
     pass (is_row conn row) refl
 
--- one of which nothing is told isn't
+-- one that has none isn't
 pub has-none : (conn : ConnId) (rows : List ConnRow) → None ≡ desk_of conn rows → has conn rows ≡ false
 has-none conn [] told = refl
 has-none conn (row ∷ rows) told =

@@ -14,7 +14,7 @@ module _ {S : Type 0} (stem : List ℕ) (entries : Entries S) where
   value-slots : value_at stem (slots_of entries) ≡ option_map (λ (c : CollectionState S). c.slot) (value_at stem entries)
   value-slots = lookup-map_values (λ (c : CollectionState S). c.slot) (is_name stem) entries
 
-  -- what holds of a collection's file and its slot holds of those at its stem
+  -- what is true of a collection's file and its slot is true of those at its stem
   pub kept-there : (P : File → S → Type 0) (c : CollectionState S) → Some c ≡ value_at stem entries → P c.file c.slot → IfSome (value_at stem (slots_of entries)) (P (file_at stem (rows_of entries)))
   kept-there P c there is =
       let slot : value_at stem (slots_of entries) ≡ Some c.slot = value-slots ∙ ap (option_map (λ (c : CollectionState S). c.slot)) (sym there) in

@@ -21,7 +21,7 @@ module _ {S : Type 0} (stem : List ℕ) (wanted : List (List ℕ × AttrValue)) 
       → ids ≡ ids_in (value_at stem (rows_of entries))
   found-there c ids there are = ids_are ids (found wanted c.clear c.held) are ∙ sym (ap ids_in (value-rows stem entries ∙ ap (option_map row_of) (sym there)))
 
-  -- nothing is found where there is no collection of the stem
+  -- nothing is found if there is no collection of the stem
   pub found-missing : None ≡ value_at stem entries → [] ≡ ids_in (value_at stem (rows_of entries))
   found-missing none = sym (ap ids_in (value-rows stem entries ∙ ap (option_map row_of) (sym none)))
 

@@ -271,7 +271,7 @@ pub some-is : {A : Type 0} (o : Option A) → is_some o ≡ true → IsSome o
 some-is None off = absurd (never off)
 some-is (Some x) on = refl
 
--- ---- what holds of what a call returned
+-- ---- what is true of what a call returned
 
 module _ {A E : Type 0} where
   pub map-some : (result : Result (Option A) E) (P Q : A → Type 0) → ((x : A) → P x → Q x) → IfOk result (λ o. IfSome o P) → IfOk result (λ o. IfSome o Q)

@@ -161,7 +161,7 @@ well-with_out out spells row well =
     elim [ true ↦ well | false ↦ inner (nat_le (size_waiting row.waiting + size_of out) most_waiting) refl ] in
     outer row.overrun
 
--- ---- connections: one more behind all, one less
+-- ---- connections: one more after all, one less
 
 pub apart-push : (next : ℕ) (rows : List ConnRow) (row : ConnRow) → row.conn.0 ≡ next → AreJoined next rows → AreApart rows → AreApart (rows ++ row ∷ [])
 apart-push next [] row is joined apart = (tt, tt)

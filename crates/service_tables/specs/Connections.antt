@@ -43,8 +43,8 @@ size_of out = length (spelled out 1)
 abbrev pub size_waiting : List Out → ℕ
 size_waiting outs = sum_by size_of outs
 
--- The row with one more output. One with which more bytes would wait than may isn't added, and sets the flag of a
--- connection that has lost an output; nothing is added behind it.
+-- The row with one more output. If more bytes would then wait than may, the output isn't added, and the flag of a
+-- connection that has lost an output is set; nothing is added after that.
 abbrev pub with_out : Out → ConnRow → ConnRow
 with_out out row =
     if row.overrun then row
@@ -52,11 +52,11 @@ with_out out row =
     then record row { waiting = row.waiting ++ out ∷ [] }
     else record row { overrun = true })
 
--- the row of a connection that asks no more
+-- the row of a connection that makes no more requests
 abbrev pub left : ConnRow → ConnRow
 left row = record row { leaving = true }
 
--- the row of a connection that took what waited; the count stands still at its last number
+-- the row of a connection that took what waited; the count stays at its last number once there
 abbrev pub emptied : ConnRow → ConnRow
 emptied row = record row { waiting = []; taken = min (row.taken + length row.waiting) most_taken }
 
@@ -64,11 +64,11 @@ emptied row = record row { waiting = []; taken = min (row.taken + length row.wai
 abbrev pub waits : ConnRow → Bool
 waits row = nat_lt 0 (length row.waiting)
 
--- what is told of a row
+-- the status of a connection with this row
 abbrev pub told_of : ConnRow → DeskRow
 told_of row = record { waits = waits row; overrun = row.overrun; leaving = row.leaving }
 
--- what is told of a connection, which is none where it isn't there
+-- the status of a connection; None if there is no such connection
 abbrev pub desk_of : ConnId → List ConnRow → Option DeskRow
 desk_of conn rows = option_map told_of (find (is_row conn) rows)
 

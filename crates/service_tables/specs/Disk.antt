@@ -40,7 +40,7 @@ disk_state disk = record {
 abbrev pub contents_in : {F S : Type 0} → Disk F S → Contents
 contents_in disk = record { collections = rows_of disk.collections.entries; aliases = rows_in disk.aliases }
 
--- what a service starts with that loaded this: its collections are those of the files that are listed, all of them locked
+-- what a service that loaded this starts with: its collections are those of the files that are listed, all of them locked
 abbrev pub contents_from : {S : Type 0} → Loaded S → Contents
 contents_from loaded = record { collections = rows_of (map loaded_from loaded.rings.items); aliases = aliases_from loaded.aliases }
 
@@ -68,7 +68,7 @@ pub record IsLoaded {F S : Type 0} (found : Image → S → Type 0) (is_honest i
   pub steady : KeepsSteady (is_steady folder) (is_steady disk.folder) (faults folder) (faults disk.folder)
 
 -- The folder failed while it was loaded: the count rose in the state in which the load left it, or that of one of its
--- slots did, whose look at its file failed.
+-- slots did, which failed when its file was looked at.
 pub record FailedToLoad {F S : Type 0} (found : Image → S → Type 0) (is_honest is_steady : F → Bool) (faults : F → ℕ) (images : F → List ℕ → Image)
     (made : F → List (List ℕ)) (slot_faults : S → ℕ) (failed : S → Option DeviceCall) (folder : F) : Type 0 where
   pub left : F

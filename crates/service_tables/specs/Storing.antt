@@ -133,7 +133,7 @@ row_changed change now fate row = option_map_or (λ (held : Held). row_after fat
 abbrev pub rows_stored : List ℕ → Change → ℕ → Fate → Rows → Rows
 rows_stored stem change now fate rows = changed stem (row_changed change now fate) rows
 
--- how a removal ended that was done, or of which that isn't known
+-- how a removal ended that was done, or that may have been done
 abbrev pub fate_by : Bool → Fate
 fate_by true = fate.Stored
 fate_by false = fate.Unsure

@@ -13,7 +13,7 @@ use std::mem;
 /// How many bytes may wait for a connection.
 const MOST_WAITING: u64 = 8_912_896;
 
-/// A connection, as it is kept.
+/// A connection, as the table keeps it.
 #[derive(Drop)]
 pub struct Desk {
     /// The outputs that wait.
@@ -24,11 +24,11 @@ pub struct Desk {
     pub overrun: bool,
     /// Whether it has left.
     pub leaving: bool,
-    /// How many outputs it took.
+    /// How many outputs it has taken.
     pub taken: u64,
 }
 
-// Second values of the outputs.
+// Copies of the outputs.
 fn copies(alloc: Global, outs: &[Out]) -> Result<Vec<Out>, OutOfMemory>
     ensures { IfOk result (λ copied. copied.items ≡ outs.now) }
 {
@@ -64,7 +64,7 @@ impl Desk {
         self.waiting.reserve(more)
     }
 
-    /// Puts an output behind those that wait, or drops it where too much would wait. It takes no
+    /// Adds an output after those that wait, or drops it if too much would wait. It takes no
     /// memory.
     pub fn put(&mut self, out: Out)
         requires room { 0 < room_in self.old }
@@ -86,7 +86,7 @@ impl Desk {
         self.waiting.push(out).unwrap();
     }
 
-    /// Marks that it asks no more. It takes no memory.
+    /// Marks that it makes no more requests. It takes no memory.
     pub fn leave(&mut self)
         ensures row { (conn : ℕ) → row_of (conn, self.new) ≡ left (row_of (conn, self.old)) }
         ensures counts { IsCounted self.old → IsCounted self.new }
@@ -106,7 +106,7 @@ impl Desk {
         Items::new(outs)
     }
 
-    /// What is told of it.
+    /// Its status.
     pub fn told(&self) -> DeskRow
         ensures { (conn : ℕ) → result ≡ told_of (row_of (conn, self.now)) }
     {
@@ -117,7 +117,7 @@ impl Desk {
         }
     }
 
-    /// The row that it is.
+    /// Its row.
     pub fn row(&self, alloc: Global, conn: u64) -> Result<ConnRow, OutOfMemory>
         ensures { IfOk result (λ row. row ≡ row_of (conn, self.now)) }
     {

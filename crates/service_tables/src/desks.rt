@@ -1,4 +1,4 @@
-// The connections' desks in a map, each by its number. What changes one row changes no other.
+// The connections' desks in a map, each by its number. A change of one row changes no other.
 ghost use Rattle.std.specs.Prelude.{◌≡◌, ℕ, ◌∷◌, ◌++◌, [], map, OnOk, OnErr, IfOk};
 ghost use Rattle.std.specs.Ordering.{nat_cmp};
 ghost use Rattle.std.specs.List.Sorted.{IsStrictlySortedBy};
@@ -21,7 +21,7 @@ pub fn has(desks: &BTreeMap<u64, Desk>, conn: u64) -> bool
     desks.contains_key(&conn)
 }
 
-/// What is told of the connection.
+/// The connection's status.
 pub fn told(desks: &BTreeMap<u64, Desk>, conn: u64) -> Option<DeskRow>
     ensures { result ≡ desk_of (record { 0 = conn }) (map row_of desks.now.entries) }
 {
@@ -31,7 +31,7 @@ pub fn told(desks: &BTreeMap<u64, Desk>, conn: u64) -> Option<DeskRow>
     }
 }
 
-/// Adds a connection behind all others.
+/// Adds a connection after all others.
 pub fn add(desks: &mut BTreeMap<u64, Desk>, conn: u64, desk: Desk) -> Result<(), OutOfMemory>
     requires { AreGiven conn (keys_of desks.old.entries) }
     ensures added { OnOk result (desks.new.entries ≡ desks.old.entries ++ (conn, desk) ∷ []) }
@@ -57,7 +57,7 @@ pub fn reserve(desks: &mut BTreeMap<u64, Desk>, conn: u64, more: usize) -> Resul
     desk.reserve(more)
 }
 
-/// Puts an output behind those that wait for the connection.
+/// Adds an output after those that wait for the connection, or drops it if too much would wait.
 pub fn put(desks: &mut BTreeMap<u64, Desk>, conn: u64, out: Out)
     requires room { HasRoom 1 (record { 0 = conn }) (map room_of desks.old.entries) }
     requires counts { AreCounted desks.old.entries }
@@ -71,7 +71,7 @@ pub fn put(desks: &mut BTreeMap<u64, Desk>, conn: u64, out: Out)
     desk.put(out);
 }
 
-/// Marks that the connection asks no more.
+/// Marks that the connection makes no more requests.
 pub fn leave(desks: &mut BTreeMap<u64, Desk>, conn: u64)
     ensures { Changes conn left desks.old.entries desks.new.entries }
 {

@@ -34,7 +34,7 @@ impl From<AllocError> for OpenRefused {
     }
 }
 
-/// A folder, and what was loaded from it. Every slot that was made of the folder is in here.
+/// A folder, and what was loaded from it, with every slot that was made of the folder.
 #[derive(Drop)]
 pub struct Disk<F: Folder> {
     /// The folder.

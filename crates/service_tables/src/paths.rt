@@ -26,7 +26,7 @@ pub fn item_path(alloc: Global, stem: &Stem, item: ItemId) -> Result<Text, OutOf
     path_of(alloc, &name)
 }
 
-// Puts the paths of items of one collection after others.
+// Appends the paths of items of one collection.
 fn put_paths(
     alloc: Global,
     paths: &mut Vec<Text>,
@@ -86,7 +86,7 @@ pub fn is_new(noted: &mut BTreeSet<Text>, path: Text) -> Result<bool, OutOfMemor
     Ok(noted.insert(path)?)
 }
 
-/// Puts an object after others, unless its path is noted already. The time grows with the logarithm
+/// Appends an object, unless its path is noted already. The time grows with the logarithm
 /// of the number of paths that are noted.
 pub fn put_object(
     alloc: Global,
@@ -108,7 +108,7 @@ pub fn put_object(
     Ok(())
 }
 
-/// Puts the path of an object after others, unless it is noted already. The time grows with the
+/// Appends the path of an object, unless it is noted already. The time grows with the
 /// logarithm of the number of paths that are noted.
 pub fn put_path(
     alloc: Global,

@@ -11,11 +11,11 @@ pub struct ConnRow {
     pub conn: ConnId,
     /// The outputs that wait for it, in order.
     pub waiting: Items<Out>,
-    /// Whether an output was lost, since too much waited.
+    /// Whether an output was lost because too much was waiting.
     pub overrun: bool,
-    /// Whether it has left: it asks no more, and takes what waits.
+    /// Whether it has left: it makes no more requests, and takes what waits.
     pub leaving: bool,
-    /// How many outputs it took.
+    /// How many outputs it has taken.
     pub taken: u64,
 }
 
@@ -28,7 +28,7 @@ pub struct ConnRows {
     pub next: u64,
 }
 
-/// What is told of a connection.
+/// The status of a connection.
 #[derive(Clone, Copy, PartialEq, Eq)]
 pub struct DeskRow {
     /// Whether something waits for it.

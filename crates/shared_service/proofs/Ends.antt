@@ -202,7 +202,7 @@ pub went-if : {T F : Type 0} (event : T → Event) (service new : History) (resu
 went-if event service new (Ok value) stores same kept = went-due service new (event value) stores kept
 went-if event service new (Err fault) stores same kept = same
 
--- how the storings of a request ended that was recorded; none did if it wasn't
+-- how each storing of a request that was recorded ended; there is none if it wasn't
 abbrev pub fates_if : (steady : Bool) (stored : Event → Type 0) (service : History) (arrival : Arrival) (new : History) (result : Result (Unit {0}) Refused)
     → OnOk result (StoresRequest steady stored service arrival new) → List Fate
 fates_if steady stored service arrival new (Ok done) stores = stores.fates

@@ -1,4 +1,4 @@
-// What comes of a set where a call of the device fails, and what a crash leaves.
+// What comes of a set if a call of the device fails, and what a crash leaves.
 
 use crate::checks::{cell, joined, same_bytes, same_text};
 use crate::tables::{aliases_of, set, slot_of, stems_of, table_of};
@@ -122,7 +122,7 @@ fn letter_left(alloc: Global, slot: &MemorySlot, choice: u64) -> Result<u8, Fail
     letter_of(alloc, &image)
 }
 
-// The letters of all files that a crash leaves where the machine stopped after so many calls.
+// The letters of all files that a crash leaves if the machine stopped after this many calls.
 fn left_at(alloc: Global, slot: &mut MemorySlot, calls: usize) -> Result<Vec<u8>, Fail> {
     slot.cut(calls);
     let mut left = Vec::new(alloc);
@@ -133,7 +133,7 @@ fn left_at(alloc: Global, slot: &mut MemorySlot, calls: usize) -> Result<Vec<u8>
 }
 
 // The calls that fail, those of them that are done all the same, and what a crash leaves after all calls, then
-// after one fewer, down to none. A rename that failed counts as having stood until the folder is synced.
+// after one fewer, down to none. A rename that failed counts as done until the folder is synced.
 const LEFT: &str = "\
 ||m,nm,n,n,n,on,o,o,o,
 0||p,op,o,o,o,o,

@@ -36,7 +36,7 @@ pub fn lines_of(alloc: Global, text: &str) -> Result<Vec<u8>, Fail> {
     Ok(bytes)
 }
 
-/// The way back; `?` stands for bytes that are no text.
+/// The way back; `?` stands for bytes that aren't a text.
 pub fn signs_of(alloc: Global, bytes: &[u8]) -> Result<String, Fail> {
     let mut text = String::new(alloc);
     for byte in bytes {

@@ -209,7 +209,7 @@ fn texts_are_in_order(rt: HostRuntime) -> Result<(), Fail> {
     Ok(())
 }
 
-// Texts, and whether they are stems; a number means so many letters.
+// Texts, and whether they are stems; a number means that many letters.
 const STEMS: &str = "\
 a|stem
 My Keys|stem

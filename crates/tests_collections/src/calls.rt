@@ -142,8 +142,8 @@ fn calls_are_answered_in_turn(rt: HostRuntime) -> Result<(), Fail> {
     answer_rows(&rt, &mut collection)
 }
 
-// What is done with so many bytes of room, and what comes of it: the answer, and the ids of the items afterwards.
-// A new collection has 105 bytes, and other keys don't change its length.
+// What is done with this many bytes of room, and what comes of it: the answer, and the ids of the
+// items afterwards. A new collection has 105 bytes, and other keys don't change its length.
 const ROOMS: &str = "\
 create|104|too large
 create|105|ok

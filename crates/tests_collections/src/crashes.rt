@@ -65,7 +65,7 @@ fn add_letter(letter: &str, letters: &mut String) -> Result<(), Fail> {
     Ok(())
 }
 
-// The letters of the images that a crash leaves if the machine stopped after so many calls.
+// The letters of the images that a crash leaves if the machine stopped after this many calls.
 fn left_at(alloc: Global, slot: &mut MemorySlot, calls: usize) -> Result<String, Fail> {
     slot.cut(calls);
     let mut letters = word(alloc, "")?;
@@ -78,7 +78,7 @@ fn left_at(alloc: Global, slot: &mut MemorySlot, calls: usize) -> Result<String,
 
 // The steps, the calls that fail and those that the disk performs nevertheless, as in the table of faults; and
 // what a crash leaves if the machine stopped after all calls of the device, after one fewer, down to none. A
-// rename that failed counts as having stood until the folder is synced.
+// rename that failed counts as done until the folder is synced.
 const LEFT: &str = "\
 |||e .e . . .
 |0||. .

@@ -34,8 +34,8 @@ fn answered(
     }
 }
 
-/// Makes a collection at the time 100, with so many bytes of room, over a slot without a file that fails the
-/// calls with these numbers; those named again the disk performs nevertheless.
+/// Makes a collection at the time 100, with this many bytes of room, over a slot without a file
+/// that fails the calls with these numbers; those named again the disk performs nevertheless.
 pub fn create(
     alloc: Global,
     failing: Vec<u64>,

@@ -51,7 +51,7 @@ fn change_told(alloc: Global, changed: Changed) -> Result<String, Fail> {
     }
 }
 
-/// Makes the change of a row, with so many bytes of room.
+/// Makes the change of a row, with this many bytes of room.
 pub fn change(
     alloc: Global,
     collection: &mut Collection<MemorySlot>,

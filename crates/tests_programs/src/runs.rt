@@ -510,7 +510,7 @@ fn is_command<R: Abort + AllocGlobal + Wait>(rt: &R, row: &str) -> Result<(), Fa
     let (line, want) = row.split_once(' ').ok_or("an end")?;
     let mut host = empty_host(rt.alloc());
     let told = ended(rt, line, &mut host)?.to_string(rt.alloc())?;
-    // The text of Usage goes on with the commands.
+    // The text of Usage continues with the commands.
     begins(rt, told.as_str(), want, row);
     Ok(())
 }

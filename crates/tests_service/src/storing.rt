@@ -15,7 +15,8 @@ use std::test::Fail;
 
 // In a row, a connection and what it does: it opens a session, makes an item in a collection or replaces one there,
 // with an attribute and a secret for a session, deletes an object, or sets the secret of an item; and what it gets.
-// Paths continue `/org/freedesktop/secrets/`, `-` is no session, and a `long` secret has a content type of 1,025 bytes.
+// Paths continue `/org/freedesktop/secrets/`, `-` isn't a session, and a `long` secret has a
+// content type of 1,025 bytes.
 const REFUSALS: &str = "\
 1|open|plain|session 1
 2|open|plain|session 2

@@ -5,6 +5,6 @@ use Rattle.keyring_program.proofs.laws.what_is_written_is_one.Goals as goal
 pub returns-clause-alike : goal.returns-clause-alike
 returns-clause-alike c contents uid seed read rest left one other = one-text c.a_message_is_one_request.ensures.call contents seed (handshake_run uid seed read) one other rest left
 
--- if no device failed, the storings ended alike
+-- if no device failed, each storing ended the same way in both
 pub returns-clause-faultless : goal.returns-clause-faultless
 returns-clause-faultless c contents uid seed read rest left one other = steady-text c.a_message_is_one_request.ensures.call contents seed (handshake_run uid seed read) one other rest left

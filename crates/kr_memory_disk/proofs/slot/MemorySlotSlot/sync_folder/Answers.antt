@@ -5,7 +5,7 @@ use Rattle.kr_memory_disk.specs.Slot.{DiskLeaves, disk_of, image_stood}
 use Rattle.kr_memory_disk.proofs.SlotLemmas.{noted_ok, settles_SyncFolder}
 use Rattle.kr_memory_disk.proofs.slot.MemorySlotSlot.sync_folder.Goals as goal
 
--- the name counts as having stood for nothing but what it stands for
+-- the name counts as having stood for what it stands for, and for nothing else
 pub returns-clause-settled : goal.returns-clause-settled
 returns-clause-settled c =
     let old = disk_of c.args.self.now in
