@@ -1,5 +1,5 @@
 -- What is true of an event whatever its request is: it fits in one way at most, and alike requests lead to the same.
-use Rattle.std.proofs.Common.{◌≡◌, ℕ, nat_le, Bool, true, false, cond, if◌then◌else◌, List, [], ◌∷◌, ◌++◌, length, Option, Some, None, Result, Ok, Err, refl, sym, ap, subst, ◌∙◌}
+use Rattle.std.proofs.Common.{◌≡◌, ℕ, nat_le, Bool, true, false, cond, if◌then◌else◌, List, [], ◌∷◌, ◌++◌, length, Option, Some, None, Result, Ok, refl, sym, ap, subst, ◌∙◌}
 use mathlib.Core.HLevel.{×_prop, Unit-prop}
 use Rattle.std.proofs.Props.{props}
 use Rattle.std.specs.Coded.{le_prop, →_prop}
@@ -98,28 +98,11 @@ name-prop None = Unit-prop
 name-prop (Some alias) = alias-prop alias
 
 types-prop : (given : Result Call CallFault) → IsProp (HasTypes given)
-types-prop (Err fault) = Unit-prop
-types-prop (Ok call.Ping) = Unit-prop
-types-prop (Ok (call.OpenSession algorithm)) = Unit-prop
-types-prop (Ok (call.CloseSession session)) = Unit-prop
-types-prop (Ok (call.SearchItems wanted)) = Unit-prop
-types-prop (Ok (call.ReadAlias alias)) = Unit-prop
 types-prop (Ok (call.SetAlias alias object)) = alias-prop alias
-types-prop (Ok (call.Lock objects)) = Unit-prop
-types-prop (Ok (call.GetSecrets items session)) = Unit-prop
-types-prop (Ok (call.SearchCollection collection wanted)) = Unit-prop
-types-prop (Ok (call.GetSecret stem item session)) = Unit-prop
 types-prop (Ok (call.CreateItem collection label attributes secret replace)) = ×_prop (item-prop label attributes) (secret-prop secret.value secret.content)
-types-prop (Ok (call.DeleteCollection collection)) = Unit-prop
-types-prop (Ok (call.DeleteItem stem item)) = Unit-prop
 types-prop (Ok (call.SetSecret stem item secret)) = secret-prop secret.value secret.content
 types-prop (Ok (call.CreateCollection label alias)) = ×_prop (text-prop label) (name-prop alias)
-types-prop (Ok (call.Unlock objects)) = Unit-prop
-types-prop (Ok (call.Prompt prompt)) = Unit-prop
-types-prop (Ok (call.Dismiss prompt)) = Unit-prop
-types-prop (Ok call.Register) = Unit-prop
-types-prop (Ok call.Unregister) = Unit-prop
-types-prop (Ok (call.Refuse prompt round)) = Unit-prop
+types-prop _ = Unit-prop
 
 -- the random bytes
 number-prop : (m n : ℕ) → IsProp (m ≡ n)
@@ -324,17 +307,9 @@ module _ (caller : ConnId) (state : State) where
   -- the same call leads to the same at two moments and with two salts, unless it takes the moment or the salt
   pub moment-alike : (given : Result Call CallFault) (fates : List Fate) (a b : ℕ) (s t : List ℕ) → (TakesMoment given → a ≡ b) → (TakesSalt given → s ≡ t)
       → leads caller fates state s given a ≡ leads caller fates state t given b
-  moment-alike (Err fault) fates a b s t same salts = quiet-alike (Err fault) tt fates a b s t refl
-  moment-alike (Ok call.Ping) fates a b s t same salts = quiet-alike (Ok call.Ping) tt fates a b s t refl
-  moment-alike (Ok (call.OpenSession algorithm)) fates a b s t same salts = quiet-alike (Ok (call.OpenSession algorithm)) tt fates a b s t refl
-  moment-alike (Ok (call.CloseSession session)) fates a b s t same salts = quiet-alike (Ok (call.CloseSession session)) tt fates a b s t refl
-  moment-alike (Ok (call.SearchItems wanted)) fates a b s t same salts = quiet-alike (Ok (call.SearchItems wanted)) tt fates a b s t refl
-  moment-alike (Ok (call.ReadAlias alias)) fates a b s t same salts = quiet-alike (Ok (call.ReadAlias alias)) tt fates a b s t refl
   moment-alike (Ok (call.SetAlias alias object)) fates a b s t same salts =
       target-alike (brings (Ok (call.SetAlias alias object)) a) (brings (Ok (call.SetAlias alias object)) b) alias (alias_target (asked_collections (contents_of state)) object) fates
-  moment-alike (Ok (call.Lock objects)) fates a b s t same salts = quiet-alike (Ok (call.Lock objects)) tt fates a b s t refl
   moment-alike (Ok (call.GetSecrets items session)) fates a b s t same salts = quiet-alike (Ok (call.GetSecrets items session)) tt fates a b s t (secrets-same items session a b s t)
-  moment-alike (Ok (call.SearchCollection collection wanted)) fates a b s t same salts = quiet-alike (Ok (call.SearchCollection collection wanted)) tt fates a b s t refl
   moment-alike (Ok (call.GetSecret stem item session)) fates a b s t same salts = quiet-alike (Ok (call.GetSecret stem item session)) tt fates a b s t (secret-same stem item session a b s t)
   moment-alike (Ok (call.CreateItem collection label attributes secret replace)) fates a b s t same salts = ap (leads caller fates state s (Ok (call.CreateItem collection label attributes secret replace))) (same tt)
   moment-alike (Ok (call.DeleteCollection collection)) fates a b s t same salts =
@@ -347,28 +322,15 @@ module _ (caller : ConnId) (state : State) where
       let asks = asked_collections (contents_of state) in
       quiet-alike (Ok (call.Unlock objects)) tt fates a b s t
       (unlock-same (unlocked_there asks objects) (targets_of asks objects) (brings (Ok (call.Unlock objects)) a) (brings (Ok (call.Unlock objects)) b))
-  moment-alike (Ok (call.Prompt prompt)) fates a b s t same salts = quiet-alike (Ok (call.Prompt prompt)) tt fates a b s t refl
-  moment-alike (Ok (call.Dismiss prompt)) fates a b s t same salts = quiet-alike (Ok (call.Dismiss prompt)) tt fates a b s t refl
-  moment-alike (Ok call.Register) fates a b s t same salts = quiet-alike (Ok call.Register) tt fates a b s t refl
-  moment-alike (Ok call.Unregister) fates a b s t same salts = quiet-alike (Ok call.Unregister) tt fates a b s t refl
   moment-alike (Ok (call.Refuse prompt round)) fates a b s t same salts =
       quiet-alike (Ok (call.Refuse prompt round)) tt fates a b s t (refuse-same prompt round (brings (Ok (call.Refuse prompt round)) a) (brings (Ok (call.Refuse prompt round)) b))
+  moment-alike given fates a b s t same salts = quiet-alike given tt fates a b s t refl
 
   -- the fates of a call fit at both moments and with both salts, unless it takes the moment
   moment-fates : (given : Result Call CallFault) (fates : List Fate) (a b : ℕ) (s t : List ℕ) → (TakesMoment given → a ≡ b) → AreFates caller (brings given a) (plan caller state s given a) fates state
       → AreFates caller (brings given b) (plan caller state t given b) fates state
-  moment-fates (Err fault) fates a b s t same are = are
-  moment-fates (Ok call.Ping) fates a b s t same are = are
-  moment-fates (Ok (call.OpenSession algorithm)) fates a b s t same are = quiet-fates (Ok (call.OpenSession algorithm)) tt fates a b s t are
-  moment-fates (Ok (call.CloseSession session)) fates a b s t same are = quiet-fates (Ok (call.CloseSession session)) tt fates a b s t are
-  moment-fates (Ok (call.SearchItems wanted)) fates a b s t same are = are
-  moment-fates (Ok (call.ReadAlias alias)) fates a b s t same are = are
   moment-fates (Ok (call.SetAlias alias object)) fates a b s t same are =
       target-fates (brings (Ok (call.SetAlias alias object)) a) (brings (Ok (call.SetAlias alias object)) b) alias (alias_target (asked_collections (contents_of state)) object) fates are
-  moment-fates (Ok (call.Lock objects)) fates a b s t same are = quiet-fates (Ok (call.Lock objects)) tt fates a b s t are
-  moment-fates (Ok (call.GetSecrets items session)) fates a b s t same are = quiet-fates (Ok (call.GetSecrets items session)) tt fates a b s t are
-  moment-fates (Ok (call.SearchCollection collection wanted)) fates a b s t same are = quiet-fates (Ok (call.SearchCollection collection wanted)) tt fates a b s t are
-  moment-fates (Ok (call.GetSecret stem item session)) fates a b s t same are = quiet-fates (Ok (call.GetSecret stem item session)) tt fates a b s t are
   moment-fates (Ok (call.CreateItem collection label attributes secret replace)) fates a b s t same are =
       let given : Result Call CallFault = Ok (call.CreateItem collection label attributes secret replace) in
       subst (λ now. AreFates caller (brings given now) (plan caller state s given now) fates state) (same tt) are
@@ -380,13 +342,7 @@ module _ (caller : ConnId) (state : State) where
   moment-fates (Ok (call.SetSecret stem item secret)) fates a b s t same are =
       let given : Result Call CallFault = Ok (call.SetSecret stem item secret) in
       subst (λ now. AreFates caller (brings given now) (plan caller state s given now) fates state) (same tt) are
-  moment-fates (Ok (call.CreateCollection label alias)) fates a b s t same are = quiet-fates (Ok (call.CreateCollection label alias)) tt fates a b s t are
-  moment-fates (Ok (call.Unlock objects)) fates a b s t same are = quiet-fates (Ok (call.Unlock objects)) tt fates a b s t are
-  moment-fates (Ok (call.Prompt prompt)) fates a b s t same are = quiet-fates (Ok (call.Prompt prompt)) tt fates a b s t are
-  moment-fates (Ok (call.Dismiss prompt)) fates a b s t same are = quiet-fates (Ok (call.Dismiss prompt)) tt fates a b s t are
-  moment-fates (Ok call.Register) fates a b s t same are = quiet-fates (Ok call.Register) tt fates a b s t are
-  moment-fates (Ok call.Unregister) fates a b s t same are = quiet-fates (Ok call.Unregister) tt fates a b s t are
-  moment-fates (Ok (call.Refuse prompt round)) fates a b s t same are = quiet-fates (Ok (call.Refuse prompt round)) tt fates a b s t are
+  moment-fates given fates a b s t same are = quiet-fates given tt fates a b s t are
 
 -- requests that are alike, each storing of which ended the same way, lead to one state
 pub step_alike : (state : State) (one other : Recorded) → AreAlike one.arrival other.arrival → one.fates ≡ other.fates → step state (event.Arrive one) ≡ step state (event.Arrive other)
@@ -470,18 +426,8 @@ module _ (caller : ConnId) (brought : Brought) (fates : List Fate) (state : Stat
 
   -- unless the file of the aliases is in doubt, no call asks for a resolve
   row-unread : (salt : List ℕ) (given : Result Call CallFault) → are_doubtful state.aliases ≡ false → Unread (plan_of salt given (asked caller brought state))
-  row-unread salt (Err fault) certain = tt
-  row-unread salt (Ok call.Ping) certain = tt
-  row-unread salt (Ok (call.OpenSession algorithm)) certain = quiet-reads _ (quiet-row salt (Ok (call.OpenSession algorithm)) (asked caller brought state) tt)
-  row-unread salt (Ok (call.CloseSession session)) certain = quiet-reads _ (quiet-row salt (Ok (call.CloseSession session)) (asked caller brought state) tt)
-  row-unread salt (Ok (call.SearchItems wanted)) certain = tt
-  row-unread salt (Ok (call.ReadAlias alias)) certain = tt
   row-unread salt (Ok (call.SetAlias alias object)) certain =
       target-unread (alias_target (asked_collections (contents_of state)) object) (λ stem. alias_settled alias stem (asked caller brought state)) (λ stem. settled-unread alias stem certain)
-  row-unread salt (Ok (call.Lock objects)) certain = quiet-reads _ (quiet-row salt (Ok (call.Lock objects)) (asked caller brought state) tt)
-  row-unread salt (Ok (call.GetSecrets items session)) certain = quiet-reads _ (quiet-row salt (Ok (call.GetSecrets items session)) (asked caller brought state) tt)
-  row-unread salt (Ok (call.SearchCollection collection wanted)) certain = quiet-reads _ (quiet-row salt (Ok (call.SearchCollection collection wanted)) (asked caller brought state) tt)
-  row-unread salt (Ok (call.GetSecret stem item session)) certain = quiet-reads _ (quiet-row salt (Ok (call.GetSecret stem item session)) (asked caller brought state) tt)
   row-unread salt (Ok (call.CreateItem collection label attributes secret replace)) certain =
       on-unread (collection_named (asked_collections (contents_of state)) collection) _
       (λ stem. secret-unread secret.session stem secret.content (Add_item label attributes secret.content replace) (made stem) (asked caller brought state))
@@ -495,13 +441,7 @@ module _ (caller : ConnId) (brought : Brought) (fates : List Fate) (state : Stat
   row-unread salt (Ok (call.SetSecret stem item secret)) certain =
       if-unread (has_item stem item.0 state.collections) (secret_stored secret.session stem secret.content (Set_secret item secret.content) (λ _. body.Empty) (asked caller brought state)) name.NoSuchObject
       (secret-unread secret.session stem secret.content (Set_secret item secret.content) (λ _. body.Empty) (asked caller brought state))
-  row-unread salt (Ok (call.CreateCollection label alias)) certain = quiet-reads _ (quiet-row salt (Ok (call.CreateCollection label alias)) (asked caller brought state) tt)
-  row-unread salt (Ok (call.Unlock objects)) certain = quiet-reads _ (quiet-row salt (Ok (call.Unlock objects)) (asked caller brought state) tt)
-  row-unread salt (Ok (call.Prompt prompt)) certain = quiet-reads _ (quiet-row salt (Ok (call.Prompt prompt)) (asked caller brought state) tt)
-  row-unread salt (Ok (call.Dismiss prompt)) certain = quiet-reads _ (quiet-row salt (Ok (call.Dismiss prompt)) (asked caller brought state) tt)
-  row-unread salt (Ok call.Register) certain = quiet-reads _ (quiet-row salt (Ok call.Register) (asked caller brought state) tt)
-  row-unread salt (Ok call.Unregister) certain = quiet-reads _ (quiet-row salt (Ok call.Unregister) (asked caller brought state) tt)
-  row-unread salt (Ok (call.Refuse prompt round)) certain = quiet-reads _ (quiet-row salt (Ok (call.Refuse prompt round)) (asked caller brought state) tt)
+  row-unread salt given certain = quiet-reads (plan_of salt given (asked caller brought state)) (quiet-row salt given (asked caller brought state) tt)
 
 -- ---- fates without a fault
 

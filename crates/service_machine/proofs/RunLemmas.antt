@@ -1,5 +1,5 @@
 -- What a plan leaves alone, whatever it does, and which plans ask nothing of the disk.
-use Rattle.std.proofs.Common.{◌≡◌, ℕ, Bool, true, false, cond, nat_le, List, [], ◌∷◌, ◌++◌, filter, map, Option, Some, None, Result, Ok, Err, refl, ap, ◌∙◌}
+use Rattle.std.proofs.Common.{◌≡◌, ℕ, Bool, true, false, cond, nat_le, List, [], ◌∷◌, ◌++◌, filter, map, Option, Some, None, Result, Ok, refl, ap, ◌∙◌}
 use Rattle.std.specs.List.{AllByRecursion, filter_map}
 use Rattle.std.specs.Option.{option_and_then}
 use Rattle.kr_base.specs.declared.ids.ConnId.{ConnId}
@@ -200,13 +200,9 @@ quiet-round None round asked next quiet = quiet-if asked.prompts.is_agent (refus
 quiet-round (Some prompt) round asked next quiet = quiet-unless (asked.prompts.refusal prompt round) (next prompt) (quiet prompt)
 
 pub quiet-row : (salt : List ℕ) (call : Result Call CallFault) (asked : Questions) → StoresNothing call → EndsAtOnce (plan_of salt call asked)
-quiet-row salt (Err fault) asked nothing = tt
-quiet-row salt (Ok call.Ping) asked nothing = tt
 quiet-row salt (Ok (call.OpenSession algorithm)) asked nothing =
     quiet-if (is_plain algorithm) _ (refused name.NotSupported) (quiet-if asked.sessions.is_full (refused name.LimitsExceeded) _ tt tt) tt
 quiet-row salt (Ok (call.CloseSession session)) asked nothing = quiet-if (asked.sessions.owns session) _ (refused name.NoSession) tt tt
-quiet-row salt (Ok (call.SearchItems wanted)) asked nothing = tt
-quiet-row salt (Ok (call.ReadAlias alias)) asked nothing = tt
 quiet-row salt (Ok (call.SetAlias alias object)) asked nothing = absurd nothing
 quiet-row salt (Ok (call.Lock objects)) asked nothing = quiet-if (is_small (body.ObjectsAndPrompt (paths_of (once (filter (is_there asked.collections) objects))) None)) _ (refused name.LimitsExceeded) tt tt
 quiet-row salt (Ok (call.GetSecrets items session)) asked nothing = quiet-session session asked _ (λ own. tt)
@@ -225,6 +221,7 @@ quiet-row salt (Ok (call.Dismiss prompt)) asked nothing = quiet-if (asked.prompt
 quiet-row salt (Ok call.Register) asked nothing = quiet-if asked.prompts.is_taken (refused name.AgentTaken) _ tt tt
 quiet-row salt (Ok call.Unregister) asked nothing = quiet-if asked.prompts.is_agent _ (refused name.AccessDenied) tt tt
 quiet-row salt (Ok (call.Refuse prompt round)) asked nothing = quiet-round prompt round asked _ (λ it. tt)
+quiet-row salt _ asked nothing = tt
 
 -- ---- plain rows: they end at once, and send nothing
 
@@ -258,12 +255,9 @@ plain-collection None next plain = tt
 plain-collection (Some stem) next plain = plain stem
 
 pub plain-row : (salt : List ℕ) (call : Call) (asked : Questions) → IsPlain call → EndsSilently (row_of salt call asked)
-plain-row salt call.Ping asked plain = tt
 plain-row salt (call.OpenSession algorithm) asked plain =
     plain-if (is_plain algorithm) _ (refused name.NotSupported) (plain-if asked.sessions.is_full (refused name.LimitsExceeded) _ tt (tt, tt)) tt
 plain-row salt (call.CloseSession session) asked plain = plain-if (asked.sessions.owns session) _ (refused name.NoSession) (tt, tt) tt
-plain-row salt (call.SearchItems wanted) asked plain = tt
-plain-row salt (call.ReadAlias alias) asked plain = tt
 plain-row salt (call.Lock objects) asked plain =
     plain-if (is_small (body.ObjectsAndPrompt (paths_of (once (filter (is_there asked.collections) objects))) None)) _ (refused name.LimitsExceeded)
     (silent-locks (filter_map (collection_around asked.collections) objects)) tt
@@ -284,3 +278,4 @@ plain-row salt (call.Dismiss prompt) asked plain = absurd plain
 plain-row salt call.Register asked plain = absurd plain
 plain-row salt call.Unregister asked plain = absurd plain
 plain-row salt (call.Refuse prompt round) asked plain = absurd plain
+plain-row salt _ asked plain = tt

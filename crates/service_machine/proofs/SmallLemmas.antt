@@ -251,12 +251,8 @@ module _ (caller : ConnId) (brought : Brought) (fates : List Fate) where
       unless-small state (refusal prompt round caller state.prompts) (answered body.Empty (End_prompt prompt true None ∷ [])) (empty-stays (End_prompt prompt true None ∷ []) state)
 
   plan-small : (salt : List ℕ) (state : State) (call : Result Call CallFault) → StaysSmall (plan_of salt call (asked caller brought state)) state
-  plan-small salt state (Err fault) = tt
-  plan-small salt state (Ok call.Ping) = tt
   plan-small salt state (Ok (call.OpenSession algorithm)) = opened-small state (is_plain algorithm)
   plan-small salt state (Ok (call.CloseSession session)) = closed-small session state ((asked caller brought state).sessions.owns session)
-  plan-small salt state (Ok (call.SearchItems wanted)) = tt
-  plan-small salt state (Ok (call.ReadAlias alias)) = tt
   plan-small salt state (Ok (call.SetAlias alias object)) = target-small alias state (alias_target (asked_collections (contents_of state)) object)
   plan-small salt state (Ok (call.Lock objects)) =
       let paths = paths_of (once (filter (is_there (asked_collections (contents_of state))) objects)) in
@@ -291,6 +287,7 @@ module _ (caller : ConnId) (brought : Brought) (fates : List Fate) where
   plan-small salt state (Ok call.Unregister) =
       if-small (is_agent caller state.prompts) (answered body.Empty (Leave_agent ∷ [])) state name.AccessDenied (empty-stays (Leave_agent ∷ []) state)
   plan-small salt state (Ok (call.Refuse prompt round)) = round-small prompt round state
+  plan-small salt state _ = tt
 
 -- ---- the reply
 

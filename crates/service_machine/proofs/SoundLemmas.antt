@@ -1,5 +1,5 @@
 -- Each event keeps a sound state sound.
-use Rattle.std.proofs.Common.{◌≡◌, ℕ, ◌+◌, ◌^◌, ◌<◌, ◌≤◌, ◌⊎◌, ◌==◌, Bool, true, false, ◌&&◌, not, nat_le, cond, IfSome, List, Result, Ok, Err, [], ◌∷◌, ◌++◌, length, filter, map, Option, Some, None, refl, ap, sym, subst, ◌∙◌, arith, inl, inr}
+use Rattle.std.proofs.Common.{◌≡◌, ℕ, ◌+◌, ◌^◌, ◌<◌, ◌≤◌, ◌⊎◌, ◌==◌, Bool, true, false, ◌&&◌, not, nat_le, cond, IfSome, List, Result, Ok, Err, [], ◌∷◌, ◌++◌, length, filter, map, Option, Some, None, refl, ap, sym, subst, ◌∙◌, arith, rules, inl, inr}
 use Rattle.std.specs.List.{AllByRecursion, filter_map, list_any}
 use Rattle.std.specs.Option.{option_and_then, option_map, option_map_or}
 use Rattle.std.proofs.lemmas.Bool.{eqb-true, or_cases, leb-false, leb-true}
@@ -626,8 +626,6 @@ module _ (caller : ConnId) (brought : Brought) (fates : List Fate) where
   -- each row's plan may be run
   pub may-run : (salt : List ℕ) (state : State) (call : Result Call CallFault) → IsSound state → brought.now < 2 ^ 64 → IsSalt salt → HasTypes call → brought.value ≡ value_in call
       → MayRun caller brought (plan_of salt call (asked caller brought state)) fates state
-  may-run salt state (Err fault) sound small random types same = (tt, tt)
-  may-run salt state (Ok call.Ping) sound small random types same = (tt, tt)
   may-run salt state (Ok (call.OpenSession algorithm)) sound small random types same = opened-may state (is_plain algorithm)
   may-run salt state (Ok (call.CloseSession session)) sound small random types same = closed-may session state ((asked caller brought state).sessions.owns session)
   may-run salt state (Ok (call.SearchItems wanted)) sound small random types same =
@@ -672,6 +670,7 @@ module _ (caller : ConnId) (brought : Brought) (fates : List Fate) where
   may-run salt state (Ok call.Unregister) sound small random types same =
       if-may (is_agent caller state.prompts) (answered body.Empty (Leave_agent ∷ [])) name.AccessDenied state ((tt, tt), tt)
   may-run salt state (Ok (call.Refuse prompt round)) sound small random types same = round-may prompt round state
+  may-run salt state _ sound small random types same = (tt, search rules)
 
 -- ---- what a request puts out
 
