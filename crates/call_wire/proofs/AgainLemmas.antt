@@ -241,7 +241,6 @@ prompt_again None is = refl
 prompt_again (Some prompt) is = ap (λ (n : ℕ). Some (record { 0 = n })) ((decimal_is_IsNumeral prompt.0 is).1)
 
 body_again : (body : Body) → AreTyped body → body_in (values_of body) ≡ body
-body_again body.Empty typed = refl
 body_again (body.Session session) typed = ap (λ n. body.Session (record { 0 = n })) ((decimal_is_IsNumeral session.0 typed).1)
 body_again (body.Found unlocked locked) typed =
     ap (λ u. body.Found u (texts_in (path_values locked))) (texts_again unlocked) ∙ ap (body.Found unlocked) (texts_again locked)
@@ -249,9 +248,9 @@ body_again (body.ObjectsAndPrompt objects prompt) typed =
     ap (λ them. body.ObjectsAndPrompt them (prompt_in (prompt_text prompt))) (texts_again objects) ∙ ap (body.ObjectsAndPrompt objects) (prompt_again prompt typed.1)
 body_again (body.Objects objects) typed = ap body.Objects (texts_again objects)
 body_again (body.ObjectAndPrompt object prompt) typed = ap (body.ObjectAndPrompt object) (prompt_again prompt typed.1)
-body_again (body.Object object) typed = refl
 body_again (body.Secret secret) typed = ap body.Secret (secret_again secret typed)
 body_again (body.Secrets secrets) typed = ap body.Secrets (secrets_again secrets typed)
+body_again _ typed = refl
 
 one_body : (one other : Body) → AreTyped one → AreTyped other → values_of one ≡ values_of other → one ≡ other
 one_body one other fits fit same = sym (body_again one fits) ∙ ap body_in same ∙ body_again other fit
@@ -336,18 +335,7 @@ record IsNamed (name : ErrorName) : Type 0 where
 
 named : (name : ErrorName) → IsNamed name
 named name.NotSupported = record { plain = plain_literal (error_text name.NotSupported) refl; short = omega arith; formed = refl; alone = refl }
-named name.UnknownObject = record { plain = plain_literal (error_text name.UnknownObject) refl; short = omega arith; formed = refl; alone = refl }
-named name.UnknownInterface = record { plain = plain_literal (error_text name.UnknownInterface) refl; short = omega arith; formed = refl; alone = refl }
-named name.UnknownMethod = record { plain = plain_literal (error_text name.UnknownMethod) refl; short = omega arith; formed = refl; alone = refl }
-named name.InvalidArgs = record { plain = plain_literal (error_text name.InvalidArgs) refl; short = omega arith; formed = refl; alone = refl }
-named name.LimitsExceeded = record { plain = plain_literal (error_text name.LimitsExceeded) refl; short = omega arith; formed = refl; alone = refl }
-named name.IOError = record { plain = plain_literal (error_text name.IOError) refl; short = omega arith; formed = refl; alone = refl }
-named name.AccessDenied = record { plain = plain_literal (error_text name.AccessDenied) refl; short = omega arith; formed = refl; alone = refl }
-named name.IsLocked = record { plain = plain_literal (error_text name.IsLocked) refl; short = omega arith; formed = refl; alone = refl }
-named name.NoSession = record { plain = plain_literal (error_text name.NoSession) refl; short = omega arith; formed = refl; alone = refl }
-named name.NoSuchObject = record { plain = plain_literal (error_text name.NoSuchObject) refl; short = omega arith; formed = refl; alone = refl }
-named name.AgentTaken = record { plain = plain_literal (error_text name.AgentTaken) refl; short = omega arith; formed = refl; alone = refl }
-named name.OldRound = record { plain = plain_literal (error_text name.OldRound) refl; short = omega arith; formed = refl; alone = refl }
+named name = record { plain = plain_literal (error_text name) refl; short = omega arith; formed = refl; alone = refl }
 
 is_name : (name : ErrorName) → IsName (error_text name)
 is_name name = ((plain_text (error_text name) (named name).plain, omega (arith, (named name).short)), (named name).formed)
@@ -361,27 +349,9 @@ one_error one other same = sym (named one).alone ∙ ap which same ∙ (named ot
 fields_short : (out : Out) (serial : ℕ) → IsTyped out → length (all_spelled Little (fields_of (sent out serial)) 0) ≤ array_limit
 unfolding number_bytes
 fields_short (out.Return to body.Empty) serial typed = omega arith
-fields_short (out.Return to (body.Session session)) serial typed = omega arith
-fields_short (out.Return to (body.Found unlocked locked)) serial typed = omega arith
-fields_short (out.Return to (body.ObjectsAndPrompt objects prompt)) serial typed = omega arith
-fields_short (out.Return to (body.Objects objects)) serial typed = omega arith
-fields_short (out.Return to (body.ObjectAndPrompt object prompt)) serial typed = omega arith
-fields_short (out.Return to (body.Object object)) serial typed = omega arith
-fields_short (out.Return to (body.Secret secret)) serial typed = omega arith
-fields_short (out.Return to (body.Secrets secrets)) serial typed = omega arith
+fields_short (out.Return to _) serial typed = omega arith
 fields_short (out.Error to name.NotSupported) serial typed = omega arith
-fields_short (out.Error to name.UnknownObject) serial typed = omega arith
-fields_short (out.Error to name.UnknownInterface) serial typed = omega arith
-fields_short (out.Error to name.UnknownMethod) serial typed = omega arith
-fields_short (out.Error to name.InvalidArgs) serial typed = omega arith
-fields_short (out.Error to name.LimitsExceeded) serial typed = omega arith
-fields_short (out.Error to name.IOError) serial typed = omega arith
-fields_short (out.Error to name.AccessDenied) serial typed = omega arith
-fields_short (out.Error to name.IsLocked) serial typed = omega arith
-fields_short (out.Error to name.NoSession) serial typed = omega arith
-fields_short (out.Error to name.NoSuchObject) serial typed = omega arith
-fields_short (out.Error to name.AgentTaken) serial typed = omega arith
-fields_short (out.Error to name.OldRound) serial typed = omega arith
+fields_short (out.Error to _) serial typed = omega arith
 fields_short (out.Signal (signal.Ask prompt round kind label wrong)) serial typed = omega arith
 fields_short (out.Signal (signal.Completed prompt dismissed result)) serial typed =
     omega (arith, prompt-short prompt typed.0, (fields-most (prompt_path prompt.0) (codes "org.freedesktop.Secret.Prompt") (codes "Completed") 98 (codes "v")).few 0)
