@@ -47,14 +47,7 @@ head to body serial = padded 8 (all_spelled Little (sending.header_of (sent (out
 head-short : (to : Serial) (serial : ℕ) (body : Body) → length (head to body serial) ≤ 48
 unfolding number_bytes
 head-short to serial body.Empty = omega arith
-head-short to serial (body.Session session) = omega arith
-head-short to serial (body.Found unlocked locked) = omega arith
-head-short to serial (body.ObjectsAndPrompt objects prompt) = omega arith
-head-short to serial (body.Objects objects) = omega arith
-head-short to serial (body.ObjectAndPrompt object prompt) = omega arith
-head-short to serial (body.Object object) = omega arith
-head-short to serial (body.Secret secret) = omega arith
-head-short to serial (body.Secrets secrets) = omega arith
+head-short to serial _ = omega arith
 
 pub return-short : (to : Serial) (serial : ℕ) (body : Body) → length (spelled (out.Return to body) serial) ≤ length (spelled_body body) + 48
 return-short to serial body = omega (arith, length-append (head to body serial) (spelled_body body), head-short to serial body)
@@ -66,18 +59,7 @@ return-waits to serial body small = omega (arith, return-short to serial body, s
 pub error-short : (to : Serial) (serial : ℕ) (name : ErrorName) → length (spelled (out.Error to name) serial) ≤ most_waiting
 unfolding number_bytes
 error-short to serial name.NotSupported = omega arith
-error-short to serial name.UnknownObject = omega arith
-error-short to serial name.UnknownInterface = omega arith
-error-short to serial name.UnknownMethod = omega arith
-error-short to serial name.InvalidArgs = omega arith
-error-short to serial name.LimitsExceeded = omega arith
-error-short to serial name.IOError = omega arith
-error-short to serial name.AccessDenied = omega arith
-error-short to serial name.IsLocked = omega arith
-error-short to serial name.NoSession = omega arith
-error-short to serial name.NoSuchObject = omega arith
-error-short to serial name.AgentTaken = omega arith
-error-short to serial name.OldRound = omega arith
+error-short to serial _ = omega arith
 
 -- ---- bodies without a list
 
