@@ -130,6 +130,8 @@ impl<S: Slot> Collection<S> {
         ensures any_moment { IsTrue (S.is_honest cell.slot) → LeavesOnly S.moment S.left_since
             cell.slot (slot_of result) (IsOldOrSealed cell.file
             (content_created now label key.salt key.iterations) (key_of key) (vector_of key)) }
+        ensures old_alone { IsTrue (S.is_honest cell.slot) → IfFaultBefore result (λ back.
+            LeavesOnly S.moment S.left_since cell.slot back.slot (IsOneOf cell.file)) }
         ensures kept { KeepsNature S.is_honest S.is_steady S.faults (IsCreateFault result)
             cell.slot (slot_of result) }
     {
