@@ -1,10 +1,11 @@
 -- The candidates of a label: each is a stem, and no two of them are the same.
-use Rattle.std.proofs.Common.{◌≡◌, ◌≤◌, ℕ, zero, suc, ◌+◌, ◌<◌, ◌^◌, ◌%◌, ◌==◌, ◌||◌, ⊎_elim, true, false, List, [], ◌∷◌, ◌++◌, length, get_or, map, take, decimal, refl, sym, ◌∙◌, ap, subst, arith, length-append, length-take}
+use Rattle.std.proofs.Common.{◌≡◌, ◌≤◌, ℕ, zero, suc, ◌+◌, ◌<◌, ◌^◌, ◌/◌, ◌%◌, ◌==◌, ◌||◌, ⊎_elim, true, false, List, [], ◌∷◌, ◌++◌, length, get_or, map, take, decimal, refl, sym, ◌∙◌, ap, subst, arith, length-append, length-take}
 use Rattle.std.specs.Char.{is_ascii_alphanumeric}
+use Rattle.std.specs.Fmt.{digit_glyph, digits, digits_onto}
 use Rattle.std.specs.List.{AllByRecursion, All, IsDistinct}
 use Rattle.std.proofs.lemmas.Bool.{cases_Bool}
 use Rattle.std.proofs.lemmas.Bool.Decides.{nat_tests}
-use Rattle.std.proofs.lemmas.Fmt.{decimal_by_steps, decimal_injective, length-decimal-le}
+use Rattle.std.proofs.lemmas.Fmt.{decimal_injective}
 use Rattle.std.proofs.lemmas.List.{append_cancel_left, length-map, take-map}
 use Rattle.std.proofs.lemmas.List.Elements.{All-contains, All-from_recursion}
 use Rattle.std.proofs.lemmas.Map.Made.{length-le_from_is_member}
@@ -75,20 +76,24 @@ appended : (xs ys : List ℕ) → AreNameBytes xs → AreNameBytes ys → AreNam
 appended [] ys all also = also
 appended (x ∷ xs) ys (is, all) also = (is, appended xs ys all also)
 
-digit_is : (n : ℕ) → n < 10 → IsNameByte (48 + n)
-digit_is n small = grind (arith, nat_tests)
+digit_is : (n : ℕ) → n < 10 → IsNameByte (digit_glyph false n)
+digit_is n small = let digit : (n < 10) = small in grind (arith, nat_tests)
 
-digits-are : (n : ℕ) → n < 2 ^ 64 → AreNameBytes (decimal n)
-digits-are n fits =
-    decimal_by_steps (λ n ds. AreNameBytes ds)
-    (λ n small. (digit_is n small, tt))
-    (λ n ds large before. appended ds ((48 + n % 10) ∷ []) before (digit_is (n % 10) (omega arith), tt))
-    n fits
+digits-are : (k n : ℕ) (after : List ℕ) → AreNameBytes after → AreNameBytes (digits_onto k 10 false n after)
+digits-are zero n after all = all
+digits-are (suc k) n after all = ⊎_elim
+    (λ last. rw last (digit_is (n % 10) (omega arith), all))
+    (λ more. rw more (digits-are k (n / 10) (digit_glyph false (n % 10) ∷ after) (digit_is (n % 10) (omega arith), all)))
+    (cases_Bool (n / 10 == 0))
 
-numbered-are : (base : List ℕ) (number : ℕ) → number < 2 ^ 64 → AreNameBytes base → AreNameBytes (numbered base number)
-numbered-are base number fits all = ⊎_elim
+decimal-are : (n : ℕ) → AreNameBytes (decimal n)
+unfolding digits
+decimal-are n = digits-are 64 n [] tt
+
+numbered-are : (base : List ℕ) (number : ℕ) → AreNameBytes base → AreNameBytes (numbered base number)
+numbered-are base number all = ⊎_elim
     (λ one. rw one all)
-    (λ more. rw more (appended base (95 ∷ decimal number) all (refl, digits-are number fits)))
+    (λ more. rw more (appended base (95 ∷ decimal number) all (refl, decimal-are number)))
     (cases_Bool (number == 1))
 
 -- ---- so it is a stem
@@ -116,23 +121,32 @@ numbered-some base number some = ⊎_elim
     (λ more. rw more (omega (arith, length-append base (95 ∷ decimal number))))
     (cases_Bool (number == 1))
 
-numbered-short : (base : List ℕ) (number : ℕ) → number < 2 ^ 64 → length base ≤ 64 → length (numbered base number) ≤ 243
-numbered-short base number fits short = ⊎_elim
+digits-short : (k n : ℕ) (after : List ℕ) → length (digits_onto k 10 false n after) ≤ k + length after
+digits-short zero n after = omega arith
+digits-short (suc k) n after = ⊎_elim
+    (λ last. rw last (omega arith))
+    (λ more. rw more (let rest = digits-short k (n / 10) (digit_glyph false (n % 10) ∷ after) in omega (arith, rest)))
+    (cases_Bool (n / 10 == 0))
+
+decimal-short : (n : ℕ) → length (decimal n) ≤ 64
+unfolding digits
+decimal-short n = digits-short 64 n []
+
+numbered-short : (base : List ℕ) (number : ℕ) → length base ≤ 64 → length (numbered base number) ≤ 243
+numbered-short base number short = ⊎_elim
     (λ one. rw one (omega arith))
-    (λ more.
-    let digits : length (decimal number) ≤ 20 = length-decimal-le 20 number (omega arith) (omega arith) fits in
-    rw more (omega (arith, length-append base (95 ∷ decimal number), digits)))
+    (λ more. rw more (omega (arith, length-append base (95 ∷ decimal number), decimal-short number)))
     (cases_Bool (number == 1))
 
-pub IsStem-numbered : (label : List ℕ) (number : ℕ) → number < 2 ^ 64 → IsStem (numbered (base_of label) number)
-IsStem-numbered label number fits =
+pub IsStem-numbered : (label : List ℕ) (number : ℕ) → IsStem (numbered (base_of label) number)
+IsStem-numbered label number =
     let cut = take label_limit (map stem_byte label) in
-    let are : AreNameBytes (numbered (base_of label) number) = numbered-are (base_of label) number fits (base-are label) in
+    let are : AreNameBytes (numbered (base_of label) number) = numbered-are (base_of label) number (base-are label) in
     let all : All IsNameByte (numbered (base_of label) number) = All-from_recursion IsNameByte (numbered (base_of label) number) are in
     record {
       text = text_of_name_bytes (numbered (base_of label) number) all;
       some = numbered-some (base_of label) number (base-some cut);
-      fits = numbered-short (base_of label) number fits (base-short cut (omega (arith, length-take 64 (map stem_byte label))));
+      fits = numbered-short (base_of label) number (base-short cut (omega (arith, length-take 64 (map stem_byte label))));
       no_slash = λ slash. (let test : false ≡ true = All-contains IsNameByte (numbered (base_of label) number) 47 all slash in cc);
     }
 

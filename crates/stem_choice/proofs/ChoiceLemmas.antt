@@ -1,9 +1,10 @@
 -- The first candidate that isn't used: there is one, and it is the only one.
 use Rattle.std.proofs.Common.{◌≡◌, ◌≤◌, ℕ, zero, suc, ◌+◌, ◌<◌, ◌^◌, ⊎_elim, inl, inr, true, false, List, length, refl, sym, ◌∙◌, ap, subst, arith}
 use Rattle.std.proofs.lemmas.Bool.{cases_Bool, cases_lt}
+use Rattle.kr_base.specs.Stem.{IsStem}
 use Rattle.stem_choice.specs.Choice.{IsChosen, base_of, chosen, free_from, numbered}
 use Rattle.stem_choice.specs.UsedStems.{is_used}
-use Rattle.stem_choice.proofs.CandidateLemmas.{AreUsed, few_used}
+use Rattle.stem_choice.proofs.CandidateLemmas.{AreUsed, IsStem-numbered, few_used}
 
 -- one more candidate is used
 one_more : (base : List ℕ) (used : List (List ℕ)) (number : ℕ) → AreUsed base used number → is_used (numbered base number) used ≡ true → AreUsed base used (number + 1)
@@ -82,3 +83,16 @@ found_free label used text number looks free = record {
   free = free;
   least = looks.before;
 }
+
+-- ---- the stem that is chosen is a stem, however many are used
+
+from_is : (label : List ℕ) (used : List (List ℕ)) (number more : ℕ) → IsStem (free_from (base_of label) used number more)
+from_is label used number zero = IsStem-numbered label number
+from_is label used number (suc more) = ⊎_elim
+    (λ is. rw is (from_is label used (number + 1) more))
+    (λ free. rw free (IsStem-numbered label number))
+    (cases_Bool (is_used (numbered (base_of label) number) used))
+
+pub IsStem-chosen : (label : List ℕ) (used : List (List ℕ)) → IsStem (chosen label used)
+unfolding chosen
+IsStem-chosen label used = from_is label used 1 (length used)

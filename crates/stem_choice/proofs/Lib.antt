@@ -1,4 +1,4 @@
 mod UsedLemmas
 mod CandidateLemmas
-mod ChoiceLemmas
+pub mod ChoiceLemmas
 mod WorkedRows

@@ -2,6 +2,7 @@
 // does nothing.
 ghost use Rattle.std.specs.Prelude.{◌≡◌, ◌↔◌, ◌<◌, ◌^◌, ◌||◌, ℕ, List, length, true, Contains};
 ghost use Rattle.kr_base.specs.Attributes.{is_name};
+ghost use Rattle.kr_base.specs.Stem.{IsStem};
 ghost use Rattle.stem_choice.specs.Choice.{IsChosen, chosen};
 ghost use Rattle.stem_choice.specs.UsedStems.{is_used, with_stem};
 
@@ -17,8 +18,14 @@ pub fn adding_a_stem_uses_it_alone()
         → is_used other (with_stem stem used) ≡ (is_name other stem || is_used other used) }
 {}
 
-/// A label has one stem, which is that of the function `chosen`, whatever stems are used.
+/// A label has one stem, which is that of the function `chosen`, whatever stems are used. Only a list of
+/// 2^63 stems or more, which no memory has, might contain all candidates.
 pub fn the_chosen_stem_is_the_first_free_one()
     ensures { (label stem : List ℕ) (used : List (List ℕ)) → length used < 2 ^ 63
         → IsChosen label used stem ↔ (stem ≡ chosen label used) }
+{}
+
+/// The stem that a label has is a stem, whatever stems are used, and however many.
+pub fn a_chosen_stem_is_a_stem()
+    ensures { (label : List ℕ) (used : List (List ℕ)) → IsStem (chosen label used) }
 {}

@@ -10,6 +10,7 @@ mod used_stems;
 
 pub use choice::chosen_stem;
 pub use laws::{
-    a_used_stem_is_in_the_list, adding_a_stem_uses_it_alone, the_chosen_stem_is_the_first_free_one,
+    a_chosen_stem_is_a_stem, a_used_stem_is_in_the_list, adding_a_stem_uses_it_alone,
+    the_chosen_stem_is_the_first_free_one,
 };
 pub use used_stems::UsedStems;

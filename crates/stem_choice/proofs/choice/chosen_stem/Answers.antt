@@ -1,4 +1,4 @@
-use Rattle.std.proofs.Common.{◌≡◌, ◌+◌, ◌<◌, ◌^◌, true, false, sym, ◌∙◌, ap, subst, arith}
+use Rattle.std.proofs.Common.{◌≡◌, ◌+◌, true, false, sym, ◌∙◌, ap, subst, arith}
 use Rattle.kr_base.specs.Stem.{IsStem}
 use Rattle.stem_choice.specs.Choice.{base_of, numbered}
 use Rattle.stem_choice.specs.UsedStems.{is_used}
@@ -32,8 +32,7 @@ loop-count-smaller c =
 -- each candidate is a stem
 pub stem_of-requires : goal.stem_of-requires
 stem_of-requires c =
-    let fits : c.loop-count.count < 2 ^ 64 = omega (arith, c.loop-count.invariant.within, c.len-most.ensures.fits) in
-    subst (λ l. IsStem l) (sym c.loop-count.invariant.spelled) (IsStem-numbered c.args.label.now c.loop-count.count fits)
+    subst (λ l. IsStem l) (sym c.loop-count.invariant.spelled) (IsStem-numbered c.args.label.now c.loop-count.count)
 
 pub returns-clause-value : goal.returns-clause-value
 returns-clause-value c =
