@@ -1,7 +1,7 @@
 """The built program `keyringd stdio` answers a client that sends a handshake and 100,000 calls of Ping, against a C
 program over libdbus that reads the same stream, 64 KiB at a time, and writes the same bytes, each reply by a write of its
 own as keyringd does; then ten times as many calls, and memory."""
-import os, subprocess, sys, tempfile
+import os, re, subprocess, sys, tempfile
 
 from benchmarks.shared import PING, PINGS, c_program, keyringd, peak, run
 
@@ -21,7 +21,7 @@ static void send(const char *bytes, int many) {
     }
 }
 int main(void) {
-    const char begin[] = "BEGIN\r\n", ok[] = "OK 76b8e0ada0f13d90405d6ae55386bd28\r\n";
+    const char begin[] = "BEGIN\r\n", ok[] = "OK 00000000000000000000000000000000\r\n";
     int open = 0;
     unsigned serial = 0;
     size_t held = 0;
@@ -70,6 +70,7 @@ def measure(folder):
     streams = {count: stream_of(folder / f"{count}", count) for count in (PINGS, 10 * PINGS)}
     mine, written = best_piped(ours, streams[PINGS])
     peer, wanted = best_piped([theirs], streams[PINGS])
+    written = re.sub(rb"\AOK [0-9a-f]{32}", b"OK " + b"0" * 32, written)  # the number of the server is random
     if written != wanted:
         sys.exit(f"scripts/bench: keyringd wrote {len(written)} bytes, and not the {len(wanted)} bytes that libdbus wrote")
     print(f"keyringd stdio: {PINGS} calls of Ping are answered in {mine / peer:.2f} of the time of libdbus, byte for byte alike")

@@ -4,8 +4,8 @@
 //! docs/SERVICE.md.
 //!
 //! All that it does is `run` of keyring_program, a function of its arguments, its streams, its host
-//! and a seed. Here are only the real streams and the real host, and the exit code of the process:
-//! the number of the run's status.
+//! and a seed. Here are only the real streams and the real host, the seed, which is 32 random bytes of
+//! the system, and the exit code of the process: the number of the run's status.
 #![tactic(auto)]
 
 ghost use Rattle.std.specs.Prelude.{◌≡◌};
@@ -15,6 +15,7 @@ ghost use Rattle.keyring_program.specs.Status.{number_of};
 use keyring_program::{Status, run, words_of};
 use real_edges::{ReaderSource, RealHost, WriterSink};
 use std::process::ExitCode;
+use std::random::RandomSource;
 
 /// The exit code of a process that ended with this status. Prints the text of any status except
 /// `Done` on standard error.
@@ -28,7 +29,20 @@ fn ended(rt: &HostRuntime, status: Status) -> ExitCode
     ExitCode::from(status.number())
 }
 
+/// The exit code of a process that got no random bytes from the system. Prints that on standard error.
+fn without_seed(rt: &HostRuntime) -> ExitCode
+    ensures number { exit_status result ≡ 1 }
+{
+    // If standard error fails too, there is nobody left to report that to.
+    let _ = eprintln!(rt; "keyringd: no random bytes");
+    ExitCode::from(1)
+}
+
 fn main(rt: HostRuntime) -> ExitCode {
+    let mut seed = [0; 32];
+    if rt.fill_bytes(&mut seed).is_err() {
+        return without_seed(&rt);
+    }
     let mut input = ReaderSource::new(rt.stdin());
     let mut output = WriterSink::new(rt.stdout());
     let mut host = RealHost::new(rt);
@@ -39,7 +53,7 @@ fn main(rt: HostRuntime) -> ExitCode {
             &mut input,
             &mut output,
             &mut host,
-            [0; 32],
+            seed,
         ),
         Err(status) => status,
     };
