@@ -4,10 +4,11 @@ ghost use Rattle.item_store.specs.declared.fault.ItemFault.{ItemFault as Fault};
 ghost use Rattle.key_derivation.specs.Kdf.{key_of, vector_of};
 ghost use Rattle.kr_outside.specs.Moments.{LeavesOnly};
 ghost use Rattle.kr_outside.specs.Slot.{KeepsNature};
+ghost use Rattle.keyring_text.specs.Fields.{IsBytes};
 ghost use Rattle.keyring_file.specs.ClearText.{HasClear, most_iterations};
 ghost use Rattle.keyring_seal.specs.Arranged.{arranged_rows};
 ghost use Rattle.keyring_seal.specs.Whole.{opened, sealed};
-ghost use Rattle.replace_slot.specs.Cell.{Known, Doubt, FailedAfter, FailedBefore, FailedRead, IsKnown, IsKnownFile, IsOneOf, LeavesFile, longest_of, old_image};
+ghost use Rattle.replace_slot.specs.Cell.{Known, Doubt, FailedAfter, FailedBefore, FailedRead, IsKnown, IsKnownFile, IsOneOf, LeavesFile, longest_of, new_image, old_image};
 ghost use Rattle.replace_slot.specs.Found.{IsFoundBy, IsFoundOf, Shows as ShowsBytes, found_file};
 ghost use Rattle.collection_store.specs.Changes.{content_created, content_rekeyed};
 ghost use Rattle.collection_store.specs.Outcomes.{IfFaultBefore, IfFaultUnsure, IfNoMemory, IfTooLarge, IsChanged, IsCreateFault, IsFault, IsNewImage, IsOldOrNew, IsOldOrSealed, IsSame, IsStored, IsTooLarge, IsTooLargeOrNoMemory, IsUnsure, MayBeChanged, made_of, most_for, slot_of};
@@ -26,10 +27,11 @@ use item_store::{ItemFault, ItemStore};
 use key_derivation::Derived;
 use keyring_file::{Clear, FullItem, a_file_that_is_spelled_so_is_read};
 use keyring_seal::SealRefused;
+use keyring_text::known_bytes;
 use kr_base::{Attributes, ItemId, OutOfMemory, Text};
 use kr_items::Items;
 use kr_outside::{DeviceCall, Slot};
-use replace_slot::{FaultRead, FileCell, Found, RemoveFault, ReplaceFault};
+use replace_slot::{FaultRead, FileCell, Found, Image, RemoveFault, ReplaceFault};
 use std::alloc::Global;
 use std::marker::Model;
 use std::mem;
@@ -67,6 +69,15 @@ impl<S: Slot> Model for Collection<S> {
 
     ghost invariant = { λ c. IsKept c.cell.file c.told c.newer
         (option_map parts_of c.held) };
+}
+
+// What the type of an image guarantees, if there is one.
+fn known_image(image: Option<&Image>)
+    ensures { IfSome (option_map (λ image. image.now) image.entry) IsBytes }
+{
+    if let Some(image) = image {
+        known_bytes(image.bytes());
+    }
 }
 
 impl<S: Slot> Collection<S> {
@@ -506,6 +517,15 @@ impl<S: Slot> Collection<S> {
             (IsOneOf self.now.file) }
     {
         self.cell.untouched();
+    }
+
+    /// A law: what the type of the images of its file guarantees. The call does nothing.
+    pub fn known_file(&self)
+        ensures older { IfSome (old_image self.now.file) IsBytes }
+        ensures newer { IfSome (new_image self.now.file) IsBytes }
+    {
+        known_image(self.cell.image());
+        known_image(self.cell.newer());
     }
 
     /// Whether the collection is unlocked.
