@@ -6,7 +6,7 @@ use Rattle.secret_calls.specs.declared.call.Call.{Call}
 use Rattle.secret_calls.specs.declared.call.Call.TheVariants as call
 use Rattle.secret_calls.specs.declared.call.CallFault.{CallFault}
 use Rattle.secret_calls.specs.declared.call.CallFault.TheVariants as fault
-use Rattle.call_arguments.specs.Arguments.{without_arguments, long_in, prompt_in}
+use Rattle.call_arguments.specs.Arguments.{without_arguments, three_of, long_in, bytes_in, prompt_in}
 
 -- its name
 abbrev pub interface : List ℕ
@@ -19,6 +19,15 @@ register values = without_arguments (Ok call.Register) values
 -- Unregister, which takes no arguments
 abbrev pub unregister : Vals → Result Call CallFault
 unregister values = without_arguments (Ok call.Unregister) values
+
+-- Answer with these three arguments: the prompt, the round in which it was asked, and the password
+abbrev pub answered_with : Val × Val × Val → Option Call
+answered_with arguments =
+    option_and_then (λ prompt. option_and_then (λ round. option_map (λ password. call.Answer prompt round password) (bytes_in arguments.2)) (long_in arguments.1)) (prompt_in arguments.0)
+
+-- Answer
+abbrev pub answer : Vals → Result Call CallFault
+answer values = ok_or (option_and_then answered_with (three_of values)) fault.InvalidArgs
 
 -- Refuse with these two arguments: the prompt, and the round in which it was asked
 abbrev pub refused_with : Val × Val → Option Call

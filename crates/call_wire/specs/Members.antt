@@ -55,6 +55,7 @@ members =
     record { interface = interface.Prompt; name = codes "Dismiss"; arguments = []; method = method.Dismiss } ∷
     record { interface = interface.Agent; name = codes "Register"; arguments = []; method = method.Register } ∷
     record { interface = interface.Agent; name = codes "Unregister"; arguments = []; method = method.Unregister } ∷
+    record { interface = interface.Agent; name = codes "Answer"; arguments = codes "otay"; method = method.Answer } ∷
     record { interface = interface.Agent; name = codes "Refuse"; arguments = codes "ot"; method = method.Refuse } ∷
     record { interface = interface.Peer; name = codes "Ping"; arguments = []; method = method.Ping } ∷ []
 
@@ -123,5 +124,6 @@ call_with method.Prompt object values = prompt.prompt object values
 call_with method.Dismiss object values = prompt.dismiss object values
 call_with method.Register object values = agent.register values
 call_with method.Unregister object values = agent.unregister values
+call_with method.Answer object values = agent.answer values
 call_with method.Refuse object values = agent.refuse values
 call_with method.Ping object values = peer.ping values

@@ -72,6 +72,8 @@ pub enum Method {
     Register,
     /// `Agent1.Unregister`.
     Unregister,
+    /// `Agent1.Answer`.
+    Answer,
     /// `Agent1.Refuse`.
     Refuse,
     /// `Peer.Ping`.
@@ -206,6 +208,12 @@ const MEMBERS: &[Row] = &[
         name: "Unregister",
         arguments: "",
         method: Method::Unregister,
+    },
+    Row {
+        interface: Interface::Agent,
+        name: "Answer",
+        arguments: "otay",
+        method: Method::Answer,
     },
     Row {
         interface: Interface::Agent,
@@ -368,6 +376,7 @@ pub fn call_with(
         Method::Dismiss => Ok(prompt::dismiss(object, values)),
         Method::Register => Ok(agent::register(values)),
         Method::Unregister => Ok(agent::unregister(values)),
+        Method::Answer => agent::answer(alloc, values),
         Method::Refuse => agent::refuse(alloc, values),
         Method::Ping => Ok(peer::ping(values)),
     }

@@ -1,22 +1,24 @@
--- What a request puts out for the only connection can wait, so it waits after the request, and nothing is lost.
+-- What a request or a key puts out for the only connection can wait, so it waits after that, and nothing is lost.
 use Rattle.std.proofs.Common.{◌≡◌, ℕ, cond, List, [], ◌∷◌, length, refl, sym, ◌∙◌, ap, subst, arith}
 use Rattle.std.proofs.lemmas.Bool.{lt-ltb}
 use Rattle.kr_base.specs.declared.ids.ConnId.{ConnId}
 use Rattle.secret_calls.specs.declared.out.Out.{Out}
+use Rattle.secret_calls.specs.declared.work.Work.{Work}
 use Rattle.service_tables.specs.Sound.{IsSound}
 use Rattle.service_tables.specs.State.{State}
-use Rattle.service_tables.specs.Connections.{changed, delivered, emptied}
-use Rattle.service_machine.specs.Step.{Fits, put_out, served, step}
+use Rattle.service_tables.specs.Connections.{changed, delivered, emptied, sent_to}
+use Rattle.service_machine.specs.Step.{Fits, finished, put_out, puts_out, served, step}
 use Rattle.service_machine.proofs.AloneLemmas.{arrived-connections, delivered-alone, waiting_row}
 use Rattle.service_machine.proofs.SoundLemmas.{sound_replay, sound_step}
+use Rattle.service_machine.specs.declared.event.Event.{Event}
 use Rattle.service_machine.specs.declared.event.Event.TheVariants as event
 use Rattle.service_machine.specs.Replay.{replay}
 use Rattle.service_desk.specs.Places.{Told, Place}
 use Rattle.service_desk.proofs.RecordLemmas.{own-legal, own-state}
-use Rattle.service_machine.specs.Single.{TimedRequest, recorded_of, arrival, taking}
-use Rattle.connection_worker.specs.Replies.{outputs_of}
+use Rattle.service_machine.specs.Single.{TimedKey, TimedRequest, recorded_of, arrival, derivation, taking}
 use Rattle.connection_worker.specs.Serving.{IsOwed, owed, HasGiven}
 use Rattle.connection_worker.proofs.ServingLemmas.{same}
+use Rattle.connection_worker.proofs.KeyLemmas.{derivation_of, derived-connections, key-together}
 use Rattle.connection_worker.proofs.TogetherLemmas.{together}
 
 -- the outputs due to the only connection are what waits in its row
@@ -26,25 +28,48 @@ owed-is told outs is = rw is.only (rw (same told.conn.0) refl)
 pub owed-all : (told : Told) (outs : List Out) → IsOwed told outs → IsOwed told (owed told)
 owed-all told outs is = rw (owed-is told outs is) is
 
+-- what an event puts out for the connection
+abbrev pub put_to : ConnId → State → Event → List Out
+put_to conn state event = sent_to conn (puts_out state event)
+
 -- what waits after a request is what it put out for the connection
 pub arrived-rows : (conn : ConnId) (state : State) (a : TimedRequest) (taken : ℕ) → IsSound state → state.connections.rows ≡ waiting_row conn [] taken ∷ []
-    → (step state (arrival conn a)).connections.rows ≡ waiting_row conn (outputs_of conn state a) taken ∷ []
+    → (step state (arrival conn a)).connections.rows ≡ waiting_row conn (put_to conn state (arrival conn a)) taken ∷ []
 arrived-rows conn state a taken sound only =
     let came = recorded_of conn a in
     let sent = put_out conn a.request (served came state) in
     arrived-connections came state ∙ ap (delivered sent) only ∙ delivered-alone conn sent [] taken (together (waiting_row conn [] taken) came state sound only)
 
+-- the same after a key
+pub derived-rows : (conn : ConnId) (state : State) (work : Work) (key : TimedKey) (taken : ℕ) → IsSound state → Fits state (derivation conn work key) → state.connections.rows ≡ waiting_row conn [] taken ∷ []
+    → (step state (derivation conn work key)).connections.rows ≡ waiting_row conn (put_to conn state (derivation conn work key)) taken ∷ []
+derived-rows conn state work key taken sound fits only =
+    let came = derivation_of conn work key in
+    let sent = (finished came state).sends in
+    derived-connections came state ∙ ap (delivered sent) only ∙ delivered-alone conn sent [] taken (key-together came state sound fits)
+
+-- an event after which these outputs wait loses none
+event-owed : (told new : Told) (event : Event) (outs : List Out) (taken : ℕ) → IsSound told.state → Fits told.state event → (step told.state event).connections.rows ≡ waiting_row told.conn outs taken ∷ []
+    → new.conn ≡ told.conn → new.state ≡ step told.state event → IsOwed new (owed new)
+event-owed told new event outs taken sound fits rows conn state =
+    owed-all new outs (record {
+      sound = subst IsSound (sym state) (sound_step told.state event sound fits);
+      taken = taken;
+      only = ap (λ (s : State). s.connections.rows) state ∙ rows ∙ ap (λ c. waiting_row c outs taken ∷ []) (sym conn);
+    })
+
 -- after a request no output is lost
 pub arrived-owed : (told new : Told) (a : TimedRequest) → IsOwed told [] → Fits told.state (arrival told.conn a) → new.conn ≡ told.conn → new.state ≡ step told.state (arrival told.conn a) → IsOwed new (owed new)
 arrived-owed told new a is fits conn state =
-    let outs = outputs_of told.conn told.state a in
-    let behind : new.state.connections.rows ≡ waiting_row told.conn outs is.taken ∷ [] =
-    ap (λ (s : State). s.connections.rows) state ∙ arrived-rows told.conn told.state a is.taken is.sound is.only in
-    owed-all new outs (record {
-      sound = subst IsSound (sym state) (sound_step told.state (arrival told.conn a) is.sound fits);
-      taken = is.taken;
-      only = behind ∙ ap (λ c. waiting_row c outs is.taken ∷ []) (sym conn);
-    })
+    let event = arrival told.conn a in
+    event-owed told new event (put_to told.conn told.state event) is.taken is.sound fits (arrived-rows told.conn told.state a is.taken is.sound is.only) conn state
+
+-- nor after a key
+pub derived-owed : (told new : Told) (work : Work) (key : TimedKey) → IsOwed told [] → Fits told.state (derivation told.conn work key) → new.conn ≡ told.conn
+    → new.state ≡ step told.state (derivation told.conn work key) → IsOwed new (owed new)
+derived-owed told new work key is fits conn state =
+    let event = derivation told.conn work key in
+    event-owed told new event (put_to told.conn told.state event) is.taken is.sound fits (derived-rows told.conn told.state work key is.taken is.sound fits is.only) conn state
 
 -- once it was taken, the state is sound
 given-sound : (mid new : Place) → IsSound mid.told.state → HasGiven mid new → IsSound new.told.state

@@ -1,25 +1,30 @@
 -- One method call, from its message to what is written for it.
-use Rattle.std.proofs.Common.{◌≡◌, ℕ, List, [], ◌∷◌, Result, Ok, Err, refl, sym, ◌∙◌, ap, subst, arith}
+use Rattle.std.proofs.Common.{◌≡◌, ℕ, ◌+◌, false, true, List, [], ◌∷◌, ◌++◌, length, length-append, Option, Some, None, Result, Ok, Err, refl, sym, ◌∙◌, ap, subst, arith}
+use Rattle.std.specs.Option.{is_some}
 use Rattle.secret_calls.specs.declared.call.Request.{Request}
+use Rattle.secret_calls.specs.declared.work.Work.{Work}
 use Rattle.service_tables.specs.Sound.{IsSound}
 use Rattle.service_tables.specs.State.{State}
 use Rattle.service_tables.specs.Connections.{waiting_for}
 use Rattle.service_desk.specs.Places.{Told, Place}
-use Rattle.service_desk.proofs.RecordLemmas.{own-legal}
+use Rattle.service_desk.proofs.RecordLemmas.{own-legal, own-state}
 use Rattle.dbus_framing.specs.Messages.{Parts}
 use Rattle.call_wire.specs.CallOf.{CallOf}
 use Rattle.connection_worker.specs.declared.ending.End.{End}
 use Rattle.connection_worker.specs.declared.ending.End.TheVariants as end
 use Rattle.connection_worker.specs.Streams.{Output, GaveFront}
-use Rattle.service_machine.specs.Single.{TimedRequest, arrival, turns}
-use Rattle.service_machine.specs.Step.{Fits}
+use Rattle.service_machine.specs.Replay.{replay}
+use Rattle.service_machine.specs.Single.{MayBeFinished, TimedKey, TimedRequest, arrival, asking, derivation, turns, work_for}
+use Rattle.service_machine.specs.Step.{Fits, step}
 use Rattle.service_machine.proofs.AloneLemmas.{waiting_row}
-use Rattle.connection_worker.specs.Written.{given_by}
-use Rattle.connection_worker.specs.Serving.{World, place_of, IsOwed, owed, Asks, HasArrived, Gives}
+use Rattle.connection_worker.specs.Written.{given_by, spelled_behind}
+use Rattle.connection_worker.specs.Serving.{World, place_of, IsOwed, owed, Asks, Brings, HasArrived, HasBrought, HasGiven, Gives}
 use Rattle.connection_worker.specs.Answering.{AnswersCall}
-use Rattle.connection_worker.proofs.StreamLemmas.{Gave-none, GaveFront-whole, GaveFront-more}
+use Rattle.connection_worker.proofs.StreamLemmas.{Gave-none, Gave-trans, GaveFront-whole, GaveFront-more, GaveFront-behind}
 use Rattle.connection_worker.proofs.AnswerLemmas.{given-idle}
-use Rattle.connection_worker.proofs.RecordLemmas.{recorded-none, recorded-one, recorded-refused, given-turn}
+use Rattle.connection_worker.proofs.HandshakeLemmas.{rose-later}
+use Rattle.connection_worker.proofs.SendingLemmas.{spelled_behind-append}
+use Rattle.connection_worker.proofs.RecordLemmas.{asking-one, behind, given-keyed, given-keyless, keyed, recorded-keyed, recorded-late, recorded-none, recorded-one, recorded-refused}
 
 -- nothing was written, which is a prefix of anything
 front-none : (o : Output) (text : List ℕ) → GaveFront o o text
@@ -27,7 +32,11 @@ front-none o text = GaveFront-more o o [] text (GaveFront-whole o o [] (Gave-non
 
 -- there was no memory for the request
 pub unread : (parts : Parts) (w : World) (serials : ℕ) (o : Output) → IsOwed w.told [] → AnswersCall parts w w serials serials o o (Err end.Memory)
-unread parts w serials o idle = ([], record { early = tt; refused = []; few = omega arith; recorded = recorded-none w; idle = idle; wrote = λ taken behind. front-none o [] }, tt)
+unread parts w serials o idle = (
+  [],
+  record { early = tt; refused = []; late = []; few = omega arith; recorded = recorded-none w; finished = tt; idle = idle; wrote = λ taken behind. front-none o [] },
+  tt,
+)
 
 -- nothing waits if nothing changed
 idle-still : (old new : Told) → new.conn ≡ old.conn → new.state ≡ old.state → IsOwed old [] → IsOwed new []
@@ -36,6 +45,10 @@ idle-still old new conn state idle = record {
   taken = idle.taken;
   only = ap (λ (s : State). s.connections.rows) state ∙ idle.only ∙ ap (λ c. waiting_row c [] idle.taken ∷ []) (sym conn);
 }
+
+-- a request without a key may have given work
+keyless-may : (old : World) (a : TimedRequest) → a.key ≡ None → MayBeFinished old.told.conn old.told.state a
+keyless-may old a keyless key = absurd (let no : false ≡ true = sym (ap is_some keyless) ∙ key in cc)
 
 -- the request wasn't recorded
 pub unasked : (parts : Parts) (request : Request) (old new : World) (serials : ℕ) (o : Output) (why : End) → CallOf parts request → IsOwed old.told []
@@ -46,24 +59,28 @@ unasked parts request old new serials o end.EventsSpent call idle asks =
       record {
         early = tt;
         refused = asks.0 ∷ [];
+        late = [];
         few = omega arith;
-        recorded = recorded-refused old new asks.0 asks.2;
+        recorded = recorded-refused old new asks.0 asks.1.keyless asks.2;
+        finished = keyless-may old asks.0 asks.1.keyless;
         idle = idle-still old.told new.told calls.same.conn calls.state idle;
         wrote = λ taken behind. (omega (arith, asks.3, calls.count), Gave-none o);
       },
-      rw asks.1 call,
+      rw asks.1.same call,
     )
 unasked parts request old new serials o end.Memory call idle asks = (
   [],
   record {
     early = tt;
     refused = asks.0 ∷ [];
+    late = [];
     few = omega arith;
-    recorded = recorded-refused old new asks.0 asks.2;
+    recorded = recorded-refused old new asks.0 asks.1.keyless asks.2;
+    finished = keyless-may old asks.0 asks.1.keyless;
     idle = idle-still old.told new.told asks.2.calls.same.conn asks.2.calls.state idle;
     wrote = λ taken behind. front-none o [];
   },
-  rw asks.1 call,
+  rw asks.1.same call,
 )
 unasked parts request old new serials o _ call idle asks = absurd asks
 
@@ -71,53 +88,197 @@ unasked parts request old new serials o _ call idle asks = absurd asks
 pub asked-fits : (old mid : World) (a : TimedRequest) → HasArrived old mid a → Fits old.told.state (arrival old.told.conn a)
 asked-fits old mid a so = (own-legal old.told.state (arrival old.told.conn a ∷ []) so.calls.answered).0
 
--- what a request gives is what waits after it
-given-owed : (old mid : World) (a : TimedRequest) → HasArrived old mid a → given_by old.told.conn old.told.state (turns old.told.conn old.told.state (a ∷ [])) ≡ owed mid.told
-given-owed old mid a so =
-    given-turn old.told.conn old.told.state a
-    ∙ ap (λ (s : State). waiting_for old.told.conn s.connections.rows) (sym so.calls.state) ∙ ap (λ c. waiting_for c mid.told.state.connections.rows) (sym so.calls.same.conn)
+-- and so could a key
+pub brought-fits : (old new : World) (work : Work) (key : TimedKey) → HasBrought old new work key → Fits old.told.state (derivation old.told.conn work key)
+brought-fits old new work key so = (own-legal old.told.state (derivation old.told.conn work key ∷ []) so.calls.answered).0
 
--- what waited for it was taken, and written or not
-pub answers : (parts : Parts) (request : Request) (old mid : World) (new : Place) (serials behind : ℕ) (from to : Output) (result : Result Unit End) → CallOf parts request
-    → IsOwed mid.told (owed mid.told) → Asks request old mid (Ok tt) → Gives (place_of mid) new serials behind from to result
-    → AnswersCall parts old (record { told = new.told; has_seen = new.has_seen; coming = mid.coming; salting = mid.salting }) serials behind from to result
-answers parts request old mid new serials behind from to (Ok done) call all asks gives =
+-- ---- what a request gives
+
+-- what waits after an event, as it is seen of the place after it
+waits-after : (old new : Told) (state : State) → new.conn ≡ old.conn → new.state ≡ state → waiting_for old.conn state.connections.rows ≡ owed new
+waits-after old new state conn at = ap (λ (s : State). waiting_for old.conn s.connections.rows) (sym at) ∙ ap (λ c. waiting_for c new.state.connections.rows) (sym conn)
+
+-- a request gives what waits after it
+given-owed : (old mid : World) (a : TimedRequest) → a.key ≡ None → HasArrived old mid a → given_by old.told.conn old.told.state (turns old.told.conn old.told.state (a ∷ [])) ≡ owed mid.told
+given-owed old mid a keyless so =
+    given-keyless old.told.conn old.told.state a keyless ∙ waits-after old.told mid.told (step old.told.state (arrival old.told.conn a)) so.calls.same.conn so.calls.state
+
+-- with its key it gives what waits after that, too
+given-both : (old mid last : World) (first : Place) (a : TimedRequest) (work : Work) (key : TimedKey) → work_for old.told.conn old.told.state a ≡ Some work → HasArrived old mid a → HasGiven (place_of mid) first
+    → HasBrought (behind mid first) last work key → given_by old.told.conn old.told.state (turns old.told.conn old.told.state (keyed a key ∷ [])) ≡ owed mid.told ++ owed last.told
+given-both old mid last first a work key gives so taken brings =
+    let conn = old.told.conn in
+    let asks = asking-one old mid first a so taken in
+    let here = replay old.told.state (asking conn old.told.state a) in
+    let at : first.told.state ≡ here = own-state (place_of old) first (asking conn old.told.state a) asks in
+    let one = waits-after old.told mid.told (step old.told.state (arrival conn a)) so.calls.same.conn so.calls.state in
+    let state : last.told.state ≡ step here (derivation conn work key) =
+    brings.calls.state ∙ ap (λ c. step first.told.state (derivation c work key)) asks.same.conn ∙ ap (λ s. step s (derivation conn work key)) at in
+    let two = waits-after old.told last.told (step here (derivation conn work key)) (brings.calls.same.conn ∙ asks.same.conn) state in
+    given-keyed conn old.told.state a work key gives ∙ (λ i. one i ++ two i)
+
+-- ---- what waited for a request was taken
+
+-- it wasn't all written
+pub broke-first : (parts : Parts) (request : Request) (work : Option Work) (old mid : World) (new : Place) (serials next : ℕ) (from to : Output) (why : End) → CallOf parts request
+    → IsOwed mid.told (owed mid.told) → Asks request old mid (Ok work) → Gives (place_of mid) new serials next from to (Err why) → AnswersCall parts old (behind mid new) serials next from to (Err why)
+broke-first parts request work old mid new serials next from to end.WriteFault call all asks gives =
     let a = asks.0 in
-    let e = given-owed old mid a asks.2 in (
-      a,
-      rw asks.1 call,
-      record {
-        recorded = recorded-one old mid new a asks.2 gives.0;
-        idle = given-idle (place_of mid) new all gives.0;
-        wrote = λ taken are. rw e (gives.1 taken are);
-      },
-    )
-answers parts request old mid new serials behind from to (Err end.WriteFault) call all asks gives =
-    let a = asks.0 in
-    let e = given-owed old mid a asks.2 in (
+    let e = given-owed old mid a asks.1.keyless asks.2 in (
       a ∷ [],
       record {
         early = tt;
         refused = [];
-        few = refl;
-        recorded = recorded-one old mid new a asks.2 gives.0;
+        late = [];
+        few = (refl, refl);
+        recorded = recorded-one old mid new a asks.1.keyless asks.2 gives.0;
+        finished = keyless-may old a asks.1.keyless;
         idle = given-idle (place_of mid) new all gives.0;
         wrote = λ taken are. rw e (gives.1, gives.2 taken are);
       },
-      rw asks.1 call,
+      rw asks.1.same call,
     )
-answers parts request old mid new serials behind from to (Err end.Memory) call all asks gives =
+broke-first parts request work old mid new serials next from to end.Memory call all asks gives =
     let a = asks.0 in
-    let e = given-owed old mid a asks.2 in (
+    let e = given-owed old mid a asks.1.keyless asks.2 in (
       a ∷ [],
       record {
         early = tt;
         refused = [];
+        late = [];
         few = omega arith;
-        recorded = recorded-one old mid new a asks.2 gives.0;
+        recorded = recorded-one old mid new a asks.1.keyless asks.2 gives.0;
+        finished = keyless-may old a asks.1.keyless;
         idle = given-idle (place_of mid) new all gives.0;
         wrote = λ taken are. rw e (gives.1 taken are);
       },
-      rw asks.1 call,
+      rw asks.1.same call,
     )
-answers parts request old mid new serials behind from to (Err _) call all asks gives = absurd gives
+broke-first parts request work old mid new serials next from to _ call all asks gives = absurd gives
+
+-- it was, and the request gave no work
+pub answers-alone : (parts : Parts) (request : Request) (old mid : World) (new : Place) (serials next : ℕ) (from to : Output) → CallOf parts request → IsOwed mid.told (owed mid.told)
+    → Asks request old mid (Ok None) → Gives (place_of mid) new serials next from to (Ok tt) → AnswersCall parts old (behind mid new) serials next from to (Ok tt)
+answers-alone parts request old mid new serials next from to call all asks gives =
+    let a = asks.0 in
+    let e = given-owed old mid a asks.1.keyless asks.2 in (
+      a,
+      rw asks.1.same call,
+      record {
+        recorded = recorded-one old mid new a asks.1.keyless asks.2 gives.0;
+        finished = (ap is_some asks.1.keyless ∙ ap is_some asks.3, tt);
+        idle = given-idle (place_of mid) new all gives.0;
+        wrote = λ taken are. rw e (gives.1 taken are);
+      },
+    )
+
+-- it was, and the key of the work wasn't recorded
+pub broke-late : (parts : Parts) (request : Request) (work : Work) (old mid : World) (first : Place) (last : World) (serials next : ℕ) (from o : Output) (why : End) → CallOf parts request
+    → IsOwed mid.told (owed mid.told) → Asks request old mid (Ok (Some work)) → Gives (place_of mid) first serials next from o (Ok tt) → Brings work (behind mid first) last (Err why)
+    → AnswersCall parts old last serials next from o (Err why)
+broke-late parts request work old mid first last serials next from o end.EventsSpent call all asks gives brings =
+    let a = asks.0 in
+    let lost = brings.1 in
+    let e = given-owed old mid a asks.1.keyless asks.2 in (
+      a ∷ [],
+      record {
+        early = tt;
+        refused = [];
+        late = brings.0 ∷ [];
+        few = omega arith;
+        recorded = recorded-late old (behind mid first) (a ∷ []) last brings.0 (recorded-one old mid first a asks.1.keyless asks.2 gives.0) lost;
+        finished = keyless-may old a asks.1.keyless;
+        idle = idle-still first.told last.told lost.calls.same.conn lost.calls.state (given-idle (place_of mid) first all gives.0);
+        wrote = λ taken are. rw e (omega (arith, brings.2, lost.calls.count), (gives.1 taken are).0);
+      },
+      rw asks.1.same call,
+    )
+broke-late parts request work old mid first last serials next from o end.Memory call all asks gives brings =
+    let a = asks.0 in
+    let lost = brings.1 in
+    let e = given-owed old mid a asks.1.keyless asks.2 in (
+      a ∷ [],
+      record {
+        early = tt;
+        refused = [];
+        late = brings.0 ∷ [];
+        few = omega arith;
+        recorded = recorded-late old (behind mid first) (a ∷ []) last brings.0 (recorded-one old mid first a asks.1.keyless asks.2 gives.0) lost;
+        finished = keyless-may old a asks.1.keyless;
+        idle = idle-still first.told last.told lost.calls.same.conn lost.calls.state (given-idle (place_of mid) first all gives.0);
+        wrote = λ taken are. rw e (GaveFront-whole from o (spelled_behind taken (owed mid.told)) (gives.1 taken are).0);
+      },
+      rw asks.1.same call,
+    )
+broke-late parts request work old mid first last serials next from o _ call all asks gives brings = absurd brings
+
+-- ---- what waited for its key was taken
+
+-- and written, or not
+pub answers : (parts : Parts) (request : Request) (work : Work) (key : TimedKey) (old mid last : World) (first new : Place) (serials next after : ℕ) (from o to : Output) (result : Result Unit End)
+    → CallOf parts request → IsOwed last.told (owed last.told) → Asks request old mid (Ok (Some work)) → Gives (place_of mid) first serials next from o (Ok tt)
+    → HasBrought (behind mid first) last work key → Gives (place_of last) new next after o to result → AnswersCall parts old (behind last new) serials after from to result
+answers parts request work key old mid last first new serials next after from o to (Ok done) call all asks gives brings then =
+    let a = asks.0 in
+    let one = owed mid.told in
+    let two = owed last.told in
+    let e = given-both old mid last first a work key (sym asks.3) asks.2 gives.0 brings in (
+      keyed a key,
+      rw asks.1.same call,
+      record {
+        recorded = recorded-keyed old mid (behind mid first) last new a work key (sym asks.3) asks.2 (asking-one old mid first a asks.2 gives.0) refl refl brings then.0;
+        finished = (ap is_some asks.3, tt);
+        idle = given-idle (place_of last) new all then.0;
+        wrote = λ taken are.
+            let begun = gives.1 taken are in
+            let ended = then.1 (taken + length one) begun.1 in (
+              rw (e, spelled_behind-append taken one two) (Gave-trans from o to (spelled_behind taken one) (spelled_behind (taken + length one) two) begun.0 ended.0),
+              rw (e, length-append one two) (omega (arith, ended.1)),
+            );
+      },
+    )
+answers parts request work key old mid last first new serials next after from o to (Err end.WriteFault) call all asks gives brings then =
+    let a = asks.0 in
+    let one = owed mid.told in
+    let two = owed last.told in
+    let e = given-both old mid last first a work key (sym asks.3) asks.2 gives.0 brings in (
+      keyed a key ∷ [],
+      record {
+        early = tt;
+        refused = [];
+        late = [];
+        few = (refl, refl);
+        recorded = recorded-keyed old mid (behind mid first) last new a work key (sym asks.3) asks.2 (asking-one old mid first a asks.2 gives.0) refl refl brings then.0;
+        finished = λ key. sym (ap is_some asks.3);
+        idle = given-idle (place_of last) new all then.0;
+        wrote = λ taken are.
+            let begun = gives.1 taken are in
+            rw (e, spelled_behind-append taken one two) (
+              rose-later from.faults o.faults to.faults begun.0.later then.1,
+              GaveFront-behind from o to (spelled_behind taken one) (spelled_behind (taken + length one) two) begun.0 (then.2 (taken + length one) begun.1),
+            );
+      },
+      rw asks.1.same call,
+    )
+answers parts request work key old mid last first new serials next after from o to (Err end.Memory) call all asks gives brings then =
+    let a = asks.0 in
+    let one = owed mid.told in
+    let two = owed last.told in
+    let e = given-both old mid last first a work key (sym asks.3) asks.2 gives.0 brings in (
+      keyed a key ∷ [],
+      record {
+        early = tt;
+        refused = [];
+        late = [];
+        few = omega arith;
+        recorded = recorded-keyed old mid (behind mid first) last new a work key (sym asks.3) asks.2 (asking-one old mid first a asks.2 gives.0) refl refl brings then.0;
+        finished = λ key. sym (ap is_some asks.3);
+        idle = given-idle (place_of last) new all then.0;
+        wrote = λ taken are.
+            let begun = gives.1 taken are in
+            rw (e, spelled_behind-append taken one two)
+            (GaveFront-behind from o to (spelled_behind taken one) (spelled_behind (taken + length one) two) begun.0 (then.1 (taken + length one) begun.1));
+      },
+      rw asks.1.same call,
+    )
+answers parts request work key old mid last first new serials next after from o to (Err _) call all asks gives brings then = absurd then

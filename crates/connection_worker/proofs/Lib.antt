@@ -1,6 +1,7 @@
 mod AnswerLemmas
 mod CallLemmas
 mod HandshakeLemmas
+mod KeyLemmas
 mod LineLemmas
 mod MessageLemmas
 mod RecordLemmas

@@ -3,7 +3,9 @@ use Rattle.std.proofs.Common.{◌≡◌, ℕ, ◌+◌, ◌==◌, true, false, Li
 use Rattle.std.proofs.lemmas.Bool.Decides.{nat_tests}
 use Rattle.std.proofs.lemmas.List.{map-append}
 use Rattle.std.proofs.lemmas.List.Elements.{filter-append}
+use Rattle.kr_base.specs.declared.ids.ConnId.{ConnId}
 use Rattle.secret_calls.specs.declared.call.Request.{Request}
+use Rattle.service_tables.specs.State.{State}
 use Rattle.service_machine.specs.Replay.{replay}
 use Rattle.dbus_framing.specs.Framers.{Framing}
 use Rattle.dbus_framing.specs.Messages.{Parts}
@@ -13,20 +15,20 @@ use Rattle.connection_worker.specs.declared.ending.End.{End}
 use Rattle.connection_worker.specs.declared.ending.End.TheVariants as end
 use Rattle.connection_worker.specs.Arrivals.{calls_in, AreRequests, FirstRequests}
 use Rattle.connection_worker.specs.Streams.{Output, Gave}
-use Rattle.service_machine.specs.Single.{TimedRequest, requests_of, turns}
+use Rattle.service_machine.specs.Single.{AllFinished, AreFinished, TimedRequest, requests_of, turns}
 use Rattle.connection_worker.specs.Written.{given_by, spelled_behind, written_after}
 use Rattle.service_desk.proofs.RecordLemmas.{own-state}
 use Rattle.connection_worker.specs.Serving.{World, place_of, IsOwed, Recorded, EndsEarly}
 use Rattle.connection_worker.specs.Answering.{IsOne, Answered, Broke, AnswersCall, AnswersMessage, ServedPrefix, AnswersEarly, AnswersAll}
 use Rattle.connection_worker.proofs.HandshakeLemmas.{rose-later}
-use Rattle.connection_worker.proofs.RecordLemmas.{recorded-none, recorded-more, turns-append, given_by-append}
+use Rattle.connection_worker.proofs.RecordLemmas.{all-finished, finished-all, finished-more, recorded-none, recorded-more, turns-append, given_by-append}
 use Rattle.connection_worker.proofs.SendingLemmas.{spelled_behind-append}
 use Rattle.connection_worker.proofs.StreamLemmas.{Gave-none, Gave-trans, GaveFront-whole, GaveFront-behind}
 
 -- ---- requests that were answered one after the other
 
 -- what requests give, one after the other
-pub given-more : (old mid : World) (asked more : List TimedRequest) → Recorded old mid asked []
+pub given-more : (old mid : World) (asked more : List TimedRequest) → Recorded old mid asked [] []
     → given_by old.told.conn old.told.state (turns old.told.conn old.told.state (asked ++ more))
     ≡ given_by old.told.conn old.told.state (turns old.told.conn old.told.state asked) ++ given_by mid.told.conn mid.told.state (turns mid.told.conn mid.told.state more)
 given-more old mid asked more so =
@@ -36,9 +38,24 @@ given-more old mid asked more so =
     ∙ ap (λ s. given_by conn old.told.state first ++ given_by conn s (turns conn s more)) (sym (own-state (place_of old) (place_of mid) first so.calls))
     ∙ ap (λ c. given_by conn old.told.state first ++ given_by c mid.told.state (turns c mid.told.state more)) (sym so.calls.same.conn)
 
+-- requests of the same connection, in the state that others led to, have their keys as after those
+here-by : (P : ConnId → State → Type 0) (old mid : World) (asked : List TimedRequest) → Recorded old mid asked [] [] → P mid.told.conn mid.told.state
+    → P old.told.conn (replay old.told.state (turns old.told.conn old.told.state asked))
+here-by P old mid asked so is =
+    subst (λ s. P old.told.conn s) (own-state (place_of old) (place_of mid) (turns old.told.conn old.told.state asked) so.calls) (subst (λ c. P c mid.told.state) so.calls.same.conn is)
+
+all-here : (old mid : World) (asked more : List TimedRequest) → Recorded old mid asked [] [] → AllFinished mid.told.conn mid.told.state more
+    → AllFinished old.told.conn (replay old.told.state (turns old.told.conn old.told.state asked)) more
+all-here old mid asked more so is = here-by (λ conn state. AllFinished conn state more) old mid asked so is
+
+pub are-here : (old mid : World) (asked more : List TimedRequest) → Recorded old mid asked [] [] → AreFinished mid.told.conn mid.told.state more
+    → AreFinished old.told.conn (replay old.told.state (turns old.told.conn old.told.state asked)) more
+are-here old mid asked more so is = here-by (λ conn state. AreFinished conn state more) old mid asked so is
+
 pub answered-none : (w : World) (serials : ℕ) (o : Output) → IsOwed w.told [] → Answered w w serials serials o o []
 answered-none w serials o idle = record {
   recorded = recorded-none w;
+  finished = tt;
   idle = idle;
   wrote = λ taken are. (Gave-none o, omega (arith, are));
 }
@@ -50,7 +67,8 @@ answered-more old mid new serials next behind from o to asked more p q =
     let two = given_by mid.told.conn mid.told.state (turns mid.told.conn mid.told.state more) in
     let e = given-more old mid asked more p.recorded in
     record {
-      recorded = recorded-more old mid new asked more [] p.recorded q.recorded;
+      recorded = recorded-more old mid new asked more [] [] p.recorded q.recorded;
+      finished = finished-all old.told.conn old.told.state asked more p.finished (all-here old mid asked more p.recorded q.finished);
       idle = q.idle;
       wrote = λ taken are.
           let first = p.wrote taken are in
@@ -76,8 +94,12 @@ broke-more old mid new serials next from o to asked more why p q =
     record {
       early = q.early;
       refused = q.refused;
+      late = q.late;
       few = q.few;
-      recorded = recorded-more old mid new asked more q.refused p.recorded q.recorded;
+      recorded = recorded-more old mid new asked more q.refused q.late p.recorded q.recorded;
+      finished =
+          let e : (asked ++ more) ++ q.refused ≡ asked ++ (more ++ q.refused) = append_assoc asked more q.refused in
+          rw e (finished-more old.told.conn old.told.state asked (more ++ q.refused) p.finished (are-here old mid asked (more ++ q.refused) p.recorded q.finished));
       idle = q.idle;
       wrote = λ taken are.
           let first = p.wrote taken are in
@@ -89,8 +111,10 @@ pub broke-memory : (old new : World) (serials behind : ℕ) (from to : Output) (
 broke-memory old new serials behind from to asked p = record {
   early = tt;
   refused = [];
+  late = [];
   few = omega arith;
   recorded = p.recorded;
+  finished = let e : asked ++ [] ≡ asked = append-nil asked in rw e (all-finished old.told.conn old.told.state asked p.finished);
   idle = p.idle;
   wrote = λ taken are. GaveFront-whole from to (written_after old.told.conn taken old.told.state (turns old.told.conn old.told.state asked)) (p.wrote taken are).0;
 }

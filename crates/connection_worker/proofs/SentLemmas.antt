@@ -13,20 +13,28 @@ use Rattle.secret_calls.specs.declared.out.Body.{Body}
 use Rattle.secret_calls.specs.declared.out.ErrorName.{ErrorName}
 use Rattle.secret_calls.specs.declared.out.Out.{Out}
 use Rattle.secret_calls.specs.declared.serial.Serial.{Serial}
+use Rattle.secret_calls.specs.declared.work.Work.{Work}
 use Rattle.service_tables.specs.Connections.{sent_to}
+use Rattle.service_tables.specs.Questions.{CollectionQuestions}
 use Rattle.service_tables.specs.State.{State}
 use Rattle.service_tables.specs.Storing.{Brought}
 use Rattle.service_tables.specs.declared.fate.Fate.{Fate}
 use Rattle.service_tables.specs.declared.rows.Sent.{Sent}
 use Rattle.service_tables.proofs.EachLemmas.{each-append}
 use Rattle.service_prompts.specs.Prompting.{ask_sent, ask_signal, ask_signal_in, completed_sent, completed_signal}
+use Rattle.service_machine.specs.declared.event.Derivation.{Derivation}
 use Rattle.service_machine.specs.declared.event.Recorded.{Recorded}
-use Rattle.service_machine.specs.Plan.{Change, Open_session, Close_session, Lock_collection, Begin_prompt, Ask_prompt, Finish_target, Drop_target, End_prompt, Become_agent, Leave_agent, Plan, Ends, After, Asks}
-use Rattle.service_machine.specs.Run.{asked, demanded, led, performed, performed_all, run, sent_all, sent_by}
-use Rattle.service_machine.specs.Step.{brought_by, message_of, put_out, served}
+use Rattle.service_machine.specs.Derivation.{derived}
+use Rattle.service_machine.specs.PromptCalls.{asks_for, completes, go_on_sent, is_over, passed_kind}
+use Rattle.service_machine.specs.Single.{TimedKey}
+use Rattle.service_machine.specs.Plan.{Change, Open_session, Close_session, Lock_collection, Begin_prompt, Ask_prompt, Derive_key, Count_wrong, Clear_wrong, Go_on, Finish_target, Drop_target, End_prompt, Become_agent, Leave_agent, Plan, Ends, After, Asks, Opens}
+use Rattle.service_machine.specs.Run.{asked, demanded, led, performed, performed_all, run, sent_all, sent_by, unlocked_with}
+use Rattle.service_machine.specs.Step.{brought_by, brought_derived, finished, message_of, put_out, served, terms_of}
 use Rattle.service_machine.proofs.RunLemmas.{plan_for}
-use Rattle.connection_worker.specs.Replies.{is_reply}
+use Rattle.connection_worker.specs.Replies.{is_reply, key_outputs}
 use Rattle.connection_worker.proofs.ServingLemmas.{same}
+use Rattle.service_tables.specs.Opened.{contents_of}
+use Rattle.service_tables.specs.Reading.{asked_collections}
 
 -- each of them is a signal
 abbrev AreSignals : List Sent → Type 0
@@ -53,12 +61,24 @@ completed-signals prompt dismissed created prompts =
     let pass : (o : Option PromptRow) → AreSignals (cons_option (option_map (λ (row : PromptRow). completed_signal dismissed created (ended_row row)) o) []) = elim [ None ↦ tt | Some row ↦ (refl, tt) ] in
     pass (row_at prompt prompts)
 
+go_on-signals : (asks : CollectionQuestions) (collections : Rows) (agent : Option ConnId) (row : Option PromptRow) → AreSignals (go_on_sent asks collections agent row)
+go_on-signals asks collections agent None = tt
+go_on-signals asks collections agent (Some row) =
+    let left = passed_kind asks row.kind in
+    let asked : (o : Option ConnId) → AreSignals (asks_for collections row left o) = elim [ None ↦ tt | Some agent ↦ (refl, tt) ] in
+    let pass : (b : Bool) → AreSignals (cond b (completes row left) (asks_for collections row left agent)) = elim [ true ↦ (refl, tt) | false ↦ asked agent ] in
+    pass (is_over left)
+
 change-signals : (caller : ConnId) (change : Change) (state : State) → AreSignals (sent_by caller change state)
 change-signals caller Open_session state = tt
 change-signals caller (Close_session session) state = tt
 change-signals caller (Lock_collection stem) state = tt
 change-signals caller (Begin_prompt kind) state = tt
 change-signals caller (Ask_prompt prompt) state = ask-signals state.collections (asked_again prompt state.prompts) prompt
+change-signals caller (Derive_key prompt round) state = tt
+change-signals caller (Count_wrong prompt) state = tt
+change-signals caller (Clear_wrong prompt) state = tt
+change-signals caller (Go_on prompt) state = go_on-signals (asked_collections (contents_of state)) state.collections state.prompts.agent (row_at prompt state.prompts)
 change-signals caller (Finish_target prompt) state = tt
 change-signals caller (Drop_target prompt) state = tt
 change-signals caller (End_prompt prompt dismissed created) state = completed-signals prompt dismissed created state.prompts
@@ -79,12 +99,14 @@ run-signals caller brought (After changes next) fates state =
     (run-signals caller brought (next (asked caller brought mid)) fates mid)
 run-signals caller brought (Asks demand next) [] state = tt
 run-signals caller brought (Asks demand next) (fate ∷ fates) state = run-signals caller brought (next fate) fates (demanded brought demand fate state)
+run-signals caller brought (Opens stem terms next) fates state = run-signals caller brought next fates (unlocked_with brought stem terms state)
 
 led-signals : (caller : ConnId) (brought : Brought) (plan : Plan) (fates : List Fate) (state : State) → AreSignals (led caller brought plan fates state).sends
 led-signals caller brought (Ends answer []) fates state = tt
 led-signals caller brought (Ends answer (change ∷ changes)) fates state = all-signals caller (change ∷ changes) state
 led-signals caller brought (After changes next) fates state = run-signals caller brought (After changes next) fates state
 led-signals caller brought (Asks demand next) fates state = run-signals caller brought (Asks demand next) fates state
+led-signals caller brought (Opens stem terms next) fates state = run-signals caller brought (Opens stem terms next) fates state
 
 -- ---- the replies among the outputs
 
@@ -96,6 +118,15 @@ no-reply conn (one ∷ more) are =
     let here : filter is_reply (one.out ∷ sent_to conn more) ≡ [] = ap (λ b. cond b (one.out ∷ filter is_reply (sent_to conn more)) (filter is_reply (sent_to conn more))) are.0 ∙ rest in
     let pass : (b : Bool) → filter is_reply (cond b (one.out ∷ sent_to conn more) (sent_to conn more)) ≡ [] = elim [ true ↦ here | false ↦ rest ] in
     pass (one.to.0 == conn.0)
+
+-- nor among what the key of work sends, if it was recorded
+pub key-replies : (conn : ConnId) (state : State) (work : Option Work) (key : Option TimedKey) → filter is_reply (key_outputs conn state work key) ≡ []
+key-replies conn state None key = refl
+key-replies conn state (Some work) None = refl
+key-replies conn state (Some work) (Some key) =
+    let came : Derivation = record { conn = conn; prompt = work.prompt; round = work.round; password = work.password; salt = work.salt; iterations = work.iterations; now = key.now; fates = key.fates } in
+    no-reply conn (finished came state).sends
+    (led-signals conn (brought_derived came) (derived came.prompt came.round (terms_of came) (asked conn (brought_derived came) state)) came.fates state)
 
 -- the message that answers a call is a reply
 message-replies : (serial : Serial) (answer : Result Body ErrorName) → is_reply (message_of serial answer) ≡ true

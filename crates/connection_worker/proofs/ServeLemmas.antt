@@ -14,15 +14,18 @@ use Rattle.connection_worker.specs.declared.ending.End.{End}
 use Rattle.connection_worker.specs.declared.ending.End.TheVariants as end
 use Rattle.connection_worker.specs.Arrivals.{calls_in, AllRequests, FirstRequests}
 use Rattle.connection_worker.specs.Streams.{Input, Output, Took, IsStill, Gave}
-use Rattle.service_machine.specs.Single.{TimedRequest, requests_of, turns}
+use Rattle.kr_base.specs.declared.ids.ConnId.{ConnId}
+use Rattle.service_tables.specs.State.{State}
+use Rattle.service_machine.specs.Single.{AllFinished, AreFinished, TimedRequest, requests_of, turns}
 use Rattle.connection_worker.specs.Written.{written_after}
 use Rattle.connection_worker.specs.Serving.{World, IsOwed, EndsEarly}
 use Rattle.connection_worker.specs.Answering.{IsEarly, MayRefuse, ServedPrefix, AnswersEarly, AnswersAll}
 use Rattle.connection_worker.specs.ServingOn.{FeedsMore, ServesOn, ServedSoFar, IsThrough}
-use Rattle.connection_worker.specs.Causes.{AllServed, FirstServed, IsViolated, HasCause, HasWritten, HasRefused}
+use Rattle.connection_worker.specs.Causes.{AllServed, FirstServed, IsViolated, HasCause, HasFinished, HasWritten, HasRefused}
 use Rattle.connection_worker.specs.Handshakes.{most_bytes}
 use Rattle.connection_worker.proofs.HandshakeLemmas.{rose-later}
 use Rattle.connection_worker.proofs.MessageLemmas.{answered-more, broke-more, are-append, first-so, first-fewer, going-none}
+use Rattle.connection_worker.proofs.RecordLemmas.{all-finished}
 use Rattle.connection_worker.proofs.StreamLemmas.{Took-none, Took-trans, GaveFront-whole}
 
 -- two stretches of messages, one after the other
@@ -136,7 +139,7 @@ first-served : (has : Framing) (bytes : List ℕ) (asked : List TimedRequest) �
 first-served has bytes asked most first = inr (bytes, refl, subst (λ m. FirstRequests m bytes (requests_of asked)) most first)
 
 -- no request was refused
-none-refused : (run : Run) (asked : List TimedRequest) → FirstServed run asked → HasRefused end.Memory run asked []
+none-refused : (run : Run) (asked : List TimedRequest) → FirstServed run asked → HasRefused end.Memory run asked [] []
 none-refused run asked first = let e : asked ++ [] ≡ asked = append-nil asked in (omega arith, rw e first)
 
 -- why an early end comes, and what was written by then
@@ -148,12 +151,23 @@ early-ends end.Memory has bytes asked text count from to sink after most same fi
 early-ends _ has bytes asked text count from to sink after most same first ends = absurd ends
 
 -- the request that was refused is the next one
-early-refused : (why : End) (has : Framing) (bytes : List ℕ) (asked refused : List TimedRequest) → has.most ≡ most_bytes → IsEarly why → MayRefuse why refused
-    → FirstRequests has.most bytes (requests_of (asked ++ refused)) → HasRefused why (silent (opened bytes)) asked refused
-early-refused end.EventsSpent has bytes asked refused most early few first = (few, first-served has bytes (asked ++ refused) most first)
-early-refused end.WriteFault has bytes asked refused most early few first = few
-early-refused end.Memory has bytes asked refused most early few first = (few, first-served has bytes (asked ++ refused) most first)
-early-refused _ has bytes asked refused most early few first = absurd early
+early-refused : (why : End) (has : Framing) (bytes : List ℕ) (asked refused : List TimedRequest) (late : List ℕ) → has.most ≡ most_bytes → IsEarly why → MayRefuse why refused late
+    → FirstRequests has.most bytes (requests_of (asked ++ refused)) → HasRefused why (silent (opened bytes)) asked refused late
+early-refused end.EventsSpent has bytes asked refused late most early few first = (few, first-served has bytes (asked ++ refused) most first)
+early-refused end.WriteFault has bytes asked refused late most early few first = few
+early-refused end.Memory has bytes asked refused late most early few first = (few, first-served has bytes (asked ++ refused) most first)
+early-refused _ has bytes asked refused late most early few first = absurd early
+
+-- only the last request may lack its key then
+early-finished : (why : End) (conn : ConnId) (state : State) (asked refused : List TimedRequest) → IsEarly why → AreFinished conn state (asked ++ refused) → HasFinished why conn state asked refused
+early-finished end.EventsSpent conn state asked refused early are = are
+early-finished end.WriteFault conn state asked refused early are = are
+early-finished end.Memory conn state asked refused early are = are
+early-finished _ conn state asked refused early are = absurd early
+
+-- and each has it if none was refused
+memory-finished : (conn : ConnId) (state : State) (asked : List TimedRequest) → AllFinished conn state asked → HasFinished end.Memory conn state asked []
+memory-finished conn state asked all = let e : asked ++ [] ≡ asked = append-nil asked in rw e (all-finished conn state asked all)
 
 broke-end : (has : Framing) (from now : Input) (left : Framing) (old mid new : World) (next : ℕ) (sink o to : Output) (why : End) → has.most ≡ most_bytes
     → ServedSoFar has from now left old mid next sink o → AnswersEarly left mid new next o to why → ServesOn has from now old new sink to why
@@ -172,9 +186,11 @@ broke-end has from now left old mid new next sink o to why most so early =
       took = so.took;
       asked = all;
       refused = refused;
+      late = early.1.late;
       recorded = broke.recorded;
+      finished = early-finished why old.told.conn old.told.state all refused broke.early broke.finished;
       idle = broke.idle;
-      few = early-refused why has bytes all refused most broke.early early.1.few next_so;
+      few = early-refused why has bytes all refused early.1.late most broke.early early.1.few next_so;
       cause = ends.0;
       wrote = ends.1;
     }
@@ -219,9 +235,11 @@ answers-end has from now left more old mid new next behind sink o to (end.Violat
       took = so.took;
       asked = going.asked;
       refused = [];
+      late = [];
       recorded = going.answered.recorded;
+      finished = going.answered.finished;
       idle = going.answered.idle;
-      few = refl;
+      few = (refl, refl);
       cause = ((more.rest, served, shown cause now more.rest (subst (λ m. Breaks m more.rest cause) (so.most ∙ most) answers.2)), so.still);
       wrote = (going.answered.wrote 0 refl).0;
     }
@@ -241,9 +259,11 @@ feeds-end has from now later left fed old new behind sink o end.ReadFault most s
   took = stays from now later so.so_far.read so.so_far.took feeds.0;
   asked = so.so_far.going.asked;
   refused = [];
+  late = [];
   recorded = so.so_far.going.answered.recorded;
+  finished = so.so_far.going.answered.finished;
   idle = so.so_far.going.answered.idle;
-  few = refl;
+  few = (refl, refl);
   cause = (rose-later from.faults now.faults later.faults so.so_far.took.later feeds.1, inr (left.rest, all-served has from now left old new behind sink o most so));
   wrote = gave-so has from now left old new behind sink o so.so_far;
 }
@@ -252,9 +272,11 @@ feeds-end has from now later left fed old new behind sink o end.Done most so fee
   took = stays from now later so.so_far.read so.so_far.took feeds.0;
   asked = so.so_far.going.asked;
   refused = [];
+  late = [];
   recorded = so.so_far.going.answered.recorded;
+  finished = so.so_far.going.answered.finished;
   idle = so.so_far.going.answered.idle;
-  few = refl;
+  few = (refl, refl);
   cause = (rw (sym feeds.2) (all-served has from now left old new behind sink o most so), feeds.1, feeds.3 ∙ so.so_far.still);
   wrote = gave-so has from now left old new behind sink o so.so_far;
 }
@@ -263,9 +285,11 @@ feeds-end has from now later left fed old new behind sink o (end.Violation viola
   took = stays from now later so.so_far.read so.so_far.took feeds.0;
   asked = so.so_far.going.asked;
   refused = [];
+  late = [];
   recorded = so.so_far.going.answered.recorded;
+  finished = so.so_far.going.answered.finished;
   idle = so.so_far.going.answered.idle;
-  few = refl;
+  few = (refl, refl);
   cause = ((left.rest, all-served has from now left old new behind sink o most so, (feeds.2, feeds.1)), feeds.3 ∙ so.so_far.still);
   wrote = gave-so has from now left old new behind sink o so.so_far;
 }
@@ -286,7 +310,9 @@ feeds-end has from now later left fed old new behind sink o end.Memory most so f
       took = Took-trans from now later so.so_far.read feeds.0 so.so_far.took feeds.1;
       asked = asked;
       refused = [];
+      late = [];
       recorded = so.so_far.going.answered.recorded;
+      finished = memory-finished old.told.conn old.told.state asked so.so_far.going.answered.finished;
       idle = so.so_far.going.answered.idle;
       few = none-refused (silent (opened (has.rest ++ (so.so_far.read ++ feeds.0)))) asked served;
       cause = (served, feeds.2 ∙ so.so_far.still);
@@ -304,7 +330,9 @@ never-served has from w sink most idle =
       took = so.took;
       asked = so.going.asked;
       refused = [];
+      late = [];
       recorded = so.going.answered.recorded;
+      finished = memory-finished w.told.conn w.told.state so.going.asked so.going.answered.finished;
       idle = so.going.answered.idle;
       few = none-refused (silent (opened (has.rest ++ so.read))) so.going.asked served;
       cause = (served, so.still);

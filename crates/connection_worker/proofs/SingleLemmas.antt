@@ -17,16 +17,17 @@ use Rattle.service_desk.specs.Calls.{Goes}
 use Rattle.service_desk.proofs.RecordLemmas.{own-append, own-state, own-count, own-faultless, records-more, alone-looks, alone-extends}
 use Rattle.connection_worker.specs.declared.ending.End.{End}
 use Rattle.connection_worker.specs.declared.ending.End.TheVariants as end
-use Rattle.connection_worker.specs.Causes.{AllServed, FirstServed, HasCause, HasWritten, HasRefused}
+use Rattle.connection_worker.specs.Causes.{AllServed, FirstServed, HasCause, HasFinished, HasWritten, HasRefused}
 use Rattle.connection_worker.specs.Handshakes.{IsRefusedFor, EndsFor, HandshakeOutcome}
 use Rattle.connection_worker.specs.Streams.{Input, Output, IsStill, Gave}
-use Rattle.service_machine.specs.Single.{TimedRequest, turns, single}
+use Rattle.kr_base.specs.declared.ids.ConnId.{ConnId}
+use Rattle.service_machine.specs.Single.{AreFinished, TimedRequest, turns, single}
 use Rattle.connection_worker.specs.Written.{given_by, spelled_behind, written_after, taken_by, written}
 use Rattle.connection_worker.specs.Serving.{World, place_of, HasJoined, IsOwed, Recorded}
 use Rattle.connection_worker.specs.ServingOn.{ServesOn}
 use Rattle.connection_worker.specs.OneThread.{IsServed}
 use Rattle.connection_worker.proofs.HandshakeLemmas.{rose-later}
-use Rattle.connection_worker.proofs.RecordLemmas.{recorded-none, given_by-append, turns-faultless}
+use Rattle.connection_worker.proofs.RecordLemmas.{all-finished, finished-front, recorded-none, given_by-append, turns-faultless}
 use Rattle.connection_worker.proofs.ServingLemmas.{same, only-there}
 use Rattle.connection_worker.proofs.StreamLemmas.{Took-trans, Gave-trans, GaveFront-behind}
 
@@ -49,9 +50,9 @@ taken-none : (told : Told) → HasJoined told → taken_by told.conn told.state.
 taken-none told joined = rw joined (rw (same told.conn.0) refl)
 
 -- the events of the whole
-single-records : (old mid : World) (asked refused : List TimedRequest) (new : Place) → Recorded old mid asked refused → Records (place_of mid) new (of_own mid.told.state (event.Gone mid.told.conn ∷ []))
+single-records : (old mid : World) (asked refused : List TimedRequest) (late : List ℕ) (new : Place) → Recorded old mid asked refused late → Records (place_of mid) new (of_own mid.told.state (event.Gone mid.told.conn ∷ []))
     → Records (place_of old) new (of_own old.told.state (single old.told.conn old.told.state asked))
-single-records old mid asked refused new so gone =
+single-records old mid asked refused late new so gone =
     let conn = old.told.conn in
     let first = turns conn old.told.state asked in
     let behind = replay old.told.state first in
@@ -110,11 +111,25 @@ cause-after end.Memory run bytes asked count from mid to sink o out is later sam
 cause-after _ run bytes asked count from mid to sink o out is later same put cause = absurd cause
 
 -- the request that was refused
-refused-after : (how : End) (run : shaking.Run) (bytes : List ℕ) (asked refused : List TimedRequest) → run.end ≡ shaking.opened bytes → HasRefused how (shaking.silent (shaking.opened bytes)) asked refused
-    → HasRefused how run asked refused
-refused-after end.EventsSpent run bytes asked refused is few = (few.0, first-run run bytes (asked ++ refused) is few.1)
-refused-after end.Memory run bytes asked refused is few = (few.0, first-run run bytes (asked ++ refused) is few.1)
-refused-after _ run bytes asked refused is few = few
+refused-after : (how : End) (run : shaking.Run) (bytes : List ℕ) (asked refused : List TimedRequest) (late : List ℕ) → run.end ≡ shaking.opened bytes
+    → HasRefused how (shaking.silent (shaking.opened bytes)) asked refused late → HasRefused how run asked refused late
+refused-after end.EventsSpent run bytes asked refused late is few = (few.0, first-run run bytes (asked ++ refused) is few.1)
+refused-after end.Memory run bytes asked refused late is few = (few.0, first-run run bytes (asked ++ refused) is few.1)
+refused-after _ run bytes asked refused late is few = few
+
+-- no request that was recorded lacks its key, but perhaps the last one
+has-finished : (how : End) (conn : ConnId) (state : State) (asked refused : List TimedRequest) → HasFinished how conn state asked refused → AreFinished conn state asked
+has-finished end.WriteFault conn state asked refused are = finished-front conn state asked refused are
+has-finished end.EventsSpent conn state asked refused are = finished-front conn state asked refused are
+has-finished end.Memory conn state asked refused are = finished-front conn state asked refused are
+has-finished _ conn state asked refused are = all-finished conn state asked are
+
+-- where there is none, none does
+none-finished : (how : End) (conn : ConnId) (state : State) → HasFinished how conn state [] []
+none-finished end.WriteFault conn state = tt
+none-finished end.EventsSpent conn state = tt
+none-finished end.Memory conn state = tt
+none-finished _ conn state = tt
 
 -- what was written, after the answers of the handshake
 written-behind : (how : End) (sink o out : Output) (x y : List ℕ) → Gave sink o x → HasWritten how o out y → HasWritten how sink out (x ++ y)
@@ -125,10 +140,10 @@ written-behind _ sink o out x y gave wrote = Gave-trans sink o out x y gave wrot
 -- why it ended, if the handshake did, and what was written
 shaking-ends : (how : End) (run : shaking.Run) (count : ℕ) (from to : Input) (sink out : Output)
     → EndsFor IsRefusedFor run (record { input = from; output = sink }) (record { input = to; output = out }) (Err how)
-    → HasCause how run [] count from to sink out × HasWritten how sink out (concat run.answers ++ []) × HasRefused how run [] []
-shaking-ends (end.AuthRefused why) run count from to sink out ends = ((ends.0, refl, ends.2), rw (append-nil (concat run.answers)) ends.1, refl)
-shaking-ends end.ReadFault run count from to sink out ends = ((ends.1, inl (ends.0, refl)), rw (append-nil (concat run.answers)) ends.2, refl)
-shaking-ends end.WriteFault run count from to sink out ends = ((ends.0, inl refl, ends.2), rw (append-nil (concat run.answers)) ends.1, refl)
+    → HasCause how run [] count from to sink out × HasWritten how sink out (concat run.answers ++ []) × HasRefused how run [] [] []
+shaking-ends (end.AuthRefused why) run count from to sink out ends = ((ends.0, refl, ends.2), rw (append-nil (concat run.answers)) ends.1, (refl, refl))
+shaking-ends end.ReadFault run count from to sink out ends = ((ends.1, inl (ends.0, refl)), rw (append-nil (concat run.answers)) ends.2, (refl, refl))
+shaking-ends end.WriteFault run count from to sink out ends = ((ends.0, inl refl, ends.2), rw (append-nil (concat run.answers)) ends.1, (refl, refl))
 shaking-ends end.Memory run count from to sink out ends = ((inl refl, ends.1), rw (append-nil (concat run.answers)) ends.0, (omega arith, inl refl))
 shaking-ends _ run count from to sink out ends = absurd ends
 
@@ -149,12 +164,14 @@ served-behind uid guid from mid to sink o out old served new framing how shakes 
       read = shakes.read ++ serves.read;
       took = Took-trans from mid to shakes.read serves.read shakes.took serves.took;
       asked = serves.asked;
-      recorded = single-records old served serves.asked serves.refused new serves.recorded gone;
+      recorded = single-records old served serves.asked serves.refused serves.late new serves.recorded gone;
       faultless = λ steady.
           let events = turns old.told.conn old.told.state serves.asked in
-          turns-faultless old.told.conn old.told.state serves.asked (own-faultless old.told.state events (serves.recorded.calls.faultless steady));
+          turns-faultless old.told.conn old.told.state serves.asked (has-finished how old.told.conn old.told.state serves.asked serves.refused serves.finished) (own-faultless old.told.state events (serves.recorded.calls.faultless steady));
       refused = serves.refused;
-      few = rw whole (refused-after how all bytes serves.asked serves.refused refl serves.few);
+      late = serves.late;
+      few = rw whole (refused-after how all bytes serves.asked serves.refused serves.late refl serves.few);
+      finished = serves.finished;
       moments = serves.recorded.moments;
       salts = serves.recorded.salts;
       cause = rw (whole, sym count) (cause-after how all bytes serves.asked served.told.count from mid to sink o out refl shakes.took.later shakes.ends.4 shakes.ends.3.later serves.cause);
@@ -173,10 +190,12 @@ served-not uid guid from to sink out old new how shakes gone =
       read = shakes.read;
       took = shakes.took;
       asked = [];
-      recorded = single-records old old [] [] new (recorded-none old) gone;
+      recorded = single-records old old [] [] [] new (recorded-none old) gone;
       faultless = λ steady. tt;
       refused = [];
+      late = [];
       few = ends.2;
+      finished = none-finished how old.told.conn old.told.state;
       moments = refl;
       salts = refl;
       cause = ends.0;

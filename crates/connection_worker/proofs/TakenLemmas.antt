@@ -1,12 +1,13 @@
 -- What events give to the connection is what its takes returned.
-use Rattle.std.proofs.Common.{◌≡◌, Bool, true, false, cond, List, [], ◌∷◌, ◌++◌, refl, sym, ◌∙◌, ap, append_assoc}
+use Rattle.std.proofs.Common.{◌≡◌, Bool, true, false, cond, List, [], ◌∷◌, ◌++◌, Option, Some, None, refl, sym, ◌∙◌, ap, append_assoc}
 use Rattle.kr_base.specs.declared.ids.ConnId.{ConnId}
+use Rattle.secret_calls.specs.declared.work.Work.{Work}
 use Rattle.service_tables.specs.State.{State}
 use Rattle.service_machine.specs.declared.event.Event.{Event}
 use Rattle.service_machine.specs.declared.event.Event.TheVariants as event
 use Rattle.service_machine.specs.Step.{step}
 use Rattle.service_machine.specs.Replay.{replay}
-use Rattle.service_machine.specs.Single.{TimedRequest, arrival, is_owed, taking, turn, turns, single}
+use Rattle.service_machine.specs.Single.{TimedKey, TimedRequest, arrival, asking, derivation, finishing, is_owed, taking, turn, turns, single, work_for}
 use Rattle.service_desk.specs.Records as records
 use Rattle.service_desk.proofs.RecordLemmas.{own-append}
 use Rattle.connection_worker.specs.Written.{given_by}
@@ -34,11 +35,23 @@ taken-behind conn state events more one two =
     given_by-append conn state events more ∙ (λ i. one i ++ two i) ∙ sym (given-append (records.of_own state events) (records.of_own (replay state events) more))
     ∙ ap (λ seen. records.given seen) (sym (own-append state events more))
 
+-- what is given after a key, if it was recorded
+taken-finished : (conn : ConnId) (state : State) (work : Option Work) (key : Option TimedKey)
+    → given_by conn state (finishing conn state work key) ≡ records.given (records.of_own state (finishing conn state work key))
+taken-finished conn state None key = refl
+taken-finished conn state (Some work) None = refl
+taken-finished conn state (Some work) (Some key) = taken-owed conn (step state (derivation conn work key))
+
+taken-turn : (conn : ConnId) (state : State) (a : TimedRequest) → given_by conn state (turn conn state a) ≡ records.given (records.of_own state (turn conn state a))
+taken-turn conn state a =
+    let here = replay state (asking conn state a) in
+    taken-behind conn state (asking conn state a) (finishing conn here (work_for conn state a) a.key) (taken-owed conn (step state (arrival conn a))) (taken-finished conn here (work_for conn state a) a.key)
+
 taken-turns : (conn : ConnId) (state : State) (asked : List TimedRequest) → given_by conn state (turns conn state asked) ≡ records.given (records.of_own state (turns conn state asked))
 taken-turns conn state [] = refl
 taken-turns conn state (a ∷ more) =
     let next = replay state (turn conn state a) in
-    taken-behind conn state (turn conn state a) (turns conn next more) (taken-owed conn (step state (arrival conn a))) (taken-turns conn next more)
+    taken-behind conn state (turn conn state a) (turns conn next more) (taken-turn conn state a) (taken-turns conn next more)
 
 pub taken-single : (conn : ConnId) (state : State) (asked : List TimedRequest) → given_by conn state (single conn state asked) ≡ records.given (records.of_own state (single conn state asked))
 taken-single conn state asked = taken-behind conn state (turns conn state asked) (event.Gone conn ∷ []) (taken-turns conn state asked) refl

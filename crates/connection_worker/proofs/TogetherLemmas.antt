@@ -9,9 +9,9 @@ use Rattle.kr_base.specs.declared.ids.ConnId.{ConnId}
 use Rattle.kr_base.specs.declared.ids.ItemId.{ItemId}
 use Rattle.kr_base.specs.declared.ids.PromptId.{PromptId}
 use Rattle.kr_base.specs.declared.ids.SessionId.{SessionId}
-use Rattle.collection_table.specs.Rows.{Rows, has_item, is_open}
+use Rattle.collection_table.specs.Rows.{Rows, has as has_collection, has_item, is_open}
 use Rattle.folder_store.specs.Limits.{the_limits}
-use Rattle.prompt_state.specs.Prompts.{ended_row, is_agent, is_made, is_of, is_taken, owns, refusal, registered, round_of, row_at}
+use Rattle.prompt_state.specs.Prompts.{ended_row, is_agent, is_made, is_of, is_taken, last_round, owns, refusal, registered, round_of, row_at}
 use Rattle.prompt_state.specs.Targets.{all_left}
 use Rattle.prompt_state.specs.declared.row.PromptKind.{PromptKind}
 use Rattle.prompt_state.specs.declared.row.PromptKind.TheVariants as kind
@@ -49,9 +49,10 @@ use Rattle.service_prompts.proofs.SignalLemmas.{found-row}
 use Rattle.service_machine.specs.declared.event.Recorded.{Recorded}
 use Rattle.service_machine.specs.AgentCalls.{refuse, unless_refused}
 use Rattle.service_machine.specs.AliasCalls.{alias_settled, alias_stored, on_target, once_read}
+use Rattle.service_machine.specs.AnswerCalls.{answer_prompt, deriving_key, going_on, kind_answered, left_answered, row_answered, target_answered}
 use Rattle.service_machine.specs.CollectionCalls.{by_fate, if_open, made, no_prompt, on_collection, secret_stored, storing, storing_secret}
-use Rattle.service_machine.specs.Plan.{Become_agent, Begin_prompt, End_prompt, Leave_agent, Demand, Store, Erase, Set_alias, Read_aliases, Plan, Ends, After, Asks, Questions, answered, refused}
-use Rattle.service_machine.specs.PromptCalls.{advance_sent, asks_for, completes, first_advance, is_over, passed, passed_kind, row_advance}
+use Rattle.service_machine.specs.Plan.{Become_agent, Begin_prompt, End_prompt, Go_on, Leave_agent, Demand, Store, Erase, Set_alias, Read_aliases, Read_collection, Plan, Ends, After, Asks, Opens, Questions, answered, refused}
+use Rattle.service_machine.specs.PromptCalls.{advance_sent, asks_for, completes, first_advance, go_on_sent, is_over, passed, passed_kind, row_advance}
 use Rattle.service_machine.specs.Run.{Ran, asked, demanded, led, run, sent_all}
 use Rattle.service_machine.specs.ServiceCalls.{answered_if_small, creating, is_small, next_prompt, no_collection, there_already, unlocking, with_new_prompt}
 use Rattle.service_machine.specs.SessionCalls.{with_session}
@@ -103,6 +104,7 @@ module _ (caller : ConnId) (brought : Brought) where
   silent-none (Ends answer changes) fates state silent = silent-all caller changes state silent
   silent-none (After changes next) fates state silent = absurd silent
   silent-none (Asks demand next) fates state silent = absurd silent
+  silent-none (Opens stem terms next) fates state silent = absurd silent
 
   plain-none : (salt : List ℕ) (call : Call) (fates : List Fate) (state : State) → IsPlain call → SendsNothing (row_of salt call (asked caller brought state)) fates state
   plain-none salt call fates state plain = silent-none (row_of salt call (asked caller brought state)) fates state (plain-row salt call (asked caller brought state) plain)
@@ -262,6 +264,70 @@ module _ (caller : ConnId) (brought : Brought) where
   round-modest (Some prompt) round fates state sound =
       unless-modest (refusal prompt round caller state.prompts) (answered body.Empty (End_prompt prompt true None ∷ [])) fates state (inr (refl, end-size prompt state sound))
 
+  -- a prompt that goes on
+  go_on-size : (prompt : PromptId) (its : State) → AllByRecursion IsSoundPrompt its.prompts.rows → size_sent (sent_all caller (Go_on prompt ∷ []) its) ≤ 8388836
+  go_on-size prompt its sound =
+      let asks = asked_collections (contents_of its) in
+      let pass : (o : Option PromptRow) → row_at prompt its.prompts ≡ o → size_sent (go_on_sent asks its.collections its.prompts.agent o ++ []) ≤ 8388836 =
+      elim [
+        | None ↦ λ found. omega arith
+        | Some row ↦ λ found.
+            let is = found-row IsSoundPrompt prompt its.prompts row sound found in
+            subst (λ (s : List Sent). size_sent s ≤ 8388836) (sym (append-nil (advance_sent its.collections row (passed_kind asks row.kind) its.prompts.agent)))
+            (over-size its.collections row (passed_kind asks row.kind) its.prompts.agent is.number (done-light asks row.kind is.kind))
+      ] in
+      pass (row_at prompt its.prompts) refl
+
+  -- an answer
+  target-modest : (prompt : PromptId) (round : ℕ) (there unlocked : Bool) (fates : List Fate) (its : State) → AllByRecursion IsSoundPrompt its.prompts.rows
+      → IsModest (run caller brought (cond there (cond unlocked (going_on prompt) (deriving_key prompt round)) (going_on prompt)) fates its)
+  target-modest prompt round true true fates its sound = inr (refl, go_on-size prompt its sound)
+  target-modest prompt round true false fates its sound = inl refl
+  target-modest prompt round false unlocked fates its sound = inr (refl, go_on-size prompt its sound)
+
+  found-modest : (prompt : PromptId) (round : ℕ) (stem : List ℕ) (fates : List Fate) (its : State) → AllByRecursion IsSoundPrompt its.prompts.rows
+      → IsModest (run caller brought (target_answered prompt round stem (asked caller brought its)) fates its)
+  found-modest prompt round stem fates its sound = target-modest prompt round (has_collection stem its.collections) (is_open stem its.collections) fates its sound
+
+  reread-modest : (prompt : PromptId) (round : ℕ) (stem : List ℕ) (fates : List Fate) (state : State) → AllByRecursion IsSoundPrompt state.prompts.rows
+      → IsModest (run caller brought (Asks (Read_collection stem) (once_read (target_answered prompt round stem))) fates state)
+  reread-modest prompt round stem [] state sound = inl refl
+  reread-modest prompt round stem (fate.Stored ∷ more) state sound = inl refl
+  reread-modest prompt round stem (fate.Before ∷ more) state sound = inl refl
+  reread-modest prompt round stem (fate.Unsure ∷ more) state sound = inl refl
+  reread-modest prompt round stem (fate.Old ∷ more) state sound = found-modest prompt round stem more (demanded brought (Read_collection stem) fate.Old state) sound
+  reread-modest prompt round stem (fate.New ∷ more) state sound = found-modest prompt round stem more (demanded brought (Read_collection stem) fate.New state) sound
+  reread-modest prompt round stem (fate.Other ∷ more) state sound = found-modest prompt round stem more (demanded brought (Read_collection stem) fate.Other state) sound
+  reread-modest prompt round stem (fate.ReadFailed ∷ more) state sound = inl refl
+
+  left-modest : (prompt : PromptId) (round : ℕ) (left : List Target) (fates : List Fate) (state : State) → AllByRecursion IsSoundPrompt state.prompts.rows
+      → IsModest (run caller brought (left_answered prompt round left (asked caller brought state)) fates state)
+  left-modest prompt round [] fates state sound = inr (refl, go_on-size prompt state sound)
+  left-modest prompt round (target ∷ left) fates state sound =
+      let pass : (b : Bool)
+      → IsModest (run caller brought (cond b (Asks (Read_collection target.stem) (once_read (target_answered prompt round target.stem))) (target_answered prompt round target.stem (asked caller brought state))) fates state) =
+      elim [ true ↦ reread-modest prompt round target.stem fates state sound | false ↦ found-modest prompt round target.stem fates state sound ] in
+      pass ((asked caller brought state).files.in_doubt target.stem)
+
+  kind-modest : (prompt : PromptId) (round : ℕ) (k : PromptKind) (fates : List Fate) (state : State) → AllByRecursion IsSoundPrompt state.prompts.rows
+      → IsModest (run caller brought (kind_answered prompt round k (asked caller brought state)) fates state)
+  kind-modest prompt round (kind.Unlock targets) fates state sound = left-modest prompt round targets.left fates state sound
+  kind-modest prompt round (kind.Create label alias salt) fates state sound = inl refl
+
+  row-modest : (prompt : PromptId) (round : ℕ) (row : Option PromptRow) (fates : List Fate) (state : State) → IsSound state
+      → IsModest (run caller brought (row_answered prompt round row (asked caller brought state)) fates state)
+  row-modest prompt round None fates state sound = inl refl
+  row-modest prompt round (Some row) fates state sound =
+      let pass : (b : Bool) → IsModest (run caller brought (cond b (answered body.Empty (End_prompt prompt true None ∷ [])) (kind_answered prompt round row.kind (asked caller brought state))) fates state) =
+      elim [ true ↦ inr (refl, end-size prompt state sound) | false ↦ kind-modest prompt round row.kind fates state sound.prompts.each ] in
+      pass (nat_eq round last_round)
+
+  answer-modest : (prompt : Option PromptId) (round : ℕ) (fates : List Fate) (state : State) → IsSound state → IsModest (run caller brought (answer_prompt prompt round (asked caller brought state)) fates state)
+  answer-modest None round fates state sound = if-modest (is_agent caller state.prompts) (refused name.NoSuchObject) name.AccessDenied fates state (inl refl)
+  answer-modest (Some prompt) round fates state sound =
+      unless-modest (refusal prompt round caller state.prompts) (row_answered prompt round (row_at prompt state.prompts) (asked caller brought state)) fates state
+      (row-modest prompt round (row_at prompt state.prompts) fates state sound)
+
   -- ---- the table of calls
 
   modest : (salt : List ℕ) (call : Result Call CallFault) (fates : List Fate) (state : State) → IsSound state → length state.prompts.rows ≤ 64
@@ -307,6 +373,7 @@ module _ (caller : ConnId) (brought : Brought) where
       pass (is_taken caller state.prompts.agent)
   modest salt (Ok call.Unregister) fates state sound few =
       if-modest (is_agent caller state.prompts) (answered body.Empty (Leave_agent ∷ [])) name.AccessDenied fates state (inl refl)
+  modest salt (Ok (call.Answer prompt round password)) fates state sound few = answer-modest prompt round fates state sound
   modest salt (Ok (call.Refuse prompt round)) fates state sound few = round-modest prompt round fates state sound
 
   -- a limit on the reply changes nothing of that
@@ -315,6 +382,7 @@ module _ (caller : ConnId) (brought : Brought) where
   modest-limited (Ends answer (change ∷ changes)) fates state modest = modest
   modest-limited (After changes next) fates state modest = modest
   modest-limited (Asks demand next) fates state modest = modest
+  modest-limited (Opens stem terms next) fates state modest = modest
 
 -- ---- the only connection
 
@@ -363,7 +431,7 @@ ran-together conn request ran (inr (empty, few)) small =
     omega (arith, size-append (replies conn request ran.answer) ran.sends, reply, few)
 
 -- what is on its way to one connection is no more than all
-size-to : (conn : ConnId) (outs : List Sent) → size_waiting (sent_to conn outs) ≤ size_sent outs
+pub size-to : (conn : ConnId) (outs : List Sent) → size_waiting (sent_to conn outs) ≤ size_sent outs
 size-to conn [] = omega arith
 size-to conn (sent ∷ more) =
     let rest = size-to conn more in

@@ -9,7 +9,7 @@ use Rattle.connection_worker.specs.declared.ending.End.TheVariants as end
 use Rattle.connection_worker.specs.Arrivals.{calls_in, AreRequests, FirstRequests}
 use Rattle.connection_worker.specs.Sending.{AreBehind}
 use Rattle.connection_worker.specs.Serving.{World, IsOwed, Recorded, EndsEarly}
-use Rattle.service_machine.specs.Single.{TimedRequest, requests_of, turns}
+use Rattle.service_machine.specs.Single.{AllFinished, AreFinished, TimedRequest, requests_of, turns}
 use Rattle.connection_worker.specs.Streams.{Output, Gave}
 use Rattle.connection_worker.specs.Written.{given_by, written_after}
 
@@ -21,7 +21,8 @@ IsOne parts (asked ∷ other ∷ more) = ⊥
 
 -- These requests were recorded, and all that they gave was written.
 pub record Answered (old new : World) (serials behind : ℕ) (from to : Output) (asked : List TimedRequest) : Type 0 where
-  pub recorded : Recorded old new asked []
+  pub recorded : Recorded old new asked [] []
+  pub finished : AllFinished old.told.conn old.told.state asked
   pub idle : IsOwed new.told []
   pub wrote : (taken : ℕ) → AreBehind taken serials
       → Gave from to (written_after old.told.conn taken old.told.state (turns old.told.conn old.told.state asked))
@@ -34,18 +35,20 @@ IsEarly end.WriteFault = Unit {0}
 IsEarly end.Memory = Unit {0}
 IsEarly _ = ⊥
 
--- at which of these ends a request may have been refused
-abbrev pub MayRefuse : End → List TimedRequest → Type 0
-MayRefuse end.EventsSpent refused = length refused ≤ 1
-MayRefuse end.Memory refused = length refused ≤ 1
-MayRefuse _ refused = refused ≡ []
+-- at which of these ends a request, or a key of which this moment was taken, may have been refused
+abbrev pub MayRefuse : End → List TimedRequest → List ℕ → Type 0
+MayRefuse end.EventsSpent refused late = length refused + length late ≤ 1
+MayRefuse end.Memory refused late = length refused + length late ≤ 1
+MayRefuse _ refused late = (refused ≡ []) × (late ≡ [])
 
--- These requests were recorded, and then the serving ended early, perhaps at a request that was refused.
+-- These requests were recorded, and then the serving ended early, perhaps at a request that was refused, or at the key of the last one.
 pub record Broke (old new : World) (serials : ℕ) (from to : Output) (asked : List TimedRequest) (why : End) : Type 0 where
   pub early : IsEarly why
   pub refused : List TimedRequest
-  pub few : MayRefuse why refused
-  pub recorded : Recorded old new asked refused
+  pub late : List ℕ
+  pub few : MayRefuse why refused late
+  pub recorded : Recorded old new asked refused late
+  pub finished : AreFinished old.told.conn old.told.state (asked ++ refused)
   pub idle : IsOwed new.told []
   pub wrote : (taken : ℕ) → AreBehind taken serials
       → EndsEarly why new.told.count from to (written_after old.told.conn taken old.told.state (turns old.told.conn old.told.state asked))

@@ -1,5 +1,5 @@
 -- Why the serving of a connection ended, and what was written by then (docs/PROOFS.md, "Answers and their causes").
-use Rattle.std.specs.Prelude.{◌≡◌, ◌≢◌, ℕ, ◌≤◌, ◌⊎◌, List, [], ◌++◌, length}
+use Rattle.std.specs.Prelude.{◌≡◌, ◌≢◌, ℕ, ◌+◌, ◌≤◌, ◌⊎◌, List, [], ◌++◌, length}
 use Rattle.std.specs.Io.KnownBytes.{IsAtEnd}
 use Rattle.kr_outside.specs.Faults.{Rose}
 use Rattle.dbus_auth.specs.Handshake as shaking
@@ -11,7 +11,9 @@ use Rattle.connection_worker.specs.declared.ending.End.{End}
 use Rattle.connection_worker.specs.declared.ending.End.TheVariants as end
 use Rattle.connection_worker.specs.Arrivals.{AllRequests, FirstRequests}
 use Rattle.connection_worker.specs.Handshakes.{most_bytes, Awaits, IsRefusedFor}
-use Rattle.service_machine.specs.Single.{TimedRequest, requests_of}
+use Rattle.kr_base.specs.declared.ids.ConnId.{ConnId}
+use Rattle.service_tables.specs.State.{State}
+use Rattle.service_machine.specs.Single.{AllFinished, AreFinished, TimedRequest, requests_of}
 use Rattle.connection_worker.specs.Streams.{Input, Output, IsStill, Gave, GaveFront}
 
 -- all complete requests after the handshake were recorded, and the rest is this one
@@ -58,9 +60,16 @@ HasWritten end.WriteFault sink after text = GaveFront sink after text
 HasWritten end.Memory sink after text = GaveFront sink after text
 HasWritten _ sink after text = Gave sink after text
 
--- The requests for which a moment and a salt were taken and which weren't recorded, after those that were: at most
--- one, the next one, if no further event can be counted or memory ran out; none at every other end.
-abbrev pub HasRefused : End → shaking.Run → List TimedRequest → List TimedRequest → Type 0
-HasRefused end.EventsSpent run asked refused = (length refused ≤ 1) × FirstServed run (asked ++ refused)
-HasRefused end.Memory run asked refused = (length refused ≤ 1) × FirstServed run (asked ++ refused)
-HasRefused _ run asked refused = refused ≡ []
+-- The requests for which a moment and a salt were taken and which weren't recorded, after those that were, and the moments that were taken
+-- for keys which weren't: at most one of either, the next one, if no further event can be counted or memory ran out; none at every other end.
+abbrev pub HasRefused : End → shaking.Run → List TimedRequest → List TimedRequest → List ℕ → Type 0
+HasRefused end.EventsSpent run asked refused late = (length refused + length late ≤ 1) × FirstServed run (asked ++ refused)
+HasRefused end.Memory run asked refused late = (length refused + length late ≤ 1) × FirstServed run (asked ++ refused)
+HasRefused _ run asked refused late = (refused ≡ []) × (late ≡ [])
+
+-- Each request that gave work has its key, unless it is the last one and the sink failed, no further event can be counted or memory ran out.
+abbrev pub HasFinished : End → ConnId → State → List TimedRequest → List TimedRequest → Type 0
+HasFinished end.WriteFault conn state asked refused = AreFinished conn state (asked ++ refused)
+HasFinished end.EventsSpent conn state asked refused = AreFinished conn state (asked ++ refused)
+HasFinished end.Memory conn state asked refused = AreFinished conn state (asked ++ refused)
+HasFinished _ conn state asked refused = AllFinished conn state asked

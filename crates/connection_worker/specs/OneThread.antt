@@ -4,9 +4,9 @@ use Rattle.std.specs.List.{concat}
 use Rattle.dbus_auth.specs.Handshake.{handshake}
 use Rattle.service_desk.specs.Records.{Records, of_own}
 use Rattle.connection_worker.specs.declared.ending.End.{End}
-use Rattle.connection_worker.specs.Causes.{HasCause, HasWritten, HasRefused}
+use Rattle.connection_worker.specs.Causes.{HasCause, HasFinished, HasWritten, HasRefused}
 use Rattle.connection_worker.specs.Serving.{World, place_of, GivesMoments, GivesSalts}
-use Rattle.service_machine.specs.Single.{TimedRequest, AllFaultless, turns, single}
+use Rattle.service_machine.specs.Single.{TimedRequest, AllFaultless, moments_of, turns, single}
 use Rattle.connection_worker.specs.Streams.{Input, Output, Took}
 use Rattle.connection_worker.specs.Written.{written}
 
@@ -19,10 +19,13 @@ pub record IsServed (uid : ℕ) (guid : List ℕ) (from to : Input) (sink after 
   pub recorded : Records (place_of old) (place_of new) (of_own old.told.state (single old.told.conn old.told.state asked))
   -- no device failed in them if the desk is steady
   pub faultless : IsTrue old.told.is_steady → AllFaultless asked
-  -- a moment and a salt were taken for these too
+  -- a moment and a salt were taken for these too, and these moments for keys
   pub refused : List TimedRequest
-  pub few : HasRefused how (handshake uid guid read) asked refused
-  pub moments : GivesMoments old.coming (map (λ (a : TimedRequest). a.now) (asked ++ refused)) new.coming
+  pub late : List ℕ
+  pub few : HasRefused how (handshake uid guid read) asked refused late
+  -- each request that gave work has its key, but perhaps the last one
+  pub finished : HasFinished how old.told.conn old.told.state asked refused
+  pub moments : GivesMoments old.coming (moments_of (asked ++ refused) ++ late) new.coming
   pub salts : GivesSalts old.salting (map (λ (a : TimedRequest). a.salt) (asked ++ refused)) new.salting
   pub cause : HasCause how (handshake uid guid read) asked (old.told.count + length (turns old.told.conn old.told.state asked)) from to sink after
   pub wrote : HasWritten how sink after (concat (handshake uid guid read).answers ++ written old.told.conn old.told.state (single old.told.conn old.told.state asked))

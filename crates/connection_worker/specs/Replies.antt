@@ -1,17 +1,26 @@
 -- The outputs of the requests of one connection whose requests are served on one thread, and the replies among them.
-use Rattle.std.specs.Prelude.{Bool, true, false, if◌then◌else◌, List, [], ◌∷◌, ◌++◌}
+use Rattle.std.specs.Prelude.{Bool, true, false, if◌then◌else◌, List, [], ◌∷◌, ◌++◌, Option, None, Some}
 use Rattle.kr_base.specs.declared.ids.ConnId.{ConnId}
 use Rattle.secret_calls.specs.declared.out.Out.{Out}
 use Rattle.secret_calls.specs.declared.out.Out.TheVariants as out
+use Rattle.secret_calls.specs.declared.work.Work.{Work}
 use Rattle.service_tables.specs.State.{State}
 use Rattle.service_tables.specs.Connections.{sent_to}
 use Rattle.service_machine.specs.Step.{message_of, puts_out, served}
 use Rattle.service_machine.specs.Replay.{replay}
-use Rattle.service_machine.specs.Single.{TimedRequest, arrival, recorded_of, turn}
+use Rattle.service_machine.specs.Single.{TimedKey, TimedRequest, arrival, asking, derivation, recorded_of, turn, work_for}
 
--- the outputs of a request for its connection: its reply, if one is wanted, and then the signals that it sends
+-- the outputs of the key of work for its connection, if it was recorded: the signals that it sends
+abbrev pub key_outputs : ConnId → State → Option Work → Option TimedKey → List Out
+key_outputs conn state None key = []
+key_outputs conn state (Some work) None = []
+key_outputs conn state (Some work) (Some key) = sent_to conn (puts_out state (derivation conn work key))
+
+-- the outputs of a request for its connection: its reply, if one is wanted, then the signals that it sends, and then those of its key
 abbrev pub outputs_of : ConnId → State → TimedRequest → List Out
-outputs_of conn state asked = sent_to conn (puts_out state (arrival conn asked))
+outputs_of conn state asked =
+    sent_to conn (puts_out state (arrival conn asked))
+    ++ key_outputs conn (replay state (asking conn state asked)) (work_for conn state asked) asked.key
 
 -- the outputs of requests, one after the other, each in the state after those before it
 abbrev pub outputs_to : ConnId → State → List TimedRequest → List Out

@@ -1,5 +1,5 @@
 -- Serving requests with a desk, a clock, a generator of salts and a sink: what each of them changes.
-use Rattle.std.specs.Prelude.{◌≡◌, ℕ, ◌+◌, ◌%◌, ◌^◌, false, List, [], ◌∷◌, ◌++◌, length, map, Option, Result, Ok, Err}
+use Rattle.std.specs.Prelude.{◌≡◌, ℕ, ◌+◌, ◌%◌, ◌^◌, false, List, [], ◌∷◌, ◌++◌, length, map, Option, None, Result, Ok, Err}
 use Rattle.kr_outside.specs.Clock.{GivesFirst}
 use Rattle.kr_outside.specs.Faults.{Rose}
 use Rattle.service_tables.specs.Connections.{new_row, waiting_for}
@@ -7,6 +7,7 @@ use Rattle.service_tables.specs.Limits.{IsSpent}
 use Rattle.service_tables.specs.Sound.{IsSound}
 use Rattle.secret_calls.specs.declared.call.Request.{Request}
 use Rattle.secret_calls.specs.declared.out.Out.{Out}
+use Rattle.secret_calls.specs.declared.work.Work.{Work}
 use Rattle.service_desk.specs.Places.{Told, Place}
 use Rattle.service_desk.specs.Records.{Records, of_own}
 use Rattle.service_desk.specs.Views.{View}
@@ -14,7 +15,7 @@ use Rattle.connection_worker.specs.declared.ending.End.{End}
 use Rattle.connection_worker.specs.declared.ending.End.TheVariants as end
 use Rattle.connection_worker.specs.Salts.{Salting, words_at}
 use Rattle.connection_worker.specs.Sending.{AreBehind}
-use Rattle.service_machine.specs.Single.{TimedRequest, arrival, taking, turns}
+use Rattle.service_machine.specs.Single.{TimedKey, TimedRequest, arrival, derivation, moments_of, taking, turns, work_for}
 use Rattle.connection_worker.specs.Written.{spelled_behind}
 use Rattle.connection_worker.specs.Streams.{Output, Gave, GaveFront}
 
@@ -62,11 +63,11 @@ abbrev pub GivesSalts : Salting → List (List ℕ) → Salting → Type 0
 GivesSalts old [] new = new ≡ old
 GivesSalts old (salt ∷ salts) new = (salt ≡ words_at old.key old.stream old.place) × GivesSalts (behind_salt old) salts new
 
--- The desk recorded these requests, each with a moment of the clock and a salt; and a moment and a salt were taken for
--- these further ones, which weren't recorded.
-pub record Recorded (old new : World) (asked refused : List TimedRequest) : Type 0 where
+-- The desk recorded these requests, each with a moment of the clock and a salt, and each with its key, if it gave work, and with a further
+-- moment for that; a moment and a salt were taken for these further ones, which weren't recorded, and these moments for keys that weren't.
+pub record Recorded (old new : World) (asked refused : List TimedRequest) (late : List ℕ) : Type 0 where
   pub calls : Records (place_of old) (place_of new) (of_own old.told.state (turns old.told.conn old.told.state asked))
-  pub moments : GivesMoments old.coming (map (λ (a : TimedRequest). a.now) (asked ++ refused)) new.coming
+  pub moments : GivesMoments old.coming (moments_of (asked ++ refused) ++ late) new.coming
   pub salts : GivesSalts old.salting (map (λ (a : TimedRequest). a.salt) (asked ++ refused)) new.salting
 
 -- Why the serving ended early, and what was then written of this text: all of it if no further event can be
@@ -91,12 +92,36 @@ pub record HasAsked (old new : World) (asked : TimedRequest) : Type 0 where
   pub salt : asked.salt ≡ words_at old.salting.key old.salting.stream old.salting.place
   pub salting : new.salting ≡ behind_salt old.salting
 
--- the request was recorded; or it was refused, for its cause
-abbrev pub Asks : Request → World → World → Result Unit End → Type 0
-Asks request old new (Ok done) = (asked : TimedRequest) × (asked.request ≡ request) × HasArrived old new asked
-Asks request old new (Err end.EventsSpent) = (asked : TimedRequest) × (asked.request ≡ request) × HasAsked old new asked × IsSpent old.told.count
-Asks request old new (Err end.Memory) = (asked : TimedRequest) × (asked.request ≡ request) × HasAsked old new asked
+-- a request as it was asked, before a key is derived for it
+pub record IsAskedAs (request : Request) (asked : TimedRequest) : Type 0 where
+  pub same : asked.request ≡ request
+  pub keyless : asked.key ≡ None
+
+-- the request was recorded, and gave this work; or it was refused, for its cause
+abbrev pub Asks : Request → World → World → Result (Option Work) End → Type 0
+Asks request old new (Ok work) = (asked : TimedRequest) × IsAskedAs request asked × HasArrived old new asked × (work ≡ work_for old.told.conn old.told.state asked)
+Asks request old new (Err end.EventsSpent) = (asked : TimedRequest) × IsAskedAs request asked × HasAsked old new asked × IsSpent old.told.count
+Asks request old new (Err end.Memory) = (asked : TimedRequest) × IsAskedAs request asked × HasAsked old new asked
 Asks request old new (Err _) = ⊥
+
+-- After the key of work was recorded, before the output for it is taken.
+pub record HasBrought (old new : World) (work : Work) (key : TimedKey) : Type 0 where
+  pub calls : Records (place_of old) (place_of new) (of_own old.told.state (derivation old.told.conn work key ∷ []))
+  pub moment : GivesFirst old.coming key.now new.coming
+  pub salting : new.salting ≡ old.salting
+
+-- A moment was taken for a key that wasn't recorded.
+pub record HasLost (old new : World) (moment : ℕ) : Type 0 where
+  pub calls : Records (place_of old) (place_of new) []
+  pub taken : GivesFirst old.coming moment new.coming
+  pub salting : new.salting ≡ old.salting
+
+-- the key of work was recorded; or it was refused, for its cause
+abbrev pub Brings : Work → World → World → Result Unit End → Type 0
+Brings work old new (Ok done) = (key : TimedKey) × HasBrought old new work key
+Brings work old new (Err end.EventsSpent) = (moment : ℕ) × HasLost old new moment × IsSpent old.told.count
+Brings work old new (Err end.Memory) = (moment : ℕ) × HasLost old new moment
+Brings work old new (Err _) = ⊥
 
 -- the desk returned the outputs that waited: a Take was recorded if there were any
 abbrev pub HasGiven : Place → Place → Type 0

@@ -16,6 +16,7 @@ abbrev pub given : ConnId → State → Event → List Out
 given conn state (event.Take other) = if other.0 == conn.0 then waiting_for conn state.connections.rows else []
 given conn state (event.Connect other) = []
 given conn state (event.Arrive came) = []
+given conn state (event.Derived came) = []
 given conn state (event.Leave other) = []
 given conn state (event.Gone other) = []
 

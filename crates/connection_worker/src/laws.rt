@@ -11,8 +11,8 @@ ghost use Rattle.service_machine.specs.Single.{TimedRequest, single};
 ghost use Rattle.connection_worker.specs.Written.{given_by};
 
 /// What the only connection is given is the outputs of its requests, in order, and nothing else: of each
-/// request the reply, if it wants one, and then the signals that it sends, each as the request's row of
-/// the table of calls gives it in the state after the requests before it.
+/// request the reply, if it wants one, then the signals that it sends, and then those of its key, each as
+/// the definitions of the rows give it in the state that it is served in.
 pub fn each_request_is_answered_at_once()
     ensures { (told : Told) (asked : List TimedRequest) → IsOwed told []
         → Legal told.state (single told.conn told.state asked)

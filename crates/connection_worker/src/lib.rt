@@ -1,8 +1,9 @@
 //! What is done for one connection, over any source and any sink: the handshake, and then each call
-//! with its reply, on one thread. Callers may rely on these: what is written is what the
-//! definitions of the handshake and of the service give for what was read, however that was cut;
-//! the service's events are those of the requests in order, each with its moment and its salt; each
-//! end has its cause; and what was recorded was answered, unless the sink failed or memory ran out.
+//! with its reply and with the key that an answer asks for, on one thread. Callers may rely on these:
+//! what is written is what the definitions of the handshake and of the service give for what was read,
+//! however that was cut; the service's events are those of the requests and of their keys in order,
+//! each with its moment, and each request with its salt; each end has its cause; and what was recorded
+//! was answered, unless the sink failed or memory ran out.
 #![tactic(auto)]
 
 mod ending;

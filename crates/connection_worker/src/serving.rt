@@ -1,8 +1,9 @@
 // Serving requests on one thread.
 ghost use Rattle.std.specs.Prelude.{◌≡◌, IsTrue, [], length};
 ghost use Rattle.service_desk.specs.Places.{place};
-ghost use Rattle.connection_worker.specs.Serving.{world, owed, IsOwed, Asks, Gives};
+ghost use Rattle.connection_worker.specs.Serving.{world, owed, IsOwed, Asks, Brings, Gives};
 ghost use Rattle.connection_worker.specs.Answering.{AnswersCall, AnswersMessage, AnswersAll};
+ghost use Rattle.connection_worker.specs.Salts.{Salting};
 ghost use Rattle.connection_worker.specs.Handshakes.{most_bytes};
 ghost use Rattle.connection_worker.specs.Streams.{input_of, most_read, output_of};
 ghost use Rattle.connection_worker.specs.ServingOn.{FeedsMore, ServesOn};
@@ -17,18 +18,18 @@ use call_wire::call_of;
 use dbus_framing::{FrameRefused, Framer, Violation};
 use dbus_types::Message;
 use kr_outside::{Clock, Failed, Sink, Source};
-use secret_calls::{Refused, Request, Taken};
+use secret_calls::{Refused, Request, Taken, Work};
 use service_desk::{ReadDesk, WriteDesk};
 use std::alloc::{AllocGlobal, Global};
 use std::sync::Wait;
 
-// Asks the clock, draws a salt, and has the request recorded.
+// Asks the clock, draws a salt, and has the request recorded. It returns the key that is to be derived, if any.
 fn ask<D: ReadDesk, C: Clock>(
     request: Request,
     desk: &mut D,
     clock: &mut C,
     salts: &mut Salts,
-) -> Result<(), End>
+) -> Result<Option<Work>, End>
     requires alone { IsTrue (D.told desk.old).is_alone }
     requires idle { IsOwed (D.told desk.old) [] }
     ensures { Asks request (world D.told D.has_seen C.coming desk.old clock.old salts.old)
@@ -36,6 +37,24 @@ fn ask<D: ReadDesk, C: Clock>(
 {
     let now = clock.now();
     match desk.arrive(request, now, salts.next()) {
+        Ok(work) => Ok(work),
+        Err(Refused::EventsSpent) => Err(End::EventsSpent),
+        Err(Refused::Gone) => Err(End::OtherEnded),
+        Err(Refused::OutOfMemory) => Err(End::Memory),
+    }
+}
+
+// Derives a key, asks the clock, and has the key recorded.
+fn bring<D: ReadDesk, C: Clock>(work: Work, desk: &mut D, clock: &mut C) -> Result<(), End>
+    requires alone { IsTrue (D.told desk.old).is_alone }
+    requires idle { IsOwed (D.told desk.old) [] }
+    ensures { (salting : Salting) → Brings work
+        (world D.told D.has_seen C.coming desk.old clock.old salting)
+        (world D.told D.has_seen C.coming desk.new clock.new salting) result }
+{
+    let done = work.finish();
+    let now = clock.now();
+    match desk.derived(done, now) {
         Ok(()) => Ok(()),
         Err(Refused::EventsSpent) => Err(End::EventsSpent),
         Err(Refused::Gone) => Err(End::OtherEnded),
@@ -65,7 +84,8 @@ fn give<O: Sink, D: WriteDesk>(
     }
 }
 
-// Serves one method call.
+// Serves one method call: the reply to it is written, and then, if it is an answer that was taken, the key is
+// derived, and what that sends is written.
 fn answer_call<O: Sink, D: ReadDesk + WriteDesk, C: Clock>(
     alloc: Global,
     message: &Message,
@@ -88,7 +108,17 @@ fn answer_call<O: Sink, D: ReadDesk + WriteDesk, C: Clock>(
     let Ok(request) = call_of(alloc, message) else {
         return Err(End::Memory);
     };
-    if let Err(end) = ask(request, desk, clock, salts) {
+    let work = match ask(request, desk, clock, salts) {
+        Ok(work) => work,
+        Err(end) => return Err(end),
+    };
+    if let Err(end) = give(alloc, output, desk, serials) {
+        return Err(end);
+    }
+    let Some(work) = work else {
+        return Ok(());
+    };
+    if let Err(end) = bring(work, desk, clock) {
         return Err(end);
     }
     give(alloc, output, desk, serials)

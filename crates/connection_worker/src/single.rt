@@ -17,7 +17,8 @@ use std::sync::Wait;
 
 /// Serves one connection to its end (D-Bus Specification, "Authentication Protocol" and "Message
 /// Format"): the handshake, then each call with its reply before the next one is looked at; at last
-/// the connection is gone. The clock is asked once for each call, and one salt is drawn.
+/// the connection is gone. The clock is asked once for each call and once for each key that is derived,
+/// and one salt is drawn for each call.
 ///
 /// Ends with `AuthRefused` if the bytes show a fault of the handshake, or the input ended before
 /// BEGIN (`EndedEarly`); with `Done` if the input ended between two messages; with `Violation` if

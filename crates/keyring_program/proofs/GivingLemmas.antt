@@ -1,10 +1,11 @@
 -- What a clock and a generator of salts returned one after the other, by position.
-use Rattle.std.proofs.Common.{◌≡◌, ℕ, ◌+◌, ◌*◌, ◌%◌, ◌^◌, List, [], ◌∷◌, ◌++◌, map, Option, Some, None, refl, ◌∙◌, ap, arith}
+use Rattle.std.proofs.Common.{◌≡◌, ℕ, ◌+◌, ◌*◌, ◌%◌, ◌^◌, List, [], ◌∷◌, ◌++◌, map, Option, Some, None, refl, ◌∙◌, ap, subst, arith, append_assoc}
+use Rattle.std.proofs.lemmas.List.Concat.{flat_map-append}
 use Rattle.rand_chacha.specs.ChaCha.{key_of}
 use Rattle.kr_outside.specs.Clock.{GivesFirst}
 use Rattle.connection_worker.specs.Salts.{Salting, words_at, salt_of}
 use Rattle.connection_worker.specs.Serving.{GivesMoments, GivesSalts, behind_salt}
-use Rattle.service_machine.specs.Single.{TimedRequest}
+use Rattle.service_machine.specs.Single.{TimedRequest, moments_of, moments_with}
 use Rattle.keyring_program.specs.Events.{the_connection, AreGivenFrom, HaveMoments, HaveSalts}
 
 -- a moment, and those after it
@@ -19,19 +20,25 @@ moments-next moment moments all coming place now behind is further (Some next) f
       further next (λ k. first.1 k ∙ is (k + 1) ∙ ap coming (shift k)) more,
     )
 
-moments-from : (asked refused : List TimedRequest) (coming : ℕ → ℕ) (place : ℕ) (now : ℕ → ℕ) (behind : Option (ℕ → ℕ)) → ((k : ℕ) → now k ≡ coming (place + k))
-    → GivesMoments (Some now) (map (λ (a : TimedRequest). a.now) (asked ++ refused)) behind → AreGivenFrom place coming (map (λ (a : TimedRequest). a.now) asked)
-moments-from [] refused coming place now behind is gives = tt
-moments-from (a ∷ asked) refused coming place now behind is gives =
-    moments-next a.now (map (λ (a : TimedRequest). a.now) asked) (map (λ (a : TimedRequest). a.now) (asked ++ refused)) coming place now behind is
-    (λ next so more. moments-from asked refused coming (place + 1) next behind so more) gives.0 gives.1 gives.2
+moments-from : (front more : List ℕ) (coming : ℕ → ℕ) (place : ℕ) (now : ℕ → ℕ) (behind : Option (ℕ → ℕ)) → ((k : ℕ) → now k ≡ coming (place + k))
+    → GivesMoments (Some now) (front ++ more) behind → AreGivenFrom place coming front
+moments-from [] more coming place now behind is gives = tt
+moments-from (moment ∷ front) more coming place now behind is gives =
+    moments-next moment front (front ++ more) coming place now behind is
+    (λ next so rest. moments-from front more coming (place + 1) next behind so rest) gives.0 gives.1 gives.2
+
+-- those of the requests that were recorded come first
+moments-first : (asked refused : List TimedRequest) (late : List ℕ) → moments_of (asked ++ refused) ++ late ≡ moments_of asked ++ (moments_of refused ++ late)
+moments-first asked refused late =
+    ap (λ l. l ++ late) (flat_map-append (λ (a : TimedRequest). moments_with a.now a.key) asked refused) ∙ append_assoc (moments_of asked) (moments_of refused) late
 
 -- the first moments of the clock
-pub have-moments : (coming behind : Option (ℕ → ℕ)) (asked refused : List TimedRequest) → GivesMoments coming (map (λ (a : TimedRequest). a.now) (asked ++ refused)) behind → HaveMoments coming asked
-have-moments None behind asked refused gives = tt
-have-moments (Some coming) behind asked refused gives =
+pub have-moments : (coming behind : Option (ℕ → ℕ)) (asked refused : List TimedRequest) (late : List ℕ) → GivesMoments coming (moments_of (asked ++ refused) ++ late) behind → HaveMoments coming asked
+have-moments None behind asked refused late gives = tt
+have-moments (Some coming) behind asked refused late gives =
     let here : (k : ℕ) → k ≡ 0 + k = λ k. omega arith in
-    moments-from asked refused coming 0 coming behind (λ k. ap coming (here k)) gives
+    moments-from (moments_of asked) (moments_of refused ++ late) coming 0 coming behind (λ k. ap coming (here k))
+    (subst (λ l. GivesMoments (Some coming) l behind) (moments-first asked refused late) gives)
 
 -- two words further on
 two-on : (k : ℕ) → (2 * k % 2 ^ 68 + 2) % 2 ^ 68 ≡ 2 * (k + 1) % 2 ^ 68

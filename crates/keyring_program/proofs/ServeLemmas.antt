@@ -12,15 +12,15 @@ use Rattle.service_tables.specs.Connections.{has, new_row}
 use Rattle.service_machine.specs.Step.{Fits}
 use Rattle.service_tables.specs.Opened.{Contents, opened_state}
 use Rattle.service_tables.specs.Sound.{AreSoundContents}
-use Rattle.service_machine.specs.Replay.{Legal}
+use Rattle.service_machine.specs.Replay.{Legal, replay}
 use Rattle.service_desk.specs.Places.{Told}
 use Rattle.service_desk.proofs.RecordLemmas.{own-legal}
 use Rattle.connection_worker.specs.declared.ending.End.{End}
 use Rattle.connection_worker.specs.declared.ending.End.TheVariants as end
-use Rattle.connection_worker.specs.Causes.{HasCause, HasWritten}
+use Rattle.connection_worker.specs.Causes.{HasCause, HasFinished, HasWritten}
 use Rattle.connection_worker.specs.OneThread.{IsServed}
 use Rattle.connection_worker.specs.Serving.{World, HasJoined, GivesSalts}
-use Rattle.service_machine.specs.Single.{TimedRequest, turns, single}
+use Rattle.service_machine.specs.Single.{AreFinished, TimedRequest, turn, turns, single}
 use Rattle.connection_worker.specs.Streams.{Input, Output}
 use Rattle.connection_worker.specs.Written.{written}
 use Rattle.keyring_program.specs.Events.{the_connection, joined, events_until, text_of, HaveMoments}
@@ -63,6 +63,26 @@ only-end end.WriteFault run asked count from to sink behind cause = tt
 only-end end.EventsSpent run asked count from to sink behind cause = tt
 only-end end.Memory run asked count from to sink behind cause = tt
 
+-- ---- keys
+
+-- requests that were recorded before others have their keys, but perhaps the last one
+finished-front : (conn : ConnId) (asked refused : List TimedRequest) (state : State) → AreFinished conn state (asked ++ refused) → AreFinished conn state (asked ++ [])
+finished-front conn [] refused state finished = tt
+finished-front conn (a ∷ []) [] state finished = finished
+finished-front conn (a ∷ []) (b ∷ refused) state finished = λ there. sym finished.0 ∙ there
+finished-front conn (a ∷ b ∷ asked) refused state finished = (finished.0, finished-front conn (b ∷ asked) refused (replay state (turn conn state a)) finished.1)
+
+has-finished : (how : End) (conn : ConnId) (state : State) (asked refused : List TimedRequest) → HasFinished how conn state asked refused → HasFinished how conn state asked []
+has-finished end.WriteFault conn state asked refused finished = finished-front conn asked refused state finished
+has-finished end.EventsSpent conn state asked refused finished = finished-front conn asked refused state finished
+has-finished end.Memory conn state asked refused finished = finished-front conn asked refused state finished
+has-finished end.OtherEnded conn state asked refused finished = finished
+has-finished end.Overrun conn state asked refused finished = finished
+has-finished end.Done conn state asked refused finished = finished
+has-finished (end.Violation which) conn state asked refused finished = finished
+has-finished (end.AuthRefused why) conn state asked refused finished = finished
+has-finished end.ReadFault conn state asked refused finished = finished
+
 -- ---- the whole
 
 -- what is true of a connection and a state is true of these
@@ -86,9 +106,10 @@ serves contents uid seed from to sink behind old new how sound conn state count 
       sound = sound;
       legal = (joins contents, at-start contents old.told.conn old.told.state conn state (λ c s. Legal s (single c s so.asked)) (own-legal old.told.state (single old.told.conn old.told.state so.asked) so.recorded.answered));
       faultless = so.faultless;
-      moments = have-moments old.coming new.coming so.asked so.refused so.moments;
-      salts = have-salts seed new.salting so.asked so.refused (subst (λ s. GivesSalts s (map (λ (a : TimedRequest). a.salt) (so.asked ++ so.refused)) new.salting) salting so.salts);
+      moments = have-moments old.coming new.coming so.asked so.refused so.late so.moments;
       how = how;
+      finished = at-start contents old.told.conn old.told.state conn state (λ c s. HasFinished how c s so.asked []) (has-finished how old.told.conn old.told.state so.asked so.refused so.finished);
+      salts = have-salts seed new.salting so.asked so.refused (subst (λ s. GivesSalts s (map (λ (a : TimedRequest). a.salt) (so.asked ++ so.refused)) new.salting) salting so.salts);
       status_is = refl;
       cause = subst (λ n. HasCause how run so.asked n from to sink behind) counted so.cause;
       wrote = subst (λ t. HasWritten how sink behind t) text so.wrote;
@@ -109,6 +130,7 @@ serves-none contents uid seed coming from sink steady sound =
       moments = none-given coming;
       salts = tt;
       how = end.Memory;
+      finished = tt;
       status_is = refl;
       cause = (inl refl, refl);
       wrote = record {

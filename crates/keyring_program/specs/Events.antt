@@ -10,7 +10,7 @@ use Rattle.service_tables.specs.Opened.{Contents, opened_state}
 use Rattle.service_tables.specs.State.{State}
 use Rattle.service_machine.specs.Step.{step, TakesMoment}
 use Rattle.connection_worker.specs.Salts.{salt_of}
-use Rattle.service_machine.specs.Single.{TimedRequest, turns}
+use Rattle.service_machine.specs.Single.{TimedKey, TimedRequest, moments_of, turns}
 use Rattle.connection_worker.specs.Written.{written}
 
 -- the connection of the standard streams
@@ -41,16 +41,27 @@ AreGivenFrom place give (value ∷ values) = (value ≡ give place) × AreGivenF
 -- the moments at which the requests came are the first of the clock, if it reports them
 abbrev pub HaveMoments : Option (ℕ → ℕ) → List TimedRequest → Type 0
 HaveMoments None asked = Unit {0}
-HaveMoments (Some coming) asked = AreGivenFrom 0 coming (map (λ (a : TimedRequest). a.now) asked)
+HaveMoments (Some coming) asked = AreGivenFrom 0 coming (moments_of asked)
 
--- The requests of two runs came at the same moments, as far as what their calls lead to depends on the moment.
+-- two keys came at the same moment, if both are there
+abbrev pub HasSameMoment : Option TimedKey → Option TimedKey → Type 0
+HasSameMoment (Some one) (Some other) = one.now ≡ other.now
+HasSameMoment _ _ = Unit {0}
+
+-- The requests of two runs came at the same moments, as far as what their calls lead to depends on the moment, and so did their keys.
 abbrev pub HaveSameMoments : List TimedRequest → List TimedRequest → Type 0
-HaveSameMoments (one ∷ ones) (other ∷ others) = (TakesMoment one.request.call → one.now ≡ other.now) × HaveSameMoments ones others
+HaveSameMoments (one ∷ ones) (other ∷ others) = (TakesMoment one.request.call → one.now ≡ other.now) × HasSameMoment one.key other.key × HaveSameMoments ones others
 HaveSameMoments _ _ = Unit {0}
 
--- each storing ended the same way in two runs
+-- what two keys asked for ended alike, if both are there; otherwise neither is
+abbrev pub HasSameKeyFates : Option TimedKey → Option TimedKey → Type 0
+HasSameKeyFates None None = Unit {0}
+HasSameKeyFates (Some one) (Some other) = one.fates ≡ other.fates
+HasSameKeyFates _ _ = ⊥
+
+-- the storings of two runs ended alike
 abbrev pub HaveSameFates : List TimedRequest → List TimedRequest → Type 0
-HaveSameFates (one ∷ ones) (other ∷ others) = (one.fates ≡ other.fates) × HaveSameFates ones others
+HaveSameFates (one ∷ ones) (other ∷ others) = (one.fates ≡ other.fates) × HasSameKeyFates one.key other.key × HaveSameFates ones others
 HaveSameFates _ _ = Unit {0}
 
 -- the salts of the requests are the first of the connection under this seed

@@ -5,23 +5,24 @@ ghost use Rattle.std.specs.List.{concat};
 ghost use Rattle.dbus_auth.specs.Handshake.{Run};
 ghost use Rattle.connection_worker.specs.Causes.{AllServed};
 ghost use Rattle.connection_worker.specs.Replies.{is_reply, outputs_to, replies_to};
-ghost use Rattle.service_machine.specs.Single.{TimedRequest, AllFaultless};
+ghost use Rattle.service_machine.specs.Single.{AllFaultless, AllFinished, TimedRequest};
 ghost use Rattle.connection_worker.specs.Written.{spelled_behind};
 ghost use Rattle.keyring_program.specs.Events.{the_connection, joined, events_of, text_of, HaveSalts, HaveSameMoments, HaveSameFates};
 ghost use Rattle.service_machine.specs.Replay.{Legal};
-ghost use Rattle.service_tables.specs.Aliases.{are_doubtful};
 ghost use Rattle.service_tables.specs.Opened.{Contents, opened_state};
 ghost use Rattle.service_tables.specs.Sound.{AreSoundContents};
 ghost use Rattle.keyring_program.specs.Serves.{handshake_run};
 
 use call_wire::a_message_is_one_request;
 use connection_worker::{each_request_has_one_reply, each_request_is_answered_at_once};
+use service_machine::steps_keep_the_rows_sound;
 
 /// What is written for the calls that were read is determined by the bytes that were read, the user,
 /// the seed, what the service starts with, and how the storings of files ended: runs over the same
 /// bytes that recorded each call in them write the same, if their storings ended alike. So it is also
-/// determined without these if no device failed and the file of the aliases isn't in doubt at the start.
-/// A moment matters only if its call stores it, and a salt only if a prompt keeps it.
+/// determined without these if no device failed and each derived key was recorded, since no file is in
+/// doubt at the start. A moment matters only if its call stores it or it is that of a key, and a salt
+/// only if a prompt keeps it.
 pub fn what_is_written_is_one()
     ensures alike { (contents : Contents) (uid : ℕ) (seed read rest left : List ℕ)
         (one other : List TimedRequest)
@@ -36,7 +37,9 @@ pub fn what_is_written_is_one()
         → AllServed (handshake_run uid seed read) one rest
         → AllServed (handshake_run uid seed read) other left
         → HaveSalts seed one → HaveSalts seed other
-        → HaveSameMoments one other → are_doubtful contents.aliases ≡ false
+        → HaveSameMoments one other → AreSoundContents contents
+        → AllFinished the_connection (joined contents) one
+        → AllFinished the_connection (joined contents) other
         → Legal (opened_state contents) (events_of contents one)
         → Legal (opened_state contents) (events_of contents other)
         → AllFaultless one → AllFaultless other
@@ -58,6 +61,7 @@ pub fn each_request_has_its_reply()
         → filter is_reply (outputs_to the_connection (joined contents) asked)
         ≡ replies_to the_connection (joined contents) asked }
 {
+    steps_keep_the_rows_sound();
     each_request_is_answered_at_once();
     each_request_has_one_reply();
 }

@@ -1,5 +1,5 @@
 -- What a service records, as a desk over it reports it.
-use Rattle.std.proofs.Common.{◌≡◌, ◌+◌, ◌<◌, ◌≤◌, Bool, true, false, [], Option, Some, None, Result, Ok, Err, OnOk, IsTrue, refl, ap, ◌∙◌, sym, subst, arith, inl, inr}
+use Rattle.std.proofs.Common.{◌≡◌, ◌+◌, ◌<◌, ◌≤◌, Bool, true, false, [], Option, Some, None, Result, Ok, Err, IfOk, OnOk, IsTrue, refl, ap, ◌∙◌, sym, subst, arith, inl, inr}
 use Rattle.std.proofs.lemmas.List.{length_push}
 use Rattle.kr_base.specs.declared.ids.ConnId.{ConnId}
 use Rattle.service_tables.specs.declared.rows.DeskRow.{DeskRow}
@@ -13,13 +13,15 @@ use Rattle.service_tables.proofs.FitLemmas.{has-told, has-none}
 use Rattle.service_machine.specs.Fates.{with_fates, IsFaultless}
 use Rattle.service_machine.specs.Step.{step, output_of, Fits}
 use Rattle.service_machine.specs.declared.event.Arrival.{Arrival}
+use Rattle.service_machine.specs.declared.event.BroughtKey.{BroughtKey}
+use Rattle.secret_calls.specs.declared.work.Work.{Work}
 use Rattle.secret_calls.specs.declared.taken.Refused.{Refused}
 use Rattle.secret_calls.specs.declared.taken.Refused.TheVariants as refused
-use Rattle.service_history.specs.History.{History, cut_where_due, with_event, Stores, StoresRequest, given_for, taken_by, left_by, gone_by}
+use Rattle.service_history.specs.History.{History, cut_where_due, with_event, Stores, StoresKey, StoresRequest, given_for, taken_by, left_by, gone_by}
 use Rattle.service_history.specs.Windows.{total, is_due}
 use Rattle.service_desk.specs.Places.{Place, Looks, Extends}
 use Rattle.service_desk.specs.Views.{View, IsView, with_others, with_own}
-use Rattle.service_desk.specs.Calls.{Arrives, Leaves, Goes, Takes}
+use Rattle.service_desk.specs.Calls.{Arrives, Finishes, Leaves, Goes, Takes}
 use Rattle.service_desk.proofs.ViewLemmas.{view-others, view-own}
 
 -- where the desk of a connection is over a service with this history, whose disk is steady or not
@@ -93,15 +95,27 @@ pub counts-stored : (old new : History) (event : Event) → Stores old event new
 counts-stored old new event stores =
     ap (λ (h : History). total h.window) stores.appends ∙ total-with event (cut_where_due old) ∙ ap (λ n. n + 1) (total-cut old)
 
-pub arrives : (conn : ConnId) (steady : Bool) (stored : Event → Type 0) (old new : History) (arrival : Arrival) → StoresRequest steady stored old arrival new → total old.window < most_events
-    → Arrives (spot conn steady old) (spot conn steady new) arrival
-arrives conn steady stored old new arrival so left =
+pub arrives : (conn : ConnId) (steady : Bool) (stored : Event → Type 0) (old new : History) (arrival : Arrival) (work : Option Work) → StoresRequest steady stored old arrival work new
+    → total old.window < most_events → Arrives (spot conn steady old) (spot conn steady new) arrival work
+arrives conn steady stored old new arrival work so left =
     let came = with_fates arrival so.fates in
     let counted : total new.window ≡ total old.window + 1 = counts-stored old new came so.stores in
     record {
       fates = so.fates;
-      recorded = extends conn steady old new came (output.Arrived (record {})) so.stores.fits so.faultless refl
+      recorded = extends conn steady old new came (output.Arrived (record { work = work })) so.stores.fits so.faultless so.gives
           (ap (λ (h : History). h.state) so.stores.appends ∙ ap (λ s. step s came) (state-cut old)) counted;
+      counted = omega (arith, counted, left);
+    }
+
+pub finishes : (conn : ConnId) (steady : Bool) (stored : Event → Type 0) (old new : History) (brought : BroughtKey) → StoresKey steady stored old brought new → total old.window < most_events
+    → Finishes (spot conn steady old) (spot conn steady new) brought
+finishes conn steady stored old new brought so left =
+    let counted : total new.window ≡ total old.window + 1 = counts-stored old new (event.Derived so.came) so.stores in
+    record {
+      came = so.came;
+      is = so.is;
+      recorded = extends conn steady old new (event.Derived so.came) output.Derived so.stores.fits so.faultless refl
+          (ap (λ (h : History). h.state) so.stores.appends ∙ ap (λ s. step s (event.Derived so.came)) (state-cut old)) counted;
       counted = omega (arith, counted, left);
     }
 
@@ -136,10 +150,19 @@ goes conn steady old None told = inr (looks conn steady old, has-none conn old.s
 goes conn steady old (Some desk) told = inl (extends-with conn steady old (event.Gone conn) (has-told conn old.state.connections.rows desk told) (λ _. tt))
 
 -- what the service says of a request that it recorded
-pub arrives-stored : (conn : ConnId) (steady : Bool) (stored : Event → Type 0) (old new : History) (arrival : Arrival) (result : Result Unit Refused)
-    → OnOk result (StoresRequest steady stored old arrival new)
-    → ((result ≡ Err refused.EventsSpent → ⊥) → most_events ≤ total old.window → ⊥) → OnOk result (Arrives (spot conn steady old) (spot conn steady new) arrival)
-arrives-stored conn steady stored old new arrival (Ok done) stores left =
-    let not_spent : most_events ≤ total old.window → ⊥ = left (λ (spent : Ok done ≡ Err refused.EventsSpent). cc) in
-    arrives conn steady stored old new arrival stores (omega (arith, not_spent))
+pub arrives-stored : (conn : ConnId) (steady : Bool) (stored : Event → Type 0) (old new : History) (arrival : Arrival) (result : Result (Option Work) Refused)
+    → IfOk result (λ work. StoresRequest steady stored old arrival work new)
+    → ((result ≡ Err refused.EventsSpent → ⊥) → most_events ≤ total old.window → ⊥) → IfOk result (Arrives (spot conn steady old) (spot conn steady new) arrival)
+arrives-stored conn steady stored old new arrival (Ok work) stores left =
+    let not_spent : most_events ≤ total old.window → ⊥ = left (λ (spent : Ok work ≡ Err refused.EventsSpent). cc) in
+    arrives conn steady stored old new arrival work stores (omega (arith, not_spent))
 arrives-stored conn steady stored old new arrival (Err why) stores left = tt
+
+-- and of a derived key
+pub finishes-stored : (conn : ConnId) (steady : Bool) (stored : Event → Type 0) (old new : History) (brought : BroughtKey) (result : Result Unit Refused)
+    → OnOk result (StoresKey steady stored old brought new)
+    → ((result ≡ Err refused.EventsSpent → ⊥) → most_events ≤ total old.window → ⊥) → OnOk result (Finishes (spot conn steady old) (spot conn steady new) brought)
+finishes-stored conn steady stored old new brought (Ok done) stores left =
+    let not_spent : most_events ≤ total old.window → ⊥ = left (λ (spent : Ok done ≡ Err refused.EventsSpent). cc) in
+    finishes conn steady stored old new brought stores (omega (arith, not_spent))
+finishes-stored conn steady stored old new brought (Err why) stores left = tt

@@ -3,16 +3,13 @@ ghost use Rattle.service_machine.specs.Step.{step, IsCrowded, Fits};
 ghost use Rattle.service_tables.specs.Limits.{IsSpent};
 ghost use Rattle.service_tables.specs.Sound.{IsSound};
 ghost use Rattle.service_history.specs.Windows.{total};
-ghost use Rattle.service_desk.specs.Views.{IsView};
-ghost use Rattle.service_desk.specs.Places.{place, Looks, Extends};
-ghost use Rattle.service_desk.specs.Calls.{Arrives, IsRefusal, Leaves, Takes, Goes};
 
 use kr_base::ConnId;
 use kr_outside::Folder;
-use secret_calls::{Refused, Request, Taken};
+use secret_calls::{Finished, Refused, Request, Taken, Work};
 use service_desk::{Desk, JoinRefused, ReadDesk, WriteDesk};
 use service_history::Service;
-use service_machine::{Arrival, Event};
+use service_machine::{Arrival, BroughtKey, Event};
 
 /// A connection's desk over a service that is its own.
 #[derive(Drop)]
@@ -74,7 +71,12 @@ impl<F: Folder> Desk for LoneDesk<F> {
 }
 
 impl<F: Folder> ReadDesk for LoneDesk<F> {
-    fn arrive(&mut self, request: Request, now: u64, salt: [u8; 8]) -> Result<(), Refused> {
+    fn arrive(
+        &mut self,
+        request: Request,
+        now: u64,
+        salt: [u8; 8],
+    ) -> Result<Option<Work>, Refused> {
         let arrival = Arrival {
             conn: self.conn,
             request,
@@ -82,6 +84,15 @@ impl<F: Folder> ReadDesk for LoneDesk<F> {
             salt,
         };
         self.service.arrive(arrival)
+    }
+
+    fn derived(&mut self, done: Finished, now: u64) -> Result<(), Refused> {
+        let brought = BroughtKey {
+            conn: self.conn,
+            done,
+            now,
+        };
+        self.service.derived(brought)
     }
 
     fn leave(&mut self) {

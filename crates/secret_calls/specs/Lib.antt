@@ -1,3 +1,4 @@
 pub mod Calls
 pub mod Outs
 pub mod Serials
+pub mod Works

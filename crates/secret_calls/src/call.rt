@@ -3,7 +3,7 @@ ghost use Rattle.std.specs.Prelude.{◌≡◌};
 use crate::alias::AliasName;
 use crate::secret::Secret;
 use crate::{ErrorName, Serial};
-use kr_base::{Attributes, ItemId, PromptId, SessionId, Stem, Text};
+use kr_base::{Attributes, Bytes, ItemId, PromptId, SessionId, Stem, Text};
 use kr_items::Items;
 use kr_names::ObjectName;
 
@@ -131,6 +131,15 @@ pub enum Call {
     Register,
     /// `Agent1.Unregister`: the caller no longer is the agent.
     Unregister,
+    /// `Agent1.Answer`.
+    Answer {
+        /// The prompt that is answered.
+        prompt: Option<PromptId>,
+        /// The round in which it was asked.
+        round: u64,
+        /// The password.
+        password: Bytes,
+    },
     /// `Agent1.Refuse`.
     Refuse {
         /// The prompt that is refused.

@@ -18,6 +18,7 @@ mod serial;
 mod signal;
 mod size;
 mod taken;
+mod work;
 
 pub use alias::AliasName;
 pub use call::{Call, CallFault, Request};
@@ -28,3 +29,4 @@ pub use serial::Serial;
 pub use signal::{AskKind, Completion, Signal};
 pub use size::{body_size, size_of_out};
 pub use taken::{Refused, Taken};
+pub use work::{Finished, Work};

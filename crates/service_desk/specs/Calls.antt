@@ -1,18 +1,22 @@
 -- What each call of a desk returns, and what it records. Each result has its cause in the state that the desk has seen.
-use Rattle.std.specs.Prelude.{◌≡◌, ◌<◌, ◌≤◌, ◌⊎◌, Bool, false, true, List, Some}
+use Rattle.std.specs.Prelude.{◌≡◌, ◌<◌, ◌≤◌, ◌⊎◌, Bool, false, true, List, Option, Some}
 use Rattle.kr_base.specs.declared.ids.ConnId.{ConnId}
 use Rattle.secret_calls.specs.declared.taken.Refused.{Refused}
 use Rattle.secret_calls.specs.declared.taken.Refused.TheVariants as refused
 use Rattle.secret_calls.specs.declared.taken.Taken.{Taken}
 use Rattle.secret_calls.specs.declared.taken.Taken.TheVariants as taken
 use Rattle.service_tables.specs.State.{State}
+use Rattle.secret_calls.specs.declared.work.Work.{Work}
 use Rattle.service_machine.specs.declared.event.Arrival.{Arrival}
+use Rattle.service_machine.specs.declared.event.BroughtKey.{BroughtKey}
+use Rattle.service_machine.specs.declared.event.Derivation.{Derivation}
 use Rattle.service_machine.specs.declared.event.Event.TheVariants as event
 use Rattle.service_tables.specs.declared.fate.Fate.{Fate}
 use Rattle.service_machine.specs.declared.event.Output.TheVariants as output
 use Rattle.service_machine.specs.Fates.{with_fates}
 use Rattle.service_tables.specs.Connections.{desk_of}
 use Rattle.service_tables.specs.Limits.{most_events, IsSpent}
+use Rattle.service_machine.specs.Machine.{IsBroughtBy}
 use Rattle.service_machine.specs.Step.{IsMissing}
 use Rattle.service_desk.specs.Places.{Told, Place, Looks, Extends}
 
@@ -21,13 +25,20 @@ abbrev pub IsToldOf : ConnId → State → Bool → Bool → Bool → Type 0
 IsToldOf conn state waits overrun leaving =
     desk_of conn state.connections.rows ≡ Some (record { waits = waits; overrun = overrun; leaving = leaving })
 
--- the request was recorded with how each storing ended, within the number of events that can be counted
-pub record Arrives (old new : Place) (arrival : Arrival) : Type 0 where
+-- the request was recorded with how its storings ended, within the number of events that can be counted, and gives this work
+pub record Arrives (old new : Place) (arrival : Arrival) (work : Option Work) : Type 0 where
   pub fates : List Fate
-  pub recorded : Extends old new (with_fates arrival fates) (output.Arrived (record {}))
+  pub recorded : Extends old new (with_fates arrival fates) (output.Arrived (record { work = work }))
   pub counted : new.told.count ≤ most_events
 
--- why a request wasn't recorded: all the events that can be counted have been; otherwise the connection isn't there; or
+-- the derived key was recorded with how what it asked for ended, within the number of events that can be counted
+pub record Finishes (old new : Place) (brought : BroughtKey) : Type 0 where
+  pub came : Derivation
+  pub is : IsBroughtBy brought came
+  pub recorded : Extends old new (event.Derived came) output.Derived
+  pub counted : new.told.count ≤ most_events
+
+-- why a request or a derived key wasn't recorded: all the events that can be counted have been; otherwise the connection isn't there; or
 -- memory ran out
 abbrev pub IsRefusal : Refused → Told → Type 0
 IsRefusal refused.EventsSpent told = IsSpent told.count

@@ -1,3 +1,9 @@
+pub mod CreatingLemmas
+pub mod FreeLemmas
+pub mod InsertedLemmas
+pub mod MadeLemmas
 pub mod MakingLemmas
 pub mod OpeningLemmas
 pub mod ResolvingLemmas
+pub mod TakingLemmas
+pub mod UnusedLemmas

@@ -1,14 +1,15 @@
 -- How long the file of a new collection is.
-use Rattle.std.proofs.Common.{◌≡◌, ℕ, ◌+◌, ◌≤◌, ◌++◌, [], length, min, nat_eq, nat_le, refl, sym, ap, ◌∙◌, arith}
+use Rattle.std.proofs.Common.{◌≡◌, ℕ, ◌+◌, ◌++◌, List, [], length, min, nat_eq, nat_le, refl, sym, ap, ◌∙◌, arith}
 use Rattle.std.specs.List.{IsDistinct}
 use Rattle.std.proofs.lemmas.List.{length-append}
 use Rattle.keyring_text.specs.Fields.{number, string, time}
 use Rattle.keyring_file.specs.Canonical.{front_text, zeros}
 use Rattle.keyring_file.specs.Clear.{ClearPart}
-use Rattle.keyring_file.specs.ClearText.{magic, most_iterations, version}
+use Rattle.keyring_file.specs.ClearText.{magic, version}
 use Rattle.key_derivation.specs.Kdf.{key_of, vector_of}
 use Rattle.keyring_seal.specs.Room.{measure}
-use Rattle.keyring_seal.specs.Whole.{most_bytes}
+use Rattle.keyring_seal.specs.Whole.{most_bytes, sealed}
+use Rattle.keyring_seal.specs.declared.content.Content.{Content}
 use Rattle.keyring_seal.proofs.RoomLemmas.{length_number, length_time}
 use Rattle.keyring_seal.proofs.SealLemmas.{length-sealed}
 use Rattle.collection_table.specs.Rows.{Rows, room_in}
@@ -50,21 +51,31 @@ no-items : IsDistinct nat_eq []
 unfolding IsDistinct
 no-items = tt
 
+longer : (a b c : List ℕ) → length a ≡ length b → length (a ++ c) ≡ length (b ++ c)
+longer a b c same = length-append a c ∙ ap (λ n. n + length c) same ∙ sym (length-append b c)
+
+-- the file is as long with any number of iterations
+other-iterations : (content : Content) (n : ℕ) (key vector : List ℕ) → length (front_text content.clear) ≡ length (front_text (record content.clear { iterations = n }))
+    → length (sealed content key vector) ≡ length (sealed (record content { clear = record content.clear { iterations = n } }) key vector)
+unfolding sealed
+other-iterations content n key vector same = search (longer, same)
+
 -- the file of a collection without items has 100 bytes besides its label
-pub long-file : (plan : Plan) → length plan.key.salt ≡ 8 → plan.key.iterations ≤ most_iterations → length (file_of plan) ≡ 100 + length plan.label
-long-file plan salt few =
+pub long-file : (plan : Plan) → length plan.key.salt ≡ 8 → length (file_of plan) ≡ 100 + length plan.label
+long-file plan salt =
     let content = content_of plan in
-    let whole : length (file_of plan) ≡ measure content =
-    length-sealed content (key_of plan.key) (vector_of plan.key) (record { counted = refl; distinct = no-items; iterations = few }) in
-    let measured : measure content ≡ (length (front_text content.clear) + 8) + 0 + 0 + 16 = refl in
-    let front = long-front content.clear salt in
-    omega (arith, whole, measured, front)
+    let none : Content = record content { clear = record content.clear { iterations = 0 } } in
+    let same = other-iterations content 0 (key_of plan.key) (vector_of plan.key) (long-front content.clear salt ∙ sym (long-front none.clear salt)) in
+    let whole : length (sealed none (key_of plan.key) (vector_of plan.key)) ≡ measure none =
+    length-sealed none (key_of plan.key) (vector_of plan.key) (record { counted = refl; distinct = no-items; iterations = omega arith }) in
+    let measured : measure none ≡ (length (front_text none.clear) + 8) + 0 + 0 + 16 = refl in
+    let front = long-front none.clear salt in
+    omega (arith, same, whole, measured, front)
 
 zero-plus : (n : ℕ) → 0 + n ≡ n
 zero-plus n = omega arith
 
 -- so it has room if so many bytes have
-pub room-tested : (plan : Plan) (these : Rows) → length plan.key.salt ≡ 8 → plan.key.iterations ≤ most_iterations
-    → nat_le (100 + length plan.label) (min most_bytes (room_in these)) ≡ has_room plan these
-room-tested plan these salt few =
-    ap (λ n. nat_le n (min most_bytes (room_in these))) (sym (long-file plan salt few)) ∙ ap (λ n. nat_le (length (file_of plan)) (min most_bytes n)) (sym (zero-plus (room_in these)))
+pub room-tested : (plan : Plan) (these : Rows) → length plan.key.salt ≡ 8 → nat_le (100 + length plan.label) (min most_bytes (room_in these)) ≡ has_room plan these
+room-tested plan these salt =
+    ap (λ n. nat_le n (min most_bytes (room_in these))) (sym (long-file plan salt)) ∙ ap (λ n. nat_le (length (file_of plan)) (min most_bytes n)) (sym (zero-plus (room_in these)))

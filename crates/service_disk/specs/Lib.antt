@@ -1,3 +1,4 @@
 pub mod Resolving
 pub mod Opening
 pub mod Making
+pub mod Taking

@@ -1,20 +1,23 @@
 -- One more event of a history, and a cut.
-use Rattle.std.proofs.Common.{◌≡◌, ◌+◌, ◌≤◌, Bool, IsTrue, List, [], ◌∷◌, ap, ◌∙◌, subst, sym, arith}
+use Rattle.std.proofs.Common.{◌≡◌, ◌+◌, ◌≤◌, Bool, IsTrue, List, [], ◌∷◌, Option, ap, ◌∙◌, subst, sym, arith}
 use Rattle.std.proofs.lemmas.List.{length_push}
 use Rattle.service_tables.specs.State.{State}
 use Rattle.service_tables.specs.declared.fate.Fate.{Fate}
+use Rattle.secret_calls.specs.declared.work.Work.{Work}
 use Rattle.service_machine.specs.declared.event.Arrival.{Arrival}
+use Rattle.service_machine.specs.declared.event.BroughtKey.{BroughtKey}
 use Rattle.service_machine.specs.declared.event.Event.{Event}
 use Rattle.service_machine.specs.declared.event.Event.TheVariants as event
 use Rattle.service_machine.specs.declared.event.Incoming.TheVariants as incoming
+use Rattle.service_machine.specs.declared.event.Output.TheVariants as output
 use Rattle.service_machine.specs.Fates.{IsFaultless, with_fates}
 use Rattle.service_machine.specs.Machine.{Records}
-use Rattle.service_machine.specs.Step.{step, Fits}
+use Rattle.service_machine.specs.Step.{step, output_of, Fits}
 use Rattle.service_tables.specs.Sound.{IsSound}
 use Rattle.service_machine.proofs.ReplayLemmas.{replay-append, Legal-append}
 use Rattle.service_machine.proofs.SoundLemmas.{sound_step, sound_replay}
 use Rattle.service_history.specs.Limits.{most_counted}
-use Rattle.service_history.specs.History.{History, IsHistory, Stores, StoresRequest, cut, cut_where_due, with_event}
+use Rattle.service_history.specs.History.{History, IsHistory, Stores, StoresKey, StoresRequest, cut, cut_where_due, with_event}
 use Rattle.service_history.specs.Windows.{total}
 use Rattle.service_history.specs.Room.{room}
 use Rattle.service_history.proofs.RoomLemmas.{room-few}
@@ -55,18 +58,33 @@ record IsRequest (arrival : Arrival) (event : Event) : Type 0 where
 request : (arrival : Arrival) (event : Event) → Records (incoming.Arrive arrival) event → IsRequest arrival event
 request arrival (event.Connect conn) records = absurd records
 request arrival (event.Arrive came) records = record { fates = came.fates; same = λ i. event.Arrive (record { arrival = records i; fates = came.fates }) }
+request arrival (event.Derived came) records = absurd records
 request arrival (event.Leave conn) records = absurd records
 request arrival (event.Take conn) records = absurd records
 request arrival (event.Gone conn) records = absurd records
 
-pub requested : (steady : Bool) (stored : Event → Type 0) (old new : History) (arrival : Arrival) (event : Event) → Records (incoming.Arrive arrival) event → Fits old.state event
-    → new ≡ with_event event (cut_where_due old) → (IsTrue steady → IsFaultless event) → stored event → StoresRequest steady stored old arrival new
-requested steady stored old new arrival event records fits appends faultless disk =
+pub requested : (steady : Bool) (stored : Event → Type 0) (old new : History) (arrival : Arrival) (work : Option Work) (event : Event) → Records (incoming.Arrive arrival) event → Fits old.state event
+    → new ≡ with_event event (cut_where_due old) → (IsTrue steady → IsFaultless event) → output.Arrived (record { work = work }) ≡ output_of old.state event → stored event
+    → StoresRequest steady stored old arrival work new
+requested steady stored old new arrival work event records fits appends faultless gives disk =
     let is = request arrival event records in
     let its : Stores old event new = record { fits = fits; appends = appends } in
     record {
       fates = is.fates;
       stores = subst (λ e. Stores old e new) is.same its;
       faultless = λ holds. subst IsFaultless is.same (faultless holds);
+      gives = subst (λ e. output.Arrived (record { work = work }) ≡ output_of old.state e) is.same gives;
       disk = subst stored is.same disk;
     }
+
+-- ---- a derived key that was recorded
+
+pub keyed : (steady : Bool) (stored : Event → Type 0) (old new : History) (brought : BroughtKey) (event : Event) → Records (incoming.Derived brought) event → Fits old.state event
+    → new ≡ with_event event (cut_where_due old) → (IsTrue steady → IsFaultless event) → stored event → StoresKey steady stored old brought new
+keyed steady stored old new brought (event.Connect conn) records fits appends faultless disk = absurd records
+keyed steady stored old new brought (event.Arrive came) records fits appends faultless disk = absurd records
+keyed steady stored old new brought (event.Derived came) records fits appends faultless disk =
+    record { came = came; is = records; stores = record { fits = fits; appends = appends }; faultless = faultless; disk = disk }
+keyed steady stored old new brought (event.Leave conn) records fits appends faultless disk = absurd records
+keyed steady stored old new brought (event.Take conn) records fits appends faultless disk = absurd records
+keyed steady stored old new brought (event.Gone conn) records fits appends faultless disk = absurd records

@@ -29,6 +29,13 @@ kept-first state held start sound begins = record {
   fits = subst (λ (s : State). room s.connections.rows ≤ held.spare) (sym start) (omega arith);
 }
 
+-- the same window with more room
+pub kept-same : (state : State) (old new : Held) → IsKept state old → new.window ≡ old.window → old.spare ≤ new.spare → IsKept state new
+kept-same state old new kept same more = record {
+  history = subst (λ (w : Window). IsHistory (in_window state w)) (sym same) kept.history;
+  fits = omega (arith, kept.fits, more);
+}
+
 -- an event that is stored
 kept-push : (state : State) (old new : Held) (event : Event) → IsHistory (in_window state old.window) → Fits state event
     → total old.window + 1 + room (step state event).connections.rows ≤ most_counted → room (step state event).connections.rows + 1 ≤ old.spare

@@ -3,3 +3,4 @@ mod KeptLemmas
 mod RoomLemmas
 mod WindowLemmas
 mod RunLemmas
+mod FreeLemmas

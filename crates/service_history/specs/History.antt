@@ -2,6 +2,7 @@
 use Rattle.std.specs.Prelude.{◌≡◌, ℕ, ◌+◌, ◌≤◌, Bool, ◌&&◌, not, if◌then◌else◌, IsTrue, List, Option, Some, None}
 use Rattle.kr_base.specs.declared.ids.ConnId.{ConnId}
 use Rattle.kr_outside.specs.RenameDisk.{Image}
+use Rattle.secret_calls.specs.declared.work.Work.{Work}
 use Rattle.secret_calls.specs.declared.taken.Taken.{Taken}
 use Rattle.secret_calls.specs.declared.taken.Taken.TheVariants as taken
 use Rattle.service_tables.specs.Disk.{DiskState}
@@ -13,11 +14,14 @@ use Rattle.service_machine.specs.declared.event.Incoming.{Incoming}
 use Rattle.service_machine.specs.declared.event.Incoming.TheVariants as incoming
 use Rattle.service_machine.specs.declared.event.Event.{Event}
 use Rattle.service_machine.specs.declared.event.Event.TheVariants as event
+use Rattle.service_machine.specs.declared.event.BroughtKey.{BroughtKey}
+use Rattle.service_machine.specs.declared.event.Derivation.{Derivation}
 use Rattle.service_machine.specs.declared.event.Output.{Output}
+use Rattle.service_machine.specs.declared.event.Output.TheVariants as output
 use Rattle.service_tables.specs.Connections.{waiting_for, desk_of}
 use Rattle.service_machine.specs.Fates.{with_fates, AreFaultless, IsFaultless}
 use Rattle.service_machine.specs.Stored.{StoresEvent}
-use Rattle.service_machine.specs.Machine.{Records}
+use Rattle.service_machine.specs.Machine.{IsBroughtBy, Records}
 use Rattle.service_machine.specs.Step.{step, output_of, Fits}
 use Rattle.service_machine.specs.Replay.{replay, Legal}
 use Rattle.service_tables.specs.Sound.{IsSound}
@@ -65,16 +69,28 @@ pub record Stores (old : History) (event : Event) (new : History) : Type 0 where
   pub appends : new ≡ with_event event (cut_where_due old)
 
 -- What an event does to the disk of a service: each storing that it asks for is one of the disk, and nothing else changes.
-pub record StoresOn {F S : Type 0} (is_honest is_steady : S → Bool) (faults moment : S → ℕ) (left_since : S → ℕ → Image → Type 0) (may_leave : S → Image → Type 0) (old new : ServiceState F S) (event : Event) : Type 0 where
-  pub did : StoresEvent is_honest is_steady faults moment left_since may_leave event old.history.state old.disk new.disk
+pub record StoresOn {F S : Type 0} (folder_honest folder_steady : F → Bool) (folder_faults : F → ℕ) (images : F → List ℕ → Image)
+    (folder_leaves : F → List ℕ → Image → Type 0) (names_made : F → List (List ℕ)) (is_honest is_steady : S → Bool) (faults moment : S → ℕ)
+    (left_since : S → ℕ → Image → Type 0) (may_leave : S → Image → Type 0) (old new : ServiceState F S) (event : Event) : Type 0 where
+  pub did : StoresEvent folder_honest folder_steady folder_faults images folder_leaves names_made is_honest is_steady faults moment left_since may_leave event old.history.state old.disk new.disk
 
--- This request is recorded, after a cut if one is due, with how each storing ended, none of which is a fault if the disk is steady; and
--- this is what was done to the disk.
-pub record StoresRequest (steady : Bool) (stored : Event → Type 0) (old : History) (arrival : Arrival) (new : History) : Type 0 where
+-- This request is recorded, after a cut if one is due, with how its storings ended, of which none is a fault if the disk is steady; it
+-- gives this work; and this is what its storings did to the disk.
+pub record StoresRequest (steady : Bool) (stored : Event → Type 0) (old : History) (arrival : Arrival) (work : Option Work) (new : History) : Type 0 where
   pub fates : List Fate
   pub stores : Stores old (with_fates arrival fates) new
   pub faultless : IsTrue steady → AreFaultless fates
+  pub gives : output.Arrived (record { work = work }) ≡ output_of old.state (with_fates arrival fates)
   pub disk : stored (with_fates arrival fates)
+
+-- The derived key that came is recorded, after a cut if one is due, with how what it asked for ended, of which none is a fault if the disk
+-- is steady; and this is what that did to the disk.
+pub record StoresKey (steady : Bool) (stored : Event → Type 0) (old : History) (brought : BroughtKey) (new : History) : Type 0 where
+  pub came : Derivation
+  pub is : IsBroughtBy brought came
+  pub stores : Stores old (event.Derived came) new
+  pub faultless : IsTrue steady → AreFaultless came.fates
+  pub disk : stored (event.Derived came)
 
 -- The event that came is recorded, after a cut if one is due, and answered as the step answers it; it has no fault if the disk is
 -- steady.
@@ -99,10 +115,11 @@ pub record IsAppended (old : History) (came : Incoming) (answer : Output) (new :
   pub answers : answer ≡ output_of old.state event
   pub appends : new ≡ with_event event old
 
--- the events that `event` takes: a connection joins, or makes a request
+-- the events that `event` takes: a connection joins, asks for something, or brings a derived key
 abbrev pub IsAsked : Incoming → Type 0
 IsAsked incoming.Connect = Unit {0}
 IsAsked (incoming.Arrive arrival) = Unit {0}
+IsAsked (incoming.Derived brought) = Unit {0}
 IsAsked _ = ⊥
 
 -- what a connection that takes is given, by its status

@@ -26,14 +26,20 @@ abbrev pub is_lock_call : Result Call CallFault → Bool
 is_lock_call (Ok (call.Lock objects)) = true
 is_lock_call _ = false
 
+-- whether a call brings a password
+abbrev pub is_answer_call : Result Call CallFault → Bool
+is_answer_call (Ok (call.Answer prompt round password)) = true
+is_answer_call _ = false
+
 -- whether an event may be the last one in which a secret is there: a call of Lock, or a request that asked the disk, which replaced or
--- removed what a file had, or may have
+-- removed what a file had, or may have; or whether a password is there: an answer, and a key with what it was derived from
 abbrev pub may_hide : Event → Bool
-may_hide (event.Arrive came) = is_lock_call came.arrival.request.call || nat_lt 0 (length came.fates)
+may_hide (event.Arrive came) = is_lock_call came.arrival.request.call || (is_answer_call came.arrival.request.call || nat_lt 0 (length came.fates))
+may_hide (event.Derived came) = true
 may_hide _ = false
 
--- a cut is due: the events are many, or cost much, or one may have hidden a secret, so that no event keeps one that was locked, replaced
--- or removed
+-- a cut is due: the events are many, or cost much, or one may have hidden a secret or has a password, so that no event keeps a secret that
+-- was locked, replaced or removed, and a password stays until the next event alone
 abbrev pub is_due : Window → Bool
 is_due window = nat_le most_stored (length window.events) || (nat_le most_cost (cost window.events) || list_any may_hide window.events)
 

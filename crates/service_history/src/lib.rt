@@ -1,12 +1,12 @@
 //! The service with its history: each event that happens is recorded, and the state is at every moment
 //! what the stored events lead to from a base. Once they are many, or cost much, or one of them called
-//! Lock or stored a file, the state becomes the base of a new window and they are dropped. Callers may
-//! rely on these: an event is recorded exactly if it is answered, as its own arguments say, and its
-//! answer is that of the machine's step; a cut is made exactly when one is due; leaving, taking and
-//! going need no memory, since each event makes the room for those that it makes possible; a request
-//! touches only the slots of the files that it stores or removes, and any other event none. An
-//! event takes no longer because of the events that are stored. A cut copies no row: the base
-//! exists for contracts alone.
+//! Lock, brought a password or stored a file, the state becomes the base of a new window and they are
+//! dropped. Callers may rely on these: an event is recorded exactly if it is answered, as its own
+//! arguments say, and its answer is that of the machine's step; a cut is made exactly when one is due;
+//! leaving, taking and going need no memory, since each event makes the room for those that it makes
+//! possible; a request and a derived key touch only the slots of the files that they store or remove,
+//! and any other event none. An event takes no longer because of the events that are stored. A cut
+//! copies no row: the base exists for contracts alone.
 #![tactic(auto)]
 
 mod laws;

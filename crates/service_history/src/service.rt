@@ -9,19 +9,20 @@ ghost use Rattle.service_tables.specs.Sound.{AreSoundContents};
 ghost use Rattle.service_tables.specs.Limits.{IsSpent, most_events};
 ghost use Rattle.service_machine.specs.Fates.{is_steady};
 ghost use Rattle.service_machine.specs.Rows.{rows_of};
+ghost use Rattle.service_machine.specs.Stored.{KeepsDisk, KeepsSlotOrAll};
 ghost use Rattle.service_history.specs.Inside.{IsReady};
 ghost use Rattle.service_machine.specs.Machine.{IsOfNone, IsConnect};
 ghost use Rattle.service_machine.specs.Step.{IsMissing, IsCrowded};
 ghost use Rattle.service_history.specs.Windows.{total};
-ghost use Rattle.service_history.specs.History.{opened_history, IsHistory, Stores, StoresOn, StoresRequest, RecordsOn, IsAsked, given_for, taken_by, left_by, gone_by, told};
+ghost use Rattle.service_history.specs.History.{opened_history, IsHistory, Stores, StoresKey, StoresOn, StoresRequest, RecordsOn, IsAsked, given_for, taken_by, left_by, gone_by, told};
 
 use crate::EventRefused;
 use crate::window::Window;
 use kr_base::{ConnId, Stem};
 use kr_outside::Folder;
-use secret_calls::{Refused, Taken};
+use secret_calls::{Refused, Taken, Work};
 use service_machine::{
-    Arrival, Arrived, Disk, Event, Incoming, JoinRefused, Machine, OpenRefused, Output,
+    Arrival, Arrived, BroughtKey, Disk, Event, Incoming, JoinRefused, Machine, OpenRefused, Output,
 };
 use std::alloc::Global;
 use std::marker::Model;
@@ -48,7 +49,12 @@ impl<F: Folder> Model for Service<F> {
 
     ghost view = { λ s. service_of s.machine s.window };
 
-    ghost invariant = { λ s. IsKept (rows_of s.machine) s.window };
+    ghost use Rattle.service_disk.specs.Making.{AreFree};
+    ghost use Rattle.service_machine.specs.Rows.{disk_of};
+
+    ghost invariant = { λ s. IsKept (rows_of s.machine) s.window
+        × AreFree F.is_honest F.images F.may_leave F.made F.Cell.is_honest F.Cell.may_leave
+        (disk_of s.machine) };
 }
 
 impl<F: Folder> Service<F> {
@@ -125,17 +131,20 @@ impl<F: Folder> Service<F> {
         Ok(conn)
     }
 
-    /// Records a request of a connection, and how each storing or removal of a file that it led to
-    /// ended. A cut that is due is made first, as in `join`.
+    /// Records that a connection asks for something, and how each file that it stored or removed ended. A
+    /// cut that is due is made first, as in `join`. Returns the key that is to be derived, if the request is
+    /// an answer that was taken.
     ///
     /// Refused with `EventsSpent` if all events that can be counted are recorded, then with `Gone` if
     /// the connection isn't there.
-    pub fn arrive(&mut self, arrival: Arrival) -> Result<(), Refused>
-        ensures stores { OnOk result (StoresRequest
+    pub fn arrive(&mut self, arrival: Arrival) -> Result<Option<Work>, Refused>
+        ensures stores { IfOk result (λ work. StoresRequest
             (is_steady F.is_steady F.Cell.is_steady self.old.disk)
-            (StoresOn F.Cell.is_honest F.Cell.is_steady F.Cell.faults F.Cell.moment
+            (StoresOn F.is_honest F.is_steady F.faults F.images
+            F.may_leave F.made F.Cell.is_honest F.Cell.is_steady
+            F.Cell.faults F.Cell.moment
             F.Cell.left_since F.Cell.may_leave self.old self.new)
-            self.old.history arrival self.new.history) }
+            self.old.history arrival work self.new.history) }
         ensures history { IsHistory self.new.history }
         ensures steady { is_steady F.is_steady F.Cell.is_steady self.new.disk
             ≡ is_steady F.is_steady F.Cell.is_steady self.old.disk }
@@ -153,13 +162,53 @@ impl<F: Folder> Service<F> {
         let Ok(answer) = self.machine.apply(Incoming::Arrive(arrival)) else {
             return Err(Refused::OutOfMemory);
         };
+        let (output, event) = answer;
+        let Output::Arrived(arrived) = output else {
+            unreachable!();
+        };
+        self.window.commit(next, event);
+        Ok(arrived.work)
+    }
+
+    /// Records a key that was derived for a prompt, and what became of the files that it was for. A cut that
+    /// is due is made first, as in `join`.
+    ///
+    /// Refused with `EventsSpent` if all events that can be counted are recorded, then with `Gone` if the
+    /// connection isn't there.
+    pub fn derived(&mut self, brought: BroughtKey) -> Result<(), Refused>
+        ensures stores { OnOk result (StoresKey
+            (is_steady F.is_steady F.Cell.is_steady self.old.disk)
+            (StoresOn F.is_honest F.is_steady F.faults F.images
+            F.may_leave F.made F.Cell.is_honest F.Cell.is_steady F.Cell.faults F.Cell.moment
+            F.Cell.left_since F.Cell.may_leave self.old self.new)
+            self.old.history brought self.new.history) }
+        ensures history { IsHistory self.new.history }
+        ensures steady { is_steady F.is_steady F.Cell.is_steady self.new.disk
+            ≡ is_steady F.is_steady F.Cell.is_steady self.old.disk }
+
+        // Each refusal has its cause, and the first in order is returned; nothing has changed then, but a slot
+        // that was made for a collection is kept.
+        ensures spent { IsErrOf result Refused.EventsSpent
+            → IsSpent (total self.old.history.window) }
+        ensures not_spent { result ≢ Err Refused.EventsSpent
+            → ¬ IsSpent (total self.old.history.window) }
+        ensures gone { IsErrOf result Refused.Gone → IsMissing brought.conn self.old.history.state }
+        ensures unchanged { OnErr result (self.new.history ≡ self.old.history) }
+        ensures kept { OnErr result (KeepsSlotOrAll F.is_honest F.is_steady F.faults F.images
+            F.may_leave F.made F.Cell.is_honest F.Cell.is_steady F.Cell.faults
+            self.old.disk self.new.disk) }
+    {
+        let next = admitted(&self.machine, &mut self.window, brought.conn)?;
+        let Ok(answer) = self.machine.apply(Incoming::Derived(brought)) else {
+            return Err(Refused::OutOfMemory);
+        };
         let (_, event) = answer;
         self.window.commit(next, event);
         Ok(())
     }
 
-    /// Records an event, a connection that joins or makes a request, and returns its answer: `join`
-    /// and `arrive` for a caller that has the event as a value.
+    /// Records an event, a connection that joins, asks or brings a derived key, and returns its answer:
+    /// `join`, `arrive` and `derived` for a caller that has the event as a value.
     ///
     /// Refused with `EventsSpent` if all events that can be counted are recorded, then with
     /// `NoConnection` if the connection isn't there, and `TooManyConnections` if 256 are there or no
@@ -169,7 +218,9 @@ impl<F: Folder> Service<F> {
 
         ensures recorded { IfOk result (λ answer.
             RecordsOn (is_steady F.is_steady F.Cell.is_steady self.old.disk)
-            (StoresOn F.Cell.is_honest F.Cell.is_steady F.Cell.faults F.Cell.moment
+            (StoresOn F.is_honest F.is_steady F.faults F.images
+            F.may_leave F.made F.Cell.is_honest F.Cell.is_steady
+            F.Cell.faults F.Cell.moment
             F.Cell.left_since F.Cell.may_leave self.old self.new)
             self.old.history event answer self.new.history) }
         ensures history { IsHistory self.new.history }
@@ -187,13 +238,19 @@ impl<F: Folder> Service<F> {
         ensures crowded { IsErrOf result EventRefused.TooManyConnections
             → IsCrowded self.old.history.state }
         ensures unchanged { OnErr result (self.new.history ≡ self.old.history) }
-        ensures disk { OnErr result (self.new.disk ≡ self.old.disk) }
+        ensures kept { OnErr result (KeepsDisk F.is_honest F.is_steady F.faults F.images
+            F.may_leave F.made F.Cell.is_honest F.Cell.is_steady F.Cell.faults event
+            self.old.disk self.new.disk) }
     {
         match event {
             Incoming::Connect => Ok(Output::Joined(self.join()?)),
             Incoming::Arrive(arrival) => {
-                self.arrive(arrival)?;
-                Ok(Output::Arrived(Arrived {}))
+                let work = self.arrive(arrival)?;
+                Ok(Output::Arrived(Arrived { work }))
+            }
+            Incoming::Derived(brought) => {
+                self.derived(brought)?;
+                Ok(Output::Derived)
             }
             _ => unreachable!(),
         }

@@ -20,7 +20,7 @@ const MOST_EVENTS: usize = 65_536;
 /// With stored events of this cost a cut is due.
 const MOST_COST: u64 = 268_435_456;
 
-/// What a stored event costs besides the bytes of its request.
+/// What a stored event costs besides the bytes of its request, or of its password.
 const EVENT_COST: u64 = 64;
 
 /// Room for an event and for all that 256 connections may bring without memory: three for each.
@@ -58,19 +58,25 @@ fn cost_of(event: &Event) -> u64
 {
     match event {
         Event::Arrive(came) => EVENT_COST + came.arrival.request.length as u64,
+        Event::Derived(came) => EVENT_COST + came.password.as_slice().len() as u64,
         _ => EVENT_COST,
     }
 }
 
-// Whether a stored event is a call of Lock, or stored or removed a file.
+// Whether a stored event is a call of Lock, stored or removed a file, or has a password.
 fn may_hide(event: &Event) -> bool
     ensures { result ≡ may_hide event.now }
 {
     match event {
         Event::Arrive(came) => {
-            let locks = matches!(&came.arrival.request.call, Ok(Call::Lock { objects: _ }));
-            locks || came.fates.len() > 0
+            let hides = match &came.arrival.request.call {
+                Ok(Call::Lock { .. }) => true,
+                Ok(Call::Answer { .. }) => true,
+                _ => false,
+            };
+            hides || came.fates.len() > 0
         }
+        Event::Derived(_) => true,
         _ => false,
     }
 }

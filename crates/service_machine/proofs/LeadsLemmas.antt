@@ -28,6 +28,7 @@ use Rattle.service_tables.specs.State.{State}
 use Rattle.service_tables.specs.Targets.{are_light}
 use Rattle.service_tables.specs.Storing.{Brought, Edit, IsResolve}
 use Rattle.service_machine.specs.declared.event.Arrival.{Arrival}
+use Rattle.service_machine.specs.declared.event.Output.TheVariants as output
 use Rattle.service_machine.specs.declared.storing.Done.{Done}
 use Rattle.service_machine.specs.AliasCalls.{alias_stored, once_read}
 use Rattle.service_machine.specs.CollectionCalls.{by_fate, storing}
@@ -36,7 +37,7 @@ use Rattle.service_machine.specs.Run.{AreFates, AreNone, IsFateOf, Ran, asked, d
 use Rattle.service_machine.specs.PromptCalls.{are_none}
 use Rattle.service_machine.specs.ServiceCalls.{is_small, unlocking, with_new_prompt}
 use Rattle.service_machine.specs.Fates.{with_fates}
-use Rattle.service_machine.specs.Step.{Fits, HasTypes, IsSalt, brought_by, plan_of, replies, row_of, step, with_delivered}
+use Rattle.service_machine.specs.Step.{Fits, HasTypes, IsSalt, brought_by, output_of, plan_of, replies, row_of, step, with_delivered, work_of}
 use Rattle.service_machine.specs.Stored.{HasRoomToReply, IsPlain, Leads, StoresDemand, StoresEvent, StoresOf, answer_by, fates_in, fates_of}
 use Rattle.service_machine.proofs.RunLemmas.{ends-silently, no-fates, no-storing, plain-row, silent-led}
 
@@ -47,11 +48,11 @@ answered-led : (caller : ConnId) (brought : Brought) (body : Body) (changes : Li
 answered-led caller brought body [] state small = (ap (λ b. cond b (Ok body) (Err name.LimitsExceeded)) (le-leb (length (spelled_body body)) most_body small), refl, refl)
 answered-led caller brought body (change ∷ changes) state small = (refl, refl, refl)
 
-module _ {F S : Type 0} (is_honest is_steady : S → Bool) (faults moment : S → ℕ) (left_since : S → ℕ → Image → Type 0) (may_leave : S → Image → Type 0) (caller : ConnId) (brought : Brought)
+module _ {F S : Type 0} (folder_honest folder_steady : F → Bool) (folder_faults : F → ℕ) (images : F → List ℕ → Image) (folder_leaves : F → List ℕ → Image → Type 0) (names_made : F → List (List ℕ)) (is_honest is_steady : S → Bool) (faults moment : S → ℕ) (left_since : S → ℕ → Image → Type 0) (may_leave : S → Image → Type 0) (caller : ConnId) (brought : Brought)
     (before after : State) (old new : DiskState F S) where
   -- what a plan leads to
   abbrev To : Plan → Done → Type 0
-  To plan done = Leads is_honest is_steady faults moment left_since may_leave caller brought plan before after old new done
+  To plan done = Leads folder_honest folder_steady folder_faults images folder_leaves names_made is_honest is_steady faults moment left_since may_leave caller brought plan before after old new done
 
   -- one plan is another
   pub leads-as : (plan other : Plan) (done : Done) → plan ≡ other → To other done → To plan done
@@ -67,7 +68,7 @@ module _ {F S : Type 0} (is_honest is_steady : S → Bool) (faults moment : S �
 
   -- one that asks for a storing is answered by how that ended
   pub leads-asked : (demand : Demand) (body : Body) (some : Fate) → IsFateOf demand some → after ≡ demanded brought demand some before
-      → StoresDemand is_honest is_steady faults moment left_since may_leave demand some (contents_of before) (contents_of (demanded brought demand some before)) old new
+      → StoresDemand folder_honest folder_steady folder_faults images folder_leaves names_made is_honest is_steady faults moment left_since may_leave demand some (contents_of before) (contents_of (demanded brought demand some before)) old new
       → To (Asks demand (by_fate body)) (record { answer = answer_by body some; sends = []; read = None; fate = Some some })
   leads-asked demand body fate.Stored kind state at = record { answer = refl; state = state; sends = refl; fates = (kind, tt); disk = (new, at, refl) }
   leads-asked demand body fate.Before kind state at = record { answer = refl; state = state; sends = refl; fates = (kind, tt); disk = (new, at, refl) }
@@ -89,7 +90,7 @@ module _ {F S : Type 0} (is_honest is_steady : S → Bool) (faults moment : S �
         state = state;
         sends = sym (silent-led caller brought plan [] before silent);
         fates = no-fates caller brought plan before quiet;
-        disk = no-storing is_honest is_steady faults moment left_since may_leave caller brought plan before old new quiet disk;
+        disk = no-storing folder_honest folder_steady folder_faults images folder_leaves names_made is_honest is_steady faults moment left_since may_leave caller brought plan before old new quiet disk;
       }
 
   -- a call that changes something, and sends what its changes send
@@ -109,7 +110,7 @@ module _ {F S : Type 0} (is_honest is_steady : S → Bool) (faults moment : S �
 
 -- ---- an alias that is set
 
-module _ {F S : Type 0} (is_honest is_steady : S → Bool) (faults moment : S → ℕ) (left_since : S → ℕ → Image → Type 0) (may_leave : S → Image → Type 0) (caller : ConnId) (brought : Brought)
+module _ {F S : Type 0} (folder_honest folder_steady : F → Bool) (folder_faults : F → ℕ) (images : F → List ℕ → Image) (folder_leaves : F → List ℕ → Image → Type 0) (names_made : F → List (List ℕ)) (is_honest is_steady : S → Bool) (faults moment : S → ℕ) (left_since : S → ℕ → Image → Type 0) (may_leave : S → Image → Type 0) (caller : ConnId) (brought : Brought)
     (alias : List ℕ) (stem : Option (List ℕ)) (before after : State) (old mid new : DiskState F S) where
   -- what the resolve of the file in doubt leads to
   abbrev resolved : Fate → State
@@ -130,14 +131,14 @@ module _ {F S : Type 0} (is_honest is_steady : S → Bool) (faults moment : S �
 
   -- the file was read again, and the alias was stored, or there would have been too many
   module _ (read : Fate) (done : Done) (none : done.read ≡ None)
-      (stores : StoresDemand is_honest is_steady faults moment left_since may_leave Read_aliases read (contents_of before) (contents_of (resolved read)) old mid)
-      (leads : Leads is_honest is_steady faults moment left_since may_leave caller brought (alias_stored alias stem (asked caller brought (resolved read))) (resolved read) after mid new done) where
+      (stores : StoresDemand folder_honest folder_steady folder_faults images folder_leaves names_made is_honest is_steady faults moment left_since may_leave Read_aliases read (contents_of before) (contents_of (resolved read)) old mid)
+      (leads : Leads folder_honest folder_steady folder_faults images folder_leaves names_made is_honest is_steady faults moment left_since may_leave caller brought (alias_stored alias stem (asked caller brought (resolved read))) (resolved read) after mid new done) where
     only : fates_in done ≡ fates_of done.fate
     only = ap (λ r. fates_of r ++ fates_of done.fate) none
 
     -- if what was found goes on so
     found-leads : once_read (alias_stored alias stem) read ≡ After [] (alias_stored alias stem) → IsResolve read
-        → Leads is_honest is_steady faults moment left_since may_leave caller brought (Asks Read_aliases (once_read (alias_stored alias stem))) before after old new
+        → Leads folder_honest folder_steady folder_faults images folder_leaves names_made is_honest is_steady faults moment left_since may_leave caller brought (Asks Read_aliases (once_read (alias_stored alias stem))) before after old new
         (record { answer = done.answer; sends = done.sends; read = Some read; fate = done.fate })
     found-leads goes kind =
         let plan = alias_stored alias stem (asked caller brought (resolved read)) in
@@ -157,15 +158,15 @@ module _ {F S : Type 0} (is_honest is_steady : S → Bool) (faults moment : S �
           disk = (
             mid,
             stores,
-            subst (λ p. StoresOf is_honest is_steady faults moment left_since may_leave caller brought p (fates_of done.fate) (resolved read) mid new) (sym goes)
-                (subst (λ f. StoresOf is_honest is_steady faults moment left_since may_leave caller brought plan f (resolved read) mid new) only leads.disk),
+            subst (λ p. StoresOf folder_honest folder_steady folder_faults images folder_leaves names_made is_honest is_steady faults moment left_since may_leave caller brought p (fates_of done.fate) (resolved read) mid new) (sym goes)
+                (subst (λ f. StoresOf folder_honest folder_steady folder_faults images folder_leaves names_made is_honest is_steady faults moment left_since may_leave caller brought plan f (resolved read) mid new) only leads.disk),
           );
         }
 
   pub leads-read : (read : Fate) (done : Done) → done.read ≡ None → IsResolve read → (IsFault read → ⊥)
-      → StoresDemand is_honest is_steady faults moment left_since may_leave Read_aliases read (contents_of before) (contents_of (resolved read)) old mid
-      → Leads is_honest is_steady faults moment left_since may_leave caller brought (alias_stored alias stem (asked caller brought (resolved read))) (resolved read) after mid new done
-      → Leads is_honest is_steady faults moment left_since may_leave caller brought (Asks Read_aliases (once_read (alias_stored alias stem))) before after old new
+      → StoresDemand folder_honest folder_steady folder_faults images folder_leaves names_made is_honest is_steady faults moment left_since may_leave Read_aliases read (contents_of before) (contents_of (resolved read)) old mid
+      → Leads folder_honest folder_steady folder_faults images folder_leaves names_made is_honest is_steady faults moment left_since may_leave caller brought (alias_stored alias stem (asked caller brought (resolved read))) (resolved read) after mid new done
+      → Leads folder_honest folder_steady folder_faults images folder_leaves names_made is_honest is_steady faults moment left_since may_leave caller brought (Asks Read_aliases (once_read (alias_stored alias stem))) before after old new
       (record { answer = done.answer; sends = done.sends; read = Some read; fate = done.fate })
   leads-read fate.Stored done none kind well stores leads = absurd kind
   leads-read fate.Before done none kind well stores leads = absurd kind
@@ -177,8 +178,8 @@ module _ {F S : Type 0} (is_honest is_steady : S → Bool) (faults moment : S �
 
   -- the file couldn't be read
   pub leads-unread : (read : Fate) → read ≡ fate.ReadFailed → after ≡ resolved read
-      → StoresDemand is_honest is_steady faults moment left_since may_leave Read_aliases read (contents_of before) (contents_of (resolved read)) old new
-      → Leads is_honest is_steady faults moment left_since may_leave caller brought (Asks Read_aliases (once_read (alias_stored alias stem))) before after old new
+      → StoresDemand folder_honest folder_steady folder_faults images folder_leaves names_made is_honest is_steady faults moment left_since may_leave Read_aliases read (contents_of before) (contents_of (resolved read)) old new
+      → Leads folder_honest folder_steady folder_faults images folder_leaves names_made is_honest is_steady faults moment left_since may_leave caller brought (Asks Read_aliases (once_read (alias_stored alias stem))) before after old new
       (record { answer = Err name.IOError; sends = []; read = Some read; fate = None })
   leads-unread read is state stores =
       let goes : once_read (alias_stored alias stem) read ≡ refused name.IOError = ap (once_read (alias_stored alias stem)) is in
@@ -187,7 +188,7 @@ module _ {F S : Type 0} (is_honest is_steady : S → Bool) (faults moment : S �
         state = state ∙ sym (ap (λ p. (run caller brought p [] (resolved read)).state) goes);
         sends = sym (ap (λ p. (run caller brought p [] (resolved read)).sends) goes);
         fates = (subst IsResolve (sym is) tt, subst (λ p. AreFates caller brought p [] (resolved read)) (sym goes) tt);
-        disk = (new, stores, subst (λ p. StoresOf is_honest is_steady faults moment left_since may_leave caller brought p [] (resolved read) new new) (sym goes) refl);
+        disk = (new, stores, subst (λ p. StoresOf folder_honest folder_steady folder_faults images folder_leaves names_made is_honest is_steady faults moment left_since may_leave caller brought p [] (resolved read) new new) (sym goes) refl);
       }
 
 -- ---- room for what is sent
@@ -220,11 +221,11 @@ room-after caller reply sends rooms room conn =
 
 -- ---- a request whose call was performed, and whose reply waits
 
-module _ {F S : Type 0} (is_honest is_steady : S → Bool) (faults moment : S → ℕ) (left_since : S → ℕ → Image → Type 0) (may_leave : S → Image → Type 0) (arrival : Arrival) (done : Done)
+module _ {F S : Type 0} (folder_honest folder_steady : F → Bool) (folder_faults : F → ℕ) (images : F → List ℕ → Image) (folder_leaves : F → List ℕ → Image → Type 0) (names_made : F → List (List ℕ)) (is_honest is_steady : S → Bool) (faults moment : S → ℕ) (left_since : S → ℕ → Image → Type 0) (may_leave : S → Image → Type 0) (arrival : Arrival) (done : Done)
     (old before after final : State) (disk disk' : DiskState F S) (same : before ≡ old) where
   -- what its call led to, in a state
   abbrev Led : State → Type 0
-  Led state = Leads is_honest is_steady faults moment left_since may_leave arrival.conn (brought_by arrival) (plan_of arrival.salt arrival.request.call (asked arrival.conn (brought_by arrival) state)) state after disk disk' done
+  Led state = Leads folder_honest folder_steady folder_faults images folder_leaves names_made is_honest is_steady faults moment left_since may_leave arrival.conn (brought_by arrival) (plan_of arrival.salt arrival.request.call (asked arrival.conn (brought_by arrival) state)) state after disk disk' done
 
   from-old : Led before → Led old
   from-old leads = subst Led same leads
@@ -234,10 +235,16 @@ module _ {F S : Type 0} (is_honest is_steady : S → Bool) (faults moment : S �
       let led_old = from-old leads in
       replied ∙ (λ i. with_delivered (replies arrival.conn arrival.request (led_old.answer i) ++ led_old.sends i) (led_old.state i))
 
+  -- the key that is to be derived, by what the call answered
+  pub leads-work : Led before → output.Arrived (record { work = work_of arrival.request.call done.answer after }) ≡ output_of old (with_fates arrival (fates_in done))
+  leads-work leads =
+      let led_old = from-old leads in
+      (λ i. output.Arrived (record { work = work_of arrival.request.call (led_old.answer i) (led_old.state i) }))
+
   pub leads-fits : Led before → arrival.now < 2 ^ 64 → IsSalt arrival.salt → HasTypes arrival.request.call → has arrival.conn old.connections.rows ≡ true → Fits old (with_fates arrival (fates_in done))
   leads-fits leads small salt types there = (there, record { moment = small; salt = salt; types = types; fates = (from-old leads).fates })
 
-  pub leads-stores : Led before → StoresEvent is_honest is_steady faults moment left_since may_leave (with_fates arrival (fates_in done)) old disk disk'
+  pub leads-stores : Led before → StoresEvent folder_honest folder_steady folder_faults images folder_leaves names_made is_honest is_steady faults moment left_since may_leave (with_fates arrival (fates_in done)) old disk disk'
   leads-stores leads = (from-old leads).disk
 
 -- ---- what a call returned

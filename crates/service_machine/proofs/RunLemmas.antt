@@ -29,8 +29,8 @@ use Rattle.service_machine.specs.declared.event.Recorded.{Recorded}
 use Rattle.service_machine.specs.AgentCalls.{in_round, unless_refused}
 use Rattle.service_machine.specs.CollectionCalls.{on_collection}
 use Rattle.service_machine.specs.ItemCalls.{secret_if_open}
-use Rattle.service_machine.specs.Plan.{Change, Open_session, Close_session, Lock_collection, Begin_prompt, Ask_prompt, Finish_target, Drop_target, End_prompt, Become_agent, Leave_agent, Plan, Ends, After, Asks, Questions, Secret_of, given, refused}
-use Rattle.service_machine.specs.Run.{AreFates, AreNone, asked, led, demanded, performed, performed_all, sent_all, sent_by, Ran, run, limited}
+use Rattle.service_machine.specs.Plan.{Change, Open_session, Close_session, Lock_collection, Begin_prompt, Ask_prompt, Derive_key, Count_wrong, Clear_wrong, Go_on, Finish_target, Drop_target, End_prompt, Become_agent, Leave_agent, Plan, Ends, After, Asks, Opens, Questions, Secret_of, given, refused}
+use Rattle.service_machine.specs.Run.{AreFates, AreNone, asked, led, demanded, performed, performed_all, sent_all, sent_by, Ran, run, limited, unlocked_with}
 use Rattle.service_machine.specs.ServiceCalls.{answered_if_small, creating, is_plain, is_small, next_prompt, no_collection, there_already, unlocking, with_new_prompt}
 use Rattle.service_machine.specs.SessionCalls.{with_session}
 use Rattle.service_machine.specs.Step.{brought_by, plan_of, row_of, served}
@@ -43,6 +43,10 @@ connections-performed caller (Close_session session) state = refl
 connections-performed caller (Lock_collection stem) state = refl
 connections-performed caller (Begin_prompt kind) state = refl
 connections-performed caller (Ask_prompt prompt) state = refl
+connections-performed caller (Derive_key prompt round) state = refl
+connections-performed caller (Count_wrong prompt) state = refl
+connections-performed caller (Clear_wrong prompt) state = refl
+connections-performed caller (Go_on prompt) state = refl
 connections-performed caller (Finish_target prompt) state = refl
 connections-performed caller (Drop_target prompt) state = refl
 connections-performed caller (End_prompt prompt dismissed created) state = refl
@@ -59,6 +63,7 @@ connections-run caller brought (After changes next) fates state =
     connections-run caller brought (next (asked caller brought (performed_all caller changes state))) fates (performed_all caller changes state) ∙ connections-all caller changes state
 connections-run caller brought (Asks demand next) [] state = refl
 connections-run caller brought (Asks demand next) (fate ∷ fates) state = connections-run caller brought (next fate) fates (demanded brought demand fate state)
+connections-run caller brought (Opens stem terms next) fates state = connections-run caller brought next fates (unlocked_with brought stem terms state)
 
 -- a limit changes no more than the answer
 pub state-limited : (plan : Plan) (ran : Ran) → (limited plan ran).state ≡ ran.state
@@ -66,12 +71,14 @@ state-limited (Ends answer []) ran = refl
 state-limited (Ends answer (change ∷ changes)) ran = refl
 state-limited (After changes next) ran = refl
 state-limited (Asks demand next) ran = refl
+state-limited (Opens stem terms next) ran = refl
 
 pub sends-limited : (plan : Plan) (ran : Ran) → (limited plan ran).sends ≡ ran.sends
 sends-limited (Ends answer []) ran = refl
 sends-limited (Ends answer (change ∷ changes)) ran = refl
 sends-limited (After changes next) ran = refl
 sends-limited (Asks demand next) ran = refl
+sends-limited (Opens stem terms next) ran = refl
 
 -- the plan of a request, in a state
 abbrev pub plan_for : Recorded → State → Plan
@@ -91,6 +98,10 @@ IsSilent (Close_session session) = Unit {0}
 IsSilent (Lock_collection stem) = Unit {0}
 IsSilent (Begin_prompt kind) = Unit {0}
 IsSilent (Ask_prompt prompt) = ⊥
+IsSilent (Derive_key prompt round) = Unit {0}
+IsSilent (Count_wrong prompt) = Unit {0}
+IsSilent (Clear_wrong prompt) = Unit {0}
+IsSilent (Go_on prompt) = ⊥
 IsSilent (Finish_target prompt) = Unit {0}
 IsSilent (Drop_target prompt) = Unit {0}
 IsSilent (End_prompt prompt dismissed created) = ⊥
@@ -107,6 +118,10 @@ silent-one caller (Close_session session) state silent = refl
 silent-one caller (Lock_collection stem) state silent = refl
 silent-one caller (Begin_prompt kind) state silent = refl
 silent-one caller (Ask_prompt prompt) state silent = absurd silent
+silent-one caller (Derive_key prompt round) state silent = refl
+silent-one caller (Count_wrong prompt) state silent = refl
+silent-one caller (Clear_wrong prompt) state silent = refl
+silent-one caller (Go_on prompt) state silent = absurd silent
 silent-one caller (Finish_target prompt) state silent = refl
 silent-one caller (Drop_target prompt) state silent = refl
 silent-one caller (End_prompt prompt dismissed created) state silent = absurd silent
@@ -131,17 +146,20 @@ abbrev pub EndsAtOnce : Plan → Type 0
 EndsAtOnce (Ends answer changes) = Unit {0}
 EndsAtOnce (After changes next) = ⊥
 EndsAtOnce (Asks demand next) = ⊥
+EndsAtOnce (Opens stem terms next) = ⊥
 
 -- it has no fates
 pub no-fates : (caller : ConnId) (brought : Brought) (plan : Plan) (state : State) → EndsAtOnce plan → AreFates caller brought plan [] state
 no-fates caller brought (Ends answer changes) state quiet = tt
 no-fates caller brought (After changes next) state quiet = absurd quiet
 no-fates caller brought (Asks demand next) state quiet = absurd quiet
+no-fates caller brought (Opens stem terms next) state quiet = absurd quiet
 
 pub fates-none : (caller : ConnId) (brought : Brought) (plan : Plan) (fates : List Fate) (state : State) → EndsAtOnce plan → AreFates caller brought plan fates state → AreNone fates
 fates-none caller brought (Ends answer changes) fates state quiet are = are
 fates-none caller brought (After changes next) fates state quiet are = absurd quiet
 fates-none caller brought (Asks demand next) fates state quiet are = absurd quiet
+fates-none caller brought (Opens stem terms next) fates state quiet are = absurd quiet
 
 -- it leads to the same whatever the request brings
 pub ended-alike : (caller : ConnId) (one other : Brought) (plan : Plan) (fates : List Fate) (state : State) → EndsAtOnce plan → led caller one plan fates state ≡ led caller other plan fates state
@@ -149,14 +167,16 @@ ended-alike caller one other (Ends answer []) fates state quiet = refl
 ended-alike caller one other (Ends answer (change ∷ changes)) fates state quiet = refl
 ended-alike caller one other (After changes next) fates state quiet = absurd quiet
 ended-alike caller one other (Asks demand next) fates state quiet = absurd quiet
+ended-alike caller one other (Opens stem terms next) fates state quiet = absurd quiet
 
 -- and leaves the disk alone
-module _ {F S : Type 0} (is_honest is_steady : S → Bool) (faults moment : S → ℕ) (left_since : S → ℕ → Image → Type 0) (may_leave : S → Image → Type 0) where
+module _ {F S : Type 0} (folder_honest folder_steady : F → Bool) (folder_faults : F → ℕ) (images : F → List ℕ → Image) (folder_leaves : F → List ℕ → Image → Type 0) (names_made : F → List (List ℕ)) (is_honest is_steady : S → Bool) (faults moment : S → ℕ) (left_since : S → ℕ → Image → Type 0) (may_leave : S → Image → Type 0) where
   pub no-storing : (caller : ConnId) (brought : Brought) (plan : Plan) (state : State) (old new : DiskState F S) → EndsAtOnce plan → new ≡ old
-      → StoresOf is_honest is_steady faults moment left_since may_leave caller brought plan [] state old new
+      → StoresOf folder_honest folder_steady folder_faults images folder_leaves names_made is_honest is_steady faults moment left_since may_leave caller brought plan [] state old new
   no-storing caller brought (Ends answer changes) state old new quiet same = same
   no-storing caller brought (After changes next) state old new quiet same = absurd quiet
   no-storing caller brought (Asks demand next) state old new quiet same = absurd quiet
+  no-storing caller brought (Opens stem terms next) state old new quiet same = absurd quiet
 
 -- ---- the rows of the table of calls that ask for no storing
 
@@ -220,6 +240,7 @@ quiet-row salt (Ok (call.Prompt prompt)) asked nothing = quiet-if (asked.prompts
 quiet-row salt (Ok (call.Dismiss prompt)) asked nothing = quiet-if (asked.prompts.owns prompt) _ (refused name.NoSuchObject) tt tt
 quiet-row salt (Ok call.Register) asked nothing = quiet-if asked.prompts.is_taken (refused name.AgentTaken) _ tt tt
 quiet-row salt (Ok call.Unregister) asked nothing = quiet-if asked.prompts.is_agent _ (refused name.AccessDenied) tt tt
+quiet-row salt (Ok (call.Answer prompt round password)) asked nothing = absurd nothing
 quiet-row salt (Ok (call.Refuse prompt round)) asked nothing = quiet-round prompt round asked _ (λ it. tt)
 quiet-row salt _ asked nothing = tt
 
@@ -229,11 +250,13 @@ abbrev pub EndsSilently : Plan → Type 0
 EndsSilently (Ends answer changes) = AreSilent changes
 EndsSilently (After changes next) = ⊥
 EndsSilently (Asks demand next) = ⊥
+EndsSilently (Opens stem terms next) = ⊥
 
 pub ends-silently : (plan : Plan) → EndsSilently plan → EndsAtOnce plan
 ends-silently (Ends answer changes) silent = tt
 ends-silently (After changes next) silent = absurd silent
 ends-silently (Asks demand next) silent = absurd silent
+ends-silently (Opens stem terms next) silent = absurd silent
 
 -- such a plan sends nothing
 pub silent-led : (caller : ConnId) (brought : Brought) (plan : Plan) (fates : List Fate) (state : State) → EndsSilently plan → (led caller brought plan fates state).sends ≡ []
@@ -241,6 +264,7 @@ silent-led caller brought (Ends answer []) fates state silent = refl
 silent-led caller brought (Ends answer (change ∷ changes)) fates state silent = silent-all caller (change ∷ changes) state silent
 silent-led caller brought (After changes next) fates state silent = absurd silent
 silent-led caller brought (Asks demand next) fates state silent = absurd silent
+silent-led caller brought (Opens stem terms next) fates state silent = absurd silent
 
 plain-if : (b : Bool) (one other : Plan) → EndsSilently one → EndsSilently other → EndsSilently (cond b one other)
 plain-if true one other first second = first
@@ -277,5 +301,6 @@ plain-row salt (call.Prompt prompt) asked plain = absurd plain
 plain-row salt (call.Dismiss prompt) asked plain = absurd plain
 plain-row salt call.Register asked plain = absurd plain
 plain-row salt call.Unregister asked plain = absurd plain
+plain-row salt (call.Answer prompt round password) asked plain = absurd plain
 plain-row salt (call.Refuse prompt round) asked plain = absurd plain
 plain-row salt _ asked plain = tt

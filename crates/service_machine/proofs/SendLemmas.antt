@@ -28,7 +28,7 @@ end-sends conn prompt state row is =
     ap (λ (o : Option PromptRow). cons_option (option_map (λ (r : PromptRow). completed_signal false None (ended_row r)) o) [] ++ []) is
 
 -- a prompt that is asked
-ask-sends : (conn : ConnId) (prompt : PromptId) (state : State) (row : PromptRow) → row_at prompt state.prompts ≡ Some row
+pub ask-sends : (conn : ConnId) (prompt : PromptId) (state : State) (row : PromptRow) → row_at prompt state.prompts ≡ Some row
     → sent_all conn (Ask_prompt prompt ∷ []) state ≡ asks_for state.collections row row.kind state.prompts.agent
 ask-sends conn prompt state row is =
     let round = next_round (row_at prompt state.prompts) in

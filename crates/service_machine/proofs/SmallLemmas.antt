@@ -1,5 +1,5 @@
 -- No reply is too large to wait for a connection for which nothing waits, whatever the state is.
-use Rattle.std.proofs.Common.{◌≡◌, ℕ, ◌^◌, ◌<◌, ◌≤◌, Bool, true, false, ◌||◌, nat_le, cond, List, [], ◌∷◌, filter, length, Option, Some, None, Result, Ok, Err, refl, arith}
+use Rattle.std.proofs.Common.{◌≡◌, ℕ, ◌^◌, ◌<◌, ◌≤◌, Bool, true, false, ◌||◌, nat_eq, nat_le, cond, List, [], ◌∷◌, filter, length, Option, Some, None, Result, Ok, Err, refl, arith}
 use Rattle.std.proofs.lemmas.Bool.{leb-false, leb-true}
 use Rattle.std.specs.Option.{option_and_then, option_map_or}
 use Rattle.kr_base.specs.declared.attributes.AttrValue.{AttrValue}
@@ -7,16 +7,18 @@ use Rattle.kr_base.specs.declared.ids.ConnId.{ConnId}
 use Rattle.kr_base.specs.declared.ids.ItemId.{ItemId}
 use Rattle.kr_base.specs.declared.ids.PromptId.{PromptId}
 use Rattle.kr_base.specs.declared.ids.SessionId.{SessionId}
-use Rattle.collection_table.specs.Rows.{has_item, is_open}
+use Rattle.collection_table.specs.Rows.{has, has_item, is_open}
 use Rattle.dbus_marshal.specs.Wire.{number_bytes}
 use Rattle.folder_store.specs.Limits.{the_limits}
 use Rattle.prompt_state.specs.Prompts as prompts
-use Rattle.prompt_state.specs.Prompts.{is_agent, is_taken, refusal, row_at}
+use Rattle.prompt_state.specs.Prompts.{is_agent, is_taken, last_round, refusal, row_at}
 use Rattle.prompt_state.specs.Targets.{all_left}
 use Rattle.prompt_state.specs.declared.row.PromptKind.{PromptKind}
+use Rattle.prompt_state.specs.declared.row.PromptRow.{PromptRow}
 use Rattle.prompt_state.specs.declared.row.PromptKind.TheVariants as kind
 use Rattle.prompt_state.specs.declared.table.PromptRefused.{PromptRefused}
 use Rattle.prompt_state.specs.declared.targets.Target.{Target}
+use Rattle.service_disk.specs.Resolving.{is_doubtful}
 use Rattle.service_prompts.specs.Unlocking.{targets_of, unlocked_there}
 use Rattle.service_tables.specs.Targets.{are_light}
 use Rattle.secret_calls.specs.declared.call.Call.{Call}
@@ -31,8 +33,9 @@ use Rattle.secret_calls.specs.Outs.{spelled_body, most_waiting}
 use Rattle.secret_calls.proofs.SizeLemmas.{error-short, return-waits, session-short}
 use Rattle.session_table.specs.Sessions.{rows_of, is_full, owns, most_sessions, last_session}
 use Rattle.service_machine.specs.declared.event.Recorded.{Recorded}
-use Rattle.service_machine.specs.AgentCalls.{refuse, unless_refused}
+use Rattle.service_machine.specs.AgentCalls.{in_round, unless_refused}
 use Rattle.service_machine.specs.AliasCalls.{alias_settled, alias_stored, on_target, once_read}
+use Rattle.service_machine.specs.AnswerCalls.{deriving_key, going_on, kind_answered, left_answered, row_answered, target_answered}
 use Rattle.service_machine.specs.CollectionCalls.{by_fate, if_open, made, no_prompt, on_collection, secret_stored, storing, storing_secret}
 use Rattle.service_tables.specs.Connections.{size_of}
 use Rattle.service_machine.specs.ItemCalls.{get_secret, secret_if_open}
@@ -43,7 +46,7 @@ use Rattle.service_tables.specs.Reading.{asked_collections}
 use Rattle.service_tables.specs.Storing.{Brought, Edit, Add_item, Set_secret, Remove_item, storable_edit}
 use Rattle.service_tables.specs.declared.fate.Fate.{Fate}
 use Rattle.service_tables.specs.declared.fate.Fate.TheVariants as fate
-use Rattle.service_machine.specs.Plan.{Change, Open_session, Close_session, Become_agent, Begin_prompt, End_prompt, Leave_agent, Demand, Store, Erase, Set_alias, Read_aliases, Secret_of, Plan, Ends, After, Asks, refused, answered, given}
+use Rattle.service_machine.specs.Plan.{Change, Open_session, Close_session, Become_agent, Begin_prompt, End_prompt, Leave_agent, Demand, Store, Erase, Set_alias, Read_aliases, Read_collection, Secret_of, Plan, Ends, After, Asks, Opens, refused, answered, given}
 use Rattle.service_machine.specs.PromptCalls.{first_advance}
 use Rattle.service_machine.specs.Run.{asked, demanded, filled, led, run, bounded}
 use Rattle.service_machine.specs.ServiceCalls.{answered_if_small, creating, is_plain, is_small, locks, next_prompt, no_collection, there_already, unlocking, with_new_prompt}
@@ -79,6 +82,7 @@ module _ (caller : ConnId) (brought : Brought) (fates : List Fate) where
   small-limited (Ends answer (change ∷ changes)) state small = small
   small-limited (After changes next) state small = small
   small-limited (Asks demand next) state small = small
+  small-limited (Opens stem terms next) state small = small
 
   -- ---- the table of calls
 
@@ -243,12 +247,56 @@ module _ (caller : ConnId) (brought : Brought) (fates : List Fate) where
   unless-small state None plan small = small
   unless-small state (Some why) plan small = tt
 
-  round-small : (prompt : Option PromptId) (round : ℕ) (state : State) → StaysSmall (refuse prompt round (asked caller brought state)) state
-  round-small None round state =
+  round-small : (prompt : Option PromptId) (round : ℕ) (state : State) (next : PromptId → Plan) → ((it : PromptId) → StaysSmall (next it) state)
+      → StaysSmall (in_round prompt round (asked caller brought state) next) state
+  round-small None round state next small =
       let pass : (b : Bool) → StaysSmall (cond b (refused name.NoSuchObject) (refused name.AccessDenied)) state = elim [ true ↦ tt | false ↦ tt ] in
       pass (is_agent caller state.prompts)
-  round-small (Some prompt) round state =
-      unless-small state (refusal prompt round caller state.prompts) (answered body.Empty (End_prompt prompt true None ∷ [])) (empty-stays (End_prompt prompt true None ∷ []) state)
+  round-small (Some prompt) round state next small = unless-small state (refusal prompt round caller state.prompts) (next prompt) (small prompt)
+
+  -- a prompt is answered
+  target-answer : (prompt : PromptId) (round : ℕ) (stem : List ℕ) (state : State) (these : List Fate) → IsSmall (run caller brought (target_answered prompt round stem (asked caller brought state)) these state).answer
+  target-answer prompt round stem state these =
+      let inner : (b : Bool) → IsSmall (run caller brought (cond b (going_on prompt) (deriving_key prompt round)) these state).answer = elim [ true ↦ empty-small | false ↦ empty-small ] in
+      let pass : (b : Bool) → IsSmall (run caller brought (cond b (cond (is_open stem state.collections) (going_on prompt) (deriving_key prompt round)) (going_on prompt)) these state).answer =
+      elim [ true ↦ inner (is_open stem state.collections) | false ↦ empty-small ] in
+      pass (has stem state.collections)
+
+  doubt-answer : (prompt : PromptId) (round : ℕ) (stem : List ℕ) (state : State) (these : List Fate)
+      → IsSmall (run caller brought (Asks (Read_collection stem) (once_read (target_answered prompt round stem))) these state).answer
+  doubt-answer prompt round stem state [] = tt
+  doubt-answer prompt round stem state (fate.Stored ∷ more) = tt
+  doubt-answer prompt round stem state (fate.Before ∷ more) = tt
+  doubt-answer prompt round stem state (fate.Unsure ∷ more) = tt
+  doubt-answer prompt round stem state (fate.Old ∷ more) = target-answer prompt round stem (demanded brought (Read_collection stem) fate.Old state) more
+  doubt-answer prompt round stem state (fate.New ∷ more) = target-answer prompt round stem (demanded brought (Read_collection stem) fate.New state) more
+  doubt-answer prompt round stem state (fate.Other ∷ more) = target-answer prompt round stem (demanded brought (Read_collection stem) fate.Other state) more
+  doubt-answer prompt round stem state (fate.ReadFailed ∷ more) = tt
+
+  target-stays : (prompt : PromptId) (round : ℕ) (stem : List ℕ) (state : State) → StaysSmall (target_answered prompt round stem (asked caller brought state)) state
+  target-stays prompt round stem state =
+      let inner : (b : Bool) → StaysSmall (cond b (going_on prompt) (deriving_key prompt round)) state = elim [ true ↦ empty-small | false ↦ empty-small ] in
+      let pass : (b : Bool) → StaysSmall (cond b (cond (is_open stem state.collections) (going_on prompt) (deriving_key prompt round)) (going_on prompt)) state =
+      elim [ true ↦ inner (is_open stem state.collections) | false ↦ empty-small ] in
+      pass (has stem state.collections)
+
+  left-small : (prompt : PromptId) (round : ℕ) (left : List Target) (state : State) → StaysSmall (left_answered prompt round left (asked caller brought state)) state
+  left-small prompt round [] state = empty-small
+  left-small prompt round (target ∷ left) state =
+      let pass : (b : Bool) → StaysSmall (cond b (Asks (Read_collection target.stem) (once_read (target_answered prompt round target.stem))) (target_answered prompt round target.stem (asked caller brought state))) state =
+      elim [ true ↦ doubt-answer prompt round target.stem state fates | false ↦ target-stays prompt round target.stem state ] in
+      pass (is_doubtful target.stem state.collections)
+
+  kind-small : (prompt : PromptId) (round : ℕ) (kind : PromptKind) (state : State) → StaysSmall (kind_answered prompt round kind (asked caller brought state)) state
+  kind-small prompt round (kind.Unlock targets) state = left-small prompt round targets.left state
+  kind-small prompt round (kind.Create label alias salt) state = empty-small
+
+  row-small : (prompt : PromptId) (round : ℕ) (row : Option PromptRow) (state : State) → StaysSmall (row_answered prompt round row (asked caller brought state)) state
+  row-small prompt round None state = tt
+  row-small prompt round (Some row) state =
+      let pass : (b : Bool) → StaysSmall (cond b (answered body.Empty (End_prompt prompt true None ∷ [])) (kind_answered prompt round row.kind (asked caller brought state))) state =
+      elim [ true ↦ empty-small | false ↦ kind-small prompt round row.kind state ] in
+      pass (nat_eq round last_round)
 
   plan-small : (salt : List ℕ) (state : State) (call : Result Call CallFault) → StaysSmall (plan_of salt call (asked caller brought state)) state
   plan-small salt state (Ok (call.OpenSession algorithm)) = opened-small state (is_plain algorithm)
@@ -286,7 +334,8 @@ module _ (caller : ConnId) (brought : Brought) (fates : List Fate) where
       pass (is_taken caller state.prompts.agent)
   plan-small salt state (Ok call.Unregister) =
       if-small (is_agent caller state.prompts) (answered body.Empty (Leave_agent ∷ [])) state name.AccessDenied (empty-stays (Leave_agent ∷ []) state)
-  plan-small salt state (Ok (call.Refuse prompt round)) = round-small prompt round state
+  plan-small salt state (Ok (call.Answer prompt round password)) = round-small prompt round state _ (λ it. row-small it round (row_at it state.prompts) state)
+  plan-small salt state (Ok (call.Refuse prompt round)) = round-small prompt round state _ (λ it. empty-stays (End_prompt it true None ∷ []) state)
   plan-small salt state _ = tt
 
 -- ---- the reply

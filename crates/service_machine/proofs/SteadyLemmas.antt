@@ -1,6 +1,6 @@
 -- A disk that was loaded is steady exactly if its folder is; each storing keeps it as steady as it was, and over a steady one none has a
 -- fault.
-use Rattle.std.proofs.Common.{◌≡◌, ℕ, Bool, true, false, ◌&&◌, List, [], ◌∷◌, map, Option, Some, None, refl, ap, sym, ◌∙◌}
+use Rattle.std.proofs.Common.{◌≡◌, ℕ, Bool, true, false, ◌&&◌, List, [], ◌∷◌, map, Option, Some, None, refl, ap, sym, ◌∙◌, inl, inr}
 use Rattle.std.specs.List.{AllByRecursion, list_all}
 use Rattle.std.proofs.lemmas.List.Elements.{All-from_recursion, recursion_from_All}
 use Rattle.std.proofs.lemmas.List.Sorted.{All-permutation}
@@ -21,16 +21,21 @@ use Rattle.service_tables.specs.State.{State}
 use Rattle.collection_table.specs.Rows.{Rows}
 use Rattle.service_tables.specs.declared.fate.Fate.{Fate}
 use Rattle.service_tables.specs.Opened.{Contents, contents_of}
-use Rattle.service_tables.specs.Slots.{IsFault, StoresAliases, StoresAt, are_steady}
+use Rattle.service_disk.specs.Making.{MakesAt}
+use Rattle.service_tables.specs.Slots.{IsFault, StoresAliases, StoresAt, are_steady, slot_at}
 use Rattle.service_tables.specs.Storing.{Brought}
 use Rattle.service_machine.specs.Fates.{AreFaultless, is_steady}
-use Rattle.service_machine.specs.Plan.{Demand, Store, Erase, Set_alias, Read_aliases, Plan, Ends, After, Asks}
-use Rattle.service_machine.specs.Run.{AreFates, AreNone, asked, demanded, performed_all}
+use Rattle.service_machine.specs.Plan.{Demand, Store, Erase, Set_alias, Read_aliases, Read_collection, Make, Plan, Ends, After, Asks, Opens}
+use Rattle.service_machine.specs.Run.{AreFates, AreNone, asked, demanded, performed_all, unlocked_with}
 use Rattle.service_machine.specs.Stored.{StoresDemand, StoresOf}
 
 and-both : (a b : Bool) → (a && b) ≡ true → (a ≡ true) × (b ≡ true)
 and-both true b is = (refl, is)
 and-both false b is = absurd (let no : false ≡ true = is in cc)
+
+and-and : (a b c : Bool) → (a && (b && c)) ≡ ((a && b) && c)
+and-and true b c = refl
+and-and false b c = refl
 
 module _ {S : Type 0} (found : Image → S → Type 0) (slot_steady : S → Bool) (each : (image : Image) (slot : S) → found image slot → slot_steady slot ≡ true) where
   abbrev IsSteadyRing : RingState S → Type 0
@@ -91,7 +96,7 @@ none-faultless (some ∷ fates) none = absurd none
 
 -- ---- a storing keeps the disk as steady as it was, and over a steady one it has no fault
 
-module _ {F S : Type 0} (is_honest slot_steady : S → Bool) (faults moment : S → ℕ) (left_since : S → ℕ → Image → Type 0) (may_leave : S → Image → Type 0) (folder_steady : F → Bool) where
+module _ {F S : Type 0} (folder_honest folder_steady : F → Bool) (folder_faults : F → ℕ) (images : F → List ℕ → Image) (folder_leaves : F → List ℕ → Image → Type 0) (names_made : F → List (List ℕ)) (is_honest slot_steady : S → Bool) (faults moment : S → ℕ) (left_since : S → ℕ → Image → Type 0) (may_leave : S → Image → Type 0) where
   abbrev whole : DiskState F S → Bool
   whole disk = is_steady folder_steady slot_steady disk
 
@@ -115,17 +120,44 @@ module _ {F S : Type 0} (is_honest slot_steady : S → Bool) (faults moment : S 
       ] in
       pass (is_name stem e.0) refl
 
-  at-never : (stem : List ℕ) (some : Fate) (before after : Rows) (old new : DiskState F S) → At stem some before after old new → whole old ≡ true → IsFault some → ⊥
-  at-never stem some before after old new at steady fault =
-      let inner = and-both (folder_steady old.folder) (are_steady slot_steady old && (list_all (λ (file : LeftAlone S). slot_steady file.slot) old.left_alone && slot_steady old.aliases)) steady in
-      let slots = and-both (are_steady slot_steady old) (list_all (λ (file : LeftAlone S). slot_steady file.slot) old.left_alone && slot_steady old.aliases) inner.1 in
-      let each = and-both (list_all (λ (s : List ℕ × S). slot_steady s.1) old.slots) (list_all (λ (s : List ℕ × S). slot_steady s.1) old.spare) slots.0 in
-      let pass : (o : Option S) → value_at stem old.slots ≡ o → option_or o (value_at stem old.spare) ≡ Some at.was → slot_steady at.was ≡ true =
+  -- the slot of a stem is steady on a steady disk
+  slot-steady : (stem : List ℕ) (slot : S) (disk : DiskState F S) → whole disk ≡ true → slot_at stem disk ≡ Some slot → slot_steady slot ≡ true
+  slot-steady stem slot disk steady at =
+      let inner = and-both (folder_steady disk.folder) (are_steady slot_steady disk && (list_all (λ (file : LeftAlone S). slot_steady file.slot) disk.left_alone && slot_steady disk.aliases)) steady in
+      let slots = and-both (are_steady slot_steady disk) (list_all (λ (file : LeftAlone S). slot_steady file.slot) disk.left_alone && slot_steady disk.aliases) inner.1 in
+      let each = and-both (list_all (λ (s : List ℕ × S). slot_steady s.1) disk.slots) (list_all (λ (s : List ℕ × S). slot_steady s.1) disk.spare) slots.0 in
+      let pass : (o : Option S) → value_at stem disk.slots ≡ o → option_or o (value_at stem disk.spare) ≡ Some slot → slot_steady slot ≡ true =
       elim [
-        | None ↦ λ none is. among stem at.was old.spare each.1 is
-        | Some slot ↦ λ there is. among stem at.was old.slots each.0 (there ∙ is)
+        | None ↦ λ none is. among stem slot disk.spare each.1 is
+        | Some it ↦ λ there is. among stem slot disk.slots each.0 (there ∙ is)
       ] in
-      at.stores.never (pass (value_at stem old.slots) refl at.slot) fault
+      pass (value_at stem disk.slots) refl at
+
+  at-never : (stem : List ℕ) (some : Fate) (before after : Rows) (old new : DiskState F S) → At stem some before after old new → whole old ≡ true → IsFault some → ⊥
+  at-never stem some before after old new at steady fault = at.stores.never (slot-steady stem at.was old steady at.slot) fault
+
+  -- the same of a collection that is made
+  abbrev Made : List ℕ → Fate → Rows → Rows → DiskState F S → DiskState F S → Type 0
+  Made stem some before after old new =
+      MakesAt folder_honest folder_steady folder_faults images folder_leaves names_made is_honest slot_steady faults moment left_since may_leave stem some before after old new
+
+  made-steady : (stem : List ℕ) (some : Fate) (before after : Rows) (old new : DiskState F S) → Made stem some before after old new → whole new ≡ whole old
+  made-steady stem some before after old new is =
+      let files = list_all (λ (file : LeftAlone S). slot_steady file.slot) old.left_alone && slot_steady old.aliases in
+      ap whole is.rest
+      ∙ and-and (folder_steady new.folder) (are_steady slot_steady new) files
+      ∙ ap (λ b. b && files) is.slot.all_steady
+      ∙ sym (and-and (folder_steady old.folder) (are_steady slot_steady old) files)
+
+  made-never : (stem : List ℕ) (some : Fate) (before after : Rows) (old new : DiskState F S) → Made stem some before after old new → whole old ≡ true → IsFault some → ⊥
+  made-never stem some before after old new is steady fault =
+      let inner = and-both (folder_steady old.folder) (are_steady slot_steady old && (list_all (λ (file : LeftAlone S). slot_steady file.slot) old.left_alone && slot_steady old.aliases)) steady in
+      let was : slot_steady is.was ≡ true =
+      elim is.slot.one [
+        | inl had ↦ slot-steady stem is.was old steady had.0
+        | inr fresh ↦ fresh.fresh.as_steady ∙ inner.0
+      ] in
+      is.stores.never was fault
 
   -- the same of the file of the aliases
   abbrev For : Fate → Option AliasRows → Option AliasRows → DiskState F S → DiskState F S → Type 0
@@ -145,22 +177,26 @@ module _ {F S : Type 0} (is_honest slot_steady : S → Bool) (faults moment : S 
 
   -- and of whatever is asked
   abbrev Asked : Demand → Fate → Contents → Contents → DiskState F S → DiskState F S → Type 0
-  Asked demand some before after old new = StoresDemand is_honest slot_steady faults moment left_since may_leave demand some before after old new
+  Asked demand some before after old new = StoresDemand folder_honest folder_steady folder_faults images folder_leaves names_made is_honest slot_steady faults moment left_since may_leave demand some before after old new
 
   asked-steady : (demand : Demand) (some : Fate) (before after : Contents) (old new : DiskState F S) → Asked demand some before after old new → whole new ≡ whole old
   asked-steady (Store stem edit) some before after old new is = at-steady stem some before.collections after.collections old new is
   asked-steady (Erase stem) some before after old new is = at-steady stem some before.collections after.collections old new is
   asked-steady (Set_alias alias stem) some before after old new is = for-steady some before.aliases after.aliases old new is
   asked-steady Read_aliases some before after old new is = for-steady some before.aliases after.aliases old new is
+  asked-steady (Read_collection stem) some before after old new is = at-steady stem some before.collections after.collections old new is
+  asked-steady (Make stem label terms) some before after old new is = made-steady stem some before.collections after.collections old new is
 
   asked-never : (demand : Demand) (some : Fate) (before after : Contents) (old new : DiskState F S) → Asked demand some before after old new → whole old ≡ true → IsFault some → ⊥
   asked-never (Store stem edit) some before after old new is = at-never stem some before.collections after.collections old new is
   asked-never (Erase stem) some before after old new is = at-never stem some before.collections after.collections old new is
   asked-never (Set_alias alias stem) some before after old new is = for-never some before.aliases after.aliases old new is
   asked-never Read_aliases some before after old new is = for-never some before.aliases after.aliases old new is
+  asked-never (Read_collection stem) some before after old new is = at-never stem some before.collections after.collections old new is
+  asked-never (Make stem label terms) some before after old new is = made-never stem some before.collections after.collections old new is
 
   abbrev Of : ConnId → Brought → Plan → List Fate → State → DiskState F S → DiskState F S → Type 0
-  Of caller brought plan fates state old new = StoresOf is_honest slot_steady faults moment left_since may_leave caller brought plan fates state old new
+  Of caller brought plan fates state old new = StoresOf folder_honest folder_steady folder_faults images folder_leaves names_made is_honest slot_steady faults moment left_since may_leave caller brought plan fates state old new
 
   pub stores-steady : (caller : ConnId) (brought : Brought) (plan : Plan) (fates : List Fate) (state : State) (old new : DiskState F S) → Of caller brought plan fates state old new → whole new ≡ whole old
   stores-steady caller brought (Ends answer changes) fates state old new stores = ap whole stores
@@ -171,6 +207,7 @@ module _ {F S : Type 0} (is_honest slot_steady : S → Bool) (faults moment : S 
   stores-steady caller brought (Asks demand next) (some ∷ fates) state old new (mid, at, rest) =
       stores-steady caller brought (next some) fates (demanded brought demand some state) mid new rest
       ∙ asked-steady demand some (contents_of state) (contents_of (demanded brought demand some state)) old mid at
+  stores-steady caller brought (Opens stem terms next) fates state old new stores = stores-steady caller brought next fates (unlocked_with brought stem terms state) old new stores
 
   pub stores-faultless : (caller : ConnId) (brought : Brought) (plan : Plan) (fates : List Fate) (state : State) (old new : DiskState F S) → AreFates caller brought plan fates state
       → Of caller brought plan fates state old new → whole old ≡ true → AreFaultless fates
@@ -184,3 +221,4 @@ module _ {F S : Type 0} (is_honest slot_steady : S → Bool) (faults moment : S 
     stores-faultless caller brought (next some) fates (demanded brought demand some state) mid new are rest
         (asked-steady demand some (contents_of state) (contents_of (demanded brought demand some state)) old mid at ∙ steady),
   )
+  stores-faultless caller brought (Opens stem terms next) fates state old new are stores steady = stores-faultless caller brought next fates (unlocked_with brought stem terms state) old new are stores steady

@@ -1,7 +1,10 @@
 -- How the storings and the resolves of an event ended, and what is true of them if no device fails.
-use Rattle.std.specs.Prelude.{Bool, ◌&&◌, List}
+use Rattle.std.specs.Prelude.{◌≡◌, Bool, false, ◌&&◌, List}
 use Rattle.std.specs.List.{AllByRecursion, list_all}
+use Rattle.service_tables.specs.Aliases.{are_doubtful}
 use Rattle.service_tables.specs.Disk.{DiskState}
+use Rattle.service_tables.specs.Sound.{AreKnown}
+use Rattle.service_tables.specs.State.{State}
 use Rattle.service_tables.specs.Slots.{IsFault, are_steady}
 use Rattle.service_machine.specs.declared.event.Arrival.{Arrival}
 use Rattle.service_machine.specs.declared.event.Event.{Event}
@@ -20,9 +23,15 @@ AreFaultless fates = AllByRecursion (λ fate. ¬ (IsFault fate)) fates
 abbrev pub IsFaultless : Event → Type 0
 IsFaultless (event.Connect conn) = Unit {0}
 IsFaultless (event.Arrive came) = AreFaultless came.fates
+IsFaultless (event.Derived came) = AreFaultless came.fates
 IsFaultless (event.Leave conn) = Unit {0}
 IsFaultless (event.Take conn) = Unit {0}
 IsFaultless (event.Gone conn) = Unit {0}
+
+-- the file of no collection is in doubt, and that of the aliases isn't either
+pub record IsCertain (state : State) : Type 0 where
+  pub collections : AreKnown state.collections
+  pub aliases : are_doubtful state.aliases ≡ false
 
 -- whether the folder is steady, and each slot that was made of it
 abbrev pub is_steady : {F S : Type 0} → (F → Bool) → (S → Bool) → DiskState F S → Bool

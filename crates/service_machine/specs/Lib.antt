@@ -1,11 +1,14 @@
 pub mod AgentCalls
 pub mod AliasCalls
+pub mod AnswerCalls
 pub mod CollectionCalls
+pub mod Derivation
 pub mod Fates
 pub mod ItemCalls
 pub mod Machine
 pub mod Plan
 pub mod PromptCalls
+pub mod Purposes
 pub mod Replay
 pub mod Rows
 pub mod Run

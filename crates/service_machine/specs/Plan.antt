@@ -1,14 +1,17 @@
--- A row of the table of calls is a plan: what it may ask of the state, what it answers, and what it may change. A row
--- sees only its questions, and changes something only by these changes, so what is true of every question and of every
--- kind of change is true of all rows. No question shows the value of a secret: a plan says whose is given.
-use Rattle.std.specs.Prelude.{ℕ, Bool, List, [], Option}
+-- A row of the table of calls is a plan: what it may ask of the state, what it answers, and what it may change. A
+-- row sees nothing but its questions, and changes nothing but by these changes, so what holds of every question and
+-- of every kind of change holds of all rows. No question shows the value of a secret, a password or a key: a plan says whose secret is
+-- given, and the password that an event brings is used where a collection is opened or made, and nowhere else.
+use Rattle.std.specs.Prelude.{ℕ, Bool, List, [], ◌++◌, Option}
 use Rattle.kr_base.specs.declared.ids.ItemId.{ItemId}
 use Rattle.kr_base.specs.declared.ids.PromptId.{PromptId}
 use Rattle.kr_base.specs.declared.ids.SessionId.{SessionId}
 use Rattle.kr_names.specs.declared.object_name.ObjectName.{ObjectName}
 use Rattle.prompt_state.specs.declared.row.PromptKind.{PromptKind}
 use Rattle.secret_calls.specs.declared.out.Body.{Body}
+use Rattle.secret_calls.specs.declared.out.Body.TheVariants as body
 use Rattle.secret_calls.specs.declared.out.ErrorName.{ErrorName}
+use Rattle.service_disk.specs.declared.opening.Opening.{Opening}
 use Rattle.service_tables.specs.declared.fate.Fate.{Fate}
 use Rattle.service_tables.specs.Questions.{AliasQuestions, CollectionQuestions, PromptQuestions}
 use Rattle.service_tables.specs.Storing.{Edit}
@@ -22,12 +25,29 @@ pub record SessionQuestions : Type 0 where
   -- the number that the next session gets
   pub next : ℕ
 
--- what a row may ask: a record for each table, and what can be stored
+-- what a key is derived with besides its password
+pub record KeyTerms : Type 0 where
+  pub salt : List ℕ
+  pub iterations : ℕ
+
+-- what a row may ask of the files of the collections
+pub record FileQuestions : Type 0 where
+  -- whether there is a collection of the stem, and two images of its file are known, of which it has one
+  pub in_doubt : List ℕ → Bool
+  -- how an attempt ends to unlock the collection of the stem with the key of these terms and of the password that the event brings
+  pub opening : KeyTerms → List ℕ → Opening
+  -- the stem that a new collection of this label gets
+  pub stem_for : List ℕ → List ℕ
+  -- whether the file of a new collection of this label, with such a key, keeps within the limits of one file and of all files together
+  pub has_room : KeyTerms → List ℕ → Bool
+
+-- what a row may ask: a record for each table, one for the files, and what can be stored
 pub record Questions : Type 0 where
   pub sessions : SessionQuestions
   pub collections : CollectionQuestions
   pub aliases : AliasQuestions
   pub prompts : PromptQuestions
+  pub files : FileQuestions
   -- the item that an edit of an unlocked collection would make, change or remove, if the edit keeps within all limits
   pub storable : List ℕ → Edit → Option ItemId
 
@@ -41,6 +61,10 @@ pub data Demand : Type 0 where
   Set_alias : (alias : List ℕ) → (stem : Option (List ℕ)) → Demand
   -- the file of the aliases, of which two images are known, is read again
   Read_aliases : Demand
+  -- the file of the collection of the stem, of which two images are known, is read again
+  Read_collection : (stem : List ℕ) → Demand
+  -- a collection of this label is made under the stem, and stored with the key of these terms and of the password that the event brings
+  Make : (stem : List ℕ) → (label : List ℕ) → (terms : KeyTerms) → Demand
 
 -- what a row may change
 pub data Change : Type 0 where
@@ -54,6 +78,15 @@ pub data Change : Type 0 where
   Begin_prompt : (kind : PromptKind) → Change
   -- the prompt is asked in its next round; the agent is sent Ask, if there is one
   Ask_prompt : (prompt : PromptId) → Change
+  -- the key for the prompt is being derived, in the round in which it was asked
+  Derive_key : (prompt : PromptId) → (round : ℕ) → Change
+  -- the prompt has one more wrong answer
+  Count_wrong : (prompt : PromptId) → Change
+  -- the prompt has no wrong answers
+  Clear_wrong : (prompt : PromptId) → Change
+  -- the prompt passes over its first targets that are gone or done, and is asked in its next round for the one that is left; if none is,
+  -- it ends completed. The agent is sent Ask, if there is one, or the owner Completed.
+  Go_on : (prompt : PromptId) → Change
   -- the prompt's first target that is left is done
   Finish_target : (prompt : PromptId) → Change
   -- the prompt's first target that is left is dropped
@@ -81,12 +114,14 @@ pub data Answer : Type 0 where
   -- an error
   Refuses : (name : ErrorName) → Answer
 
--- A plan answers and changes something; or it changes something, and continues depending on what it asks of the state in
--- between; or it asks something of the disk, and continues depending on how that ended.
+-- A plan answers and changes something; or it changes something, and goes on by what it asks of the state in between; or it asks
+-- something of the disk, and goes on by how that ended; or it unlocks the collection of a stem with the key of these terms and of the
+-- password that the event brings, if that opens it, and goes on.
 pub data Plan : Type 0 where
   Ends : (answer : Answer) → (changes : List Change) → Plan
   After : (changes : List Change) → (next : Questions → Plan) → Plan
   Asks : (demand : Demand) → (next : Fate → Plan) → Plan
+  Opens : (stem : List ℕ) → (terms : KeyTerms) → (next : Plan) → Plan
 
 -- an error, with nothing changed
 abbrev pub refused : ErrorName → Plan
@@ -99,3 +134,10 @@ answered body changes = Ends (Returns body) changes
 -- a return with secrets
 abbrev pub given : Gift → Plan
 given gift = Ends (Gives gift) []
+
+-- a plan whose answer is dropped, and these changes after it
+abbrev pub followed : List Change → Plan → Plan
+followed more (Ends answer changes) = answered body.Empty (changes ++ more)
+followed more (After changes next) = After changes (λ asked. followed more (next asked))
+followed more (Asks demand next) = Asks demand (λ fate. followed more (next fate))
+followed more (Opens stem terms next) = Opens stem terms (followed more next)

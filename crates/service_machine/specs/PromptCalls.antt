@@ -8,8 +8,9 @@ use Rattle.collection_table.specs.Rows.{Rows}
 use Rattle.prompt_state.specs.declared.row.PromptKind.{PromptKind}
 use Rattle.prompt_state.specs.declared.row.PromptKind.TheVariants as kind
 use Rattle.prompt_state.specs.declared.row.PromptRow.{PromptRow}
+use Rattle.prompt_state.specs.declared.row.Prompts.{Prompts}
 use Rattle.prompt_state.specs.declared.targets.Target.{Target}
-use Rattle.prompt_state.specs.Prompts.{is_made, round_of}
+use Rattle.prompt_state.specs.Prompts.{asked_again, changed, ended, is_made, round_of, row_at}
 use Rattle.prompt_state.specs.Targets.{TargetLists}
 use Rattle.secret_calls.specs.declared.out.Body.TheVariants as body
 use Rattle.secret_calls.specs.declared.out.ErrorName.TheVariants as name
@@ -115,3 +116,26 @@ completes row kind = completed_signal false None (record { prompt = row.prompt; 
 -- what is sent when the prompt of a row advances: Ask for the kind of prompt that is left, or Completed if nothing is
 abbrev pub advance_sent : Rows → PromptRow → PromptKind → Option ConnId → List Sent
 advance_sent collections row kind agent = if is_over kind then completes row kind else asks_for collections row kind agent
+
+-- ---- the same as one change of the prompts
+
+-- a row once those of its targets were passed over that are gone or done
+abbrev pub passed_row : CollectionQuestions → PromptRow → PromptRow
+passed_row asked row = record row { kind = passed_kind asked row.kind }
+
+-- the prompts once this one passed over its first targets
+abbrev pub passed_over : PromptId → CollectionQuestions → Prompts → Prompts
+passed_over prompt asked prompts = changed prompt (passed_row asked) prompts
+
+-- the prompts once this one, whose first targets were passed over, ended or was asked
+abbrev pub over_or_asked : PromptId → Prompts → Prompts
+over_or_asked prompt prompts = if is_over_row (row_at prompt prompts) then ended prompt prompts else asked_again prompt prompts
+
+-- the prompts once this one advanced
+abbrev pub gone_on : PromptId → CollectionQuestions → Prompts → Prompts
+gone_on prompt asked prompts = over_or_asked prompt (passed_over prompt asked prompts)
+
+-- what is sent then, if the prompt is there
+abbrev pub go_on_sent : CollectionQuestions → Rows → Option ConnId → Option PromptRow → List Sent
+go_on_sent asked collections agent None = []
+go_on_sent asked collections agent (Some row) = advance_sent collections row (passed_kind asked row.kind) agent

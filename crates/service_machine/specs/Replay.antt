@@ -1,5 +1,5 @@
 -- Lists of events: what they lead to from a state, whether each fits, what each answers, and what they cost.
-use Rattle.std.specs.Prelude.{ℕ, ◌+◌, List, [], ◌∷◌, sum_by}
+use Rattle.std.specs.Prelude.{ℕ, ◌+◌, List, [], ◌∷◌, length, sum_by}
 use Rattle.service_tables.specs.State.{State}
 use Rattle.service_machine.specs.declared.event.Event.{Event}
 use Rattle.service_machine.specs.declared.event.Event.TheVariants as event
@@ -21,7 +21,7 @@ abbrev pub outputs : State → List Event → List Output
 outputs state [] = []
 outputs state (event ∷ events) = output_of state event ∷ outputs (step state event) events
 
--- what a stored event costs besides the bytes of its request (docs/SERVICE.md, "The history")
+-- what a stored event costs besides the bytes of its request, or of its password (docs/SERVICE.md, "The history")
 abbrev pub event_cost : ℕ
 event_cost = 64
 
@@ -29,6 +29,7 @@ event_cost = 64
 abbrev pub cost_of : Event → ℕ
 cost_of (event.Connect conn) = event_cost
 cost_of (event.Arrive came) = event_cost + came.arrival.request.length
+cost_of (event.Derived came) = event_cost + length came.password
 cost_of (event.Leave conn) = event_cost
 cost_of (event.Take conn) = event_cost
 cost_of (event.Gone conn) = event_cost

@@ -8,7 +8,7 @@ use Rattle.service_tables.specs.State.{State}
 
 -- a machine's state: the rows of its tables
 abbrev pub rows_of : {F S : Type 0} → Machine F S → State
-rows_of machine = rows_from machine.connections machine.sessions machine.prompts (collections_of machine.disk.collections.entries) (rows_in machine.disk.aliases)
+rows_of machine = rows_from machine.connections machine.sessions machine.prompts (collections_of machine.disk.collections.entries) (rows_in machine.disk.aliases) machine.disk.used.stems
 
 -- a machine's folder, with the slots that were made of it
 abbrev pub disk_of : {F S : Type 0} → Machine F S → DiskState F S

@@ -1,11 +1,12 @@
 -- What a plan leads to: its answer, the state after its changes, and what these send.
-use Rattle.std.specs.Prelude.{nat_le, if◌then◌else◌, List, [], ◌∷◌, ◌++◌, length, Option, Some, None, Result, Ok, Err}
+use Rattle.std.specs.Prelude.{ℕ, nat_le, if◌then◌else◌, List, [], ◌∷◌, ◌++◌, length, Option, Some, None, Result, Ok, Err}
 use Rattle.std.specs.List.{filter_map}
 use Rattle.kr_base.specs.declared.ids.ConnId.{ConnId}
 use Rattle.alias_table.specs.Table.{AliasRows}
 use Rattle.collection_table.specs.Entries.{changed}
 use Rattle.collection_table.specs.Rows as collections
-use Rattle.prompt_state.specs.Prompts.{asked_again, begun, ended, registered, targeted, unregistered}
+use Rattle.prompt_state.specs.Prompts.{asked_again, begun, cleared, ended, registered, row_at, staged, targeted, unregistered, wronged}
+use Rattle.prompt_state.specs.declared.row.Stage.TheVariants.{Deriving}
 use Rattle.prompt_state.specs.Targets.{first_done, first_dropped}
 use Rattle.secret_calls.specs.declared.out.Body.{Body}
 use Rattle.secret_calls.specs.declared.out.Body.TheVariants as body
@@ -18,11 +19,18 @@ use Rattle.service_tables.specs.declared.rows.Sent.{Sent}
 use Rattle.service_tables.specs.Limits.{most_body}
 use Rattle.service_tables.specs.Aliases.{aliases_resolved, aliases_set, asked_aliases}
 use Rattle.service_tables.specs.Opened.{Contents, contents_of}
+use Rattle.key_derivation.specs.Kdf.{Inputs}
+use Rattle.service_disk.specs.Making as making
+use Rattle.service_disk.specs.Opening.{opening_of, rows_opened}
+use Rattle.service_disk.specs.Resolving.{is_doubtful, rows_resolved}
+use Rattle.stem_choice.specs.Choice.{chosen}
+use Rattle.stem_choice.specs.UsedStems.{with_stem}
 use Rattle.service_prompts.specs.Prompting.{ask_sent, asks_sent, completed_sent}
 use Rattle.service_tables.specs.Reading.{asked_collections, asked_prompts, item_secret, secret_of}
 use Rattle.service_tables.specs.Storing.{Brought, IsResolve, IsStoring, change_of, rows_erased, rows_stored, storable_edit}
 use Rattle.service_tables.specs.declared.fate.Fate.{Fate}
-use Rattle.service_machine.specs.Plan.{SessionQuestions, Questions, Demand, Store, Erase, Set_alias, Read_aliases, Change, Open_session, Close_session, Lock_collection, Begin_prompt, Ask_prompt, Finish_target, Drop_target, End_prompt, Become_agent, Leave_agent, Gift, Secret_of, Secrets_of, Answer, Returns, Gives, Refuses, Plan, Ends, After, Asks}
+use Rattle.service_machine.specs.PromptCalls.{go_on_sent, gone_on}
+use Rattle.service_machine.specs.Plan.{SessionQuestions, KeyTerms, FileQuestions, Questions, Demand, Store, Erase, Set_alias, Read_aliases, Read_collection, Make, Change, Open_session, Close_session, Lock_collection, Begin_prompt, Ask_prompt, Derive_key, Count_wrong, Clear_wrong, Go_on, Finish_target, Drop_target, End_prompt, Become_agent, Leave_agent, Gift, Secret_of, Secrets_of, Answer, Returns, Gives, Refuses, Plan, Ends, After, Asks, Opens}
 use Rattle.service_tables.specs.State.{State}
 
 -- ---- what is asked
@@ -35,13 +43,31 @@ asked_sessions caller state = record {
   next = state.sessions.next;
 }
 
--- the answers to a caller's questions, for a request that brings this
+-- what a key is derived from: these terms, and the password that an event brings
+abbrev pub key_with : Brought → KeyTerms → Inputs
+key_with brought terms = record { password = brought.value; salt = terms.salt; iterations = terms.iterations }
+
+-- what a collection of this label is made of at the moment of the event, with such a key
+abbrev pub made_of : Brought → KeyTerms → List ℕ → making.Plan
+made_of brought terms label = record { label = label; key = key_with brought terms; now = brought.now }
+
+-- the answers to questions about the files of the collections, for an event that brings this
+abbrev pub asked_files : Brought → State → FileQuestions
+asked_files brought state = record {
+  in_doubt = λ stem. is_doubtful stem state.collections;
+  opening = λ terms stem. opening_of (key_with brought terms) stem state.collections;
+  stem_for = λ label. chosen label state.used;
+  has_room = λ terms label. making.has_room (made_of brought terms label) state.collections;
+}
+
+-- the answers to a caller's questions, for an event that brings this
 abbrev pub asked : ConnId → Brought → State → Questions
 asked caller brought state = record {
   sessions = asked_sessions caller state;
   collections = asked_collections (contents_of state);
   aliases = asked_aliases (contents_of state);
   prompts = asked_prompts caller state.prompts;
+  files = asked_files brought state;
   storable = storable_edit brought state.collections;
 }
 
@@ -54,6 +80,10 @@ performed caller (Close_session session) state = record state { sessions = close
 performed caller (Lock_collection stem) state = record state { collections = changed stem collections.locked state.collections }
 performed caller (Begin_prompt kind) state = record state { prompts = begun caller kind state.prompts }
 performed caller (Ask_prompt prompt) state = record state { prompts = asked_again prompt state.prompts }
+performed caller (Derive_key prompt round) state = record state { prompts = staged prompt (Deriving round) state.prompts }
+performed caller (Count_wrong prompt) state = record state { prompts = wronged prompt state.prompts }
+performed caller (Clear_wrong prompt) state = record state { prompts = cleared prompt state.prompts }
+performed caller (Go_on prompt) state = record state { prompts = gone_on prompt (asked_collections (contents_of state)) state.prompts }
 performed caller (Finish_target prompt) state = record state { prompts = targeted prompt first_done state.prompts }
 performed caller (Drop_target prompt) state = record state { prompts = targeted prompt first_dropped state.prompts }
 performed caller (End_prompt prompt dismissed created) state = record state { prompts = ended prompt state.prompts }
@@ -72,6 +102,10 @@ sent_by caller (Close_session session) state = []
 sent_by caller (Lock_collection stem) state = []
 sent_by caller (Begin_prompt kind) state = []
 sent_by caller (Ask_prompt prompt) state = ask_sent prompt (asked_again prompt state.prompts) state.collections
+sent_by caller (Derive_key prompt round) state = []
+sent_by caller (Count_wrong prompt) state = []
+sent_by caller (Clear_wrong prompt) state = []
+sent_by caller (Go_on prompt) state = go_on_sent (asked_collections (contents_of state)) state.collections state.prompts.agent (row_at prompt state.prompts)
 sent_by caller (Finish_target prompt) state = []
 sent_by caller (Drop_target prompt) state = []
 sent_by caller (End_prompt prompt dismissed created) state = completed_sent prompt dismissed created state.prompts
@@ -91,6 +125,8 @@ rows_asked brought (Store stem edit) fate rows = rows_stored stem (change_of bro
 rows_asked brought (Erase stem) fate rows = rows_erased stem fate rows
 rows_asked brought (Set_alias alias stem) fate rows = rows
 rows_asked brought Read_aliases fate rows = rows
+rows_asked brought (Read_collection stem) fate rows = rows_resolved stem fate rows
+rows_asked brought (Make stem label terms) fate rows = making.rows_made stem (made_of brought terms label) fate rows
 
 -- the aliases after it
 abbrev pub aliases_asked : Demand → Fate → Contents → Option AliasRows
@@ -98,13 +134,29 @@ aliases_asked (Store stem edit) fate contents = contents.aliases
 aliases_asked (Erase stem) fate contents = contents.aliases
 aliases_asked (Set_alias alias stem) fate contents = aliases_set alias stem fate contents
 aliases_asked Read_aliases fate contents = aliases_resolved fate contents.aliases
+aliases_asked (Read_collection stem) fate contents = contents.aliases
+aliases_asked (Make stem label terms) fate contents = contents.aliases
+
+-- the used stems after it: once a collection was to be made under a stem, it is used, however that ended
+abbrev pub used_asked : Demand → List (List ℕ) → List (List ℕ)
+used_asked (Store stem edit) used = used
+used_asked (Erase stem) used = used
+used_asked (Set_alias alias stem) used = used
+used_asked Read_aliases used = used
+used_asked (Read_collection stem) used = used
+used_asked (Make stem label terms) used = with_stem stem used
 
 -- the state after it
 abbrev pub demanded : Brought → Demand → Fate → State → State
 demanded brought demand fate state = record state {
   collections = rows_asked brought demand fate state.collections;
   aliases = aliases_asked demand fate (contents_of state);
+  used = used_asked demand state.used;
 }
+
+-- the state after the collection of a stem was to be unlocked with the key of these terms and of the password that the event brings
+abbrev pub unlocked_with : Brought → List ℕ → KeyTerms → State → State
+unlocked_with brought stem terms state = record state { collections = rows_opened (key_with brought terms) stem state.collections }
 
 -- how what is asked may end
 abbrev pub IsFateOf : Demand → Fate → Type 0
@@ -112,6 +164,8 @@ IsFateOf (Store stem edit) fate = IsStoring fate
 IsFateOf (Erase stem) fate = IsStoring fate
 IsFateOf (Set_alias alias stem) fate = IsStoring fate
 IsFateOf Read_aliases fate = IsResolve fate
+IsFateOf (Read_collection stem) fate = IsResolve fate
+IsFateOf (Make stem label terms) fate = IsStoring fate
 
 -- ---- what is answered
 
@@ -153,6 +207,7 @@ run caller brought (After changes next) fates state =
     (run caller brought (next (asked caller brought (performed_all caller changes state))) fates (performed_all caller changes state))
 run caller brought (Asks demand next) [] state = record { answer = Err name.IOError; state = state; sends = [] }
 run caller brought (Asks demand next) (fate ∷ fates) state = run caller brought (next fate) fates (demanded brought demand fate state)
+run caller brought (Opens stem terms next) fates state = run caller brought next fates (unlocked_with brought stem terms state)
 
 -- there are none
 abbrev pub AreNone : List Fate → Type 0
@@ -166,6 +221,7 @@ AreFates caller brought (After changes next) fates state =
     AreFates caller brought (next (asked caller brought (performed_all caller changes state))) fates (performed_all caller changes state)
 AreFates caller brought (Asks demand next) [] state = ⊥
 AreFates caller brought (Asks demand next) (fate ∷ fates) state = IsFateOf demand fate × AreFates caller brought (next fate) fates (demanded brought demand fate state)
+AreFates caller brought (Opens stem terms next) fates state = AreFates caller brought next fates (unlocked_with brought stem terms state)
 
 -- LimitsExceeded in place of a return whose body is too large
 abbrev pub bounded : Result Body ErrorName → Result Body ErrorName

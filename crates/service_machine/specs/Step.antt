@@ -1,7 +1,12 @@
 -- One event of the service, as a step from rows to rows. What an event puts out stands beside what becomes of it,
 -- so that laws can speak of the outputs before the limit on what waits.
-use Rattle.std.specs.Prelude.{◌≡◌, ℕ, ◌^◌, ◌<◌, ◌≤◌, ◌⊎◌, true, false, if◌then◌else◌, IsTrue, IsSomeAnd, List, [], ◌∷◌, ◌++◌, length, Option, Some, None, Result, Ok, Err}
+use Rattle.std.specs.Prelude.{◌≡◌, ℕ, ◌^◌, ◌<◌, ◌≤◌, ◌⊎◌, true, false, if◌then◌else◌, IsTrue, IfSome, IsSomeAnd, List, [], ◌∷◌, ◌++◌, length, Option, Some, None, Result, Ok, Err}
+use Rattle.std.specs.List.{AllByRecursion}
+use Rattle.std.specs.Option.{option_and_then, option_map}
+use Rattle.kr_base.specs.Attributes.{value_at}
 use Rattle.kr_base.specs.declared.ids.ConnId.{ConnId}
+use Rattle.kr_base.specs.declared.ids.PromptId.{PromptId}
+use Rattle.collection_table.specs.Rows.{CollectionRow, Rows}
 use Rattle.secret_calls.specs.declared.call.Call.{Call}
 use Rattle.secret_calls.specs.declared.call.Call.TheVariants as call
 use Rattle.secret_calls.specs.declared.call.CallFault.{CallFault}
@@ -11,14 +16,23 @@ use Rattle.secret_calls.specs.declared.out.ErrorName.{ErrorName}
 use Rattle.secret_calls.specs.declared.out.Out.{Out}
 use Rattle.secret_calls.specs.declared.out.Out.TheVariants as out
 use Rattle.secret_calls.specs.declared.serial.Serial.{Serial}
+use Rattle.secret_calls.specs.declared.work.Work.{Work}
 use Rattle.secret_calls.specs.Calls.{error_of}
 use Rattle.keyring_text.specs.Fields.{IsBytes}
 use Rattle.prompt_state.specs.Prompts as prompts
+use Rattle.prompt_state.specs.Prompts.{derives_in, row_at}
+use Rattle.prompt_state.specs.Targets.{first_left}
+use Rattle.prompt_state.specs.declared.row.PromptKind.{PromptKind}
+use Rattle.prompt_state.specs.declared.row.PromptKind.TheVariants as kind
+use Rattle.prompt_state.specs.declared.row.PromptRow.{PromptRow}
+use Rattle.prompt_state.specs.declared.targets.Target.{Target}
+use Rattle.replace_slot.specs.Cell.{File, new_image, old_image}
 use Rattle.session_table.specs.Sessions.{abandoned}
 use Rattle.service_tables.specs.declared.rows.ConnRow.{ConnRow}
 use Rattle.service_tables.specs.Storing.{Add_item, Brought}
 use Rattle.service_tables.specs.Sound.{AreItemTypes, AreSecretTypes, IsTypedAlias, IsTypedText}
 use Rattle.service_machine.specs.declared.event.Arrival.{Arrival}
+use Rattle.service_machine.specs.declared.event.Derivation.{Derivation}
 use Rattle.service_machine.specs.declared.event.Recorded.{Recorded}
 use Rattle.service_machine.specs.declared.event.Event.{Event}
 use Rattle.service_machine.specs.declared.event.Event.TheVariants as event
@@ -26,12 +40,14 @@ use Rattle.service_machine.specs.declared.event.Output.{Output}
 use Rattle.service_machine.specs.declared.event.Output.TheVariants as output
 use Rattle.service_machine.specs.AgentCalls.{refuse, register, unregister}
 use Rattle.service_machine.specs.AliasCalls.{read_alias, set_alias}
+use Rattle.service_machine.specs.AnswerCalls.{answer_prompt}
+use Rattle.service_machine.specs.Derivation.{derived, new_iterations}
 use Rattle.service_machine.specs.CollectionCalls.{search_collection, create_item, delete_collection}
 use Rattle.service_tables.specs.Connections.{joined, has, changed, without, left, emptied, waiting_for, desk_of, delivered}
 use Rattle.service_tables.specs.declared.rows.Sent.{Sent}
 use Rattle.service_machine.specs.ItemCalls.{get_secret, delete_item, set_secret}
 use Rattle.service_tables.specs.Limits.{most_connections, last_connection}
-use Rattle.service_machine.specs.Plan.{Questions, Plan, refused}
+use Rattle.service_machine.specs.Plan.{KeyTerms, Questions, Plan, refused}
 use Rattle.service_machine.specs.PromptCalls.{call_prompt, dismiss}
 use Rattle.service_machine.specs.Run.{Ran, ran, AreFatesOf}
 use Rattle.service_machine.specs.ServiceCalls.{open_session, create_collection, search_items, unlock, lock, get_secrets}
@@ -65,6 +81,7 @@ row_of salt (call.Prompt prompt) asked = call_prompt prompt asked
 row_of salt (call.Dismiss prompt) asked = dismiss prompt asked
 row_of salt call.Register asked = register asked
 row_of salt call.Unregister asked = unregister asked
+row_of salt (call.Answer prompt round password) asked = answer_prompt prompt round asked
 row_of salt (call.Refuse prompt round) asked = refuse prompt round asked
 
 -- a call's row; the fault of a message is answered first
@@ -102,6 +119,70 @@ brought_by arrival = brought_with arrival.now arrival.request.call
 abbrev pub served : Recorded → State → Ran
 served came state = ran came.arrival.conn (brought_by came.arrival) (plan_of came.arrival.salt came.arrival.request.call) came.fates state
 
+-- ---- the work of an answer
+
+-- the terms of the key of a new collection: the salt that its prompt keeps
+abbrev pub new_terms : List ℕ → KeyTerms
+new_terms salt = record { salt = salt; iterations = new_iterations }
+
+-- the terms of the key of a collection's file, which its clear part has
+abbrev pub file_terms : CollectionRow → KeyTerms
+file_terms row = record { salt = row.clear.salt; iterations = row.clear.iterations }
+
+-- the terms of the key for what a prompt is asked for
+abbrev pub terms_for : Rows → PromptKind → Option KeyTerms
+terms_for rows (kind.Unlock targets) = option_and_then (λ (target : Target). option_map file_terms (value_at target.stem rows)) (first_left targets)
+terms_for rows (kind.Create label alias salt) = Some (new_terms salt)
+
+-- the same of a prompt, if it is there
+abbrev pub row_terms : Rows → Option PromptRow → Option KeyTerms
+row_terms rows None = None
+row_terms rows (Some row) = terms_for rows row.kind
+
+-- a key that is to be derived with these terms
+abbrev pub work_with : PromptId → ℕ → List ℕ → KeyTerms → Work
+work_with prompt round password terms = record {
+  prompt = prompt;
+  round = round;
+  salt = terms.salt;
+  iterations = terms.iterations;
+  password = password;
+}
+
+-- the work for a prompt, if its key is being derived in this round
+abbrev pub prompt_work : PromptId → ℕ → List ℕ → Rows → Option PromptRow → Option Work
+prompt_work prompt round password rows row = if derives_in round row then option_map (work_with prompt round password) (row_terms rows row) else None
+
+-- the work that an answer gives, by its reply and the state that it led to: none if it was refused, or no key is to be derived
+abbrev pub answer_work : Option PromptId → ℕ → List ℕ → Result Body ErrorName → State → Option Work
+answer_work None round password reply state = None
+answer_work (Some prompt) round password (Err name) state = None
+answer_work (Some prompt) round password (Ok body) state = prompt_work prompt round password state.collections (row_at prompt state.prompts)
+
+-- the work that a request gives: that of an answer
+abbrev pub work_of : Result Call CallFault → Result Body ErrorName → State → Option Work
+work_of (Ok (call.Answer prompt round password)) reply state = answer_work prompt round password reply state
+work_of _ reply state = None
+
+-- the password that a request brings, if it is an answer
+abbrev pub password_in : Result Call CallFault → Option (List ℕ)
+password_in (Ok (call.Answer prompt round password)) = Some password
+password_in _ = None
+
+-- ---- what an event leads to
+
+-- what a derived key brings: its moment, and the password, which no row sees
+abbrev pub brought_derived : Derivation → Brought
+brought_derived came = record { now = came.now; value = came.password }
+
+-- the terms of a derived key
+abbrev pub terms_of : Derivation → KeyTerms
+terms_of came = record { salt = came.salt; iterations = came.iterations }
+
+-- what a derived key leads to, in a state, with how each storing and each resolve ended that it asked for
+abbrev pub finished : Derivation → State → Ran
+finished came state = ran came.conn (brought_derived came) (derived came.prompt came.round (terms_of came)) came.fates state
+
 -- what a request puts out: its reply, and then what its changes send
 abbrev pub put_out : ConnId → Request → Ran → List Sent
 put_out caller request ran = replies caller request ran.answer ++ ran.sends
@@ -110,6 +191,7 @@ put_out caller request ran = replies caller request ran.answer ++ ran.sends
 abbrev pub puts_out : State → Event → List Sent
 puts_out state (event.Connect conn) = []
 puts_out state (event.Arrive came) = put_out came.arrival.conn came.arrival.request (served came state)
+puts_out state (event.Derived came) = (finished came state).sends
 puts_out state (event.Leave conn) = []
 puts_out state (event.Take conn) = []
 puts_out state (event.Gone conn) = []
@@ -126,6 +208,7 @@ arrived came state = with_delivered (put_out came.arrival.conn came.arrival.requ
 abbrev pub step : State → Event → State
 step state (event.Connect conn) = record state { connections = joined conn state.connections }
 step state (event.Arrive came) = arrived came state
+step state (event.Derived came) = with_delivered (finished came state).sends (finished came state).state
 step state (event.Leave conn) = with_rows (changed conn left state.connections.rows) state
 step state (event.Take conn) = with_rows (changed conn emptied state.connections.rows) state
 step state (event.Gone conn) = with_rows (without conn state.connections.rows) (record state {
@@ -136,7 +219,10 @@ step state (event.Gone conn) = with_rows (without conn state.connections.rows) (
 -- what an event answers
 abbrev pub output_of : State → Event → Output
 output_of state (event.Connect conn) = output.Joined conn
-output_of state (event.Arrive came) = output.Arrived (record {})
+output_of state (event.Arrive came) = output.Arrived (record {
+  work = work_of came.arrival.request.call (served came state).answer (served came state).state;
+})
+output_of state (event.Derived came) = output.Derived
 output_of state (event.Leave conn) = output.Left
 output_of state (event.Take conn) = output.Taken (waiting_for conn state.connections.rows)
 output_of state (event.Gone conn) = output.Gone
@@ -164,6 +250,7 @@ HasTypes (Ok (call.CreateItem collection label attributes secret replace)) = Are
 HasTypes (Ok (call.SetSecret stem item secret)) = AreSecretTypes secret.value secret.content
 HasTypes (Ok (call.CreateCollection label alias)) = IsTypedText label × IsTypedName alias
 HasTypes (Ok (call.SetAlias alias object)) = IsTypedAlias alias
+HasTypes (Ok (call.Answer prompt round password)) = IsBytes password
 HasTypes _ = Unit {0}
 
 -- the random bytes that come with a request: 8 of them
@@ -178,6 +265,25 @@ pub record FitsRequest (came : Recorded) (state : State) : Type 0 where
   pub salt : IsSalt came.arrival.salt
   pub types : HasTypes came.arrival.request.call
   pub fates : AreFatesOf came.arrival.conn (brought_by came.arrival) (plan_of came.arrival.salt came.arrival.request.call) came.fates state
+
+-- the images that are known of a file consist of bytes
+abbrev pub AreByteImages : File → Type 0
+AreByteImages file = IfSome (old_image file) IsBytes × IfSome (new_image file) IsBytes
+
+-- the same of the file of each collection
+abbrev pub AreByteFiles : Rows → Type 0
+AreByteFiles rows = AllByRecursion (λ (row : List ℕ × CollectionRow). AreByteImages row.1.file) rows
+
+-- A derived key can be recorded with these fates: its moment, its round, its password, its salt, its iterations and the files that it may
+-- open have their types, and there is one fate for each storing and each resolve that it asks for.
+pub record FitsDerivation (came : Derivation) (state : State) : Type 0 where
+  pub moment : came.now < 2 ^ 64
+  pub round : came.round < 2 ^ 64
+  pub password : IsBytes came.password
+  pub salt : IsSalt came.salt
+  pub iterations : came.iterations < 2 ^ 32
+  pub files : AreByteFiles state.collections
+  pub fates : AreFatesOf came.conn (brought_derived came) (derived came.prompt came.round (terms_of came)) came.fates state
 
 -- what a call leads to depends on the moment at which it came: it may store the moment
 abbrev pub TakesMoment : Result Call CallFault → Type 0
@@ -204,6 +310,7 @@ pub record AreAlike (one other : Arrival) : Type 0 where
 abbrev pub Fits : State → Event → Type 0
 Fits state (event.Connect conn) = (conn.0 ≡ state.connections.next) × (length state.connections.rows < most_connections) × (state.connections.next < last_connection)
 Fits state (event.Arrive came) = IsTrue (has came.arrival.conn state.connections.rows) × FitsRequest came state
+Fits state (event.Derived came) = IsTrue (has came.conn state.connections.rows) × FitsDerivation came state
 Fits state (event.Leave conn) = IsSomeAnd (desk_of conn state.connections.rows) (λ desk. desk.leaving ≡ false)
 Fits state (event.Take conn) = IsSomeAnd (desk_of conn state.connections.rows) (λ desk. desk.waits ≡ true)
 Fits state (event.Gone conn) = IsTrue (has conn state.connections.rows)

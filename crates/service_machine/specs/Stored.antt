@@ -1,5 +1,5 @@
 -- What the storings that a plan asks for do to the disk, one after the other, and how the call ends that asked for one.
-use Rattle.std.specs.Prelude.{◌≡◌, ℕ, Bool, List, [], ◌∷◌, ◌++◌, Option, None, Some, Result, Ok, Err}
+use Rattle.std.specs.Prelude.{◌≡◌, ℕ, ◌⊎◌, Bool, List, [], ◌∷◌, ◌++◌, Option, None, Some, Result, Ok, Err}
 use Rattle.kr_base.specs.declared.ids.ConnId.{ConnId}
 use Rattle.kr_base.specs.declared.ids.ItemId.{ItemId}
 use Rattle.kr_outside.specs.RenameDisk.{Image}
@@ -11,6 +11,7 @@ use Rattle.secret_calls.specs.declared.out.Body.TheVariants as body
 use Rattle.secret_calls.specs.declared.out.ErrorName.{ErrorName}
 use Rattle.secret_calls.specs.declared.out.ErrorName.TheVariants as name
 use Rattle.secret_calls.specs.declared.out.Out.{Out}
+use Rattle.service_disk.specs.Making.{KeepsSlot, MakesAt}
 use Rattle.service_tables.specs.declared.fate.Fate.{Fate}
 use Rattle.service_tables.specs.declared.fate.Fate.TheVariants as fate
 use Rattle.service_tables.specs.declared.rows.Sent.{Sent}
@@ -22,13 +23,17 @@ use Rattle.service_tables.specs.State.{State}
 use Rattle.service_tables.specs.Storing.{Brought}
 use Rattle.service_machine.specs.declared.event.Event.{Event}
 use Rattle.service_machine.specs.declared.event.Event.TheVariants as event
+use Rattle.service_machine.specs.declared.event.Incoming.{Incoming}
+use Rattle.service_machine.specs.declared.event.Incoming.TheVariants as incoming
+use Rattle.service_machine.specs.declared.derived_key.Settled.{Settled}
 use Rattle.service_machine.specs.declared.storing.Done.{Done}
 use Rattle.service_machine.specs.declared.storing.Returned.{Returned}
 use Rattle.service_machine.specs.declared.storing.Returned.TheVariants as returned
 use Rattle.service_machine.specs.CollectionCalls.{made, no_prompt}
-use Rattle.service_machine.specs.Plan.{Plan, Ends, After, Asks, Demand, Store, Erase, Set_alias, Read_aliases, Questions}
-use Rattle.service_machine.specs.Run.{AreFates, asked, demanded, led, performed_all}
-use Rattle.service_machine.specs.Step.{brought_by, plan_of}
+use Rattle.service_machine.specs.Plan.{Plan, Ends, After, Asks, Opens, Demand, Store, Erase, Set_alias, Read_aliases, Read_collection, Make, Questions}
+use Rattle.service_machine.specs.Run.{AreFates, asked, demanded, led, performed_all, unlocked_with}
+use Rattle.service_machine.specs.Derivation.{derived}
+use Rattle.service_machine.specs.Step.{brought_by, brought_derived, plan_of, terms_of}
 
 -- a call that stores nothing
 abbrev pub StoresNothing : Result Call CallFault → Type 0
@@ -37,6 +42,7 @@ StoresNothing (Ok (call.DeleteCollection collection)) = ⊥
 StoresNothing (Ok (call.DeleteItem stem item)) = ⊥
 StoresNothing (Ok (call.SetSecret stem item secret)) = ⊥
 StoresNothing (Ok (call.SetAlias alias object)) = ⊥
+StoresNothing (Ok (call.Answer prompt round password)) = ⊥
 StoresNothing _ = Unit {0}
 
 -- a call that sends nothing besides its reply
@@ -44,6 +50,7 @@ abbrev pub SendsNothing : Call → Type 0
 SendsNothing (call.Prompt prompt) = ⊥
 SendsNothing (call.Dismiss prompt) = ⊥
 SendsNothing call.Register = ⊥
+SendsNothing (call.Answer prompt round password) = ⊥
 SendsNothing (call.Refuse prompt round) = ⊥
 SendsNothing _ = Unit {0}
 
@@ -60,6 +67,7 @@ IsPlain (call.Prompt prompt) = ⊥
 IsPlain (call.Dismiss prompt) = ⊥
 IsPlain call.Register = ⊥
 IsPlain call.Unregister = ⊥
+IsPlain (call.Answer prompt round password) = ⊥
 IsPlain (call.Refuse prompt round) = ⊥
 IsPlain _ = Unit {0}
 
@@ -92,13 +100,34 @@ body_of returned.Item stem item = made stem item
 body_of returned.NoPrompt stem item = no_prompt
 body_of returned.Nothing stem item = body.Empty
 
-module _ {F S : Type 0} (is_honest is_steady : S → Bool) (faults moment : S → ℕ) (left_since : S → ℕ → Image → Type 0) (may_leave : S → Image → Type 0) where
+-- what a derived key led to, in order: the making of a collection, then a resolve of the file of the aliases, then its storing
+abbrev pub settled_fates : Settled → List Fate
+settled_fates settled = fates_of settled.made ++ fates_in settled.done
+
+module _ {F S : Type 0} (folder_honest folder_steady : F → Bool) (folder_faults : F → ℕ) (images : F → List ℕ → Image)
+    (folder_leaves : F → List ℕ → Image → Type 0) (names_made : F → List (List ℕ)) (is_honest is_steady : S → Bool) (faults : S → ℕ) where
+  -- after a refusal the disk is as before, but for a slot that was made for a collection, which is kept for the next one under its stem
+  abbrev pub KeepsSlotOrAll : DiskState F S → DiskState F S → Type 0
+  KeepsSlotOrAll old new =
+      (new ≡ old) ⊎ ((stem : List ℕ) × KeepsSlot folder_honest folder_steady folder_faults images folder_leaves names_made is_honest is_steady faults stem old new)
+
+  -- the same by what came: only a derived key makes a slot
+  abbrev pub KeepsDisk : Incoming → DiskState F S → DiskState F S → Type 0
+  KeepsDisk (incoming.Derived brought) old new = KeepsSlotOrAll old new
+  KeepsDisk _ old new = new ≡ old
+
+module _ {F S : Type 0} (folder_honest folder_steady : F → Bool) (folder_faults : F → ℕ) (images : F → List ℕ → Image)
+    (folder_leaves : F → List ℕ → Image → Type 0) (names_made : F → List (List ℕ)) (is_honest is_steady : S → Bool) (faults moment : S → ℕ)
+    (left_since : S → ℕ → Image → Type 0) (may_leave : S → Image → Type 0) where
   -- what is asked of the disk, which ended so: the slot of its file is used, and no other
   abbrev pub StoresDemand : Demand → Fate → Contents → Contents → DiskState F S → DiskState F S → Type 0
   StoresDemand (Store stem edit) fate before after old new = StoresAt is_honest is_steady faults moment left_since may_leave stem fate before.collections after.collections old new
   StoresDemand (Erase stem) fate before after old new = StoresAt is_honest is_steady faults moment left_since may_leave stem fate before.collections after.collections old new
   StoresDemand (Set_alias alias stem) fate before after old new = StoresAliases is_honest is_steady faults moment left_since may_leave fate before.aliases after.aliases old new
   StoresDemand Read_aliases fate before after old new = StoresAliases is_honest is_steady faults moment left_since may_leave fate before.aliases after.aliases old new
+  StoresDemand (Read_collection stem) fate before after old new = StoresAt is_honest is_steady faults moment left_since may_leave stem fate before.collections after.collections old new
+  StoresDemand (Make stem label terms) fate before after old new =
+      MakesAt folder_honest folder_steady folder_faults images folder_leaves names_made is_honest is_steady faults moment left_since may_leave stem fate before.collections after.collections old new
 
   -- each storing and each resolve that a plan asks for is one of the disk, in a state of its own; no other slot is used
   abbrev pub StoresOf : ConnId → Brought → Plan → List Fate → State → DiskState F S → DiskState F S → Type 0
@@ -110,15 +139,18 @@ module _ {F S : Type 0} (is_honest is_steady : S → Bool) (faults moment : S �
       (mid : DiskState F S)
       × StoresDemand demand fate (contents_of state) (contents_of (demanded brought demand fate state)) old mid
       × StoresOf caller brought (next fate) fates (demanded brought demand fate state) mid new
+  StoresOf caller brought (Opens stem terms next) fates state old new = StoresOf caller brought next fates (unlocked_with brought stem terms state) old new
 
   -- the same of a row of the table of calls
   abbrev pub StoresRow : ConnId → Brought → (Questions → Plan) → List Fate → State → DiskState F S → DiskState F S → Type 0
   StoresRow caller brought row fates state old new = StoresOf caller brought (row (asked caller brought state)) fates state old new
 
-  -- what an event does to the disk: a request stores what its row asks for, and any other event leaves the disk alone
+  -- what an event does to the disk: a request and a derived key store what their rows ask for, and any other event leaves the disk alone
   abbrev pub StoresEvent : Event → State → DiskState F S → DiskState F S → Type 0
   StoresEvent (event.Arrive came) state old new =
       StoresRow came.arrival.conn (brought_by came.arrival) (plan_of came.arrival.salt came.arrival.request.call) came.fates state old new
+  StoresEvent (event.Derived came) state old new =
+      StoresRow came.conn (brought_derived came) (derived came.prompt came.round (terms_of came)) came.fates state old new
   StoresEvent _ state old new = new ≡ old
 
   -- A call leads to what its plan does: to this answer, to this state, to what it sends, and with these fates to this disk.
@@ -128,3 +160,10 @@ module _ {F S : Type 0} (is_honest is_steady : S → Bool) (faults moment : S �
     pub sends : done.sends ≡ (led caller brought plan (fates_in done) before).sends
     pub fates : AreFates caller brought plan (fates_in done) before
     pub disk : StoresOf caller brought plan (fates_in done) before old new
+
+  -- What a derived key leads to, of which the caller is told nothing: its plan ends with an empty return, which no one is sent.
+  pub record Settles (caller : ConnId) (brought : Brought) (plan : Plan) (before after : State) (old new : DiskState F S) (settled : Settled) : Type 0 where
+    pub state : after ≡ (led caller brought plan (settled_fates settled) before).state
+    pub sends : settled.done.sends ≡ (led caller brought plan (settled_fates settled) before).sends
+    pub fates : AreFates caller brought plan (settled_fates settled) before
+    pub disk : StoresOf caller brought plan (settled_fates settled) before old new

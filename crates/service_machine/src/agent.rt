@@ -1,7 +1,5 @@
 // The calls of the agent's interface (docs/SERVICE.md, "Interfaces").
 ghost use Rattle.std.specs.Prelude.{◌≡◌, ℕ, [], None, IfOk, OnErr};
-ghost use Rattle.prompt_state.specs.Prompts.{registered, row_at};
-ghost use Rattle.service_prompts.specs.Prompting.{asks_sent};
 ghost use Rattle.service_machine.specs.AgentCalls.{error_for, refuse, register, unregister};
 ghost use Rattle.service_machine.specs.Rows.{disk_of, rows_of};
 ghost use Rattle.service_machine.specs.Run.{asked};
@@ -17,8 +15,8 @@ use prompt_state::PromptRefused;
 use secret_calls::{Body, ErrorName};
 use service_prompts::asks_sent_to;
 
-// The error for what the agent says about a prompt that doesn't wait for it.
-fn error_for(why: PromptRefused) -> ErrorName
+/// The error for what the agent says about a prompt that doesn't wait for it.
+pub fn error_for(why: PromptRefused) -> ErrorName
     ensures { result ≡ error_for why }
 {
     match why {
@@ -36,7 +34,9 @@ impl<F: Folder> Machine<F> {
     pub(crate) fn register(&mut self, conn: ConnId) -> Result<Done, OutOfMemory>
         requires { HasRoom 1 conn self.old.connections.rooms }
         ensures leads { IfOk result (λ done. (brought : Brought)
-            → Leads F.Cell.is_honest F.Cell.is_steady F.Cell.faults F.Cell.moment
+            → Leads F.is_honest F.is_steady F.faults F.images
+            F.may_leave F.made F.Cell.is_honest F.Cell.is_steady
+            F.Cell.faults F.Cell.moment
             F.Cell.left_since F.Cell.may_leave conn brought
             (register (asked conn brought (rows_of self.old)))
             (rows_of self.old) (rows_of self.new) (disk_of self.old) (disk_of self.new) done) }
@@ -56,7 +56,9 @@ impl<F: Folder> Machine<F> {
     /// Performs the row of Unregister. It takes no memory.
     pub(crate) fn unregister(&mut self, conn: ConnId) -> Done
         ensures leads { (brought : Brought)
-            → Leads F.Cell.is_honest F.Cell.is_steady F.Cell.faults F.Cell.moment
+            → Leads F.is_honest F.is_steady F.faults F.images
+            F.may_leave F.made F.Cell.is_honest F.Cell.is_steady
+            F.Cell.faults F.Cell.moment
             F.Cell.left_since F.Cell.may_leave conn brought
             (unregister (asked conn brought (rows_of self.old)))
             (rows_of self.old) (rows_of self.new) (disk_of self.old) (disk_of self.new) result }
@@ -78,7 +80,9 @@ impl<F: Folder> Machine<F> {
     ) -> Result<Done, OutOfMemory>
         requires { HasRoom 1 conn self.old.connections.rooms }
         ensures leads { IfOk result (λ done. (brought : Brought)
-            → Leads F.Cell.is_honest F.Cell.is_steady F.Cell.faults F.Cell.moment
+            → Leads F.is_honest F.is_steady F.faults F.images
+            F.may_leave F.made F.Cell.is_honest F.Cell.is_steady
+            F.Cell.faults F.Cell.moment
             F.Cell.left_since F.Cell.may_leave conn brought
             (refuse prompt round (asked conn brought (rows_of self.old)))
             (rows_of self.old) (rows_of self.new) (disk_of self.old) (disk_of self.new) done) }
@@ -96,10 +100,12 @@ impl<F: Folder> Machine<F> {
         }
     }
 
-    // Refuses what the agent says about something that is no prompt.
-    fn refuse_none(&self, conn: ConnId) -> Done
+    /// Refuses what the agent says about something that is no prompt.
+    pub(crate) fn refuse_none(&self, conn: ConnId) -> Done
         ensures leads { (round : ℕ) (brought : Brought)
-            → Leads F.Cell.is_honest F.Cell.is_steady F.Cell.faults F.Cell.moment
+            → Leads F.is_honest F.is_steady F.faults F.images
+            F.may_leave F.made F.Cell.is_honest F.Cell.is_steady
+            F.Cell.faults F.Cell.moment
             F.Cell.left_since F.Cell.may_leave conn brought
             (refuse None round (asked conn brought (rows_of self.now)))
             (rows_of self.now) (rows_of self.now) (disk_of self.now) (disk_of self.now) result }

@@ -51,13 +51,18 @@ impl<F: Folder> Machine<F> {
         ensures leads { (conn : ConnId) (brought : Brought) (alias : List ℕ)
             (stem : Option (List ℕ))
             → IsPreparedFor alias stem (contents_of (rows_of self.old)) change
-            → Leads F.Cell.is_honest F.Cell.is_steady F.Cell.faults F.Cell.moment
+            → Leads F.is_honest F.is_steady F.faults F.images
+            F.may_leave F.made F.Cell.is_honest F.Cell.is_steady
+            F.Cell.faults F.Cell.moment
             F.Cell.left_since F.Cell.may_leave conn brought
             (alias_stored alias stem (asked conn brought (rows_of self.old)))
             (rows_of self.old) (rows_of self.new) (disk_of self.old) (disk_of self.new) result }
         ensures silent { result.sends ≡ [] }
         ensures unread { result.read ≡ None }
         ensures room { self.new.connections ≡ self.old.connections }
+        ensures prompts { self.new.prompts ≡ self.old.prompts }
+        ensures rest { disk_of self.new
+            ≡ record (disk_of self.old) { aliases = (disk_of self.new).aliases } }
     {
         match self.disk.store_aliases(change) {
             Some(fate) => ended(self.alloc, Body::Empty, fate),
@@ -65,19 +70,24 @@ impl<F: Folder> Machine<F> {
         }
     }
 
-    // The same, after the file was read again if it is in doubt. It takes no memory.
-    fn settle_alias(&mut self, change: AliasChange) -> Done
+    /// The same, after the file was read again if it is in doubt. It takes no memory.
+    pub(crate) fn settle_alias(&mut self, change: AliasChange) -> Done
         requires { (alias : List ℕ) × (stem : Option (List ℕ))
             × IsPreparedFor alias stem (contents_of (rows_of self.old)) change }
         ensures leads { (conn : ConnId) (brought : Brought) (alias : List ℕ)
             (stem : Option (List ℕ))
             → IsPreparedFor alias stem (contents_of (rows_of self.old)) change
-            → Leads F.Cell.is_honest F.Cell.is_steady F.Cell.faults F.Cell.moment
+            → Leads F.is_honest F.is_steady F.faults F.images
+            F.may_leave F.made F.Cell.is_honest F.Cell.is_steady
+            F.Cell.faults F.Cell.moment
             F.Cell.left_since F.Cell.may_leave conn brought
             (alias_settled alias stem (asked conn brought (rows_of self.old)))
             (rows_of self.old) (rows_of self.new) (disk_of self.old) (disk_of self.new) result }
         ensures silent { result.sends ≡ [] }
         ensures room { self.new.connections ≡ self.old.connections }
+        ensures prompts { self.new.prompts ≡ self.old.prompts }
+        ensures rest { disk_of self.new
+            ≡ record (disk_of self.old) { aliases = (disk_of self.new).aliases } }
     {
         if !self.disk.has_doubtful_aliases() {
             return self.store_alias(change);
@@ -97,7 +107,9 @@ impl<F: Folder> Machine<F> {
         object: &Option<ObjectName>,
     ) -> Result<Done, OutOfMemory>
         ensures leads { IfOk result (λ done. (brought : Brought)
-            → Leads F.Cell.is_honest F.Cell.is_steady F.Cell.faults F.Cell.moment
+            → Leads F.is_honest F.is_steady F.faults F.images
+            F.may_leave F.made F.Cell.is_honest F.Cell.is_steady
+            F.Cell.faults F.Cell.moment
             F.Cell.left_since F.Cell.may_leave conn brought
             (set_alias alias.now object.now (asked conn brought (rows_of self.old)))
             (rows_of self.old) (rows_of self.new) (disk_of self.old) (disk_of self.new) done) }

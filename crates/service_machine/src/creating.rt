@@ -52,7 +52,9 @@ impl<F: Folder> Machine<F> {
         salt: [u8; 8],
     ) -> Result<Done, OutOfMemory>
         ensures leads { IfOk result (λ done. (brought : Brought)
-            → Leads F.Cell.is_honest F.Cell.is_steady F.Cell.faults F.Cell.moment
+            → Leads F.is_honest F.is_steady F.faults F.images
+            F.may_leave F.made F.Cell.is_honest F.Cell.is_steady
+            F.Cell.faults F.Cell.moment
             F.Cell.left_since F.Cell.may_leave conn brought
             (creating label.now alias.now salt (asked conn brought (rows_of self.old)))
             (rows_of self.old) (rows_of self.new) (disk_of self.old) (disk_of self.new) done) }
@@ -85,7 +87,9 @@ impl<F: Folder> Machine<F> {
         salt: [u8; 8],
     ) -> Result<Done, OutOfMemory>
         ensures leads { IfOk result (λ done. (brought : Brought)
-            → Leads F.Cell.is_honest F.Cell.is_steady F.Cell.faults F.Cell.moment
+            → Leads F.is_honest F.is_steady F.faults F.images
+            F.may_leave F.made F.Cell.is_honest F.Cell.is_steady
+            F.Cell.faults F.Cell.moment
             F.Cell.left_since F.Cell.may_leave conn brought
             (create_collection label.now alias.now salt (asked conn brought (rows_of self.old)))
             (rows_of self.old) (rows_of self.new) (disk_of self.old) (disk_of self.new) done) }

@@ -2,9 +2,9 @@ ghost use Rattle.std.specs.Prelude.{◌≡◌};
 ghost use Rattle.service_machine.specs.declared.event.ApplyRefused.TheVariants as ApplyRefused;
 ghost use Rattle.service_machine.specs.declared.event.JoinRefused.TheVariants as JoinRefused;
 
-use kr_base::ConnId;
+use kr_base::{Bytes, ConnId, PromptId};
 use kr_items::Items;
-use secret_calls::{Out, Request};
+use secret_calls::{Finished, Out, Request, Work};
 use service_tables::Fate;
 use std::alloc::AllocError;
 use thiserror::Error;
@@ -18,7 +18,7 @@ pub struct Arrival {
     pub request: Request,
     /// The moment, in seconds since 1970.
     pub now: u64,
-    /// Random bytes, should a key be derived.
+    /// Random bytes, which a prompt that creates a collection keeps for its key.
     pub salt: [u8; 8],
 }
 
@@ -31,6 +31,38 @@ pub struct Recorded {
     pub fates: Items<Fate>,
 }
 
+/// A key that was derived for a prompt, as the reader of a connection brings it.
+#[derive(Drop)]
+pub struct BroughtKey {
+    /// The connection.
+    pub conn: ConnId,
+    /// The prompt, its round and the key.
+    pub done: Finished,
+    /// The moment, in seconds since 1970.
+    pub now: u64,
+}
+
+/// A derived key as it is recorded: what it was derived from.
+#[derive(Drop)]
+pub struct Derivation {
+    /// The connection that brought it.
+    pub conn: ConnId,
+    /// The prompt.
+    pub prompt: PromptId,
+    /// The round in which it was answered.
+    pub round: u64,
+    /// The password.
+    pub password: Bytes,
+    /// The salt.
+    pub salt: [u8; 8],
+    /// How often the password was hashed.
+    pub iterations: u32,
+    /// The moment, in seconds since 1970.
+    pub now: u64,
+    /// How each storing and each resolve of a file ended that the key led to, in order.
+    pub fates: Items<Fate>,
+}
+
 /// What may happen to the service.
 #[derive(Drop)]
 pub enum Incoming {
@@ -38,6 +70,8 @@ pub enum Incoming {
     Connect,
     /// A connection asks for something.
     Arrive(Arrival),
+    /// The key was derived that an answer asked for.
+    Derived(BroughtKey),
     /// A connection asks no more.
     Leave(ConnId),
     /// A connection takes what waits for it.
@@ -53,6 +87,8 @@ pub enum Event {
     Connect(ConnId),
     /// A connection asked for something.
     Arrive(Recorded),
+    /// A key was derived.
+    Derived(Derivation),
     /// A connection asked no more.
     Leave(ConnId),
     /// A connection took what waited for it.
@@ -61,9 +97,12 @@ pub enum Event {
     Gone(ConnId),
 }
 
-/// What a connection that asked is answered at once: nothing yet, since its reply waits for it.
+/// What a connection that asked is answered at once. Its reply waits for it.
 #[derive(Drop)]
-pub struct Arrived {}
+pub struct Arrived {
+    /// The key that is to be derived now, if the request was an answer that was taken.
+    pub work: Option<Work>,
+}
 
 /// The answer to the caller that brought an event. Replies to calls wait for their connection.
 #[derive(Drop)]
@@ -72,6 +111,8 @@ pub enum Output {
     Joined(ConnId),
     /// The request was taken.
     Arrived(Arrived),
+    /// The derived key was taken.
+    Derived,
     /// The connection is leaving.
     Left,
     /// What waited, in order.

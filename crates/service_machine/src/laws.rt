@@ -1,14 +1,15 @@
 // What the definitions of a step and of lists of events say together. Each law is the contract of a
 // function that does nothing.
-ghost use Rattle.std.specs.Prelude.{◌≡◌, ◌++◌, ◌∷◌, [], false, List};
+ghost use Rattle.std.specs.Prelude.{◌≡◌, ◌++◌, ◌∷◌, [], List};
 ghost use Rattle.std.specs.List.{AllByRecursion};
 ghost use Rattle.service_machine.specs.declared.event.Event.{Event};
 ghost use Rattle.service_machine.specs.declared.event.Event.TheVariants as Event;
+ghost use Rattle.service_machine.specs.declared.event.Derivation.{Derivation};
 ghost use Rattle.service_machine.specs.declared.event.Recorded.{Recorded};
-ghost use Rattle.service_machine.specs.Fates.{AreFaultless, IsFaultless};
-ghost use Rattle.service_machine.specs.Step.{step, puts_out, output_of, AreAlike, Fits};
+ghost use Rattle.service_machine.specs.Fates.{AreFaultless, IsCertain, IsFaultless};
+ghost use Rattle.service_tables.specs.declared.fate.Fate.{Fate};
+ghost use Rattle.service_machine.specs.Step.{step, puts_out, AreAlike, Fits};
 ghost use Rattle.service_machine.specs.Replay.{replay, Legal, outputs};
-ghost use Rattle.service_tables.specs.Aliases.{are_doubtful};
 ghost use Rattle.service_tables.specs.Sound.{AreSoundContents, CanWait, IsSound};
 ghost use Rattle.service_tables.specs.Opened.{Contents, opened_state};
 ghost use Rattle.service_tables.specs.State.{State};
@@ -33,18 +34,22 @@ pub fn outputs_can_wait()
 {}
 
 /// Two requests that are alike lead from one state to one state if their storings ended alike; and these
-/// do if no device failed and the file of the aliases isn't in doubt, which it then stays.
-#[tactic(auto, using(crate::proofs::EventLemmas::step_alike, crate::proofs::EventLemmas::fates_alike, crate::proofs::EventLemmas::step_certain))]
+/// do if no device failed and no file is in doubt, which then stays so. The same holds of a derived key.
+#[tactic(auto, using(crate::proofs::EventLemmas::step_alike, crate::proofs::EventLemmas::fates_alike, crate::proofs::EventLemmas::key_fates, crate::proofs::EventLemmas::step_certain))]
 pub fn alike_requests_lead_to_one_state()
     ensures step { (state : State) (one other : Recorded) → AreAlike one.arrival other.arrival
         → one.fates ≡ other.fates
         → step state (Event.Arrive one) ≡ step state (Event.Arrive other) }
     ensures fates { (state : State) (one other : Recorded) → AreAlike one.arrival other.arrival
         → Fits state (Event.Arrive one) → Fits state (Event.Arrive other)
-        → are_doubtful state.aliases ≡ false
+        → IsCertain state
         → AreFaultless one.fates → AreFaultless other.fates → one.fates ≡ other.fates }
-    ensures certain { (state : State) (event : Event) → IsFaultless event
-        → are_doubtful state.aliases ≡ false → are_doubtful (step state event).aliases ≡ false }
+    ensures key { (state : State) (came : Derivation) (fates : List Fate)
+        → Fits state (Event.Derived came)
+        → Fits state (Event.Derived (record came { fates = fates })) → IsCertain state
+        → AreFaultless came.fates → AreFaultless fates → came.fates ≡ fates }
+    ensures certain { (state : State) (event : Event) → IsFaultless event → IsCertain state
+        → IsCertain (step state event) }
 {}
 
 /// One list behind another leads on from where the first one led, is legal where both are, and answers

@@ -1,4 +1,4 @@
-ghost use Rattle.std.specs.Prelude.{◌≡◌, ℕ, List, ◌<◌, ◌≤◌, ◌^◌, ◌++◌, [], Ok, true, false, IsTrue, IfOk, IfSome, OnOk, OnErr, IsErrOf, vec_capacity};
+ghost use Rattle.std.specs.Prelude.{◌≡◌, ℕ, List, ◌<◌, ◌≤◌, ◌^◌, ◌++◌, [], Ok, true, false, IsTrue, IfOk, IfSome, OnOk, OnErr, IsErrOf, ◌+◌, vec_capacity, vec_len};
 ghost use Rattle.kr_base.specs.Attributes.{value_at};
 ghost use Rattle.collection_table.specs.Entries.{rows_of as collections_of};
 ghost use Rattle.service_tables.specs.Slots.{LeavesKnown, file_at};
@@ -6,15 +6,18 @@ ghost use Rattle.folder_store.specs.Ring.{IsAsFound};
 ghost use Rattle.service_tables.specs.Connections.{HasRoom, has, waiting_for, desk_of};
 ghost use Rattle.service_tables.specs.Disk.{IsLoaded, FailedToLoad, disk_state};
 ghost use Rattle.service_machine.specs.Fates.{with_fates, AreFaultless, IsFaultless, is_steady};
-ghost use Rattle.service_machine.specs.Machine.{Records, IsDue, IsOfNone, IsConnect, TakesMemory};
+ghost use Rattle.service_machine.specs.Machine.{AreFreeFor, Records, IsDue, IsOfNone, IsConnect, IsSoundFor, TakesMemory};
 ghost use Rattle.service_tables.specs.Opened.{IsOpened, contents_of};
 ghost use Rattle.service_tables.specs.Storing.{Brought};
 ghost use Rattle.service_machine.specs.Run.{asked, ran};
-ghost use Rattle.service_tables.specs.Sound.{AreSoundContents};
+ghost use Rattle.service_disk.specs.Making.{AreFree};
+ghost use Rattle.service_machine.specs.declared.event.Output.TheVariants as Output;
+ghost use Rattle.service_tables.specs.Sound.{AreSoundContents, IsSound};
 ghost use Rattle.service_machine.specs.Step.{step, output_of, brought_by, brought_with, plan_of, row_of, message_of, replies, with_delivered, IsMissing, IsCrowded, CanJoin, HasTypes, IsSalt, IsTypedName, Fits};
-ghost use Rattle.service_machine.specs.Stored.{HasRoomToReply, IsPlain, Leads, SendsNothing, StoresEvent, fates_of};
+ghost use Rattle.service_machine.specs.Stored.{HasRoomToReply, IsPlain, KeepsDisk, Leads, SendsNothing, StoresEvent, fates_of};
 
 use crate::answer::{Answer, bounded};
+use crate::answering::password_in;
 use crate::storing::{Done, refused, unstored};
 use crate::{ApplyRefused, Arrival, Arrived, Event, Incoming, Output, Recorded};
 use keyring_text::known_bytes;
@@ -22,13 +25,14 @@ use kr_base::{ConnId, OutOfMemory, Stem};
 use kr_items::Items;
 use kr_outside::Folder;
 use prompt_state::PromptState;
-use secret_calls::{AliasName, Body, Call, CallFault, Out, Request, Serial};
+use secret_calls::{AliasName, Body, Call, CallFault, Out, Request, Serial, Work};
 use service_tables::{
     Connections, DeskRow, Disk, Fate, OpenRefused, Rows, Sent, known_alias, known_item,
     known_secret, known_text,
 };
 use session_table::SessionTable;
 use std::alloc::Global;
+use stem_choice::{a_used_stem_is_in_the_list, adding_a_stem_uses_it_alone};
 
 /// The service: its connections with what waits for each, its sessions and prompts, and its folder with its
 /// collections and aliases.
@@ -52,7 +56,11 @@ impl<F: Folder> Machine<F> {
     pub fn open(alloc: Global, folder: F) -> Result<Machine<F>, OpenRefused>
         requires fresh { F.made folder ≡ [] }
         ensures opened { IfOk result (λ machine. IsOpened (rows_of machine)) }
-        ensures sound { IfOk result (λ machine. AreSoundContents (contents_of (rows_of machine))) }
+        ensures free { IfOk result (λ machine. AreFree F.is_honest F.images F.may_leave F.made
+            F.Cell.is_honest F.Cell.may_leave (disk_of machine)) }
+        ensures contents { IfOk result (λ machine.
+            AreSoundContents (contents_of (rows_of machine))) }
+        ensures sound { IfOk result (λ machine. IsSound (rows_of machine)) }
         ensures loaded { IfOk result (λ machine. IsLoaded (IsAsFound F.Cell.seen F.Cell.temporary
             F.Cell.may_leave F.Cell.left_since F.Cell.is_honest F.Cell.is_steady
             (F.is_honest folder) (F.is_steady folder))
@@ -69,6 +77,9 @@ impl<F: Folder> Machine<F> {
         ensures never { IsTrue (F.is_steady folder) → ¬ (IsErrOf result OpenRefused.Folder) }
     {
         let disk = Disk::open(alloc, folder)?;
+        // Laws that say which stems are used.
+        a_used_stem_is_in_the_list();
+        adding_a_stem_uses_it_alone();
         Ok(Machine {
             alloc,
             connections: Connections::new(alloc),
@@ -93,7 +104,10 @@ impl<F: Folder> Machine<F> {
     /// Refused with `NoConnection` if the connection isn't there, and with `TooManyConnections` if 256
     /// are there or no number is left. Leaving, taking and going take no memory.
     pub fn apply(&mut self, event: Incoming) -> Result<(Output, Event), ApplyRefused>
-        requires { IsDue (rows_of self.old) event }
+        requires due { IsDue (rows_of self.old) event }
+        requires sound { IsSoundFor event (rows_of self.old) }
+        requires free { AreFreeFor F.is_honest F.images F.may_leave F.made F.Cell.is_honest
+            F.Cell.may_leave event (disk_of self.old) }
 
         ensures recorded { IfOk result (λ answer. Records event answer.1) }
         ensures fits { IfOk result (λ answer. Fits (rows_of self.old) answer.1) }
@@ -101,7 +115,8 @@ impl<F: Folder> Machine<F> {
             rows_of self.new ≡ step (rows_of self.old) answer.1) }
         ensures output { IfOk result (λ answer.
             answer.0 ≡ output_of (rows_of self.old) answer.1) }
-        ensures disk { IfOk result (λ answer. StoresEvent F.Cell.is_honest F.Cell.is_steady
+        ensures disk { IfOk result (λ answer. StoresEvent F.is_honest F.is_steady F.faults F.images
+            F.may_leave F.made F.Cell.is_honest F.Cell.is_steady
             F.Cell.faults F.Cell.moment F.Cell.left_since F.Cell.may_leave answer.1
             (rows_of self.old) (disk_of self.old) (disk_of self.new)) }
         ensures faultless { IsTrue (is_steady F.is_steady F.Cell.is_steady (disk_of self.old))
@@ -116,8 +131,12 @@ impl<F: Folder> Machine<F> {
         ensures full { IsErrOf result ApplyRefused.TooManyConnections
             → IsCrowded (rows_of self.old) }
         ensures memory { IsErrOf result ApplyRefused.OutOfMemory → TakesMemory event }
-        ensures unchanged { OnErr result ((rows_of self.new ≡ rows_of self.old)
-            × (disk_of self.new ≡ disk_of self.old)) }
+        ensures unchanged { OnErr result (rows_of self.new ≡ rows_of self.old) }
+        ensures kept { OnErr result (KeepsDisk F.is_honest F.is_steady F.faults F.images
+            F.may_leave F.made F.Cell.is_honest F.Cell.is_steady F.Cell.faults event
+            (disk_of self.old) (disk_of self.new)) }
+        ensures free { AreFreeFor F.is_honest F.images F.may_leave F.made F.Cell.is_honest
+            F.Cell.may_leave event (disk_of self.new) }
     {
         match event {
             Incoming::Connect => {
@@ -129,11 +148,16 @@ impl<F: Folder> Machine<F> {
             }
             Incoming::Arrive(arrival) => {
                 self.there(arrival.conn)?;
-                let fates = self.arrive(&arrival)?;
+                let (work, fates) = self.arrive(&arrival)?;
                 Ok((
-                    Output::Arrived(Arrived {}),
+                    Output::Arrived(Arrived { work }),
                     Event::Arrive(Recorded { arrival, fates }),
                 ))
+            }
+            Incoming::Derived(brought) => {
+                self.there(brought.conn)?;
+                let derivation = self.derived(brought)?;
+                Ok((Output::Derived, Event::Derived(derivation)))
             }
             Incoming::Leave(conn) => {
                 self.there(conn)?;
@@ -193,21 +217,24 @@ impl<F: Folder> Machine<F> {
     }
 
     /// Answers the request of a connection that is there; the reply waits for it, and then the signals that the
-    /// request sends wait for their connections. It returns how each storing and each resolve of a file ended
-    /// that the request asked for. All memory is taken before the first call of a device, and before anything
-    /// changes.
-    pub fn arrive(&mut self, arrival: &Arrival) -> Result<Items<Fate>, OutOfMemory>
+    /// request sends wait for their connections. It returns the key that is to be derived, if the request is an
+    /// answer that was taken, and how each storing and each resolve of a file ended that the request asked for.
+    /// All memory is taken before the first call of a device, and before anything changes.
+    pub fn arrive(&mut self, arrival: &Arrival) -> Result<(Option<Work>, Items<Fate>), OutOfMemory>
         requires { has arrival.now.conn (rows_of self.old).connections.rows ≡ true }
-        ensures fits { IfOk result (λ fates.
-            Fits (rows_of self.old) (with_fates arrival.entry.now fates)) }
-        ensures stepped { IfOk result (λ fates.
-            rows_of self.new ≡ step (rows_of self.old) (with_fates arrival.entry.now fates)) }
-        ensures disk { IfOk result (λ fates. StoresEvent F.Cell.is_honest F.Cell.is_steady
+        ensures fits { IfOk result (λ done.
+            Fits (rows_of self.old) (with_fates arrival.entry.now done.1)) }
+        ensures stepped { IfOk result (λ done.
+            rows_of self.new ≡ step (rows_of self.old) (with_fates arrival.entry.now done.1)) }
+        ensures work { IfOk result (λ done. Output.Arrived (record { work = done.0 })
+            ≡ output_of (rows_of self.old) (with_fates arrival.entry.now done.1)) }
+        ensures disk { IfOk result (λ done. StoresEvent F.is_honest F.is_steady F.faults F.images
+            F.may_leave F.made F.Cell.is_honest F.Cell.is_steady
             F.Cell.faults F.Cell.moment F.Cell.left_since F.Cell.may_leave
-            (with_fates arrival.entry.now fates)
+            (with_fates arrival.entry.now done.1)
             (rows_of self.old) (disk_of self.old) (disk_of self.new)) }
         ensures faultless { IsTrue (is_steady F.is_steady F.Cell.is_steady (disk_of self.old))
-            → IfOk result AreFaultless }
+            → IfOk result (λ done. AreFaultless done.1) }
         ensures steady { is_steady F.is_steady F.Cell.is_steady (disk_of self.new)
             ≡ is_steady F.is_steady F.Cell.is_steady (disk_of self.old) }
         ensures unchanged { OnErr result ((rows_of self.new ≡ rows_of self.old)
@@ -216,9 +243,11 @@ impl<F: Folder> Machine<F> {
         known_request(arrival);
         self.connections.reserve(arrival.conn, 1)?;
         let fates = Vec::with_capacity(self.alloc, 2)?;
+        let password = password_in(&arrival.request)?;
         let (answer, sends, read, fate) = self.call(arrival)?.into_parts();
+        let work = self.work_of(&arrival.request, &answer, password);
         self.reply(arrival.conn, &arrival.request, answer, sends);
-        Ok(Items::new(with_fates(fates, read, fate)))
+        Ok((work, Items::new(with_fates(fates, read, fate))))
     }
 
     // The reply to a request waits for its connection, if it is wanted, and what is sent after it waits. It
@@ -241,7 +270,8 @@ impl<F: Folder> Machine<F> {
     // and for what is sent after it.
     fn call(&mut self, arrival: &Arrival) -> Result<Done, OutOfMemory>
         requires { HasRoom 1 arrival.now.conn self.old.connections.rooms }
-        ensures leads { IfOk result (Leads F.Cell.is_honest F.Cell.is_steady F.Cell.faults
+        ensures leads { IfOk result (Leads F.is_honest F.is_steady F.faults F.images
+            F.may_leave F.made F.Cell.is_honest F.Cell.is_steady F.Cell.faults
             F.Cell.moment F.Cell.left_since F.Cell.may_leave arrival.entry.now.conn
             (brought_by arrival.entry.now)
             (plan_of arrival.entry.now.salt arrival.entry.now.request.call
@@ -267,7 +297,8 @@ impl<F: Folder> Machine<F> {
         salt: [u8; 8],
     ) -> Result<Done, OutOfMemory>
         requires { HasRoom 1 conn self.old.connections.rooms }
-        ensures leads { IfOk result (Leads F.Cell.is_honest F.Cell.is_steady F.Cell.faults
+        ensures leads { IfOk result (Leads F.is_honest F.is_steady F.faults F.images
+            F.may_leave F.made F.Cell.is_honest F.Cell.is_steady F.Cell.faults
             F.Cell.moment F.Cell.left_since F.Cell.may_leave conn (brought_with now (Ok call.now))
             (row_of salt call.now (asked conn (brought_with now (Ok call.now)) (rows_of self.old)))
             (rows_of self.old) (rows_of self.new) (disk_of self.old) (disk_of self.new)) }
@@ -280,6 +311,7 @@ impl<F: Folder> Machine<F> {
             Call::Prompt { prompt } => self.call_prompt(conn, *prompt),
             Call::Dismiss { prompt } => self.dismiss(conn, *prompt),
             Call::Register => self.register(conn),
+            Call::Answer { prompt, round, .. } => self.answer_prompt(conn, *prompt, *round),
             Call::Refuse { prompt, round } => self.refuse(conn, *prompt, *round),
             _ => self.perform_silently(conn, call, now, salt),
         }
@@ -294,7 +326,8 @@ impl<F: Folder> Machine<F> {
         salt: [u8; 8],
     ) -> Result<Done, OutOfMemory>
         requires { SendsNothing call.now }
-        ensures leads { IfOk result (Leads F.Cell.is_honest F.Cell.is_steady F.Cell.faults
+        ensures leads { IfOk result (Leads F.is_honest F.is_steady F.faults F.images
+            F.may_leave F.made F.Cell.is_honest F.Cell.is_steady F.Cell.faults
             F.Cell.moment F.Cell.left_since F.Cell.may_leave conn (brought_with now (Ok call.now))
             (row_of salt call.now (asked conn (brought_with now (Ok call.now)) (rows_of self.old)))
             (rows_of self.old) (rows_of self.new) (disk_of self.old) (disk_of self.new)) }
@@ -433,11 +466,10 @@ impl<F: Folder> Machine<F> {
     }
 }
 
-// How a resolve and a storing ended, as far as they were asked for, in a list that is empty. It takes no memory.
-fn with_fates(fates: Vec<Fate>, read: Option<Fate>, fate: Option<Fate>) -> Vec<Fate>
-    requires empty { fates.items ≡ [] }
-    requires room { 2 ≤ vec_capacity fates }
-    ensures { result.items ≡ fates_of read ++ fates_of fate }
+/// How a resolve and a storing ended, as far as they were asked for, after those in a list. It takes no memory.
+pub fn with_fates(fates: Vec<Fate>, read: Option<Fate>, fate: Option<Fate>) -> Vec<Fate>
+    requires room { vec_len fates + 2 ≤ vec_capacity fates }
+    ensures { result.items ≡ fates.items ++ (fates_of read ++ fates_of fate) }
 {
     let mut fates = fates;
     if let Some(read) = read {
@@ -475,6 +507,7 @@ fn known_request(arrival: &Arrival)
             known_name(alias);
         }
         Ok(Call::SetAlias { alias, .. }) => known_alias(alias.as_text()),
+        Ok(Call::Answer { password, .. }) => known_bytes(password.as_slice()),
         _ => {}
     }
 }

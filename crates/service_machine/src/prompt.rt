@@ -1,14 +1,14 @@
 // The calls of the interface Prompt, and how a prompt advances and ends.
 ghost use Rattle.std.specs.Prelude.{◌≡◌, ◌+◌, ◌∷◌, ◌≤◌, [], Option, None, Some, true, false, IsTrue, IfOk, IfSome, OnErr};
-ghost use Rattle.std.specs.Option.{is_some};
+ghost use Rattle.std.specs.Option.{is_some, option_copied};
 ghost use Rattle.kr_base.specs.declared.ids.ConnId.{ConnId};
 ghost use Rattle.kr_base.specs.declared.ids.PromptId.{PromptId};
 ghost use Rattle.collection_table.specs.Rows.{has, is_open};
-ghost use Rattle.prompt_state.specs.Prompts.{first_of_row, last_round, next_round, round_of, row_at};
+ghost use Rattle.prompt_state.specs.Prompts.{AreSound, first_of_row, last_round, next_round, round_of, row_at};
 ghost use Rattle.secret_calls.specs.declared.out.Body.{Body};
 ghost use Rattle.secret_calls.specs.declared.out.Body.TheVariants as body;
 ghost use Rattle.service_machine.specs.Plan.{End_prompt, answered};
-ghost use Rattle.service_machine.specs.PromptCalls.{advance_sent, are_none, call_prompt, dismiss, is_made_row, is_over, is_over_row, passed, passed_kind, row_advance};
+ghost use Rattle.service_machine.specs.PromptCalls.{advance_sent, are_none, call_prompt, dismiss, is_made_row, is_over, is_over_row, passed, passed_kind, passed_over, row_advance};
 ghost use Rattle.service_machine.specs.Rows.{disk_of, rows_of};
 ghost use Rattle.service_machine.specs.Run.{asked, performed_all, sent_all};
 ghost use Rattle.service_machine.specs.ServiceCalls.{next_prompt, with_new_prompt};
@@ -24,11 +24,22 @@ use crate::answer::is_small;
 use crate::storing::{Done, refused, sending, unstored};
 use kr_base::{ConnId, OutOfMemory, PromptId, Stem};
 use kr_outside::Folder;
-use prompt_state::{Ask, PromptKind, PromptRefused, PromptRow, Target, Targets};
+use prompt_state::{Ask, PromptKind, PromptRefused, PromptRow, PromptState, Target, Targets};
 use secret_calls::{Body, ErrorName};
 use service_prompts::{ask_signal, completed_sent, completed_signal};
 use service_tables::{Disk, Sent};
 use std::alloc::AllocError;
+
+// The first target of a prompt that is left. Shows that no two prompts have one number.
+fn first_open(prompts: &PromptState, prompt: PromptId) -> Option<&Target>
+    ensures first { option_copied result ≡ first_of_row (row_at prompt prompts.now) }
+    ensures sound { AreSound prompts.now }
+{
+    match prompts.row(prompt) {
+        Some(row) => row.kind.first_left(),
+        None => None,
+    }
+}
 
 // Passes over the first targets that are left: each whose collection is gone is dropped, and each whose collection
 // is unlocked is done. It takes no memory.
@@ -50,8 +61,8 @@ fn pass_over<F: Folder>(disk: &Disk<F>, targets: &mut Targets)
     }
 }
 
-// The same for what a prompt is for.
-fn pass_kind<F: Folder>(disk: &Disk<F>, kind: &mut PromptKind)
+/// The same for what a prompt is for.
+pub fn pass_kind<F: Folder>(disk: &Disk<F>, kind: &mut PromptKind)
     ensures { kind.new ≡ passed_kind (asked_collections (contents_in disk.now)) kind.old }
 {
     match kind {
@@ -89,7 +100,9 @@ impl<F: Folder> Machine<F> {
     ) -> Result<Done, OutOfMemory>
         requires { HasRoom 1 conn self.old.connections.rooms }
         ensures leads { IfOk result (λ done. (brought : Brought)
-            → Leads F.Cell.is_honest F.Cell.is_steady F.Cell.faults F.Cell.moment
+            → Leads F.is_honest F.is_steady F.faults F.images
+            F.may_leave F.made F.Cell.is_honest F.Cell.is_steady
+            F.Cell.faults F.Cell.moment
             F.Cell.left_since F.Cell.may_leave conn brought
             (call_prompt prompt (asked conn brought (rows_of self.old)))
             (rows_of self.old) (rows_of self.new) (disk_of self.old) (disk_of self.new) done) }
@@ -111,7 +124,9 @@ impl<F: Folder> Machine<F> {
     pub(crate) fn dismiss(&mut self, conn: ConnId, prompt: PromptId) -> Result<Done, OutOfMemory>
         requires { HasRoom 1 conn self.old.connections.rooms }
         ensures leads { IfOk result (λ done. (brought : Brought)
-            → Leads F.Cell.is_honest F.Cell.is_steady F.Cell.faults F.Cell.moment
+            → Leads F.is_honest F.is_steady F.faults F.images
+            F.may_leave F.made F.Cell.is_honest F.Cell.is_steady
+            F.Cell.faults F.Cell.moment
             F.Cell.left_since F.Cell.may_leave conn brought
             (dismiss prompt (asked conn brought (rows_of self.old)))
             (rows_of self.old) (rows_of self.new) (disk_of self.old) (disk_of self.new) done) }
@@ -134,7 +149,9 @@ impl<F: Folder> Machine<F> {
     ) -> Result<Done, OutOfMemory>
         requires there { is_some (row_at prompt (rows_of self.old).prompts) ≡ true }
         ensures leads { IfOk result (λ done. (brought : Brought)
-            → Leads F.Cell.is_honest F.Cell.is_steady F.Cell.faults F.Cell.moment
+            → Leads F.is_honest F.is_steady F.faults F.images
+            F.may_leave F.made F.Cell.is_honest F.Cell.is_steady
+            F.Cell.faults F.Cell.moment
             F.Cell.left_since F.Cell.may_leave conn brought
             (answered body.Empty (End_prompt prompt true None ∷ []))
             (rows_of self.old) (rows_of self.new) (disk_of self.old) (disk_of self.new) done) }
@@ -160,7 +177,9 @@ impl<F: Folder> Machine<F> {
     ) -> Result<Done, OutOfMemory>
         ensures leads { IfOk result (λ done. (brought : Brought) (returned : Option PromptId → Body)
             → body ≡ returned (Some (next_prompt (asked conn brought (rows_of self.old))))
-            → Leads F.Cell.is_honest F.Cell.is_steady F.Cell.faults F.Cell.moment
+            → Leads F.is_honest F.is_steady F.faults F.images
+            F.may_leave F.made F.Cell.is_honest F.Cell.is_steady
+            F.Cell.faults F.Cell.moment
             F.Cell.left_since F.Cell.may_leave conn brought
             (with_new_prompt fits returned kind (asked conn brought (rows_of self.old)))
             (rows_of self.old) (rows_of self.new) (disk_of self.old) (disk_of self.new) done) }
@@ -201,7 +220,9 @@ impl<F: Folder> Machine<F> {
         requires there { is_some (row_at prompt (rows_of self.old).prompts) ≡ true }
         requires round { next_round (row_at prompt (rows_of self.old).prompts) ≤ last_round }
         ensures leads { IfOk result (λ done. (brought : Brought)
-            → Leads F.Cell.is_honest F.Cell.is_steady F.Cell.faults F.Cell.moment
+            → Leads F.is_honest F.is_steady F.faults F.images
+            F.may_leave F.made F.Cell.is_honest F.Cell.is_steady
+            F.Cell.faults F.Cell.moment
             F.Cell.left_since F.Cell.may_leave conn brought
             (answered body.Empty (row_advance prompt
             (asked_collections (contents_of (rows_of self.old)))
@@ -232,14 +253,21 @@ impl<F: Folder> Machine<F> {
         };
         let mut kind = row.kind.copy()?;
         pass_kind(&self.disk, &mut kind);
-        self.advance_sent(row, &kind)
+        self.advance_sent(row, row.wrong, &kind)
     }
 
-    // What is sent when a prompt advances that has a next round, once its first targets are passed over.
-    fn advance_sent(&self, row: &PromptRow, kind: &PromptKind) -> Result<Vec<Sent>, OutOfMemory>
+    /// What is sent when a prompt advances that has a next round, once its first targets are passed over, with so
+    /// many wrong answers.
+    pub(crate) fn advance_sent(
+        &self,
+        row: &PromptRow,
+        wrong: u32,
+        kind: &PromptKind,
+    ) -> Result<Vec<Sent>, OutOfMemory>
         requires { round_of row.now.stage + 1 ≤ last_round }
         ensures { IfOk result (λ sends. sends.items
-            ≡ advance_sent (rows_of self.now).collections row.now kind.now
+            ≡ advance_sent (rows_of self.now).collections
+            (record row.now { wrong = wrong }) kind.now
             (rows_of self.now).prompts.agent) }
     {
         let mut sends = Vec::with_capacity(self.alloc, 1)?;
@@ -256,7 +284,7 @@ impl<F: Folder> Machine<F> {
             agent,
             prompt: row.prompt,
             round: row.stage.round() + 1,
-            wrong: row.wrong,
+            wrong,
         };
         let sent = ask_signal(self.alloc, &self.disk, kind, ask)?;
         sends.push(sent)?;
@@ -281,12 +309,16 @@ impl<F: Folder> Machine<F> {
         }
     }
 
-    // Passes over the first targets of a prompt that are left. It takes no memory.
-    fn pass_targets(&mut self, conn: ConnId, prompt: PromptId)
+    /// Passes over the first targets of a prompt that are left. It takes no memory.
+    pub(crate) fn pass_targets(&mut self, conn: ConnId, prompt: PromptId)
         requires there { is_some (row_at prompt (rows_of self.old).prompts) ≡ true }
         ensures there { is_some (row_at prompt (rows_of self.new).prompts) ≡ true }
         ensures round { next_round (row_at prompt (rows_of self.new).prompts)
             ≡ next_round (row_at prompt (rows_of self.old).prompts) }
+        ensures passed { rows_of self.new ≡ record (rows_of self.old) {
+          prompts = passed_over prompt (asked_collections (contents_of (rows_of self.old)))
+              (rows_of self.old).prompts;
+        } }
         ensures left { IfSome (first_of_row (row_at prompt (rows_of self.new).prompts)) (λ target.
             IsTrue (has target.stem (rows_of self.new).collections)
             × (is_open target.stem (rows_of self.new).collections ≡ false)) }
@@ -302,7 +334,7 @@ impl<F: Folder> Machine<F> {
         ensures disk { disk_of self.new ≡ disk_of self.old }
     {
         let _ = conn;
-        while let Some(target) = self.prompts.first_open(prompt) {
+        while let Some(target) = first_open(&self.prompts, prompt) {
             let there = self.disk.collections.has(&target.stem);
             let open = self.disk.collections.is_open(&target.stem);
             if !there {
@@ -315,8 +347,8 @@ impl<F: Folder> Machine<F> {
         }
     }
 
-    // Whether there is such a prompt, and nothing more to ask for.
-    fn has_ended(&self, prompt: PromptId) -> bool
+    /// Whether there is such a prompt, and nothing more to ask for.
+    pub(crate) fn has_ended(&self, prompt: PromptId) -> bool
         ensures { result ≡ is_over_row (row_at prompt (rows_of self.now).prompts) }
     {
         match self.prompts.row(prompt) {

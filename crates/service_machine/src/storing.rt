@@ -1,5 +1,6 @@
 // Calls that store something: each edits a collection, or removes one, and is answered by how that ended.
-ghost use Rattle.std.specs.Prelude.{◌≡◌, ℕ, List, [], None, Some, IfOk, OnErr, Err};
+ghost use Rattle.std.specs.Prelude.{◌≡◌, ℕ, List, [], None, Some, IfOk, OnErr, Err, Ok};
+ghost use Rattle.secret_calls.specs.declared.out.Body.TheVariants as body;
 ghost use Rattle.kr_base.specs.declared.ids.ConnId.{ConnId};
 ghost use Rattle.secret_calls.specs.declared.out.ErrorName.TheVariants.{IOError};
 ghost use Rattle.service_tables.specs.Storing.{Add_item, Brought, Edit, change_of, storable_at};
@@ -72,6 +73,25 @@ impl Done {
             answer: self.answer,
             sends: self.sends,
             read: Some(read),
+            fate: self.fate,
+        }
+    }
+}
+
+impl Done {
+    /// The same with an empty return in place of its answer, and this sent after it.
+    pub fn followed(self, sends: Vec<Sent>) -> Done
+        ensures { result ≡ record {
+          answer = Ok body.Empty;
+          sends = sends.items;
+          read = self.read;
+          fate = self.fate;
+        } }
+    {
+        Done {
+            answer: Ok(Body::Empty),
+            sends: Items::new(sends),
+            read: self.read,
             fate: self.fate,
         }
     }
@@ -163,7 +183,9 @@ impl<F: Folder> Machine<F> {
     ) -> Result<Done, OutOfMemory>
         ensures leads { IfOk result (λ done. (conn : ConnId) (edit : Edit) (value : List ℕ)
             → change ≡ change_of value edit
-            → Leads F.Cell.is_honest F.Cell.is_steady F.Cell.faults F.Cell.moment
+            → Leads F.is_honest F.is_steady F.faults F.images
+            F.may_leave F.made F.Cell.is_honest F.Cell.is_steady
+            F.Cell.faults F.Cell.moment
             F.Cell.left_since F.Cell.may_leave conn (record { now = now; value = value })
             (storing stem.now edit (body_of returned stem.now)
             (storable_at stem.now change now (rows_of self.old).collections))
@@ -200,7 +222,9 @@ impl<F: Folder> Machine<F> {
     ) -> Result<Done, OutOfMemory>
         ensures leads { IfOk result (λ done. (edit : Edit) (value : List ℕ)
             → change ≡ change_of value edit
-            → Leads F.Cell.is_honest F.Cell.is_steady F.Cell.faults F.Cell.moment
+            → Leads F.is_honest F.is_steady F.faults F.images
+            F.may_leave F.made F.Cell.is_honest F.Cell.is_steady
+            F.Cell.faults F.Cell.moment
             F.Cell.left_since F.Cell.may_leave conn (record { now = now; value = value })
             (secret_stored session stem.now content.now edit (body_of returned stem.now)
             (asked conn (record { now = now; value = value }) (rows_of self.old)))
@@ -236,7 +260,8 @@ impl<F: Folder> Machine<F> {
         replace: bool,
         now: u64,
     ) -> Result<Done, OutOfMemory>
-        ensures leads { IfOk result (Leads F.Cell.is_honest F.Cell.is_steady F.Cell.faults
+        ensures leads { IfOk result (Leads F.is_honest F.is_steady F.faults F.images
+            F.may_leave F.made F.Cell.is_honest F.Cell.is_steady F.Cell.faults
             F.Cell.moment F.Cell.left_since F.Cell.may_leave conn
             (record { now = now; value = secret.now.value })
             (create_item collection.now
@@ -278,7 +303,9 @@ impl<F: Folder> Machine<F> {
         collection: &ObjectName,
     ) -> Result<Done, OutOfMemory>
         ensures leads { IfOk result (λ done. (brought : Brought)
-            → Leads F.Cell.is_honest F.Cell.is_steady F.Cell.faults F.Cell.moment
+            → Leads F.is_honest F.is_steady F.faults F.images
+            F.may_leave F.made F.Cell.is_honest F.Cell.is_steady
+            F.Cell.faults F.Cell.moment
             F.Cell.left_since F.Cell.may_leave conn brought
             (delete_collection collection.now (asked conn brought (rows_of self.old)))
             (rows_of self.old) (rows_of self.new) (disk_of self.old) (disk_of self.new) done) }
@@ -309,7 +336,9 @@ impl<F: Folder> Machine<F> {
         now: u64,
     ) -> Result<Done, OutOfMemory>
         ensures leads { IfOk result (λ done. (value : List ℕ)
-            → Leads F.Cell.is_honest F.Cell.is_steady F.Cell.faults F.Cell.moment
+            → Leads F.is_honest F.is_steady F.faults F.images
+            F.may_leave F.made F.Cell.is_honest F.Cell.is_steady
+            F.Cell.faults F.Cell.moment
             F.Cell.left_since F.Cell.may_leave conn (record { now = now; value = value })
             (delete_item stem.now item
             (asked conn (record { now = now; value = value }) (rows_of self.old)))
@@ -338,7 +367,8 @@ impl<F: Folder> Machine<F> {
         secret: &Secret,
         now: u64,
     ) -> Result<Done, OutOfMemory>
-        ensures leads { IfOk result (Leads F.Cell.is_honest F.Cell.is_steady F.Cell.faults
+        ensures leads { IfOk result (Leads F.is_honest F.is_steady F.faults F.images
+            F.may_leave F.made F.Cell.is_honest F.Cell.is_steady F.Cell.faults
             F.Cell.moment F.Cell.left_since F.Cell.may_leave conn
             (record { now = now; value = secret.now.value })
             (set_secret stem.now item secret.now.session secret.now.content

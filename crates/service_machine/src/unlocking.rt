@@ -24,7 +24,9 @@ impl<F: Folder> Machine<F> {
     // The return of a call that changes nothing, if it isn't too large.
     fn small(&self, body: Body) -> Done
         ensures done { (conn : ConnId) (brought : Brought) (disk : DiskState F F.Cell)
-            → Leads F.Cell.is_honest F.Cell.is_steady F.Cell.faults F.Cell.moment
+            → Leads F.is_honest F.is_steady F.faults F.images
+            F.may_leave F.made F.Cell.is_honest F.Cell.is_steady
+            F.Cell.faults F.Cell.moment
             F.Cell.left_since F.Cell.may_leave conn brought
             (answered_if_small body []) (rows_of self.now) (rows_of self.now) disk disk result }
         ensures silent { result.sends ≡ [] }
@@ -39,7 +41,9 @@ impl<F: Folder> Machine<F> {
         objects: &[ObjectName],
     ) -> Result<Done, OutOfMemory>
         ensures leads { IfOk result (λ done. (brought : Brought)
-            → Leads F.Cell.is_honest F.Cell.is_steady F.Cell.faults F.Cell.moment
+            → Leads F.is_honest F.is_steady F.faults F.images
+            F.may_leave F.made F.Cell.is_honest F.Cell.is_steady
+            F.Cell.faults F.Cell.moment
             F.Cell.left_since F.Cell.may_leave conn brought
             (unlock objects.now (asked conn brought (rows_of self.old)))
             (rows_of self.old) (rows_of self.new) (disk_of self.old) (disk_of self.new) done) }

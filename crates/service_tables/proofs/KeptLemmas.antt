@@ -137,7 +137,7 @@ rows-set-of-sound (Some next) some rows can sound = rows-set-sound next some row
 pub sound-set : (name : List ℕ) (stem : Option (List ℕ)) (some : Fate) (contents : Contents) → IsAliasName name → IfSome stem IsStem → AreSoundAliases contents.aliases
     → AreSoundAliases (aliases_set name stem some contents)
 sound-set name stem some contents named stems sound =
-    let becomes : Option AliasRows → Option AliasRows = λ aliases. aliases_set name stem some (record { collections = contents.collections; aliases = aliases }) in
+    let becomes : Option AliasRows → Option AliasRows = λ aliases. aliases_set name stem some (record contents { aliases = aliases }) in
     let of_rows : (rows : AliasRows) → AreSoundAliases (Some rows) → AreSoundAliases (becomes (Some rows)) =
     λ rows is.
     let these = changed name stem (keys_of contents.collections) rows.aliases in
@@ -181,7 +181,7 @@ rows-set-certain (Some next) fate.ReadFailed rows well certain = certain
 pub certain-set : (name : List ℕ) (stem : Option (List ℕ)) (some : Fate) (contents : Contents) → (IsFault some → ⊥) → are_doubtful contents.aliases ≡ false
     → are_doubtful (aliases_set name stem some contents) ≡ false
 certain-set name stem some contents well certain =
-    let becomes : Option AliasRows → Option AliasRows = λ aliases. aliases_set name stem some (record { collections = contents.collections; aliases = aliases }) in
+    let becomes : Option AliasRows → Option AliasRows = λ aliases. aliases_set name stem some (record contents { aliases = aliases }) in
     let pass : (aliases : Option AliasRows) → are_doubtful aliases ≡ false → are_doubtful (becomes aliases) ≡ false =
     elim [
       | None ↦ λ is. refl

@@ -1,22 +1,23 @@
 -- The folder of the service, and what was loaded from it.
-use Rattle.std.specs.Prelude.{◌≡◌, ℕ, ◌≤◌, ◌⊎◌, Bool, List, [], Option, map}
+use Rattle.std.specs.Prelude.{◌≡◌, ℕ, ◌≤◌, ◌⊎◌, Bool, List, [], ◌∷◌, Option, map}
 use Rattle.kr_outside.specs.Faults.{KeepsSteady, Rose}
 use Rattle.kr_outside.specs.RenameDisk.{Image}
 use Rattle.kr_outside.specs.declared.slot.DeviceCall.{DeviceCall}
-use Rattle.folder_store.specs.Aliases.{alias_slot}
+use Rattle.folder_store.specs.Aliases.{alias_slot, pairs_in}
 use Rattle.folder_store.specs.declared.loading.Loaded.{Loaded}
 use Rattle.folder_store.specs.declared.opening.LeftAlone.{LeftAlone}
 use Rattle.folder_store.specs.Limits.{the_limits}
 use Rattle.folder_store.specs.Loads.{Loads}
 use Rattle.folder_store.specs.Ring.{HasFailedSlot}
 use Rattle.collection_table.specs.Entries.{loaded_from, rows_of, slots_of}
+use Rattle.stem_choice.specs.UsedStems.{with_stem}
 use Rattle.service_tables.specs.Aliases.{aliases_from, rows_in, slot_in}
 use Rattle.service_tables.specs.declared.disk.Disk.{Disk}
 use Rattle.service_tables.specs.State.{State}
 use Rattle.service_tables.specs.Opened.{Contents, opened_state}
 
 -- a folder with the slots that were made of it: one for the file of each collection, by its stem, those of the files that were left
--- alone, and that of the aliases; those of collections that were removed, the latest first; and the stems of all keyring files
+-- alone, and that of the aliases; those of collections that were removed, the latest first; and the stems that are used, in byte order
 pub record DiskState (F S : Type 0) : Type 0 where
   pub folder : F
   pub slots : List (List ℕ × S)
@@ -31,18 +32,31 @@ disk_state disk = record {
   folder = disk.folder;
   slots = slots_of disk.collections.entries;
   spare = map (λ entry. (entry.0, entry.1.slot)) disk.spare.items;
-  used = disk.used.items;
+  used = disk.used.stems;
   left_alone = disk.left_alone.items;
   aliases = slot_in disk.aliases;
 }
 
+-- the used stems with these
+abbrev pub with_stems : List (List ℕ) → List (List ℕ) → List (List ℕ)
+with_stems [] used = used
+with_stems (stem ∷ stems) used = with_stems stems (with_stem stem used)
+
+-- the stems that are used once this was loaded: those of all keyring files, and those that aliases stand for
+abbrev pub used_from : {S : Type 0} → Loaded S → List (List ℕ)
+used_from loaded = with_stems (map (λ (pair : List ℕ × List ℕ). pair.1) (pairs_in loaded.aliases)) (with_stems loaded.used.items [])
+
 -- what is known of a disk's collections and of its aliases
 abbrev pub contents_in : {F S : Type 0} → Disk F S → Contents
-contents_in disk = record { collections = rows_of disk.collections.entries; aliases = rows_in disk.aliases }
+contents_in disk = record { collections = rows_of disk.collections.entries; aliases = rows_in disk.aliases; used = disk.used.stems }
 
 -- what a service that loaded this starts with: its collections are those of the files that are listed, all of them locked
 abbrev pub contents_from : {S : Type 0} → Loaded S → Contents
-contents_from loaded = record { collections = rows_of (map loaded_from loaded.rings.items); aliases = aliases_from loaded.aliases }
+contents_from loaded = record {
+  collections = rows_of (map loaded_from loaded.rings.items);
+  aliases = aliases_from loaded.aliases;
+  used = used_from loaded;
+}
 
 -- the disk of a service that loaded this from the folder
 abbrev pub disk_from : {F S : Type 0} → F → Loaded S → DiskState F S
@@ -50,7 +64,7 @@ disk_from folder loaded = record {
   folder = folder;
   slots = slots_of (map loaded_from loaded.rings.items);
   spare = [];
-  used = loaded.used.items;
+  used = used_from loaded;
   left_alone = loaded.left_alone.items;
   aliases = alias_slot loaded.aliases;
 }

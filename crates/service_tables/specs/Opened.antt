@@ -1,15 +1,17 @@
--- The service as it starts: with the collections and the aliases that its folder has, and nothing else.
-use Rattle.std.specs.Prelude.{◌≡◌, [], Option}
+-- The service as it starts: with the collections, the aliases and the used stems that its folder has, and nothing else.
+use Rattle.std.specs.Prelude.{◌≡◌, ℕ, List, [], Option}
 use Rattle.alias_table.specs.Table.{AliasRows}
 use Rattle.collection_table.specs.Rows.{Rows}
 use Rattle.session_table.specs.Sessions.{no_sessions}
 use Rattle.prompt_state.specs.Prompts.{no_prompts}
 use Rattle.service_tables.specs.State.{State}
 
--- what a service starts with: the collections by rising stems, and the aliases with their file, None if it was left alone
+-- what a service starts with: the collections by rising stems, the aliases with their file, None if it was left alone, and the stems that are
+-- used, in byte order
 pub record Contents : Type 0 where
   pub collections : Rows
   pub aliases : Option AliasRows
+  pub used : List (List ℕ)
 
 -- the service as it starts with these
 abbrev pub opened_state : Contents → State
@@ -19,11 +21,12 @@ opened_state contents = record {
   prompts = no_prompts;
   collections = contents.collections;
   aliases = contents.aliases;
+  used = contents.used;
 }
 
--- the collections and the aliases of a state
+-- the collections, the aliases and the used stems of a state
 abbrev pub contents_of : State → Contents
-contents_of state = record { collections = state.collections; aliases = state.aliases }
+contents_of state = record { collections = state.collections; aliases = state.aliases; used = state.used }
 
 -- the state is that of a service as it starts
 abbrev pub IsOpened : State → Type 0

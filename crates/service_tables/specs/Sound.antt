@@ -21,6 +21,7 @@ use Rattle.keyring_seal.specs.Arranged.{Row}
 use Rattle.collection_store.specs.State.{Held}
 use Rattle.collection_table.specs.Rows as collections
 use Rattle.dbus_types.specs.Paths.{is_object_path}
+use Rattle.replace_slot.specs.Cell.{IsKnown}
 use Rattle.prompt_state.specs.Prompts.{AreSound, is_made}
 use Rattle.prompt_state.specs.Targets.{TargetLists, first_left}
 use Rattle.prompt_state.specs.declared.row.PromptKind.{PromptKind}
@@ -32,6 +33,7 @@ use Rattle.secret_calls.specs.Outs.{HasSpelling, most_waiting}
 use Rattle.session_table.specs.declared.row.SessionRow.{SessionRow}
 use Rattle.session_table.specs.declared.row.Sessions.{Sessions}
 use Rattle.session_table.specs.Sessions.{rows_of, most_sessions, last_session}
+use Rattle.stem_choice.specs.UsedStems.{AreInOrder, is_used}
 use Rattle.service_tables.specs.Aliases.{are_doubtful}
 use Rattle.service_tables.specs.Opened.{Contents}
 use Rattle.service_tables.specs.State.{State}
@@ -122,6 +124,11 @@ pub record AreSoundCollections (rows : collections.Rows) : Type 0 where
   pub ordered : IsInOrder rows
   pub each : AllByRecursion IsSoundCollection rows
 
+-- the stems that are used are in order, and those of the collections are among them
+pub record AreSoundStems (rows : collections.Rows) (used : List (List ℕ)) : Type 0 where
+  pub ordered : AreInOrder used
+  pub taken : AllByRecursion (λ (row : List ℕ × collections.CollectionRow). IsTrue (is_used row.0 used)) rows
+
 -- sound aliases: those that their file gives by its known image or, in doubt, by its older and its newer one
 abbrev pub AreSoundAliases : Option AliasRows → Type 0
 AreSoundAliases None = Unit {0}
@@ -178,11 +185,17 @@ pub record AreSoundPrompts (connections : List ConnRow) (prompts : Prompts) : Ty
   pub owned : AllByRecursion (λ row. IsTrue (has row.owner connections)) prompts.rows
   pub agent : IfSome prompts.agent (λ agent. IsTrue (has agent connections))
 
--- what a start finds is sound, and the file of the aliases isn't in doubt
+-- no collection's file is in doubt
+abbrev pub AreKnown : collections.Rows → Type 0
+AreKnown rows = AllByRecursion (λ (row : List ℕ × collections.CollectionRow). IsKnown row.1.file) rows
+
+-- what a start finds is sound, and no file is in doubt
 pub record AreSoundContents (contents : Contents) : Type 0 where
   pub collections : AreSoundCollections contents.collections
   pub aliases : AreSoundAliases contents.aliases
   pub certain : are_doubtful contents.aliases ≡ false
+  pub known : AreKnown contents.collections
+  pub stems : AreSoundStems contents.collections contents.used
 
 -- a sound state: each table is
 pub record IsSound (state : State) : Type 0 where
@@ -191,6 +204,7 @@ pub record IsSound (state : State) : Type 0 where
   pub prompts : AreSoundPrompts state.connections.rows state.prompts
   pub collections : AreSoundCollections state.collections
   pub aliases : AreSoundAliases state.aliases
+  pub stems : AreSoundStems state.collections state.used
 
 -- ---- what a call brings: what its types guarantee, as facts that have one proof at most
 

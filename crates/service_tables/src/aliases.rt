@@ -1,9 +1,12 @@
 // The aliases with their file, and how one is set.
-ghost use Rattle.std.specs.Prelude.{◌≡◌, ℕ, List, Option, None, true, false, IfOk, IfSome, IfNone, IsSome};
+ghost use Rattle.std.specs.Prelude.{◌≡◌, ℕ, List, Option, None, Some, true, false, IfOk, IfSome, IfNone, IsSome};
+ghost use Rattle.std.specs.Map.{keys_of};
 ghost use Rattle.std.specs.Option.{option_copied};
 ghost use Rattle.kr_base.specs.Attributes.{value_at};
 ghost use Rattle.kr_names.specs.Path.{IsAliasName};
 ghost use Rattle.alias_table.specs.Table.{IsFor, IsPrepared};
+ghost use Rattle.collection_table.specs.Entries.{inserted};
+ghost use Rattle.collection_table.specs.Rows.{CollectionRow, has};
 ghost use Rattle.folder_store.specs.Aliases.{alias_slot};
 ghost use Rattle.service_tables.specs.Aliases.{IsForAliases, IsPreparedFor, aliases_from, aliases_resolved, aliases_set, are_doubtful, asked_aliases, is_doubt, pairs_of, rows_in, rows_resolved, rows_set_of, slot_in};
 ghost use Rattle.service_tables.specs.Disk.{contents_in, disk_state};
@@ -157,6 +160,48 @@ impl<F: Folder> Disk<F> {
             Err(AliasRefused::BadName) => unreachable!(),
             Err(_) => Err(AllocError),
         }
+    }
+
+    /// The same for a collection that isn't there yet, but is once the change is stored.
+    pub fn prepare_alias_of_new(
+        &self,
+        name: Text,
+        stem: Stem,
+    ) -> Result<Option<AliasChange>, OutOfMemory>
+        requires name { IsAliasName name }
+        requires new { has stem (contents_in self.now).collections ≡ false }
+        ensures prepared { IfOk result (λ change. IfSome change (λ change. (row : CollectionRow)
+            → IsPreparedFor name (Some stem) (record (contents_in self.now) {
+              collections = inserted stem row (contents_in self.now).collections;
+            }) change)) }
+        ensures left_alone { IfOk result (λ change.
+            IfNone change ((contents_in self.now).aliases ≡ None)) }
+    {
+        let KeptAliases::Table(table) = &self.aliases else {
+            return Ok(None);
+        };
+        let live = self.stems_with(&stem)?;
+        match table.prepare(name, Some(stem), &live) {
+            Ok(change) => Ok(Some(change)),
+            Err(AliasRefused::BadName) => unreachable!(),
+            Err(_) => Err(AllocError),
+        }
+    }
+
+    // The stems of the collections with one more, which isn't among them.
+    fn stems_with(&self, stem: &Stem) -> Result<Vec<Stem>, OutOfMemory>
+        requires { has stem.now (contents_in self.now).collections ≡ false }
+        ensures { IfOk result (λ stems. (row : CollectionRow) → stems.items
+            ≡ keys_of (inserted stem.now row (contents_in self.now).collections)) }
+    {
+        let _ordered = self.collections.entries();
+        let mut stems = self.collections.stems()?;
+        let added = stem.copy()?;
+        match stems.binary_search_by(|other| other.cmp(&added)) {
+            Ok(_) => {}
+            Err(place) => stems.insert(place, added)?,
+        }
+        Ok(stems)
     }
 
     /// Reads the file of the aliases again, which is in doubt, and returns what was found, with the change as

@@ -1,18 +1,21 @@
 // The folder of the service, and what was loaded from it.
-ghost use Rattle.std.specs.Prelude.{◌≡◌, [], IsTrue, IfOk, IsErrOf, OnOk};
+ghost use Rattle.std.specs.Prelude.{◌≡◌, [], IsTrue, IfOk, IsErrOf};
+ghost use Rattle.std.specs.List.{AllByRecursion};
 ghost use Rattle.folder_store.specs.Ring.{IsAsFound};
-ghost use Rattle.service_tables.specs.Disk.{IsLoaded, FailedToLoad, contents_in, disk_state};
+ghost use Rattle.replace_slot.specs.Cell.{IsKnown};
+ghost use Rattle.service_tables.specs.Disk.{IsLoaded, FailedToLoad, contents_in, disk_state, used_from};
 ghost use Rattle.service_tables.specs.declared.disk.OpenRefused.TheVariants as OpenRefused;
 ghost use Rattle.service_tables.specs.Opened.{opened_state};
 ghost use Rattle.service_tables.specs.Sound.{AreSoundContents};
 
 use crate::KeptAliases;
 use collection_table::CollectionTable;
-use folder_store::{LeftAlone, LoadRefused, load};
-use kr_base::Stem;
-use kr_outside::Folder;
+use folder_store::{LeftAlone, LoadRefused, Loaded, Ring, load};
+use kr_base::{OutOfMemory, Stem};
+use kr_outside::{Folder, Slot};
 use replace_slot::FileCell;
 use std::alloc::{AllocError, Global};
+use stem_choice::{UsedStems, adding_a_stem_uses_it_alone};
 use thiserror::Error;
 
 /// Why the service didn't open.
@@ -43,12 +46,37 @@ pub struct Disk<F: Folder> {
     pub collections: CollectionTable<F::Cell>,
     /// The cells of collections that were removed, the latest first, each with its stem.
     pub spare: Vec<(Stem, FileCell<F::Cell>)>,
-    /// The stems of all keyring files, including those that were left alone.
-    pub used: Vec<Stem>,
+    /// The stems that are used: those of all keyring files at the start, including those that were left
+    /// alone, those that aliases stood for then, and those of all collections that were made since.
+    pub used: UsedStems,
     /// The keyring files that were left alone.
     pub left_alone: Vec<LeftAlone<F::Cell>>,
     /// The aliases, with the slot of their file.
     pub aliases: KeptAliases<F::Cell>,
+}
+
+// The stems that are used once this was loaded.
+fn used_from<S: Slot>(alloc: Global, loaded: &Loaded<S>) -> Result<UsedStems, OutOfMemory>
+    ensures { IfOk result (λ used. used.stems ≡ used_from loaded.now) }
+{
+    let mut used = UsedStems::new(alloc);
+    for stem in &loaded.used {
+        used.add(stem)?;
+    }
+    let pairs = loaded.aliases.pairs();
+    for pair in pairs {
+        used.add(&pair.1)?;
+    }
+    Ok(used)
+}
+
+// The file of each collection that a start lists is known. It does nothing.
+fn are_known<S: Slot>(rings: &[Ring<S>])
+    ensures { AllByRecursion (λ ring. IsKnown ring.cell.file) rings.now }
+{
+    for ring in rings {
+        ring.clear();
+    }
 }
 
 impl<F: Folder> Disk<F> {
@@ -76,12 +104,16 @@ impl<F: Folder> Disk<F> {
         let mut folder = folder;
         match load(alloc, &mut folder) {
             Ok(loaded) => {
+                adding_a_stem_uses_it_alone();
+                are_known(&loaded.rings);
+                let used = used_from(alloc, &loaded)?;
+                let _ordered = used.as_slice();
                 let collections = CollectionTable::loaded(alloc, loaded.rings)?;
                 Ok(Disk {
                     folder,
                     collections,
                     spare: Vec::new(alloc),
-                    used: loaded.used,
+                    used,
                     left_alone: loaded.left_alone,
                     aliases: KeptAliases::found(alloc, loaded.aliases),
                 })

@@ -155,8 +155,9 @@ impl<F: Folder> Disk<F> {
         self.spare.reserve(1)
     }
 
-    // Takes the collection of a stem, whose file was removed, out of those that are there, and keeps its slot.
-    fn put_aside(&mut self, stem: Stem)
+    /// Takes the collection of a stem out of those that are there, and keeps its slot, for which there is
+    /// room. It takes no memory.
+    pub fn put_aside(&mut self, stem: Stem)
         requires { vec_len self.old.spare < vec_capacity self.old.spare }
         ensures contents { contents_in self.new ≡ record (contents_in self.old) {
           collections = without stem (contents_in self.old).collections;

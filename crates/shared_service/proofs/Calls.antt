@@ -13,14 +13,17 @@ use Rattle.service_machine.specs.Step.{step, output_of, Fits, IsMissing, IsCrowd
 use Rattle.service_machine.specs.Replay.{replay, Legal}
 use Rattle.service_tables.proofs.FitLemmas.{has-told, has-none}
 use Rattle.service_machine.proofs.ReplayLemmas.{replay-append}
-use Rattle.service_history.specs.History.{History, Stores, StoresRequest, given_for}
+use Rattle.service_history.specs.History.{History, Stores, StoresKey, StoresRequest, given_for}
 use Rattle.service_history.specs.History as history
 use Rattle.service_history.specs.Windows.{total}
 use Rattle.service_desk.specs.Places.{Looks, Extends}
 use Rattle.service_desk.specs.Views.{View, with_others, with_own}
-use Rattle.service_desk.specs.Calls.{Arrives, IsRefusal, Leaves, Goes, Takes}
+use Rattle.service_desk.specs.Calls.{Arrives, Finishes, IsRefusal, Leaves, Goes, Takes}
 use Rattle.service_tables.specs.Limits.{most_events, IsSpent}
+use Rattle.secret_calls.specs.declared.work.Work.{Work}
 use Rattle.service_machine.specs.declared.event.Arrival.{Arrival}
+use Rattle.service_machine.specs.declared.event.BroughtKey.{BroughtKey}
+use Rattle.service_machine.specs.declared.event.Output.{Output}
 use Rattle.service_machine.specs.declared.event.Output.TheVariants as output
 use Rattle.service_machine.specs.declared.event.JoinRefused.{JoinRefused}
 use Rattle.service_machine.specs.declared.event.JoinRefused.TheVariants as join
@@ -29,7 +32,7 @@ use Rattle.secret_calls.specs.declared.taken.Refused.TheVariants as refused
 use Rattle.shared_service.specs.Passes.{spot, told, state_of, count_of, HasCause, IsRefused}
 use Rattle.shared_service.specs.Standing.{Stands}
 use Rattle.shared_service.specs.Tries.{Tries, after_take}
-use Rattle.shared_service.proofs.Ends.{viewed, left_event, gone_event, event_if, fates_if}
+use Rattle.shared_service.proofs.Ends.{viewed, left_event, gone_event, event_if, fates_if, key_if}
 use Rattle.shared_service.proofs.Standing.{state-stands, total-stands, Legal-behind}
 
 off : false ≡ true → ⊥
@@ -142,13 +145,14 @@ takes-after conn steady view loop last before given is tried some =
 
 module _ (conn : ConnId) (steady : Bool) (view last : View) (between : List Event) (service : History) (stands : Stands service view.start view.before (view.seen ++ between)) where
   -- the request was recorded
-  pub arrives-if : (stored : Event → Type 0) (arrival : Arrival) (new : History) (result : Result (Unit {0}) Refused) → (stores : OnOk result (StoresRequest steady stored service arrival new))
+  pub arrives-if : (stored : Event → Type 0) (arrival : Arrival) (new : History) (result : Result (Option Work) Refused) → (stores : IfOk result (λ work. StoresRequest steady stored service arrival work new))
       → (result ≢ Err refused.EventsSpent → IsSpent (total service.window) → ⊥)
       → last ≡ viewed (event_if (λ _. with_fates arrival (fates_if steady stored service arrival new result stores)) result) (with_others between view)
-      → OnOk result (Arrives (spot conn steady view) (spot conn steady last) arrival)
-  arrives-if stored arrival new (Ok done) stores left is = subst (λ (v : View). Arrives (spot conn steady view) (spot conn steady v) arrival) (sym is) record {
+      → IfOk result (Arrives (spot conn steady view) (spot conn steady last) arrival)
+  arrives-if stored arrival new (Ok work) stores left is = subst (λ (v : View). Arrives (spot conn steady view) (spot conn steady v) arrival work) (sym is) record {
     fates = stores.fates;
-    recorded = extends conn steady view between service stands (with_fates arrival stores.fates) stores.stores.fits stores.faultless;
+    recorded = subst (λ (o : Output). Extends (spot conn steady view) (spot conn steady (viewed (Some (with_fates arrival stores.fates)) (with_others between view))) (with_fates arrival stores.fates) o)
+        (sym stores.gives) (extends conn steady view between service stands (with_fates arrival stores.fates) stores.stores.fits stores.faultless);
     counted =
         let all = count-met conn steady view between service stands in
         let push = length_push (view.seen ++ between) (with_fates arrival stores.fates) in
@@ -156,8 +160,24 @@ module _ (conn : ConnId) (steady : Bool) (view last : View) (between : List Even
   }
   arrives-if stored arrival new (Err fault) stores left is = tt
 
+  -- the derived key was recorded
+  pub finishes-if : (stored : Event → Type 0) (brought : BroughtKey) (new : History) (result : Result (Unit {0}) Refused) → (stores : OnOk result (StoresKey steady stored service brought new))
+      → (result ≢ Err refused.EventsSpent → IsSpent (total service.window) → ⊥)
+      → last ≡ viewed (event_if (λ _. key_if steady stored service brought new result stores) result) (with_others between view)
+      → OnOk result (Finishes (spot conn steady view) (spot conn steady last) brought)
+  finishes-if stored brought new (Ok done) stores left is = subst (λ (v : View). Finishes (spot conn steady view) (spot conn steady v) brought) (sym is) record {
+    came = stores.came;
+    is = stores.is;
+    recorded = extends conn steady view between service stands (event.Derived stores.came) stores.stores.fits stores.faultless;
+    counted =
+        let all = count-met conn steady view between service stands in
+        let push = length_push (view.seen ++ between) (event.Derived stores.came) in
+        let few : total service.window < most_events = not-spent (total service.window) (left (λ e. cc)) in omega (arith, all, push, few);
+  }
+  finishes-if stored brought new (Err fault) stores left is = tt
+
   -- it was refused, and nothing recorded
-  pub looks-if : (event : Unit {0} → Event) (result : Result (Unit {0}) Refused) → last ≡ viewed (event_if event result) (with_others between view) → OnErr result (Looks (spot conn steady view) (spot conn steady last))
+  pub looks-if : {T : Type 0} (event : T → Event) (result : Result T Refused) → last ≡ viewed (event_if event result) (with_others between view) → OnErr result (Looks (spot conn steady view) (spot conn steady last))
   looks-if event (Ok done) is = tt
   looks-if event (Err fault) is = subst (λ (v : View). Looks (spot conn steady view) (spot conn steady v)) (sym is) (looks conn steady view between service stands)
 
@@ -171,7 +191,7 @@ module _ (conn : ConnId) (steady : Bool) (view last : View) (between : List Even
   refused-by refused.OutOfMemory spent left gone = tt
 
   -- for a cause in the state
-  pub refused-if : (event : Unit {0} → Event) (result : Result (Unit {0}) Refused) → (IsErrOf result refused.EventsSpent → IsSpent (total service.window)) → (result ≢ Err refused.EventsSpent → IsSpent (total service.window) → ⊥)
+  pub refused-if : {T : Type 0} (event : T → Event) (result : Result T Refused) → (IsErrOf result refused.EventsSpent → IsSpent (total service.window)) → (result ≢ Err refused.EventsSpent → IsSpent (total service.window) → ⊥)
       → (IsErrOf result refused.Gone → IsMissing conn service.state) → last ≡ viewed (event_if event result) (with_others between view) → IfErr result (λ fault. IsRefusal fault (told conn steady last))
   refused-if event (Ok done) spent left gone is = tt
   refused-if event (Err fault) spent left gone is = subst (λ (v : View). IsRefusal fault (told conn steady v)) (sym is) (refused-by fault (λ e. spent (ap (λ (f : Refused). Err f) e)) (λ other. left (λ e. other (err-of fault refused.EventsSpent e))) (λ e. gone (ap (λ (f : Refused). Err f) e)))

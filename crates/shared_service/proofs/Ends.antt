@@ -5,7 +5,9 @@ use Rattle.kr_base.specs.declared.ids.ConnId.{ConnId}
 use Rattle.service_tables.specs.State.{State}
 use Rattle.service_tables.specs.declared.rows.DeskRow.{DeskRow}
 use Rattle.secret_calls.specs.declared.taken.Refused.{Refused}
+use Rattle.secret_calls.specs.declared.work.Work.{Work}
 use Rattle.service_machine.specs.declared.event.Arrival.{Arrival}
+use Rattle.service_machine.specs.declared.event.BroughtKey.{BroughtKey}
 use Rattle.service_machine.specs.declared.event.Event.{Event}
 use Rattle.service_machine.specs.declared.event.Event.TheVariants as event
 use Rattle.service_tables.specs.declared.fate.Fate.{Fate}
@@ -14,7 +16,7 @@ use Rattle.service_tables.specs.Connections.{desk_of}
 use Rattle.service_machine.specs.Step.{Fits}
 use Rattle.service_machine.specs.Replay.{Legal}
 use Rattle.service_tables.proofs.FitLemmas.{has-told}
-use Rattle.service_history.specs.History.{History, IsHistory, Stores, StoresRequest, cut_where_due, with_event, given_for, taken_by, left_by, gone_by}
+use Rattle.service_history.specs.History.{History, IsHistory, Stores, StoresKey, StoresRequest, cut_where_due, with_event, given_for, taken_by, left_by, gone_by}
 use Rattle.service_history.specs.Windows.{total, is_due}
 use Rattle.service_desk.specs.Views.{View, ArePlaces, with_others, with_own}
 use Rattle.service_desk.proofs.ViewLemmas.{places-below, places-push}
@@ -203,15 +205,27 @@ went-if event service new (Ok value) stores same kept = went-due service new (ev
 went-if event service new (Err fault) stores same kept = same
 
 -- how each storing of a request that was recorded ended; there is none if it wasn't
-abbrev pub fates_if : (steady : Bool) (stored : Event → Type 0) (service : History) (arrival : Arrival) (new : History) (result : Result (Unit {0}) Refused)
-    → OnOk result (StoresRequest steady stored service arrival new) → List Fate
-fates_if steady stored service arrival new (Ok done) stores = stores.fates
+abbrev pub fates_if : (steady : Bool) (stored : Event → Type 0) (service : History) (arrival : Arrival) (new : History) (result : Result (Option Work) Refused)
+    → IfOk result (λ work. StoresRequest steady stored service arrival work new) → List Fate
+fates_if steady stored service arrival new (Ok work) stores = stores.fates
 fates_if steady stored service arrival new (Err fault) stores = []
 
-pub stores-if : (steady : Bool) (stored : Event → Type 0) (service : History) (arrival : Arrival) (new : History) (result : Result (Unit {0}) Refused) → (stores : OnOk result (StoresRequest steady stored service arrival new))
+pub stores-if : (steady : Bool) (stored : Event → Type 0) (service : History) (arrival : Arrival) (new : History) (result : Result (Option Work) Refused)
+    → (stores : IfOk result (λ work. StoresRequest steady stored service arrival work new))
     → IfOk result (λ _. Stores service (with_fates arrival (fates_if steady stored service arrival new result stores)) new)
-stores-if steady stored service arrival new (Ok done) stores = stores.stores
+stores-if steady stored service arrival new (Ok work) stores = stores.stores
 stores-if steady stored service arrival new (Err fault) stores = tt
+
+-- the event of a derived key that was recorded; of one that wasn't nothing is said
+abbrev pub key_if : (steady : Bool) (stored : Event → Type 0) (service : History) (brought : BroughtKey) (new : History) (result : Result (Unit {0}) Refused)
+    → OnOk result (StoresKey steady stored service brought new) → Event
+key_if steady stored service brought new (Ok done) stores = event.Derived stores.came
+key_if steady stored service brought new (Err fault) stores = event.Gone brought.conn
+
+pub stores-key : (steady : Bool) (stored : Event → Type 0) (service : History) (brought : BroughtKey) (new : History) (result : Result (Unit {0}) Refused)
+    → (stores : OnOk result (StoresKey steady stored service brought new)) → IfOk result (λ _. Stores service (key_if steady stored service brought new result stores) new)
+stores-key steady stored service brought new (Ok done) stores = stores.stores
+stores-key steady stored service brought new (Err fault) stores = tt
 
 -- what the calls record is with_some of their events, which fit
 left-bool : (conn : ConnId) (service : History) (waits overrun leaving : Bool)

@@ -25,7 +25,7 @@ pub record Seen : Type 0 where
 
 -- the start, if there is one; a service without anything stands for none
 abbrev pub start_or : Option Start → State
-start_or None = opened_state (record { collections = []; aliases = None })
+start_or None = opened_state (record { collections = []; aliases = None; used = [] })
 start_or (Some start) = start.state
 
 -- whether the disk is steady, if there is a start

@@ -6,7 +6,7 @@ use crate::pass::Pass;
 use crate::shared::SharedService;
 use kr_base::ConnId;
 use kr_outside::Folder;
-use secret_calls::{Refused, Request, Taken};
+use secret_calls::{Finished, Refused, Request, Taken, Work};
 use service_desk::{Desk, ReadDesk, WriteDesk};
 use std::alloc::Global;
 use std::sync::{Arc, Wait};
@@ -73,11 +73,23 @@ impl<R: Wait, F: Folder> Desk for SharedDesk<R, F> {
 }
 
 impl<R: Wait, F: Folder> ReadDesk for SharedDesk<R, F> {
-    fn arrive(&mut self, request: Request, now: u64, salt: [u8; 8]) -> Result<(), Refused> {
+    fn arrive(
+        &mut self,
+        request: Request,
+        now: u64,
+        salt: [u8; 8],
+    ) -> Result<Option<Work>, Refused> {
         let pass = &mut self.pass;
         let answer = self
             .service
             .arrive(&self.rt, pass, self.conn, request, now, salt);
+        pass.has_seen_a_history();
+        answer
+    }
+
+    fn derived(&mut self, done: Finished, now: u64) -> Result<(), Refused> {
+        let pass = &mut self.pass;
+        let answer = self.service.derived(&self.rt, pass, self.conn, done, now);
         pass.has_seen_a_history();
         answer
     }

@@ -6,7 +6,7 @@ ghost use Rattle.service_history.specs.History.{IsHistory};
 ghost use Rattle.service_history.specs.Windows.{total};
 ghost use Rattle.service_machine.specs.declared.event.Output.TheVariants as output;
 ghost use Rattle.service_desk.specs.Places.{Looks, Extends};
-ghost use Rattle.service_desk.specs.Calls.{Arrives, IsRefusal, Leaves, Takes, Goes};
+ghost use Rattle.service_desk.specs.Calls.{Arrives, Finishes, IsRefusal, Leaves, Takes, Goes};
 ghost use Rattle.shared_turn.specs.Passes.{outside, recorded};
 ghost use Rattle.shared_service.specs.Standing.{newest};
 ghost use Rattle.shared_service.specs.Ends.{IsEnd, IsAsSteady};
@@ -17,9 +17,9 @@ use crate::kept::Kept;
 use crate::pass::Pass;
 use kr_base::{ConnId, OutOfMemory};
 use kr_outside::Folder;
-use secret_calls::{Refused, Request, Taken};
+use secret_calls::{Finished, Refused, Request, Taken, Work};
 use service_history::Service;
-use service_machine::{Arrival, JoinRefused};
+use service_machine::{Arrival, BroughtKey, JoinRefused};
 use shared_turn::Turn;
 use std::alloc::{AllocError, Global};
 use std::marker::Model;
@@ -167,7 +167,8 @@ impl<F: Folder> SharedService<F> {
     }
 
     /// Waits for the turn, and records a request of the connection, at a moment in seconds since 1970 and
-    /// with random bytes in case a key is derived.
+    /// with random bytes in case a prompt keeps them for a key. Returns the key that is to be derived, if the
+    /// request is an answer that was taken: it is derived while others have the turn.
     ///
     /// Refused with `EventsSpent` if all events that can be counted are recorded, then with `Gone` if the
     /// connection isn't there; `OutOfMemory` may come in place of any.
@@ -179,11 +180,11 @@ impl<F: Folder> SharedService<F> {
         request: Request,
         now: u64,
         salt: [u8; 8],
-    ) -> Result<(), Refused>
+    ) -> Result<Option<Work>, Refused>
         requires table { pass.old.table ≡ self.now }
         ensures same { pass.new.table ≡ pass.old.table }
         ensures steady { pass.new.steady ≡ pass.old.steady }
-        ensures recorded { OnOk result (Arrives
+        ensures recorded { IfOk result (Arrives
             (spot conn pass.old.steady pass.old.view) (spot conn pass.old.steady pass.new.view)
             (record { conn = conn; request = request; now = now; salt = salt })) }
         ensures looked { OnErr result (Looks
@@ -202,6 +203,35 @@ impl<F: Folder> SharedService<F> {
         let arrived = kept.service.arrive(arrival);
         self.end(&mut pass.inner, kept, count);
         arrived
+    }
+
+    /// Waits for the turn, and records a key that was derived for a prompt, at a moment in seconds since 1970.
+    /// Refused as `arrive` is.
+    pub fn derived<R: Wait>(
+        &self,
+        rt: &R,
+        pass: &mut Pass<F>,
+        conn: ConnId,
+        done: Finished,
+        now: u64,
+    ) -> Result<(), Refused>
+        requires table { pass.old.table ≡ self.now }
+        ensures same { pass.new.table ≡ pass.old.table }
+        ensures steady { pass.new.steady ≡ pass.old.steady }
+        ensures recorded { OnOk result (Finishes
+            (spot conn pass.old.steady pass.old.view) (spot conn pass.old.steady pass.new.view)
+            (record { conn = conn; done = done; now = now })) }
+        ensures looked { OnErr result (Looks
+            (spot conn pass.old.steady pass.old.view) (spot conn pass.old.steady pass.new.view)) }
+        ensures cause { IfErr result (λ refused.
+            IsRefusal refused (told conn pass.old.steady pass.new.view)) }
+    {
+        let brought = BroughtKey { conn, done, now };
+        let mut kept = self.turn.enter(rt, &mut pass.inner);
+        let count = total(&kept);
+        let derived = kept.service.derived(brought);
+        self.end(&mut pass.inner, kept, count);
+        derived
     }
 
     // Records that a connection joins, and returns its number.

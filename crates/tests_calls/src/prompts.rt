@@ -2,7 +2,7 @@ use crate::wire::is_call;
 use std::test::Fail;
 
 // In a row, a call's path, interface (`-` for none), member, signature and body, as libdbus 1.14 marshals it,
-// and what it is read as: objects as their paths, and prompts as their numbers.
+// and what it is read as: objects as their paths, prompts as their numbers, and passwords in hex.
 const PROMPTS: &str = "\
 /org/freedesktop/secrets|org.freedesktop.Secret.Service|CreateCollection|a{sv}s|3c00000000000000270000006f72672e667265656465736b746f702e5365637265742e436f6c6c656374696f6e2e4c6162656c0001730000070000004d79204b657973000700000064656661756c7400|Ok(CreateCollection \"My Keys\" as default)
 /org/freedesktop/secrets|-|CreateCollection|a{sv}s|00000000000000000000000000|Ok(CreateCollection \"\" as none)
@@ -27,6 +27,11 @@ const PROMPTS: &str = "\
 /org/freedesktop/secrets/agent|org.keyringd.Agent1|Register|||Ok(Register)
 /org/freedesktop/secrets/agent|-|Register|||Ok(Register)
 /org/freedesktop/secrets/agent|org.keyringd.Agent1|Unregister|||Ok(Unregister)
+/org/freedesktop/secrets/agent|org.keyringd.Agent1|Answer|otay|220000002f6f72672f667265656465736b746f702f736563726574732f70726f6d70742f7031000001000000000000000400000070617373|Ok(Answer 1 in 1 with 70617373)
+/org/freedesktop/secrets/agent|-|Answer|otay|350000002f6f72672f667265656465736b746f702f736563726574732f70726f6d70742f70313834343637343430373337303935353136313500000000000000ffffffffffffffff00000000|Ok(Answer 18446744073709551615 in 18446744073709551615 with )
+/org/freedesktop/secrets/agent|org.keyringd.Agent1|Answer|otay|220000002f6f72672f667265656465736b746f702f736563726574732f70726f6d70742f7030000002000000000000000200000000ff|Ok(Answer none in 2 with 00ff)
+/org/freedesktop/secrets/agent|org.keyringd.Agent1|Answer|otay|010000002f00000002000000000000000100000061|Ok(Answer none in 2 with 61)
+/org/freedesktop/secrets/agent|org.keyringd.Agent1|Answer|otay|230000002f6f72672f667265656465736b746f702f736563726574732f73657373696f6e2f73310000000000000000000100000061|Ok(Answer none in 0 with 61)
 /org/freedesktop/secrets/agent|org.keyringd.Agent1|Refuse|ot|220000002f6f72672f667265656465736b746f702f736563726574732f70726f6d70742f703200000300000000000000|Ok(Refuse 2 in 3)
 /org/freedesktop/secrets/agent|-|Refuse|ot|220000002f6f72672f667265656465736b746f702f736563726574732f70726f6d70742f707800000300000000000000|Ok(Refuse none in 3)
 /org/freedesktop/secrets|org.freedesktop.Secret.Service|CreateCollection|a{sv}|0000000000000000|Err(InvalidArgs)
@@ -56,10 +61,15 @@ const PROMPTS: &str = "\
 /org/freedesktop/secrets/prompt/p1|org.freedesktop.Secret.Prompt|Dismiss|s|0000000000|Err(InvalidArgs)
 /org/freedesktop/secrets/agent|org.keyringd.Agent1|Register|s|0000000000|Err(InvalidArgs)
 /org/freedesktop/secrets/agent|org.keyringd.Agent1|Unregister|o|010000002f00|Err(InvalidArgs)
+/org/freedesktop/secrets/agent|org.keyringd.Agent1|Answer|ot|220000002f6f72672f667265656465736b746f702f736563726574732f70726f6d70742f703100000100000000000000|Err(InvalidArgs)
+/org/freedesktop/secrets/agent|org.keyringd.Agent1|Answer|otas|220000002f6f72672f667265656465736b746f702f736563726574732f70726f6d70742f70310000010000000000000000000000|Err(InvalidArgs)
+/org/freedesktop/secrets/agent|org.keyringd.Agent1|Answer|ouay|220000002f6f72672f667265656465736b746f702f736563726574732f70726f6d70742f703100000100000000000000|Err(InvalidArgs)
+/org/freedesktop/secrets/agent|org.keyringd.Agent1|Answer|stay|220000002f6f72672f667265656465736b746f702f736563726574732f70726f6d70742f70310000010000000000000000000000|Err(InvalidArgs)
+/org/freedesktop/secrets/agent|org.keyringd.Agent1|Answer|oxay|220000002f6f72672f667265656465736b746f702f736563726574732f70726f6d70742f70310000010000000000000000000000|Err(InvalidArgs)
+/org/freedesktop/secrets/agent|org.keyringd.Agent1|Answer|otays|220000002f6f72672f667265656465736b746f702f736563726574732f70726f6d70742f703100000100000000000000000000000000000000|Err(InvalidArgs)
 /org/freedesktop/secrets/agent|org.keyringd.Agent1|Refuse|o|220000002f6f72672f667265656465736b746f702f736563726574732f70726f6d70742f703100|Err(InvalidArgs)
 /org/freedesktop/secrets/agent|org.keyringd.Agent1|Refuse|ou|220000002f6f72672f667265656465736b746f702f736563726574732f70726f6d70742f7031000001000000|Err(InvalidArgs)
 /org/freedesktop/secrets/agent|org.keyringd.Agent1|Refuse|to|0100000000000000220000002f6f72672f667265656465736b746f702f736563726574732f70726f6d70742f703100|Err(InvalidArgs)
-/org/freedesktop/secrets/agent|org.keyringd.Agent1|Answer|otay|220000002f6f72672f667265656465736b746f702f736563726574732f70726f6d70742f7031000001000000000000000400000070617373|Err(UnknownMethod)
 /org/freedesktop/secrets|org.freedesktop.Secret.Prompt|Prompt|s|0000000000|Err(UnknownInterface)
 /org/freedesktop/secrets|org.keyringd.Agent1|Register|||Err(UnknownInterface)
 /org/freedesktop/secrets/prompt/p1|org.keyringd.Agent1|Answer|otay|220000002f6f72672f667265656465736b746f702f736563726574732f70726f6d70742f70310000010000000000000000000000|Err(UnknownInterface)

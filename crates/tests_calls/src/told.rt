@@ -1,7 +1,7 @@
 // Requests as texts.
 
 use crate::words::{decimal, joined};
-use kr_base::{AttrValue, Attributes, ItemId, PromptId, SessionId, Stem, Text};
+use kr_base::{AttrValue, Attributes, Bytes, ItemId, PromptId, SessionId, Stem, Text};
 use kr_names::{ObjectName, path_of};
 use secret_calls::{AliasName, Call, CallFault, Request, Secret};
 use std::alloc::Global;
@@ -268,6 +268,17 @@ fn round_told(
     joined(alloc, &[front.as_str(), " in ", round.as_str()])
 }
 
+fn answer_told(
+    alloc: Global,
+    prompt: &Option<PromptId>,
+    round: u64,
+    password: &Bytes,
+) -> Result<String, Fail> {
+    let asked = round_told(alloc, "Answer", prompt, round)?;
+    let password = hex::encode(alloc, password.as_slice())?;
+    joined(alloc, &[asked.as_str(), " with ", password.as_str(), ")"])
+}
+
 fn refusal_told(alloc: Global, prompt: &Option<PromptId>, round: u64) -> Result<String, Fail> {
     let asked = round_told(alloc, "Refuse", prompt, round)?;
     joined(alloc, &[asked.as_str(), ")"])
@@ -314,6 +325,11 @@ fn good_call_told(alloc: Global, call: &Call) -> Result<String, Fail> {
         Call::Dismiss { prompt } => prompt_told(alloc, "Dismiss", *prompt),
         Call::Register => Ok(String::from_str(alloc, "Ok(Register)")?),
         Call::Unregister => Ok(String::from_str(alloc, "Ok(Unregister)")?),
+        Call::Answer {
+            prompt,
+            round,
+            password,
+        } => answer_told(alloc, prompt, *round, password),
         Call::Refuse { prompt, round } => refusal_told(alloc, prompt, *round),
     }
 }

@@ -44,8 +44,8 @@ fn push_code(bytes: &mut Vec<u8>, code: u8) -> Result<(), AllocError> {
     Ok(())
 }
 
-// The bytes that a text of the table stands for.
-fn bytes_of(alloc: Global, text: &str) -> Result<Vec<u8>, Fail> {
+/// The bytes that a text of the table stands for.
+pub fn bytes_of(alloc: Global, text: &str) -> Result<Vec<u8>, Fail> {
     let mut bytes = Vec::new(alloc);
     for code in text.bytes() {
         push_code(&mut bytes, code)?;
@@ -63,8 +63,8 @@ fn answer_of(word: &str) -> &'static str {
     }
 }
 
-// What is written for the words of the answers.
-fn answers_of(alloc: Global, words: &str) -> Result<Vec<u8>, Fail> {
+/// What is written for the words of the answers.
+pub fn answers_of(alloc: Global, words: &str) -> Result<Vec<u8>, Fail> {
     let mut bytes = Vec::new(alloc);
     for word in words.split(',') {
         bytes.extend_from_slice(answer_of(word).as_bytes())?;
@@ -118,14 +118,15 @@ fn bytes_alone(alloc: Global, count: usize) -> Result<Vec<usize>, Fail> {
     Ok(pieces)
 }
 
-// A source of these bytes, cut into pieces of one byte if `is_cut`.
-fn source_of(alloc: Global, input: Vec<u8>, is_cut: bool) -> Result<MemorySource, Fail> {
+/// A source of these bytes, cut into pieces of one byte if `is_cut`.
+pub fn source_of(alloc: Global, input: Vec<u8>, is_cut: bool) -> Result<MemorySource, Fail> {
     let count = if is_cut { input.len() } else { 0 };
     let pieces = bytes_alone(alloc, count)?;
     Ok(MemorySource::new(input, pieces, Vec::new(alloc)))
 }
 
-fn plain_sink(alloc: Global) -> MemorySink {
+/// A sink that never fails.
+pub fn plain_sink(alloc: Global) -> MemorySink {
     MemorySink::new(alloc, Vec::new(alloc), Vec::new(alloc))
 }
 
@@ -284,8 +285,8 @@ const SESSION: &str = "\
 6c02010134000000010000001000000005017500010000000801670002766f0001730000000000000000000023\
 0000002f6f72672f667265656465736b746f702f736563726574732f73657373696f6e2f733100";
 
-// Appends the bytes with these digits.
-fn push_digits(bytes: &mut Vec<u8>, alloc: Global, digits: &str) -> Result<(), Fail> {
+/// Appends the bytes with these digits.
+pub fn push_digits(bytes: &mut Vec<u8>, alloc: Global, digits: &str) -> Result<(), Fail> {
     let message = hex::decode(alloc, digits).ok().ok_or("hex")?;
     bytes.extend_from_slice(message.as_slice())?;
     Ok(())
@@ -326,8 +327,9 @@ fn stored(desk: LoneDesk<MemoryFolder>) -> u64 {
     desk.into_service().events().len() as u64
 }
 
-// Serves the first connection of a service, and returns the events once it is done.
-fn events_of<R: AllocGlobal + Wait + Abort, I: Source, O: Sink>(
+/// Serves the first connection of a service, and returns the number of events that are stored once it is
+/// done.
+pub fn events_of<R: AllocGlobal + Wait + Abort, I: Source, O: Sink>(
     rt: &R,
     input: &mut I,
     output: &mut O,

@@ -1,8 +1,10 @@
 //! The tests of a connection, through the public items of `connection_worker`: the handshake, the
-//! salts, and one call on one thread. They are in a crate of their own so that the crate isn't
-//! proved again for its tests.
+//! salts, and one call and a prompt that is answered on one thread. They are in a crate of their own
+//! so that the crate isn't proved again for its tests.
 #![tactic(auto)]
 
+#[cfg(test)]
+mod answers;
 #[cfg(test)]
 mod checks;
 #[cfg(test)]

@@ -4,6 +4,10 @@
 #![tactic(auto)]
 
 #[cfg(test)]
+mod answered;
+#[cfg(test)]
+mod answers;
+#[cfg(test)]
 mod checks;
 #[cfg(test)]
 mod conversations;

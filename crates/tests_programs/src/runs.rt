@@ -1,6 +1,7 @@
 // The top call over streams and hosts in memory: whole conversations, and each way in which a run ends early.
 ghost use Rattle.std.specs.Prelude.{◌≡◌, [], IfOk};
 
+use crate::answered;
 use crate::checks::{begins, cell, ends, holds, numbers, same_bytes, same_number};
 use crate::conversations::{CONVERSATIONS, PARTS};
 use dbus_auth::AuthFault;
@@ -30,7 +31,7 @@ fn put_piece(alloc: Global, bytes: &mut Vec<u8>, piece: &str) -> Result<(), Fail
 }
 
 // What this text spells: hex in brackets, and ASCII.
-fn spelled(alloc: Global, text: &str) -> Result<Vec<u8>, Fail> {
+pub fn spelled(alloc: Global, text: &str) -> Result<Vec<u8>, Fail> {
     let mut bytes = Vec::new(alloc);
     for piece in text.split('[') {
         put_piece(alloc, &mut bytes, piece)?;
@@ -38,16 +39,24 @@ fn spelled(alloc: Global, text: &str) -> Result<Vec<u8>, Fail> {
     Ok(bytes)
 }
 
-// How the part with this name is spelled; any other text is its own spelling.
-fn part(name: &str) -> &str {
-    for row in PARTS.lines() {
+// How the part with this name is spelled in a table.
+fn part_in<'a>(table: &'a str, name: &str) -> Option<&'a str> {
+    for row in table.lines() {
         if let Some((found, text)) = row.split_once(' ') {
             if found == name {
-                return text;
+                return Some(text);
             }
         }
     }
-    name
+    None
+}
+
+// How the part with this name is spelled; any other text is its own spelling.
+fn part(name: &str) -> &str {
+    match part_in(PARTS, name) {
+        Some(text) => text,
+        None => part_in(answered::PARTS, name).unwrap_or(name),
+    }
 }
 
 // Replaces the bytes from this position on.
@@ -85,7 +94,7 @@ fn word_of(alloc: Global, word: &str) -> Result<Vec<u8>, Fail> {
 }
 
 // The bytes of these words, one after the other.
-fn bytes_of(alloc: Global, words: &str) -> Result<Vec<u8>, Fail> {
+pub fn bytes_of(alloc: Global, words: &str) -> Result<Vec<u8>, Fail> {
     let mut bytes = Vec::new(alloc);
     for word in words.split(' ') {
         bytes.extend_from_slice(word_of(alloc, word)?.as_slice())?;
@@ -93,7 +102,7 @@ fn bytes_of(alloc: Global, words: &str) -> Result<Vec<u8>, Fail> {
     Ok(bytes)
 }
 
-fn text_of(alloc: Global, text: &str) -> Result<Text, Fail> {
+pub fn text_of(alloc: Global, text: &str) -> Result<Text, Fail> {
     Ok(Text::from_str(alloc, text)?.ok_or("a zero byte")?)
 }
 
@@ -113,7 +122,7 @@ fn empty_host(alloc: Global) -> SteadyHost {
 }
 
 // Runs a command line on a host, under the zero seed.
-fn run_on<R: AllocGlobal + Wait, I: Source, O: Sink, H: Host>(
+pub fn run_on<R: AllocGlobal + Wait, I: Source, O: Sink, H: Host>(
     rt: &R,
     line: &str,
     input: &mut I,
@@ -135,7 +144,7 @@ fn stdio<R: AllocGlobal + Wait, I: Source, O: Sink>(
 }
 
 // A source of this input in pieces of these lengths; these reads fail, counted from 0.
-fn source_of(
+pub fn source_of(
     alloc: Global,
     input: &[u8],
     pieces: &[usize],
@@ -147,7 +156,7 @@ fn source_of(
 }
 
 // A sink; these writes fail, counted from 0.
-fn sink_of(alloc: Global, failing: Vec<u64>) -> MemorySink {
+pub fn sink_of(alloc: Global, failing: Vec<u64>) -> MemorySink {
     MemorySink::new(alloc, Vec::new(alloc), failing)
 }
 

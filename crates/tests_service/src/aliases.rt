@@ -79,7 +79,8 @@ const FAULTS: &str = "\
 6 11||IOError,login,IOError,none,other
 ";
 
-fn numbers(alloc: Global, words: &str) -> Result<Vec<u64>, Fail> {
+/// The numbers between the spaces of a text.
+pub fn numbers(alloc: Global, words: &str) -> Result<Vec<u64>, Fail> {
     let mut numbers = Vec::new(alloc);
     for word in words.split_whitespace() {
         numbers.push(number(word)?)?;

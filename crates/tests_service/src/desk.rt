@@ -2,7 +2,7 @@ use crate::checks::{cell, holds, number, same_number, same_text};
 use crate::folders::{Service, lent, over, service_over_nothing};
 use crate::words::call_of;
 use lone_desk::LoneDesk;
-use secret_calls::{Body, Call, CallFault, Out, Refused, Request, Serial, Taken};
+use secret_calls::{Body, Call, CallFault, Out, Refused, Request, Serial, Taken, Work};
 use service_desk::{Desk, JoinRefused, ReadDesk, WriteDesk};
 use std::alloc::Global;
 use std::process::Abort;
@@ -63,9 +63,10 @@ fn taken_told(taken: Taken) -> &'static str {
 }
 
 // The result of a request, in words.
-fn arrived_told(arrived: Result<(), Refused>) -> &'static str {
+fn arrived_told(arrived: Result<Option<Work>, Refused>) -> &'static str {
     match arrived {
-        Ok(()) => "taken",
+        Ok(Some(_)) => "work",
+        Ok(None) => "taken",
         Err(Refused::EventsSpent) => "spent",
         Err(Refused::Gone) => "gone",
         Err(Refused::OutOfMemory) => "out of memory",

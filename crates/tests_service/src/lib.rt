@@ -6,6 +6,10 @@
 #[cfg(test)]
 mod aliases;
 #[cfg(test)]
+mod answer_faults;
+#[cfg(test)]
+mod answers;
+#[cfg(test)]
 mod checks;
 #[cfg(test)]
 mod desk;

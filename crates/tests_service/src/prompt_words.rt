@@ -2,7 +2,7 @@
 
 use crate::checks::{cell, number};
 use crate::words::{add_paths, decimal, objects, out_told, text};
-use kr_base::{PromptId, Text};
+use kr_base::{Bytes, PromptId, Text};
 use secret_calls::{AliasName, AskKind, Call, CallFault, Completion, Out, Signal};
 use std::alloc::Global;
 use std::test::Fail;
@@ -78,6 +78,20 @@ fn refusing(words: &str) -> Result<Call, Fail> {
     Ok(Call::Refuse { prompt, round })
 }
 
+// A prompt and its round, and after ` with ` a password.
+fn answering(alloc: Global, words: &str) -> Result<Call, Fail> {
+    let (asked, password) = words.split_once(" with ").ok_or("a password")?;
+    let (prompt, round) = asked.split_once(" in ").ok_or("a round")?;
+    let prompt = prompt_of(prompt)?;
+    let round = number(round)?;
+    let password = Bytes::from_slice(alloc, password.as_bytes())?;
+    Ok(Call::Answer {
+        prompt,
+        round,
+        password,
+    })
+}
+
 /// The call of a row about prompts or the agent, or Ping.
 pub fn prompt_call_of(alloc: Global, row: &str) -> Result<Result<Call, CallFault>, Fail> {
     match cell(row, 1) {
@@ -87,6 +101,7 @@ pub fn prompt_call_of(alloc: Global, row: &str) -> Result<Result<Call, CallFault
         "dismiss" => Ok(Ok(dismissing(cell(row, 2))?)),
         "register" => Ok(Ok(Call::Register)),
         "unregister" => Ok(Ok(Call::Unregister)),
+        "answer" => Ok(Ok(answering(alloc, cell(row, 2))?)),
         "refuse" => Ok(Ok(refusing(cell(row, 2))?)),
         _ => Ok(Ok(Call::Ping)),
     }

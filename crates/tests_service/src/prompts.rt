@@ -8,7 +8,7 @@ use crate::words::{add_path, call_of};
 use kr_base::ConnId;
 use prompt_state::{PromptKind, PromptRow, Target};
 use secret_calls::{Request, Serial, Taken};
-use service_machine::Arrival;
+use service_machine::{Arrival, BroughtKey};
 use std::alloc::Global;
 use std::process::Abort;
 use std::test::Fail;
@@ -222,8 +222,9 @@ fn request(alloc: Global, row: &str, wants_reply: bool) -> Result<Request, Fail>
     })
 }
 
-// A request of a connection that may be gone.
+// A request of a connection that may be gone, and the key that it asks for.
 fn asks(
+    rt: &impl Abort,
     alloc: Global,
     service: &mut Service,
     conn: ConnId,
@@ -231,22 +232,27 @@ fn asks(
     row: &str,
 ) -> Result<(), Fail> {
     let request = request(alloc, row, wants_reply)?;
-    let _ = service.arrive(Arrival {
+    let arrived = service.arrive(Arrival {
         conn,
         request,
         now: 0,
         salt: [0; 8],
     });
+    if let Ok(Some(work)) = arrived {
+        let done = work.finish();
+        let brought = BroughtKey { conn, done, now: 0 };
+        holds(rt, service.derived(brought).is_ok(), row);
+    }
     Ok(())
 }
 
 // Does what a row says.
-fn does(alloc: Global, service: &mut Service, row: &str) -> Result<(), Fail> {
+fn does(rt: &impl Abort, alloc: Global, service: &mut Service, row: &str) -> Result<(), Fail> {
     let (conn, wants_reply) = caller_of(cell(row, 0))?;
     match cell(row, 1) {
         "gone" => service.gone(ConnId(conn)),
         "leave" => service.leave(ConnId(conn)),
-        _ => asks(alloc, service, ConnId(conn), wants_reply, row)?,
+        _ => asks(rt, alloc, service, ConnId(conn), wants_reply, row)?,
     }
     Ok(())
 }
@@ -284,7 +290,7 @@ fn leads(
     name: &str,
     row: &str,
 ) -> Result<(), Fail> {
-    does(alloc, service, row)?;
+    does(rt, alloc, service, row)?;
     let at = joined(alloc, &[name, ": ", row])?;
     gets(rt, alloc, service, 1, cell(row, 3), at.as_str())?;
     gets(rt, alloc, service, 2, cell(row, 4), at.as_str())?;
@@ -298,8 +304,13 @@ fn join_three(service: &mut Service) -> Result<(), Fail> {
     Ok(())
 }
 
-// Does what the rows of a history say. The first line is its name.
-fn plays(rt: &impl Abort, alloc: Global, service: &mut Service, history: &str) -> Result<(), Fail> {
+/// Does what the rows of a history say. The first line is its name.
+pub fn plays(
+    rt: &impl Abort,
+    alloc: Global,
+    service: &mut Service,
+    history: &str,
+) -> Result<(), Fail> {
     join_three(service)?;
     let name = history.lines().next().unwrap_or("no name");
     for row in history.lines().skip(1) {
@@ -308,7 +319,8 @@ fn plays(rt: &impl Abort, alloc: Global, service: &mut Service, history: &str) -
     Ok(())
 }
 
-fn is_so(rt: &impl Abort, alloc: Global, history: &str) -> Result<(), Fail> {
+/// Plays a history over a service with two collections.
+pub fn is_so(rt: &impl Abort, alloc: Global, history: &str) -> Result<(), Fail> {
     let service = service_over_two(alloc)?;
     over(service, |service| plays(rt, alloc, service, history))
 }
@@ -341,7 +353,7 @@ const FULL: &str = "\
 fn begins_64_and_more(rt: &impl Abort, alloc: Global, service: &mut Service) -> Result<(), Fail> {
     join_three(service)?;
     for _ in 0..64u32 {
-        does(alloc, service, "1|create|Mine")?;
+        does(rt, alloc, service, "1|create|Mine")?;
     }
     let told = taken_told(alloc, service, 1)?;
     let ends_so = told

@@ -5,6 +5,7 @@ pub mod KrItems
 pub mod KrNames
 pub mod KrMemoryDisk
 pub mod KeyringFile
+pub mod StemChoice
 pub mod ReplaceSlot
 pub mod AliasTable
 pub mod FolderStore

@@ -6,6 +6,8 @@
 #[cfg(test)]
 mod checks;
 #[cfg(test)]
+mod keys;
+#[cfg(test)]
 mod passes;
 #[cfg(test)]
 mod requests;

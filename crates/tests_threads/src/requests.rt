@@ -1,6 +1,6 @@
 // The requests that the threads bring.
 
-use secret_calls::{Call, Request, Serial};
+use secret_calls::{Call, Request, Serial, Work};
 use service_desk::ReadDesk;
 
 // A Ping with this serial. A reply to it may be wanted.
@@ -21,5 +21,23 @@ pub fn asks<D: ReadDesk>(desk: &mut D, serial: u32, wants_reply: bool) -> bool {
     match ping(serial, wants_reply) {
         Some(request) => desk.arrive(request, 0, [0; 8]).is_ok(),
         None => false,
+    }
+}
+
+// A request of this call. A reply isn't wanted.
+fn request(call: Call) -> Request {
+    Request {
+        serial: Serial { number: 1 },
+        wants_reply: false,
+        length: 128,
+        call: Ok(call),
+    }
+}
+
+/// Brings a call, and returns the key that it asks for.
+pub fn brings<D: ReadDesk>(desk: &mut D, call: Call) -> Option<Work> {
+    match desk.arrive(request(call), 0, [0; 8]) {
+        Ok(work) => work,
+        Err(_) => None,
     }
 }

@@ -15,6 +15,7 @@ use Rattle.tests_threads.proofs.Sends.FolderStore.{LeftAlone-send}
 use Rattle.tests_threads.proofs.Sends.KrBase.{Stem-send}
 use Rattle.tests_threads.proofs.Sends.ReplaceSlot.{FileCell-send}
 use Rattle.tests_threads.proofs.Sends.SecretCalls.{Out-send}
+use Rattle.tests_threads.proofs.Sends.StemChoice.{UsedStems-send}
 
 pub Fate-send : IsSend Fate.the_row
 Fate-send = search sendable depth 40
@@ -30,4 +31,4 @@ module _ (S : RattleType) (s : slot.Ghosts S.Denot) where
   KeptAliases-send of-slot = search (AliasTable-send, FileCell-send, sendable) depth 40
 
 pub Disk-send : (F S : RattleType) (s : slot.Ghosts S.Denot) → IsSend F → IsSend S → IsSend (Disk.the_field F S s).row
-Disk-send F S s of-folder of-slot = search (CollectionTable-send, LeftAlone-send, KeptAliases-send, FileCell-send, Stem-send, sendable, heap.crosses) depth 40 fits 20000
+Disk-send F S s of-folder of-slot = search (CollectionTable-send, LeftAlone-send, KeptAliases-send, FileCell-send, Stem-send, UsedStems-send, sendable, heap.crosses) depth 40 fits 20000

@@ -1,7 +1,6 @@
 use Rattle.std.proofs.Common.{◌++◌, true, refl, ap, false}
 use Rattle.std.specs.List.{concat}
 use Rattle.service_machine.specs.declared.event.Event.TheVariants as event
-use Rattle.service_machine.proofs.SoundLemmas.{sound_start, sound_step}
 use Rattle.service_tables.specs.Opened.{Contents, opened_state}
 use Rattle.service_tables.specs.Sound.{IsSound}
 use Rattle.service_desk.specs.Places.{Told}
@@ -16,7 +15,8 @@ told contents = record { conn = the_connection; state = joined contents; count =
 pub returns-clause-outputs : goal.returns-clause-outputs
 unfolding told
 returns-clause-outputs c contents run asked sound legal =
-    let joins : IsSound (joined contents) = sound_step (opened_state contents) (event.Connect the_connection) (sound_start contents sound) legal.0 in
+    let laws = c.steps_keep_the_rows_sound.ensures in
+    let joins : IsSound (joined contents) = laws.step (opened_state contents) (event.Connect the_connection) (laws.start contents sound) legal.0 in
     ap (λ outs. concat run.answers ++ spelled_behind 0 outs) (c.each_request_is_answered_at_once.ensures (told contents) asked (record { sound = joins; taken = 0; only = refl }) legal.1)
 
 pub returns-clause-replies : goal.returns-clause-replies

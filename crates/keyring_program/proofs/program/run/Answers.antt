@@ -12,11 +12,17 @@ use Rattle.keyring_program.proofs.program.run.Goals as goal
 
 -- a service that starts with nothing
 nothing : Contents
-nothing = record { collections = []; aliases = None }
+nothing = record { collections = []; aliases = None; used = [] }
 
 nothing-sound : AreSoundContents nothing
 unfolding nothing
-nothing-sound = record { collections = record { ordered = IsInOrder-nil CollectionRow; each = tt }; aliases = tt; certain = refl }
+nothing-sound = record {
+  collections = record { ordered = IsInOrder-nil CollectionRow; each = tt };
+  aliases = tt;
+  certain = refl;
+  known = tt;
+  stems = record { ordered = IsInOrder-nil CollectionRow; taken = tt };
+}
 
 -- the arguments are invalid
 pub returns-in_default-clause-opened : goal.returns-in_default-clause-opened

@@ -14,11 +14,21 @@ returns-in_ok-join-in-Connect-clause-recorded g c =
     }
 
 -- a request is recorded with its fates
-pub returns-in_ok-arrive-in-Arrive-clause-recorded : goal.returns-in_ok-arrive-in-Arrive-clause-recorded
-returns-in_ok-arrive-in-Arrive-clause-recorded g c =
-    let stores = c.in_ok-arrive-in-Arrive.ensures.stores in
+pub returns-in_ok-work-in-Arrive-clause-recorded : goal.returns-in_ok-work-in-Arrive-clause-recorded
+returns-in_ok-work-in-Arrive-clause-recorded g c =
+    let stores = c.in_ok-work-in-Arrive.ensures.stores in
     let came : Event = with_fates c.in-Arrive.arrival stores.fates in
     record {
-      recorded = record { event = came; records = rw c.in-Arrive.is refl; fits = stores.stores.fits; faultless = stores.faultless; answers = refl; appends = stores.stores.appends };
+      recorded = record { event = came; records = rw c.in-Arrive.is refl; fits = stores.stores.fits; faultless = stores.faultless; answers = stores.gives; appends = stores.stores.appends };
+      disk = stores.disk;
+    }
+
+-- a derived key is recorded with its fates
+pub returns-in_ok-derived-in-Derived-clause-recorded : goal.returns-in_ok-derived-in-Derived-clause-recorded
+returns-in_ok-derived-in-Derived-clause-recorded g c =
+    let stores = c.in_ok-derived-in-Derived.ensures.stores in
+    let came : Event = event.Derived stores.came in
+    record {
+      recorded = record { event = came; records = rw c.in-Derived.is stores.is; fits = stores.stores.fits; faultless = stores.faultless; answers = refl; appends = stores.stores.appends };
       disk = stores.disk;
     }

@@ -1,20 +1,26 @@
+use Rattle.std.proofs.Common.{subst, sym}
+use Rattle.service_disk.specs.Making.{AreFree}
 use Rattle.service_machine.specs.Rows.{rows_of}
 use Rattle.service_history.proofs.KeptLemmas.{sure-leave}
 use Rattle.service_history.proofs.service.Service.leave.Goals as goal
 
 -- a connection that is there and isn't leaving is sure to leave
 pub leave-requires : goal.leave-requires
-leave-requires g c = (sure-leave c.args.conn _ (rows_of c.self.inside.machine) c.self.inside.window c.self.invariant c.in-Some.ensures c.if-desk.false).fits
+leave-requires g c = (sure-leave c.args.conn _ (rows_of c.self.inside.machine) c.self.inside.window c.self.invariant.0 c.in-Some.ensures c.if-desk.false).fits
 
 pub push-requires-clause-room : goal.push-requires-clause-room
-push-requires-clause-room g c = (sure-leave c.args.conn _ (rows_of c.self.inside.machine) c.self.inside.window c.self.invariant c.in-Some.ensures c.if-desk.false).room
+push-requires-clause-room g c = (sure-leave c.args.conn _ (rows_of c.self.inside.machine) c.self.inside.window c.self.invariant.0 c.in-Some.ensures c.if-desk.false).room
 
 pub push-requires-clause-counted : goal.push-requires-clause-counted
-push-requires-clause-counted g c = (sure-leave c.args.conn _ (rows_of c.self.inside.machine) c.self.inside.window c.self.invariant c.in-Some.ensures c.if-desk.false).counted
+push-requires-clause-counted g c = (sure-leave c.args.conn _ (rows_of c.self.inside.machine) c.self.inside.window c.self.invariant.0 c.in-Some.ensures c.if-desk.false).counted
 
 pub invariant_of-self : goal.invariant_of-self
-invariant_of-self g c = rw c.leave.ensures.stepped
-    ((sure-leave c.args.conn _ (rows_of c.self.inside.machine) c.self.inside.window c.self.invariant c.in-Some.ensures c.if-desk.false).kept c.push.new.self c.push.ensures.stored c.push.ensures.spare)
+invariant_of-self g c = (
+  rw c.leave.ensures.stepped
+      ((sure-leave c.args.conn _ (rows_of c.self.inside.machine) c.self.inside.window c.self.invariant.0 c.in-Some.ensures c.if-desk.false).kept c.push.new.self c.push.ensures.stored c.push.ensures.spare),
+  (let folder = g.F.Folder in let slot = g.F.Cell.Slot in
+      subst (λ d. AreFree folder.is_honest folder.images folder.may_leave folder.made slot.is_honest slot.may_leave d) (sym c.leave.ensures.disk) c.self.invariant.1),
+)
 
 pub returns-clause-history : goal.returns-clause-history
-returns-clause-history g c = (invariant_of-self g c).history
+returns-clause-history g c = (invariant_of-self g c).0.history

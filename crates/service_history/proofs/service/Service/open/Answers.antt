@@ -4,4 +4,5 @@ use Rattle.service_history.proofs.service.Service.open.Goals as goal
 
 -- the window begins where the machine starts
 pub invariant_of-result : goal.invariant_of-result
-invariant_of-result g c = kept-first (rows_of c.in_ok-machine.machine) c.first-window.result c.in_ok-machine.ensures.opened c.in_ok-machine.ensures.sound c.first-window.ensures
+invariant_of-result g c =
+    (kept-first (rows_of c.in_ok-machine.machine) c.first-window.result c.in_ok-machine.ensures.opened c.in_ok-machine.ensures.contents c.first-window.ensures, c.in_ok-machine.ensures.free)

@@ -1,16 +1,19 @@
-use Rattle.std.proofs.Common.{◌≡◌, ◌++◌, ap, subst, sym, ◌∙◌}
+use Rattle.std.proofs.Common.{◌≡◌, ◌++◌, Option, ap, subst, sym, ◌∙◌}
+use Rattle.secret_calls.specs.declared.work.Work.{Work}
+use Rattle.service_machine.specs.declared.event.Output.TheVariants.{Arrived}
 use Rattle.service_machine.specs.Fates.{with_fates, AreFaultless, is_steady}
 use Rattle.service_machine.specs.Rows.{disk_of, rows_of}
 use Rattle.service_machine.specs.Run.{asked}
-use Rattle.service_machine.specs.Step.{Fits, brought_by, plan_of, replies, step, with_delivered}
+use Rattle.service_machine.specs.Step.{Fits, brought_by, output_of, plan_of, replies, step, with_delivered, work_of}
 use Rattle.service_machine.specs.Stored.{StoresEvent, fates_in, fates_of}
-use Rattle.service_machine.proofs.LeadsLemmas.{leads-fits, leads-stepped, leads-stores}
+use Rattle.service_machine.proofs.LeadsLemmas.{leads-fits, leads-stepped, leads-stores, leads-work}
 use Rattle.service_machine.proofs.SteadyLemmas.{stores-faultless, stores-steady}
 use Rattle.service_machine.proofs.machine.Machine.arrive.Goals as goal
 
 -- room for the reply changes no row; after it the row of the call is performed, and its reply waits
 pub returns-clause-stepped : goal.returns-clause-stepped
 returns-clause-stepped g c =
+    let folder = g.F.Folder in
     let slot = g.F.Cell.Slot in
     let arrival = c.args.arrival.now in
     let old = rows_of c.args.self.now in
@@ -18,16 +21,18 @@ returns-clause-stepped g c =
     let same : rows_of (record c.args.self.now { connections = c.reserve.new.self }) ≡ old =
     λ i. record old { connections = record { rows = c.reserve.ensures.unchanged i; next = c.reserve.ensures.next i } } in
     let fates : c.new.result ≡ fates_in done =
-    c.new.ensures ∙ c.with_fates.ensures ∙ (λ i. fates_of (c.into_parts-answer.ensures.read i) ++ fates_of (c.into_parts-answer.ensures.fate i)) in
+    c.new.ensures ∙ c.with_fates.ensures
+    ∙ (λ i. c.in_ok-fates.ensures.items i ++ (fates_of (c.into_parts-answer.ensures.read i) ++ fates_of (c.into_parts-answer.ensures.fate i))) in
     let replied : rows_of c.reply.new.self ≡ with_delivered (replies arrival.conn arrival.request done.answer ++ done.sends) (rows_of c.call.new.self) =
     c.reply.ensures.rows
     ∙ (λ i. with_delivered (replies arrival.conn arrival.request (c.into_parts-answer.ensures.answer i) ++ c.into_parts-answer.ensures.sends i) (rows_of c.call.new.self)) in
-    leads-stepped slot.is_honest slot.is_steady slot.faults slot.moment slot.left_since slot.may_leave arrival done old _ (rows_of c.call.new.self) (rows_of c.reply.new.self)
+    leads-stepped folder.is_honest folder.is_steady folder.faults folder.images folder.may_leave folder.made slot.is_honest slot.is_steady slot.faults slot.moment slot.left_since slot.may_leave arrival done old _ (rows_of c.call.new.self) (rows_of c.reply.new.self)
     (disk_of c.args.self.now) (disk_of c.call.new.self) same c.in_ok-call.ensures.leads replied
     ∙ ap (λ its. step old (with_fates arrival its)) (sym fates)
 
 pub returns-clause-fits : goal.returns-clause-fits
 returns-clause-fits g c =
+    let folder = g.F.Folder in
     let slot = g.F.Cell.Slot in
     let arrival = c.args.arrival.now in
     let old = rows_of c.args.self.now in
@@ -35,14 +40,37 @@ returns-clause-fits g c =
     let same : rows_of (record c.args.self.now { connections = c.reserve.new.self }) ≡ old =
     λ i. record old { connections = record { rows = c.reserve.ensures.unchanged i; next = c.reserve.ensures.next i } } in
     let fates : c.new.result ≡ fates_in done =
-    c.new.ensures ∙ c.with_fates.ensures ∙ (λ i. fates_of (c.into_parts-answer.ensures.read i) ++ fates_of (c.into_parts-answer.ensures.fate i)) in
+    c.new.ensures ∙ c.with_fates.ensures
+    ∙ (λ i. c.in_ok-fates.ensures.items i ++ (fates_of (c.into_parts-answer.ensures.read i) ++ fates_of (c.into_parts-answer.ensures.fate i))) in
     subst (λ its. Fits old (with_fates arrival its)) (sym fates)
-    (leads-fits slot.is_honest slot.is_steady slot.faults slot.moment slot.left_since slot.may_leave arrival done old _ (rows_of c.call.new.self) (rows_of c.reply.new.self)
+    (leads-fits folder.is_honest folder.is_steady folder.faults folder.images folder.may_leave folder.made slot.is_honest slot.is_steady slot.faults slot.moment slot.left_since slot.may_leave arrival done old _ (rows_of c.call.new.self) (rows_of c.reply.new.self)
     (disk_of c.args.self.now) (disk_of c.call.new.self) same c.in_ok-call.ensures.leads c.known_request.ensures.moment c.known_request.ensures.salt c.known_request.ensures.types c.requires)
+
+-- the reply takes nothing from the key that is to be derived
+pub returns-clause-work : goal.returns-clause-work
+returns-clause-work g c =
+    let folder = g.F.Folder in
+    let slot = g.F.Cell.Slot in
+    let arrival = c.args.arrival.now in
+    let request = arrival.request in
+    let old = rows_of c.args.self.now in
+    let done = c.in_ok-call.field-0 in
+    let same : rows_of (record c.args.self.now { connections = c.reserve.new.self }) ≡ old =
+    λ i. record old { connections = record { rows = c.reserve.ensures.unchanged i; next = c.reserve.ensures.next i } } in
+    let fates : c.new.result ≡ fates_in done =
+    c.new.ensures ∙ c.with_fates.ensures
+    ∙ (λ i. c.in_ok-fates.ensures.items i ++ (fates_of (c.into_parts-answer.ensures.read i) ++ fates_of (c.into_parts-answer.ensures.fate i))) in
+    let work : c.work_of-work.result ≡ work_of request.call done.answer (rows_of c.call.new.self) =
+    c.work_of-work.ensures ∙ ap (λ answer. work_of request.call answer (rows_of c.call.new.self)) c.into_parts-answer.ensures.answer in
+    ap (λ (w : Option Work). Arrived (record { work = w })) work
+    ∙ leads-work folder.is_honest folder.is_steady folder.faults folder.images folder.may_leave folder.made slot.is_honest slot.is_steady slot.faults slot.moment slot.left_since slot.may_leave arrival done old _ (rows_of c.call.new.self) (rows_of c.reply.new.self)
+    (disk_of c.args.self.now) (disk_of c.call.new.self) same c.in_ok-call.ensures.leads
+    ∙ ap (λ its. output_of old (with_fates arrival its)) (sym fates)
 
 -- the reply leaves the disk as the call left it
 pub returns-clause-disk : goal.returns-clause-disk
 returns-clause-disk g c =
+    let folder = g.F.Folder in
     let slot = g.F.Cell.Slot in
     let arrival = c.args.arrival.now in
     let old = rows_of c.args.self.now in
@@ -51,35 +79,39 @@ returns-clause-disk g c =
     let same : rows_of (record c.args.self.now { connections = c.reserve.new.self }) ≡ old =
     λ i. record old { connections = record { rows = c.reserve.ensures.unchanged i; next = c.reserve.ensures.next i } } in
     let fates : c.new.result ≡ fates_in done =
-    c.new.ensures ∙ c.with_fates.ensures ∙ (λ i. fates_of (c.into_parts-answer.ensures.read i) ++ fates_of (c.into_parts-answer.ensures.fate i)) in
-    subst (λ its. StoresEvent slot.is_honest slot.is_steady slot.faults slot.moment slot.left_since slot.may_leave (with_fates arrival its) old disk (disk_of c.reply.new.self)) (sym fates)
-    (subst (λ after. StoresEvent slot.is_honest slot.is_steady slot.faults slot.moment slot.left_since slot.may_leave (with_fates arrival (fates_in done)) old disk after) (sym c.reply.ensures.disk)
-    (leads-stores slot.is_honest slot.is_steady slot.faults slot.moment slot.left_since slot.may_leave arrival done old _ (rows_of c.call.new.self) (rows_of c.reply.new.self)
+    c.new.ensures ∙ c.with_fates.ensures
+    ∙ (λ i. c.in_ok-fates.ensures.items i ++ (fates_of (c.into_parts-answer.ensures.read i) ++ fates_of (c.into_parts-answer.ensures.fate i))) in
+    subst (λ its. StoresEvent folder.is_honest folder.is_steady folder.faults folder.images folder.may_leave folder.made slot.is_honest slot.is_steady slot.faults slot.moment slot.left_since slot.may_leave (with_fates arrival its) old disk (disk_of c.reply.new.self)) (sym fates)
+    (subst (λ after. StoresEvent folder.is_honest folder.is_steady folder.faults folder.images folder.may_leave folder.made slot.is_honest slot.is_steady slot.faults slot.moment slot.left_since slot.may_leave (with_fates arrival (fates_in done)) old disk after) (sym c.reply.ensures.disk)
+    (leads-stores folder.is_honest folder.is_steady folder.faults folder.images folder.may_leave folder.made slot.is_honest slot.is_steady slot.faults slot.moment slot.left_since slot.may_leave arrival done old _ (rows_of c.call.new.self) (rows_of c.reply.new.self)
     disk (disk_of c.call.new.self) same c.in_ok-call.ensures.leads))
 
 -- over a steady disk no storing has a fault
 pub returns-clause-faultless : goal.returns-clause-faultless
 returns-clause-faultless g c = λ steady.
+    let folder = g.F.Folder in
     let slot = g.F.Cell.Slot in
     let arrival = c.args.arrival.now in
     let before = rows_of (record c.args.self.now { connections = c.reserve.new.self }) in
     let done = c.in_ok-call.field-0 in
     let leads = c.in_ok-call.ensures.leads in
     let fates : c.new.result ≡ fates_in done =
-    c.new.ensures ∙ c.with_fates.ensures ∙ (λ i. fates_of (c.into_parts-answer.ensures.read i) ++ fates_of (c.into_parts-answer.ensures.fate i)) in
+    c.new.ensures ∙ c.with_fates.ensures
+    ∙ (λ i. c.in_ok-fates.ensures.items i ++ (fates_of (c.into_parts-answer.ensures.read i) ++ fates_of (c.into_parts-answer.ensures.fate i))) in
     subst AreFaultless (sym fates)
-    (stores-faultless slot.is_honest slot.is_steady slot.faults slot.moment slot.left_since slot.may_leave g.F.Folder.is_steady arrival.conn (brought_by arrival)
+    (stores-faultless folder.is_honest folder.is_steady folder.faults folder.images folder.may_leave folder.made slot.is_honest slot.is_steady slot.faults slot.moment slot.left_since slot.may_leave arrival.conn (brought_by arrival)
     (plan_of arrival.salt arrival.request.call (asked arrival.conn (brought_by arrival) before)) (fates_in done) before (disk_of c.args.self.now) (disk_of c.call.new.self) leads.fates leads.disk steady)
 
 pub returns-clause-steady : goal.returns-clause-steady
 returns-clause-steady g c =
+    let folder = g.F.Folder in
     let slot = g.F.Cell.Slot in
     let arrival = c.args.arrival.now in
     let before = rows_of (record c.args.self.now { connections = c.reserve.new.self }) in
     let done = c.in_ok-call.field-0 in
     let leads = c.in_ok-call.ensures.leads in
     ap (is_steady g.F.Folder.is_steady slot.is_steady) c.reply.ensures.disk
-    ∙ stores-steady slot.is_honest slot.is_steady slot.faults slot.moment slot.left_since slot.may_leave g.F.Folder.is_steady arrival.conn (brought_by arrival)
+    ∙ stores-steady folder.is_honest folder.is_steady folder.faults folder.images folder.may_leave folder.made slot.is_honest slot.is_steady slot.faults slot.moment slot.left_since slot.may_leave arrival.conn (brought_by arrival)
     (plan_of arrival.salt arrival.request.call (asked arrival.conn (brought_by arrival) before)) (fates_in done) before (disk_of c.args.self.now) (disk_of c.call.new.self) leads.disk
 
 -- there is room for the reply, and for what is sent after it

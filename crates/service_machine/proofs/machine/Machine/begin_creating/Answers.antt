@@ -16,6 +16,7 @@ use Rattle.service_machine.proofs.machine.Machine.begin_creating.Goals as goal
 -- there are fewer collections than there may be, and a prompt begins
 pub returns-clause-leads : goal.returns-clause-leads
 returns-clause-leads g c =
+    let folder = g.F.Folder in
     let slot = g.F.Cell.Slot in
     let conn = c.args.conn in
     let old = rows_of c.args.self.now in
@@ -24,7 +25,7 @@ returns-clause-leads g c =
     map-ok c.begin.result _ _
     (λ done leads brought.
     let asks = asked conn brought old in
-    leads-as slot.is_honest slot.is_steady slot.faults slot.moment slot.left_since slot.may_leave conn brought old _ _ _ _ _ done
+    leads-as folder.is_honest folder.is_steady folder.faults folder.images folder.may_leave folder.made slot.is_honest slot.is_steady slot.faults slot.moment slot.left_since slot.may_leave conn brought old _ _ _ _ _ done
     (ap (λ b. cond b (refused name.LimitsExceeded) (with_new_prompt true no_collection (kind.Create c.args.label.now (option_map_or (λ name. name) c.args.alias.now []) c.args.salt) asks)) few
     ∙ (λ i. with_new_prompt true no_collection (kind.Create (sym c.in_ok-copy.ensures i) (sym c.in_ok-alias_text.ensures i) c.args.salt) asks))
     (leads brought no_collection (λ i. body.ObjectAndPrompt (c.in_ok-path_of.ensures.spelled i) (Some (record { 0 = c.next.ensures i })))))

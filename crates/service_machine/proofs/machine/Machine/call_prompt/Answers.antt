@@ -13,6 +13,7 @@ use Rattle.service_machine.proofs.machine.Machine.call_prompt.Goals as goal
 -- the prompt is the caller's own, and wasn't asked before
 pub returns-clause-leads : goal.returns-clause-leads
 returns-clause-leads g c =
+    let folder = g.F.Folder in
     let slot = g.F.Cell.Slot in
     let conn = c.args.conn in
     let prompt = c.args.prompt in
@@ -22,7 +23,7 @@ returns-clause-leads g c =
     let own : owns conn prompt old.prompts ≡ true = sym c.owned_by.ensures ∙ c.if-not-owned_by.false in
     let made : is_made_row row ≡ true = sym c.is_made.ensures.made ∙ c.if-not-is_made.false in
     map-ok c.advance.result _ _
-    (λ done leads brought. leads-as slot.is_honest slot.is_steady slot.faults slot.moment slot.left_since slot.may_leave conn brought old _ _ _ _ _ done
+    (λ done leads brought. leads-as folder.is_honest folder.is_steady folder.faults folder.images folder.may_leave folder.made slot.is_honest slot.is_steady slot.faults slot.moment slot.left_since slot.may_leave conn brought old _ _ _ _ _ done
     (ap (λ b. cond b (answered body.Empty (first_advance prompt asks row)) (refused name.NoSuchObject)) own
     ∙ ap (λ b. answered body.Empty (cond b (row_advance prompt asks row) [])) made) (leads brought))
     c.advance.ensures.leads

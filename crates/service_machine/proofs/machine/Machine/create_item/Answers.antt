@@ -13,6 +13,7 @@ use Rattle.service_machine.proofs.machine.Machine.create_item.Goals as goal
 -- the collection is there, and the edit is what the call says
 pub returns-clause-leads : goal.returns-clause-leads
 returns-clause-leads g c =
+    let folder = g.F.Folder in
     let slot = g.F.Cell.Slot in
     let conn = c.args.conn in
     let old = rows_of c.args.self.now in
@@ -24,6 +25,6 @@ returns-clause-leads g c =
     let plan : create_item c.args.collection.now edit secret.session secret.content (asked conn brought old) ≡ secret_stored secret.session stem secret.content edit (made stem) (asked conn brought old) =
     ap (λ o. on_collection o (λ stem. secret_stored secret.session stem secret.content edit (made stem) (asked conn brought old))) named in
     map-ok c.store_secret.result _ _
-    (λ done leads. leads-as slot.is_honest slot.is_steady slot.faults slot.moment slot.left_since slot.may_leave conn brought old _ _ _ _ _ done plan (leads edit secret.value
+    (λ done leads. leads-as folder.is_honest folder.is_steady folder.faults folder.images folder.may_leave folder.made slot.is_honest slot.is_steady slot.faults slot.moment slot.left_since slot.may_leave conn brought old _ _ _ _ _ done plan (leads edit secret.value
     (λ i. change.Add (c.in_ok-copy.ensures i) (c.in_ok-copy-2.ensures i) (c.in_ok-copy-3.ensures i) (c.in_ok-copy-4.ensures i) c.args.replace)))
     c.store_secret.ensures.leads

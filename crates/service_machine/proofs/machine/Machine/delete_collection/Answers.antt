@@ -17,6 +17,7 @@ use Rattle.service_machine.proofs.machine.Machine.delete_collection.Goals as goa
 -- the collection is there and unlocked, and its file is removed
 pub returns-clause-leads : goal.returns-clause-leads
 returns-clause-leads g c = λ brought.
+    let folder = g.F.Folder in
     let slot = g.F.Cell.Slot in
     let conn = c.args.conn in
     let old = rows_of c.args.self.now in
@@ -32,10 +33,10 @@ returns-clause-leads g c = λ brought.
     c.ended.ensures ∙ ap (λ path. record { answer = answer_by (body.Object path) some; sends = []; read = None; fate = Some some }) c.in_ok-path_of.ensures.spelled in
     let same = c.in_ok-reserve_spare.ensures in
     let rows = ap (λ (contents : Contents). contents.collections) c.erase.ensures.erased ∙ ap (λ (contents : Contents). rows_erased stem some contents.collections) same.contents in
-    let state = ap (λ (contents : Contents). record old { collections = contents.collections; aliases = contents.aliases })
+    let state = ap (λ (contents : Contents). record old { collections = contents.collections; aliases = contents.aliases; used = contents.used })
     (c.erase.ensures.erased ∙ ap (λ (contents : Contents). record contents { collections = rows_erased stem some contents.collections }) same.contents) in
-    leads-done slot.is_honest slot.is_steady slot.faults slot.moment slot.left_since slot.may_leave conn brought old _ disk _ _ _ _ done
-    (leads-as slot.is_honest slot.is_steady slot.faults slot.moment slot.left_since slot.may_leave conn brought old _ disk _ _ _ _ plan
-    (leads-asked slot.is_honest slot.is_steady slot.faults slot.moment slot.left_since slot.may_leave conn brought old _ disk _ (Erase stem) no_prompt some c.erase.ensures.kind state
+    leads-done folder.is_honest folder.is_steady folder.faults folder.images folder.may_leave folder.made slot.is_honest slot.is_steady slot.faults slot.moment slot.left_since slot.may_leave conn brought old _ disk _ _ _ _ done
+    (leads-as folder.is_honest folder.is_steady folder.faults folder.images folder.may_leave folder.made slot.is_honest slot.is_steady slot.faults slot.moment slot.left_since slot.may_leave conn brought old _ disk _ _ _ _ plan
+    (leads-asked folder.is_honest folder.is_steady folder.faults folder.images folder.may_leave folder.made slot.is_honest slot.is_steady slot.faults slot.moment slot.left_since slot.may_leave conn brought old _ disk _ (Erase stem) no_prompt some c.erase.ensures.kind state
     (at-moved slot.is_honest slot.is_steady slot.faults slot.moment slot.left_since slot.may_leave stem some _ _ _ _ _ _ _
     (ap (λ (contents : Contents). contents.collections) same.contents) rows same.disk c.erase.ensures.disk)))

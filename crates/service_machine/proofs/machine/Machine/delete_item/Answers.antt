@@ -13,6 +13,7 @@ use Rattle.service_machine.proofs.machine.Machine.delete_item.Goals as goal
 -- the item is there and its collection unlocked, and it is removed
 pub returns-clause-leads : goal.returns-clause-leads
 returns-clause-leads g c =
+    let folder = g.F.Folder in
     let slot = g.F.Cell.Slot in
     let conn = c.args.conn in
     let old = rows_of c.args.self.now in
@@ -26,5 +27,5 @@ returns-clause-leads g c =
     let stores = storing stem edit (λ _. no_prompt) (storable_edit brought old.collections stem edit) in
     let plan : delete_item stem c.args.item (asked conn brought old) ≡ stores =
     ap (λ b. cond b (if_open stem (asked conn brought old) stores) (refused name.NoSuchObject)) there ∙ ap (λ b. cond b stores (refused name.IsLocked)) unlocked in
-    leads-as slot.is_honest slot.is_steady slot.faults slot.moment slot.left_since slot.may_leave conn brought old _ _ _ _ _ done plan (leads conn edit value refl))
+    leads-as folder.is_honest folder.is_steady folder.faults folder.images folder.may_leave folder.made slot.is_honest slot.is_steady slot.faults slot.moment slot.left_since slot.may_leave conn brought old _ _ _ _ _ done plan (leads conn edit value refl))
     c.store_edit.ensures.leads

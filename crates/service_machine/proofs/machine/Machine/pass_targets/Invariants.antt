@@ -3,7 +3,7 @@ use Rattle.std.specs.Option.{is_some}
 use Rattle.prompt_state.specs.Prompts.{next_round, row_at}
 use Rattle.service_tables.specs.Opened.{contents_of}
 use Rattle.service_tables.specs.Reading.{asked_collections}
-use Rattle.service_machine.specs.PromptCalls.{left_in_row, row_advance}
+use Rattle.service_machine.specs.PromptCalls.{left_in_row, passed_over, row_advance}
 use Rattle.service_machine.specs.Rows.{disk_of, rows_of}
 use Rattle.service_machine.specs.Run.{performed_all}
 use Rattle.service_machine.proofs.machine.Machine.pass_targets.Given as goal
@@ -15,6 +15,8 @@ invariant-loop-target g l =
     × (performed_all l.fn.conn (row_advance l.prompt (asked_collections (contents_of (rows_of l.self))) (row_at l.prompt l.self.prompts)) (rows_of l.self)
     ≡ performed_all l.fn.conn (row_advance l.prompt (asked_collections (contents_of (rows_of l.initial.self))) (row_at l.prompt l.initial.self.prompts)) (rows_of l.initial.self))
     × (l.self.connections ≡ l.initial.self.connections) × (disk_of l.self ≡ disk_of l.initial.self) × (contents_of (rows_of l.self) ≡ contents_of (rows_of l.initial.self))
+    × (passed_over l.prompt (asked_collections (contents_of (rows_of l.self))) l.self.prompts ≡ passed_over l.prompt (asked_collections (contents_of (rows_of l.initial.self))) l.initial.self.prompts)
+    × (l.self.sessions ≡ l.initial.self.sessions)
 
 abbrev pub decreases-loop-target : goal.decreases-loop-target
 decreases-loop-target g l = length (left_in_row (row_at l.prompt l.self.prompts))

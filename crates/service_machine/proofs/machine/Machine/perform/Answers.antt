@@ -13,3 +13,6 @@ returns-in-Register-clause-leads g c = rw c.in-Register.is (map-ok c.register.re
 
 pub returns-in-Refuse-clause-leads : goal.returns-in-Refuse-clause-leads
 returns-in-Refuse-clause-leads g c = rw c.in-Refuse.is (map-ok c.refuse.result _ _ (λ done leads. leads _) c.refuse.ensures.leads)
+
+pub returns-in-Answer-clause-leads : goal.returns-in-Answer-clause-leads
+returns-in-Answer-clause-leads g c = rw c.in-Answer.is (map-ok c.answer_prompt.result _ _ (λ done leads. leads _) c.answer_prompt.ensures.leads)

@@ -21,9 +21,10 @@ returns-in-Unlock-clause-leads g c = rw (c.in-Unlock.is, sym c.as_slice.ensures)
 -- a plain call
 pub returns-in_ok-ask-in_default-clause-leads : goal.returns-in_ok-ask-in_default-clause-leads
 returns-in_ok-ask-in_default-clause-leads g c =
+    let folder = g.F.Folder in
     let slot = g.F.Cell.Slot in
     let old = rows_of c.args.self.now in
     let disk = disk_of c.args.self.now in
-    leads-done slot.is_honest slot.is_steady slot.faults slot.moment slot.left_since slot.may_leave c.args.conn _ old _ disk _ _ _ _ c.unstored.ensures
-    (leads-plain slot.is_honest slot.is_steady slot.faults slot.moment slot.left_since slot.may_leave c.args.conn _ old _ disk _ c.args.salt c.args.call.now _ c.ask.ensures.plain
+    leads-done folder.is_honest folder.is_steady folder.faults folder.images folder.may_leave folder.made slot.is_honest slot.is_steady slot.faults slot.moment slot.left_since slot.may_leave c.args.conn _ old _ disk _ _ _ _ c.unstored.ensures
+    (leads-plain folder.is_honest folder.is_steady folder.faults folder.images folder.may_leave folder.made slot.is_honest slot.is_steady slot.faults slot.moment slot.left_since slot.may_leave c.args.conn _ old _ disk _ c.args.salt c.args.call.now _ c.ask.ensures.plain
     (c.in_ok-ask-in_default.ensures.answer c.args.salt _) (c.in_ok-ask-in_default.ensures.state c.args.salt _) c.ask.ensures.disk)

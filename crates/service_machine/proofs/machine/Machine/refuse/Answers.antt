@@ -25,6 +25,7 @@ returns-in-Some-refusal-clause-room g c =
 -- it waits, and ends
 pub returns-in-None-clause-leads : goal.returns-in-None-clause-leads
 returns-in-None-clause-leads g c =
+    let folder = g.F.Folder in
     let slot = g.F.Cell.Slot in
     let conn = c.args.conn in
     let round = c.args.round in
@@ -36,5 +37,5 @@ returns-in-None-clause-leads g c =
     (λ done leads brought.
     let plan : refuse c.args.prompt round (asked conn brought old) ≡ ends prompt =
     ap (λ p. in_round p round (asked conn brought old) ends) c.in-Some.is ∙ ap (λ o. unless_refused o (ends prompt)) waits in
-    leads-as slot.is_honest slot.is_steady slot.faults slot.moment slot.left_since slot.may_leave conn brought old _ _ _ _ _ done plan (leads brought))
+    leads-as folder.is_honest folder.is_steady folder.faults folder.images folder.may_leave folder.made slot.is_honest slot.is_steady slot.faults slot.moment slot.left_since slot.may_leave conn brought old _ _ _ _ _ done plan (leads brought))
     c.end_dismissed.ensures.leads

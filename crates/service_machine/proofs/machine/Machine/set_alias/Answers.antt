@@ -17,6 +17,7 @@ settle_alias-requires g c = (c.in_ok-name.name, c.in-Some.stem, of-some _ c.in_o
 -- the collection is there, or the alias is removed
 pub returns-in-Some-2-clause-leads : goal.returns-in-Some-2-clause-leads
 returns-in-Some-2-clause-leads g c = λ brought.
+    let folder = g.F.Folder in
     let slot = g.F.Cell.Slot in
     let conn = c.args.conn in
     let alias = c.args.alias.now in
@@ -26,4 +27,4 @@ returns-in-Some-2-clause-leads g c = λ brought.
     let plan = ap (λ o. on_target o (λ stem. alias_settled alias stem (asked conn brought old))) target in
     let prepared = subst (λ a. IsPreparedFor a stem (contents_of old) c.in-Some-2.change) (c.in_ok-name.ensures ∙ c.as_text.ensures.value)
     (of-some _ c.in_ok-change.field-0 c.in-Some-2.change c.in-Some-2.is c.in_ok-change.ensures.prepared) in
-    leads-as slot.is_honest slot.is_steady slot.faults slot.moment slot.left_since slot.may_leave conn brought old _ (disk_of c.args.self.now) _ _ _ _ plan (c.settle_alias.ensures.leads conn brought alias stem prepared)
+    leads-as folder.is_honest folder.is_steady folder.faults folder.images folder.may_leave folder.made slot.is_honest slot.is_steady slot.faults slot.moment slot.left_since slot.may_leave conn brought old _ (disk_of c.args.self.now) _ _ _ _ plan (c.settle_alias.ensures.leads conn brought alias stem prepared)

@@ -15,6 +15,7 @@ use Rattle.service_machine.proofs.machine.Machine.set_secret.Goals as goal
 -- the item is there, and the edit is what the call says
 pub returns-clause-leads : goal.returns-clause-leads
 returns-clause-leads g c =
+    let folder = g.F.Folder in
     let slot = g.F.Cell.Slot in
     let conn = c.args.conn in
     let old = rows_of c.args.self.now in
@@ -26,6 +27,6 @@ returns-clause-leads g c =
     let stores = secret_stored secret.session stem secret.content edit (λ _. body.Empty) (asked conn brought old) in
     let plan : set_secret stem c.args.item secret.session secret.content (asked conn brought old) ≡ stores = ap (λ b. cond b stores (refused name.NoSuchObject)) there in
     map-ok c.store_secret.result _ _
-    (λ done leads. leads-as slot.is_honest slot.is_steady slot.faults slot.moment slot.left_since slot.may_leave conn brought old _ _ _ _ _ done plan (leads edit secret.value
+    (λ done leads. leads-as folder.is_honest folder.is_steady folder.faults folder.images folder.may_leave folder.made slot.is_honest slot.is_steady slot.faults slot.moment slot.left_since slot.may_leave conn brought old _ _ _ _ _ done plan (leads edit secret.value
     (λ i. change.SetSecret c.args.item (c.in_ok-copy.ensures i) (c.in_ok-copy-2.ensures i))))
     c.store_secret.ensures.leads

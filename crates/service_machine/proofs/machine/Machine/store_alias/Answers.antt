@@ -12,6 +12,7 @@ use Rattle.service_machine.proofs.machine.Machine.store_alias.Goals as goal
 -- there are no more aliases than may be, and they are stored
 pub returns-in-Some-clause-leads : goal.returns-in-Some-clause-leads
 returns-in-Some-clause-leads g c = λ conn brought alias stem prepared.
+    let folder = g.F.Folder in
     let slot = g.F.Cell.Slot in
     let old = rows_of c.args.self.now in
     let disk = disk_of c.args.self.now in
@@ -19,10 +20,13 @@ returns-in-Some-clause-leads g c = λ conn brought alias stem prepared.
     let its = c.store_aliases.ensures in
     let can : (asked_aliases (contents_of old)).can_set alias stem ≡ true = of-some _ c.store_aliases.result some c.in-Some.is (its.few alias stem prepared) in
     let stored = of-some _ c.store_aliases.result some c.in-Some.is (its.stored alias stem prepared) in
-    let state = ap (λ (contents : Contents). record old { collections = contents.collections; aliases = contents.aliases }) stored in
+    let state = ap (λ (contents : Contents). record old { collections = contents.collections; aliases = contents.aliases; used = contents.used }) stored in
     let aliases = ap (λ (contents : Contents). contents.aliases) stored in
-    leads-done slot.is_honest slot.is_steady slot.faults slot.moment slot.left_since slot.may_leave conn brought old _ disk _ _ _ _ c.ended.ensures
-    (leads-as slot.is_honest slot.is_steady slot.faults slot.moment slot.left_since slot.may_leave conn brought old _ disk _ _ _ _ (stored-plan conn brought alias stem old can)
-    (leads-asked slot.is_honest slot.is_steady slot.faults slot.moment slot.left_since slot.may_leave conn brought old _ disk _ (Set_alias alias stem) body.Empty some
+    leads-done folder.is_honest folder.is_steady folder.faults folder.images folder.may_leave folder.made slot.is_honest slot.is_steady slot.faults slot.moment slot.left_since slot.may_leave conn brought old _ disk _ _ _ _ c.ended.ensures
+    (leads-as folder.is_honest folder.is_steady folder.faults folder.images folder.may_leave folder.made slot.is_honest slot.is_steady slot.faults slot.moment slot.left_since slot.may_leave conn brought old _ disk _ _ _ _ (stored-plan conn brought alias stem old can)
+    (leads-asked folder.is_honest folder.is_steady folder.faults folder.images folder.may_leave folder.made slot.is_honest slot.is_steady slot.faults slot.moment slot.left_since slot.may_leave conn brought old _ disk _ (Set_alias alias stem) body.Empty some
     (of-some _ c.store_aliases.result some c.in-Some.is its.kind) state
     (for-moved slot.is_honest slot.is_steady slot.faults slot.moment slot.left_since slot.may_leave some old.aliases _ _ disk _ aliases (of-some _ c.store_aliases.result some c.in-Some.is its.disk))))
+
+pub returns-in-Some-clause-rest : goal.returns-in-Some-clause-rest
+returns-in-Some-clause-rest g c = (of-some _ c.store_aliases.result c.in-Some.fate c.in-Some.is c.store_aliases.ensures.disk).rest

@@ -13,6 +13,7 @@ use Rattle.service_machine.proofs.machine.Machine.unlock.Goals as goal
 -- there is nothing to unlock
 pub returns-then-are_none-clause-leads : goal.returns-then-are_none-clause-leads
 returns-then-are_none-clause-leads g c = λ brought.
+    let folder = g.F.Folder in
     let slot = g.F.Cell.Slot in
     let conn = c.args.conn in
     let old = rows_of c.args.self.now in
@@ -23,11 +24,12 @@ returns-then-are_none-clause-leads g c = λ brought.
     let paths : unlocked_there asks.collections c.args.objects.now ≡ c.new.result = sym (c.new.ensures ∙ c.in_ok-paths.ensures) in
     let targets : targets_of asks.collections c.args.objects.now ≡ [] = sym c.in_ok-targets.ensures ∙ none in
     let plan : unlock c.args.objects.now asks ≡ answered_if_small (body.ObjectsAndPrompt c.new.result None) [] = λ i. unlocking (paths i) (targets i) asks in
-    leads-as slot.is_honest slot.is_steady slot.faults slot.moment slot.left_since slot.may_leave conn brought old old disk disk _ _ c.small.result plan (c.small.ensures.done conn brought disk)
+    leads-as folder.is_honest folder.is_steady folder.faults folder.images folder.may_leave folder.made slot.is_honest slot.is_steady slot.faults slot.moment slot.left_since slot.may_leave conn brought old old disk disk _ _ c.small.result plan (c.small.ensures.done conn brought disk)
 
 -- there is something, and a prompt begins
 pub returns-clause-leads : goal.returns-clause-leads
 returns-clause-leads g c =
+    let folder = g.F.Folder in
     let slot = g.F.Cell.Slot in
     let conn = c.args.conn in
     let old = rows_of c.args.self.now in
@@ -41,6 +43,6 @@ returns-clause-leads g c =
     let plan : unlock c.args.objects.now asks ≡ with_new_prompt c.are_light-fits.result (body.ObjectsAndPrompt c.new-2.result) (kind.Unlock c.new-3.result) asks =
     (λ i. unlocking (paths i) (sym c.in_ok-targets.ensures i) asks) ∙ plan-targets c.new-2.result items asks some
     ∙ (λ i. with_new_prompt (light i) (body.ObjectsAndPrompt c.new-2.result) (kind.Unlock (sym c.new-3.ensures i)) asks) in
-    leads-as slot.is_honest slot.is_steady slot.faults slot.moment slot.left_since slot.may_leave conn brought old _ _ _ _ _ done plan
+    leads-as folder.is_honest folder.is_steady folder.faults folder.images folder.may_leave folder.made slot.is_honest slot.is_steady slot.faults slot.moment slot.left_since slot.may_leave conn brought old _ _ _ _ _ done plan
     (leads brought (body.ObjectsAndPrompt c.new-2.result) (λ i. body.ObjectsAndPrompt c.new-2.result (Some (record { 0 = c.next.ensures i })))))
     c.begin.ensures.leads

@@ -1,4 +1,5 @@
-use Rattle.std.proofs.Common.{◌≡◌, Some, OnOk, OnErr, IfErr, ap, ◌∙◌, subst}
+use Rattle.std.proofs.Common.{◌≡◌, Option, Some, IfOk, OnErr, IfErr, ap, ◌∙◌, subst}
+use Rattle.secret_calls.specs.declared.work.Work.{Work}
 use Rattle.service_machine.specs.declared.event.Arrival.{Arrival}
 use Rattle.service_machine.specs.declared.event.Event.{Event}
 use Rattle.service_machine.specs.Fates.{with_fates, is_steady}
@@ -26,9 +27,10 @@ end-requires-clause-ended g c =
     let same : is_steady g.F.Folder.is_steady g.F.Cell.Slot.is_steady found ≡ steady =
     steady-found old c.enter-kept.new.pass e.between e.is c.pass.invariant (is_steady g.F.Folder.is_steady g.F.Cell.Slot.is_steady found) (λ start at. (e.stands start at).steady) in
     let cell = g.F.Cell.Slot in
-    let stored : Event → Type 0 = StoresOn cell.is_honest cell.is_steady cell.faults cell.moment cell.left_since cell.may_leave c.enter-kept.result.service.value c.arrive-arrived.new.self in
-    let stores : OnOk result (StoresRequest steady stored service arrival new) = subst (λ b. OnOk result (StoresRequest b stored service arrival new)) same (rw c.deref_mut.ensures.value at c.arrive-arrived.ensures.stores) in
-    let event : Unit {0} → Event = λ _. with_fates arrival (fates_if steady stored service arrival new result stores) in
+    let folder = g.F.Folder in
+    let stored : Event → Type 0 = StoresOn folder.is_honest folder.is_steady folder.faults folder.images folder.may_leave folder.made cell.is_honest cell.is_steady cell.faults cell.moment cell.left_since cell.may_leave c.enter-kept.result.service.value c.arrive-arrived.new.self in
+    let stores : IfOk result (λ work. StoresRequest steady stored service arrival work new) = subst (λ b. IfOk result (λ work. StoresRequest b stored service arrival work new)) same (rw c.deref_mut.ensures.value at c.arrive-arrived.ensures.stores) in
+    let event : Option Work → Event = λ _. with_fates arrival (fates_if steady stored service arrival new result stores) in
     let recorded = stores-if steady stored service arrival new result stores in
     let went = went-if event service new result recorded (rw c.deref_mut.ensures.value at c.arrive-arrived.ensures.unchanged) c.arrive-arrived.ensures.history in
     end-some old c.enter-kept.new.pass e.between e.is c.pass.invariant service stands (event_if event result) new c.total-count.result went c.total-count.ensures.count
@@ -52,9 +54,10 @@ invariant_of-pass g c =
     let same : is_steady g.F.Folder.is_steady g.F.Cell.Slot.is_steady found ≡ steady =
     steady-found old c.enter-kept.new.pass e.between e.is c.pass.invariant (is_steady g.F.Folder.is_steady g.F.Cell.Slot.is_steady found) (λ start at. (e.stands start at).steady) in
     let cell = g.F.Cell.Slot in
-    let stored : Event → Type 0 = StoresOn cell.is_honest cell.is_steady cell.faults cell.moment cell.left_since cell.may_leave c.enter-kept.result.service.value c.arrive-arrived.new.self in
-    let stores : OnOk result (StoresRequest steady stored service arrival new) = subst (λ b. OnOk result (StoresRequest b stored service arrival new)) same (rw c.deref_mut.ensures.value at c.arrive-arrived.ensures.stores) in
-    let event : Unit {0} → Event = λ _. with_fates arrival (fates_if steady stored service arrival new result stores) in
+    let folder = g.F.Folder in
+    let stored : Event → Type 0 = StoresOn folder.is_honest folder.is_steady folder.faults folder.images folder.may_leave folder.made cell.is_honest cell.is_steady cell.faults cell.moment cell.left_since cell.may_leave c.enter-kept.result.service.value c.arrive-arrived.new.self in
+    let stores : IfOk result (λ work. StoresRequest steady stored service arrival work new) = subst (λ b. IfOk result (λ work. StoresRequest b stored service arrival work new)) same (rw c.deref_mut.ensures.value at c.arrive-arrived.ensures.stores) in
+    let event : Option Work → Event = λ _. with_fates arrival (fates_if steady stored service arrival new result stores) in
     let recorded = stores-if steady stored service arrival new result stores in
     let went = went-if event service new result recorded (rw c.deref_mut.ensures.value at c.arrive-arrived.ensures.unchanged) c.arrive-arrived.ensures.history in
     let end = done old c.enter-kept.new.pass e.between e.is c.pass.invariant service stands (event_if event result) new c.total-count.result c.end.new.inner (fits-if event service new result recorded) went
@@ -75,9 +78,10 @@ returns-clause-same g c =
     let same : is_steady g.F.Folder.is_steady g.F.Cell.Slot.is_steady found ≡ steady =
     steady-found old c.enter-kept.new.pass e.between e.is c.pass.invariant (is_steady g.F.Folder.is_steady g.F.Cell.Slot.is_steady found) (λ start at. (e.stands start at).steady) in
     let cell = g.F.Cell.Slot in
-    let stored : Event → Type 0 = StoresOn cell.is_honest cell.is_steady cell.faults cell.moment cell.left_since cell.may_leave c.enter-kept.result.service.value c.arrive-arrived.new.self in
-    let stores : OnOk result (StoresRequest steady stored service arrival new) = subst (λ b. OnOk result (StoresRequest b stored service arrival new)) same (rw c.deref_mut.ensures.value at c.arrive-arrived.ensures.stores) in
-    let event : Unit {0} → Event = λ _. with_fates arrival (fates_if steady stored service arrival new result stores) in
+    let folder = g.F.Folder in
+    let stored : Event → Type 0 = StoresOn folder.is_honest folder.is_steady folder.faults folder.images folder.may_leave folder.made cell.is_honest cell.is_steady cell.faults cell.moment cell.left_since cell.may_leave c.enter-kept.result.service.value c.arrive-arrived.new.self in
+    let stores : IfOk result (λ work. StoresRequest steady stored service arrival work new) = subst (λ b. IfOk result (λ work. StoresRequest b stored service arrival work new)) same (rw c.deref_mut.ensures.value at c.arrive-arrived.ensures.stores) in
+    let event : Option Work → Event = λ _. with_fates arrival (fates_if steady stored service arrival new result stores) in
     let recorded = stores-if steady stored service arrival new result stores in
     let went = went-if event service new result recorded (rw c.deref_mut.ensures.value at c.arrive-arrived.ensures.unchanged) c.arrive-arrived.ensures.history in
     let end = done old c.enter-kept.new.pass e.between e.is c.pass.invariant service stands (event_if event result) new c.total-count.result c.end.new.inner (fits-if event service new result recorded) went
@@ -98,9 +102,10 @@ returns-clause-steady g c =
     let same : is_steady g.F.Folder.is_steady g.F.Cell.Slot.is_steady found ≡ steady =
     steady-found old c.enter-kept.new.pass e.between e.is c.pass.invariant (is_steady g.F.Folder.is_steady g.F.Cell.Slot.is_steady found) (λ start at. (e.stands start at).steady) in
     let cell = g.F.Cell.Slot in
-    let stored : Event → Type 0 = StoresOn cell.is_honest cell.is_steady cell.faults cell.moment cell.left_since cell.may_leave c.enter-kept.result.service.value c.arrive-arrived.new.self in
-    let stores : OnOk result (StoresRequest steady stored service arrival new) = subst (λ b. OnOk result (StoresRequest b stored service arrival new)) same (rw c.deref_mut.ensures.value at c.arrive-arrived.ensures.stores) in
-    let event : Unit {0} → Event = λ _. with_fates arrival (fates_if steady stored service arrival new result stores) in
+    let folder = g.F.Folder in
+    let stored : Event → Type 0 = StoresOn folder.is_honest folder.is_steady folder.faults folder.images folder.may_leave folder.made cell.is_honest cell.is_steady cell.faults cell.moment cell.left_since cell.may_leave c.enter-kept.result.service.value c.arrive-arrived.new.self in
+    let stores : IfOk result (λ work. StoresRequest steady stored service arrival work new) = subst (λ b. IfOk result (λ work. StoresRequest b stored service arrival work new)) same (rw c.deref_mut.ensures.value at c.arrive-arrived.ensures.stores) in
+    let event : Option Work → Event = λ _. with_fates arrival (fates_if steady stored service arrival new result stores) in
     let recorded = stores-if steady stored service arrival new result stores in
     let went = went-if event service new result recorded (rw c.deref_mut.ensures.value at c.arrive-arrived.ensures.unchanged) c.arrive-arrived.ensures.history in
     let end = done old c.enter-kept.new.pass e.between e.is c.pass.invariant service stands (event_if event result) new c.total-count.result c.end.new.inner (fits-if event service new result recorded) went
@@ -121,16 +126,17 @@ returns-clause-recorded g c =
     let same : is_steady g.F.Folder.is_steady g.F.Cell.Slot.is_steady found ≡ steady =
     steady-found old c.enter-kept.new.pass e.between e.is c.pass.invariant (is_steady g.F.Folder.is_steady g.F.Cell.Slot.is_steady found) (λ start at. (e.stands start at).steady) in
     let cell = g.F.Cell.Slot in
-    let stored : Event → Type 0 = StoresOn cell.is_honest cell.is_steady cell.faults cell.moment cell.left_since cell.may_leave c.enter-kept.result.service.value c.arrive-arrived.new.self in
-    let stores : OnOk result (StoresRequest steady stored service arrival new) = subst (λ b. OnOk result (StoresRequest b stored service arrival new)) same (rw c.deref_mut.ensures.value at c.arrive-arrived.ensures.stores) in
-    let event : Unit {0} → Event = λ _. with_fates arrival (fates_if steady stored service arrival new result stores) in
+    let folder = g.F.Folder in
+    let stored : Event → Type 0 = StoresOn folder.is_honest folder.is_steady folder.faults folder.images folder.may_leave folder.made cell.is_honest cell.is_steady cell.faults cell.moment cell.left_since cell.may_leave c.enter-kept.result.service.value c.arrive-arrived.new.self in
+    let stores : IfOk result (λ work. StoresRequest steady stored service arrival work new) = subst (λ b. IfOk result (λ work. StoresRequest b stored service arrival work new)) same (rw c.deref_mut.ensures.value at c.arrive-arrived.ensures.stores) in
+    let event : Option Work → Event = λ _. with_fates arrival (fates_if steady stored service arrival new result stores) in
     let recorded = stores-if steady stored service arrival new result stores in
     let went = went-if event service new result recorded (rw c.deref_mut.ensures.value at c.arrive-arrived.ensures.unchanged) c.arrive-arrived.ensures.history in
     let end = done old c.enter-kept.new.pass e.between e.is c.pass.invariant service stands (event_if event result) new c.total-count.result c.end.new.inner (fits-if event service new result recorded) went
     c.total-count.ensures.count c.end.ensures.same c.end.ensures.recorded in
     let view : View = view_of old in
     let stood = stands-view old c.enter-kept.new.pass e.between e.is c.pass.invariant service stands in
-    subst (λ (s : Seen). OnOk result (Arrives (spot c.args.conn s.steady s.view) (spot c.args.conn s.steady (view_of c.end.new.inner)) arrival)) c.pass.view_is
+    subst (λ (s : Seen). IfOk result (Arrives (spot c.args.conn s.steady s.view) (spot c.args.conn s.steady (view_of c.end.new.inner)) arrival)) c.pass.view_is
     (arrives-if c.args.conn steady view (view_of c.end.new.inner) e.between service stood stored arrival new result stores (rw c.deref_mut.ensures.value at c.arrive-arrived.ensures.not_spent) end.2)
 
 pub returns-clause-looked : goal.returns-clause-looked
@@ -147,9 +153,10 @@ returns-clause-looked g c =
     let same : is_steady g.F.Folder.is_steady g.F.Cell.Slot.is_steady found ≡ steady =
     steady-found old c.enter-kept.new.pass e.between e.is c.pass.invariant (is_steady g.F.Folder.is_steady g.F.Cell.Slot.is_steady found) (λ start at. (e.stands start at).steady) in
     let cell = g.F.Cell.Slot in
-    let stored : Event → Type 0 = StoresOn cell.is_honest cell.is_steady cell.faults cell.moment cell.left_since cell.may_leave c.enter-kept.result.service.value c.arrive-arrived.new.self in
-    let stores : OnOk result (StoresRequest steady stored service arrival new) = subst (λ b. OnOk result (StoresRequest b stored service arrival new)) same (rw c.deref_mut.ensures.value at c.arrive-arrived.ensures.stores) in
-    let event : Unit {0} → Event = λ _. with_fates arrival (fates_if steady stored service arrival new result stores) in
+    let folder = g.F.Folder in
+    let stored : Event → Type 0 = StoresOn folder.is_honest folder.is_steady folder.faults folder.images folder.may_leave folder.made cell.is_honest cell.is_steady cell.faults cell.moment cell.left_since cell.may_leave c.enter-kept.result.service.value c.arrive-arrived.new.self in
+    let stores : IfOk result (λ work. StoresRequest steady stored service arrival work new) = subst (λ b. IfOk result (λ work. StoresRequest b stored service arrival work new)) same (rw c.deref_mut.ensures.value at c.arrive-arrived.ensures.stores) in
+    let event : Option Work → Event = λ _. with_fates arrival (fates_if steady stored service arrival new result stores) in
     let recorded = stores-if steady stored service arrival new result stores in
     let went = went-if event service new result recorded (rw c.deref_mut.ensures.value at c.arrive-arrived.ensures.unchanged) c.arrive-arrived.ensures.history in
     let end = done old c.enter-kept.new.pass e.between e.is c.pass.invariant service stands (event_if event result) new c.total-count.result c.end.new.inner (fits-if event service new result recorded) went
@@ -173,9 +180,10 @@ returns-clause-cause g c =
     let same : is_steady g.F.Folder.is_steady g.F.Cell.Slot.is_steady found ≡ steady =
     steady-found old c.enter-kept.new.pass e.between e.is c.pass.invariant (is_steady g.F.Folder.is_steady g.F.Cell.Slot.is_steady found) (λ start at. (e.stands start at).steady) in
     let cell = g.F.Cell.Slot in
-    let stored : Event → Type 0 = StoresOn cell.is_honest cell.is_steady cell.faults cell.moment cell.left_since cell.may_leave c.enter-kept.result.service.value c.arrive-arrived.new.self in
-    let stores : OnOk result (StoresRequest steady stored service arrival new) = subst (λ b. OnOk result (StoresRequest b stored service arrival new)) same (rw c.deref_mut.ensures.value at c.arrive-arrived.ensures.stores) in
-    let event : Unit {0} → Event = λ _. with_fates arrival (fates_if steady stored service arrival new result stores) in
+    let folder = g.F.Folder in
+    let stored : Event → Type 0 = StoresOn folder.is_honest folder.is_steady folder.faults folder.images folder.may_leave folder.made cell.is_honest cell.is_steady cell.faults cell.moment cell.left_since cell.may_leave c.enter-kept.result.service.value c.arrive-arrived.new.self in
+    let stores : IfOk result (λ work. StoresRequest steady stored service arrival work new) = subst (λ b. IfOk result (λ work. StoresRequest b stored service arrival work new)) same (rw c.deref_mut.ensures.value at c.arrive-arrived.ensures.stores) in
+    let event : Option Work → Event = λ _. with_fates arrival (fates_if steady stored service arrival new result stores) in
     let recorded = stores-if steady stored service arrival new result stores in
     let went = went-if event service new result recorded (rw c.deref_mut.ensures.value at c.arrive-arrived.ensures.unchanged) c.arrive-arrived.ensures.history in
     let end = done old c.enter-kept.new.pass e.between e.is c.pass.invariant service stands (event_if event result) new c.total-count.result c.end.new.inner (fits-if event service new result recorded) went
