@@ -21,7 +21,8 @@ the_connection = record { 0 = 1 }
 abbrev pub joined : Contents → State
 joined contents = step (opened_state contents) (event.Connect the_connection)
 
--- The events of these requests: the connection joins, then each request arrives and what waits is taken.
+-- The events of these requests: the connection joins; then each request arrives and what waits is taken, and if it gave work, its key is
+-- brought and what waits then is taken.
 abbrev pub events_until : Contents → List TimedRequest → List Event
 events_until contents asked = event.Connect the_connection ∷ turns the_connection (joined contents) asked
 

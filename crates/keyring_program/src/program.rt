@@ -25,7 +25,7 @@ use std::sync::Wait;
 ///
 /// `stdio DIR UID` opens a service over the folder DIR, which the service loads and keeps to the
 /// end, and serves the client of the user UID: the handshake, and each call with its reply. The
-/// clock is asked once for each call.
+/// clock is asked once for each call, and once for each key that is derived for an answer.
 ///
 /// Ends with `Usage` exactly if the arguments are invalid; with `FolderFault` only if the host's
 /// count of faults rose, or the folder that it opened may fail; with `Memory` if none is left
