@@ -2,6 +2,7 @@ pub mod Clock
 pub mod Faults
 pub mod Folder
 pub mod Host
+pub mod Listener
 pub mod Moments
 pub mod RenameDisk
 pub mod Slot
