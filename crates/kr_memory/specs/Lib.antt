@@ -1,4 +1,5 @@
 pub mod Clock
+pub mod Links
 pub mod Plan
 pub mod Sink
 pub mod Source

@@ -1,4 +1,4 @@
-ghost use Rattle.std.specs.Prelude.{◌≡◌, ◌+◌, ◌<◌, ◌≤◌, ◌⊎◌, ◌++◌, [], None, Some, length, take, vec_len, vec_capacity, IsErr, IsOk, IfOk, OnErr, true, false};
+ghost use Rattle.std.specs.Prelude.{◌≡◌, ℕ, ◌+◌, ◌<◌, ◌≤◌, ◌⊎◌, ◌++◌, Bool, List, Option, [], None, Some, length, take, vec_len, vec_capacity, IsErr, IsOk, IfOk, OnErr, IsTrue, IsFalse, true, false};
 ghost use Rattle.std.specs.Io.{WritesAtMost};
 ghost use Rattle.std.specs.Io.KnownBytes.{WriteAppends};
 ghost use Rattle.kr_outside.specs.Faults.{HasCause, KeepsSteady};
@@ -14,6 +14,7 @@ use std::marker::Model;
 pub struct MemorySink {
     kept: Vec<u8>,
     plan: Plan,
+    is_closed: bool,
 }
 
 impl Model for MemorySink {
@@ -26,6 +27,7 @@ impl Model for MemorySink {
       kept = s.kept.items;
       room = vec_capacity s.kept - vec_len s.kept;
       plan = s.plan;
+      is_closed = s.is_closed;
     } };
 }
 
@@ -39,11 +41,13 @@ impl MemorySink {
           kept = [];
           room = 0;
           plan = plan_at_start pieces.items failing.items;
+          is_closed = false;
         } }
     {
         MemorySink {
             kept: Vec::new(alloc),
             plan: Plan::new(pieces, failing),
+            is_closed: false,
         }
     }
 
@@ -64,6 +68,8 @@ impl Sink for MemorySink {
 
     ghost is_steady = { λ _. false };
 
+    ghost is_closed = { λ s. s.is_closed };
+
     ghost steady_below = { Prim.search rules };
 
     /// Keeps as many of the first bytes of the piece as the plan allows.
@@ -71,12 +77,15 @@ impl Sink for MemorySink {
     /// Refused with `Failed` at the calls that the plan lists, and if memory for the bytes is
     /// refused. Both count as a fault.
     fn write(&mut self, piece: &[u8]) -> Result<usize, Failed>
+        requires is_open { IsFalse self.old.is_closed }
+
         // What the trait says.
         ensures within { WritesAtMost result piece.now }
         ensures some { IfOk result (λ count. 0 < length piece.now → 0 < count) }
         ensures put { WriteAppends (Some self.old.kept) (Some self.new.kept) result piece.now }
         ensures cause { HasCause self.old.plan.faults self.new.plan.faults result }
         ensures steady { KeepsSteady false false self.old.plan.faults self.new.plan.faults }
+        ensures is_open { IsFalse self.new.is_closed }
 
         // The planned calls fail, and other calls only if memory for their bytes was refused.
         ensures fails { FailsNow self.old.plan → IsErr result }
@@ -90,6 +99,7 @@ impl Sink for MemorySink {
           kept = self.old.kept ++ take count piece.now;
           room = self.new.room;
           plan = after_success self.old.plan;
+          is_closed = self.old.is_closed;
         }) }
         ensures room { IfOk result (λ count. self.old.room ≤ self.new.room + count) }
 
@@ -98,6 +108,7 @@ impl Sink for MemorySink {
           kept = self.old.kept;
           room = self.new.room;
           plan = after_failure self.old.plan;
+          is_closed = self.old.is_closed;
         }) }
         ensures room_stays { OnErr result (self.old.room ≤ self.new.room) }
     {
@@ -110,6 +121,20 @@ impl Sink for MemorySink {
         }
         self.plan.succeed();
         Ok(count)
+    }
+
+    /// Notes that the sink is closed; its bytes and its plan stay.
+    fn close(&mut self)
+        // What the trait says.
+        ensures closed { IsTrue self.new.is_closed }
+        ensures written { ◌≡◌ {A = Option (List ℕ)} (Some self.new.kept) (Some self.old.kept) }
+        ensures count { self.new.plan.faults ≡ self.old.plan.faults }
+        ensures steady { ◌≡◌ {A = Bool} false false }
+
+        // Nothing else is different.
+        ensures same { self.new ≡ record self.old { is_closed = true } }
+    {
+        self.is_closed = true;
     }
 }
 
@@ -132,6 +157,7 @@ pub struct SteadySink {
     kept: Vec<u8>,
     room: usize,
     pieces: Pieces,
+    is_closed: bool,
 }
 
 impl Model for SteadySink {
@@ -140,7 +166,12 @@ impl Model for SteadySink {
 
     ghost Value = { SteadySinkState };
 
-    ghost view = { λ s. record { kept = s.kept.items; room = s.room; pieces = s.pieces } };
+    ghost view = { λ s. record {
+      kept = s.kept.items;
+      room = s.room;
+      pieces = s.pieces;
+      is_closed = s.is_closed;
+    } };
 
     ghost invariant = { λ s. (vec_len s.kept ≤ s.room) × (s.room ≤ vec_capacity s.kept) };
 }
@@ -156,6 +187,7 @@ impl SteadySink {
           kept = [];
           room = room;
           pieces = pieces_at_start pieces.items;
+          is_closed = false;
         }) }
         ensures no_room { room ≡ 0 → IsOk result }
     {
@@ -163,6 +195,7 @@ impl SteadySink {
             kept: Vec::with_capacity(alloc, room)?,
             room,
             pieces: Pieces::new(pieces),
+            is_closed: false,
         })
     }
 
@@ -184,17 +217,22 @@ impl Sink for SteadySink {
 
     ghost is_steady = { λ _. true };
 
+    ghost is_closed = { λ s. s.is_closed };
+
     ghost steady_below = { Prim.search rules };
 
     /// Takes as many of the first bytes of the piece as the plan allows, and keeps those for which
     /// there is room. It is never refused.
     fn write(&mut self, piece: &[u8]) -> Result<usize, Failed>
+        requires is_open { IsFalse self.old.is_closed }
+
         // What the trait says.
         ensures within { WritesAtMost result piece.now }
         ensures some { IfOk result (λ count. 0 < length piece.now → 0 < count) }
         ensures put { WriteAppends None None result piece.now }
         ensures cause { HasCause 0 0 result }
         ensures steady { KeepsSteady true true 0 0 }
+        ensures is_open { IsFalse self.new.is_closed }
 
         // No call fails, and each moves the planned number of bytes.
         ensures answers { IsOk result }
@@ -204,11 +242,26 @@ impl Sink for SteadySink {
           kept = take self.old.room (self.old.kept ++ take count piece.now);
           room = self.old.room;
           pieces = after_call self.old.pieces;
+          is_closed = self.old.is_closed;
         }) }
     {
         let count = self.pieces.piece(piece.len());
         fill(&mut self.kept, self.room, &piece[..count]);
         self.pieces.count();
         Ok(count)
+    }
+
+    /// Notes that the sink is closed; its bytes and its pieces stay.
+    fn close(&mut self)
+        // What the trait says.
+        ensures closed { IsTrue self.new.is_closed }
+        ensures written { ◌≡◌ {A = Option (List ℕ)} None None }
+        ensures count { ◌≡◌ {A = ℕ} 0 0 }
+        ensures steady { ◌≡◌ {A = Bool} true true }
+
+        // Nothing else is different.
+        ensures same { self.new ≡ record self.old { is_closed = true } }
+    {
+        self.is_closed = true;
     }
 }

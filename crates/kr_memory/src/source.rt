@@ -1,4 +1,4 @@
-ghost use Rattle.std.specs.Prelude.{◌≡◌, ℕ, ◌<◌, ◌≤◌, ◌↔◌, ◌++◌, Some, length, take, drop, min, IsErr, IsOk, IfOk, OnOk, OnErr, true, false};
+ghost use Rattle.std.specs.Prelude.{◌≡◌, ℕ, ◌<◌, ◌≤◌, ◌↔◌, ◌++◌, Bool, List, Option, Some, length, take, drop, min, IsErr, IsOk, IfOk, OnOk, OnErr, IsTrue, IsFalse, true, false};
 ghost use Rattle.std.specs.Io.{ReadsAtMost};
 ghost use Rattle.std.specs.Io.KnownBytes.{ReadConsumes};
 ghost use Rattle.kr_outside.specs.Faults.{HasCause, KeepsSteady};
@@ -56,6 +56,7 @@ impl Unread {
 pub struct MemorySource {
     left: Unread,
     plan: Plan,
+    is_closed: bool,
 }
 
 impl Model for MemorySource {
@@ -63,7 +64,7 @@ impl Model for MemorySource {
 
     ghost Value = { SourceState };
 
-    ghost view = { λ s. record { left = s.left; plan = s.plan } };
+    ghost view = { λ s. record { left = s.left; plan = s.plan; is_closed = s.is_closed } };
 }
 
 impl MemorySource {
@@ -75,11 +76,13 @@ impl MemorySource {
         ensures { result ≡ record {
           left = bytes.items;
           plan = plan_at_start pieces.items failing.items;
+          is_closed = false;
         } }
     {
         MemorySource {
             left: Unread::new(bytes),
             plan: Plan::new(pieces, failing),
+            is_closed: false,
         }
     }
 }
@@ -93,18 +96,23 @@ impl Source for MemorySource {
 
     ghost is_steady = { λ _. false };
 
+    ghost is_closed = { λ s. s.is_closed };
+
     ghost steady_below = { Prim.search rules };
 
     /// Reads as many of the bytes left as the plan and the buffer allow, into the start of the buffer.
     ///
     /// Refused with `Failed` at the calls that the plan lists, and at no other.
     fn read(&mut self, buffer: &mut [u8]) -> Result<usize, Failed>
+        requires is_open { IsFalse self.old.is_closed }
+
         // What the trait says.
         ensures within { ReadsAtMost result buffer.new }
         ensures taken { ReadConsumes (Some self.old.left) (Some self.new.left) result buffer.new }
         ensures cause { HasCause self.old.plan.faults self.new.plan.faults result }
         ensures still { OnOk result (self.new.plan.faults ≡ self.old.plan.faults) }
         ensures steady { KeepsSteady false false self.old.plan.faults self.new.plan.faults }
+        ensures is_open { IsFalse self.new.is_closed }
 
         // Exactly the planned calls fail, and the others move the planned number of bytes.
         ensures fails { IsErr result ↔ FailsNow self.old.plan }
@@ -112,7 +120,7 @@ impl Source for MemorySource {
             piece_of self.old.plan.pieces (min (length buffer.old) (length self.old.left))) }
         ensures given { IfOk result (λ count.
             buffer.new ≡ take count self.old.left ++ drop count buffer.old) }
-        ensures rest { IfOk result (λ count. self.new ≡ record {
+        ensures rest { IfOk result (λ count. self.new ≡ record self.old {
           left = drop count self.old.left;
           plan = after_success self.old.plan;
         }) }
@@ -130,6 +138,20 @@ impl Source for MemorySource {
         self.plan.succeed();
         Ok(count)
     }
+
+    /// Notes that the source is closed; its bytes and its plan stay.
+    fn close(&mut self)
+        // What the trait says.
+        ensures closed { IsTrue self.new.is_closed }
+        ensures left { ◌≡◌ {A = Option (List ℕ)} (Some self.new.left) (Some self.old.left) }
+        ensures count { self.new.plan.faults ≡ self.old.plan.faults }
+        ensures steady { ◌≡◌ {A = Bool} false false }
+
+        // Nothing else is different.
+        ensures same { self.new ≡ record self.old { is_closed = true } }
+    {
+        self.is_closed = true;
+    }
 }
 
 /// A source over bytes in memory, which returns them in planned pieces and never fails.
@@ -137,6 +159,7 @@ impl Source for MemorySource {
 pub struct SteadySource {
     left: Unread,
     pieces: Pieces,
+    is_closed: bool,
 }
 
 impl Model for SteadySource {
@@ -144,7 +167,7 @@ impl Model for SteadySource {
 
     ghost Value = { SteadySourceState };
 
-    ghost view = { λ s. record { left = s.left; pieces = s.pieces } };
+    ghost view = { λ s. record { left = s.left; pieces = s.pieces; is_closed = s.is_closed } };
 }
 
 impl SteadySource {
@@ -154,11 +177,13 @@ impl SteadySource {
         ensures { result ≡ record {
           left = bytes.items;
           pieces = pieces_at_start pieces.items;
+          is_closed = false;
         } }
     {
         SteadySource {
             left: Unread::new(bytes),
             pieces: Pieces::new(pieces),
+            is_closed: false,
         }
     }
 }
@@ -172,17 +197,22 @@ impl Source for SteadySource {
 
     ghost is_steady = { λ _. true };
 
+    ghost is_closed = { λ s. s.is_closed };
+
     ghost steady_below = { Prim.search rules };
 
     /// Reads as many of the bytes left as the plan and the buffer allow, into the start of the
     /// buffer. It is never refused.
     fn read(&mut self, buffer: &mut [u8]) -> Result<usize, Failed>
+        requires is_open { IsFalse self.old.is_closed }
+
         // What the trait says.
         ensures within { ReadsAtMost result buffer.new }
         ensures taken { ReadConsumes (Some self.old.left) (Some self.new.left) result buffer.new }
         ensures cause { HasCause 0 0 result }
         ensures still { OnOk result (◌≡◌ {A = ℕ} 0 0) }
         ensures steady { KeepsSteady true true 0 0 }
+        ensures is_open { IsFalse self.new.is_closed }
 
         // No call fails, and each moves the planned number of bytes.
         ensures answers { IsOk result }
@@ -190,7 +220,7 @@ impl Source for SteadySource {
             piece_of self.old.pieces (min (length buffer.old) (length self.old.left))) }
         ensures given { IfOk result (λ count.
             buffer.new ≡ take count self.old.left ++ drop count buffer.old) }
-        ensures rest { IfOk result (λ count. self.new ≡ record {
+        ensures rest { IfOk result (λ count. self.new ≡ record self.old {
           left = drop count self.old.left;
           pieces = after_call self.old.pieces;
         }) }
@@ -199,5 +229,19 @@ impl Source for SteadySource {
         self.left.give(buffer, count);
         self.pieces.count();
         Ok(count)
+    }
+
+    /// Notes that the source is closed; its bytes and its pieces stay.
+    fn close(&mut self)
+        // What the trait says.
+        ensures closed { IsTrue self.new.is_closed }
+        ensures left { ◌≡◌ {A = Option (List ℕ)} (Some self.new.left) (Some self.old.left) }
+        ensures count { ◌≡◌ {A = ℕ} 0 0 }
+        ensures steady { ◌≡◌ {A = Bool} true true }
+
+        // Nothing else is different.
+        ensures same { self.new ≡ record self.old { is_closed = true } }
+    {
+        self.is_closed = true;
     }
 }
