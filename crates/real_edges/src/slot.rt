@@ -1,5 +1,5 @@
 // One name of a real folder: its file, and the temporary file beside it.
-ghost use Rattle.std.specs.Prelude.{◌≡◌, ◌≤◌, Ok, None, IfOk, length, false};
+ghost use Rattle.std.specs.Prelude.{◌≡◌, ◌≤◌, Ok, None, IfOk, length, IsFalse, false};
 ghost use Rattle.std.proofs.Common.{rules};
 ghost use Rattle.kr_outside.specs.Faults.{HasCause, EndsAs};
 ghost use Rattle.kr_outside.specs.RenameDisk.{Unknown, FitsIn};
@@ -185,7 +185,9 @@ fn read_file<R: Files>(rt: &R, path: &str, buffer: &mut [u8]) -> io::Result<Seen
 
 // Reads until the buffer is full or the input ends, and returns how many bytes were read.
 fn fill<I: Source>(input: &mut I, buffer: &mut [u8]) -> Result<usize, Failed>
-    ensures { IfOk result (λ count. count ≤ length buffer.new) }
+    requires is_open { IsFalse (I.is_closed input.old) }
+    ensures within { IfOk result (λ count. count ≤ length buffer.new) }
+    ensures is_open { IsFalse (I.is_closed input.new) }
 {
     let mut count = 0;
     while count < buffer.len() {

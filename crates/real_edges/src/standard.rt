@@ -12,6 +12,7 @@ use std::io::{ErrorKind, Read, Write};
 pub struct ReaderSource<S: Read> {
     reader: S,
     faults: u64,
+    is_closed: bool,
 }
 
 impl<S: Read> ReaderSource<S> {
@@ -19,8 +20,13 @@ impl<S: Read> ReaderSource<S> {
     pub fn new(reader: S) -> Self
         ensures reader { result.reader ≡ reader }
         ensures faults { result.faults ≡ 0 }
+        ensures is_open { result.is_closed ≡ false }
     {
-        ReaderSource { reader, faults: 0 }
+        ReaderSource {
+            reader,
+            faults: 0,
+            is_closed: false,
+        }
     }
 
     /// How often the reader returned an error.
@@ -38,6 +44,8 @@ impl<S: Read> Source for ReaderSource<S> {
 
     ghost is_steady = { λ _. false };
 
+    ghost is_closed = { λ s. s.is_closed };
+
     ghost steady_below = { λ s steady. absurd (false≢true steady) };
 
     fn read(&mut self, buffer: &mut [u8]) -> Result<usize, Failed> {
@@ -54,6 +62,11 @@ impl<S: Read> Source for ReaderSource<S> {
         self.faults = self.faults.saturating_add(1);
         Err(Failed)
     }
+
+    /// Notes that the reader isn't read any more. It is given up with the source.
+    fn close(&mut self) {
+        self.is_closed = true;
+    }
 }
 
 /// A writer as a sink. It counts the writer's errors, and passes on nothing else of them. A write
@@ -62,6 +75,7 @@ impl<S: Read> Source for ReaderSource<S> {
 pub struct WriterSink<S: Write> {
     writer: S,
     faults: u64,
+    is_closed: bool,
 }
 
 impl<S: Write> WriterSink<S> {
@@ -69,8 +83,13 @@ impl<S: Write> WriterSink<S> {
     pub fn new(writer: S) -> Self
         ensures writer { result.writer ≡ writer }
         ensures faults { result.faults ≡ 0 }
+        ensures is_open { result.is_closed ≡ false }
     {
-        WriterSink { writer, faults: 0 }
+        WriterSink {
+            writer,
+            faults: 0,
+            is_closed: false,
+        }
     }
 
     /// The writer alone.
@@ -95,6 +114,8 @@ impl<S: Write> Sink for WriterSink<S> {
 
     ghost is_steady = { λ _. false };
 
+    ghost is_closed = { λ s. s.is_closed };
+
     ghost steady_below = { λ s steady. absurd (false≢true steady) };
 
     fn write(&mut self, piece: &[u8]) -> Result<usize, Failed> {
@@ -115,5 +136,10 @@ impl<S: Write> Sink for WriterSink<S> {
         }
         self.faults = self.faults.saturating_add(1);
         Err(Failed)
+    }
+
+    /// Notes that the writer isn't written any more. It is given up with the sink.
+    fn close(&mut self) {
+        self.is_closed = true;
     }
 }
