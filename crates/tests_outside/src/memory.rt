@@ -1,3 +1,5 @@
+ghost use Rattle.std.specs.Prelude.{IsFalse};
+
 use crate::checks::{cell, length, numbers, same_bytes, same_text};
 use kr_memory::{ListedClock, MemorySink, MemorySource, SteadySink, SteadySource};
 use kr_outside::{Clock, Sink, Source};
@@ -16,7 +18,10 @@ fn lengths(alloc: Global, cell: &str) -> Result<Vec<usize>, Fail> {
 
 // Appends what a read into a buffer of this length, at most 8, returns: bytes and a bar, or !
 // for a failure.
-fn read_once<S: Source>(source: &mut S, length: usize, given: &mut Vec<u8>) -> Result<(), Fail> {
+fn read_once<S: Source>(source: &mut S, length: usize, given: &mut Vec<u8>) -> Result<(), Fail>
+    requires is_open { IsFalse (S.is_closed source.old) }
+    ensures is_open { IsFalse (S.is_closed source.new) }
+{
     let mut buffer = [b'.'; 8];
     match source.read(&mut buffer[..length.min(8)]) {
         Ok(count) => {
@@ -29,7 +34,9 @@ fn read_once<S: Source>(source: &mut S, length: usize, given: &mut Vec<u8>) -> R
 }
 
 // What reads into buffers of these lengths return.
-fn given<S: Source>(alloc: Global, source: &mut S, buffers: &str) -> Result<Vec<u8>, Fail> {
+fn given<S: Source>(alloc: Global, source: &mut S, buffers: &str) -> Result<Vec<u8>, Fail>
+    requires is_open { IsFalse (S.is_closed source.old) }
+{
     let mut given = Vec::new(alloc);
     for word in buffers.split_whitespace() {
         read_once(source, length(word)?, &mut given)?;
@@ -83,7 +90,10 @@ fn reads_follow_the_plan(rt: HostRuntime) -> Result<(), Fail> {
 }
 
 // How many bytes of a word a write takes, as a digit, or ! for a failure; - means no bytes.
-fn taken_of<S: Sink>(sink: &mut S, word: &str) -> u8 {
+fn taken_of<S: Sink>(sink: &mut S, word: &str) -> u8
+    requires is_open { IsFalse (S.is_closed sink.old) }
+    ensures is_open { IsFalse (S.is_closed sink.new) }
+{
     let bytes = if word == "-" { "" } else { word };
     match sink.write(bytes.as_bytes()) {
         Ok(count) => b'0'.saturating_add(count.min(9) as u8),
@@ -92,7 +102,9 @@ fn taken_of<S: Sink>(sink: &mut S, word: &str) -> u8 {
 }
 
 // What writes of these words take, then a bar.
-fn taken<S: Sink>(alloc: Global, sink: &mut S, words: &str) -> Result<Vec<u8>, Fail> {
+fn taken<S: Sink>(alloc: Global, sink: &mut S, words: &str) -> Result<Vec<u8>, Fail>
+    requires is_open { IsFalse (S.is_closed sink.old) }
+{
     let mut taken = Vec::new(alloc);
     for word in words.split_whitespace() {
         taken.push(taken_of(sink, word))?;

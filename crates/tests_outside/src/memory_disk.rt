@@ -2,7 +2,7 @@ ghost use Rattle.std.specs.Prelude.{◌≡◌, ◌∷◌, [], IfOk, OnOk};
 
 use crate::checks::{cell, length, number, numbers, same_bytes};
 use kr_base::{Bytes, Text};
-use kr_memory::ListedClock;
+use kr_memory::{ListedClock, MemorySink, MemorySource};
 use kr_memory_disk::{
     Files, MemoryFolder, MemoryHost, MemorySlot, SlotPlan, SteadyFolder, SteadyHost, SteadySlot,
 };
@@ -218,12 +218,23 @@ fn given_by_the_plan(alloc: Global, row: &str) -> Result<Vec<u8>, Fail> {
     let failing = numbers(alloc, cell(row, 0))?;
     let folder = folder_of(alloc, "a", "")?;
     let path = name_of(alloc, "/k")?;
-    let mut host = MemoryHost::new(alloc, path, folder, clock(alloc)?, failing);
+    let mut host: MemoryHost<MemorySource, MemorySink> = MemoryHost::new(
+        alloc,
+        path,
+        folder,
+        clock(alloc)?,
+        failing,
+    );
     Ok(given(alloc, &mut host, cell(row, 1))?)
 }
 
 fn given_steadily(alloc: Global, paths: &str) -> Result<Vec<u8>, Fail> {
-    let mut host = SteadyHost::new(alloc, files_of(alloc, "a")?, 0, clock(alloc)?);
+    let mut host: SteadyHost<MemorySource, MemorySink> = SteadyHost::new(
+        alloc,
+        files_of(alloc, "a")?,
+        0,
+        clock(alloc)?,
+    );
     Ok(given(alloc, &mut host, paths)?)
 }
 

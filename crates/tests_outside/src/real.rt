@@ -1,3 +1,5 @@
+ghost use Rattle.std.specs.Prelude.{IsFalse};
+
 use crate::checks::{cell, holds, same_bytes, same_number, same_text};
 use kr_outside::{Clock, Folder, Host, OutsideRefused, Seen, Sink, Slot, Source};
 use real_edges::{ReaderSource, RealFolder, RealHost, RealSlot, WriterSink};
@@ -223,7 +225,10 @@ fn a_folder_that_went_away_is_a_fault(rt: HostRuntime) -> Result<(), Fail> {
 }
 
 // The bytes that a read returns, or ! for a failure.
-fn source_told<S: Source>(source: &mut S, told: &mut Vec<u8>) -> Result<(), Fail> {
+fn source_told<S: Source>(source: &mut S, told: &mut Vec<u8>) -> Result<(), Fail>
+    requires is_open { IsFalse (S.is_closed source.old) }
+    ensures is_open { IsFalse (S.is_closed source.new) }
+{
     let mut buffer = [0; 8];
     match source.read(&mut buffer) {
         Ok(count) => told.extend_from_slice(&buffer[..count])?,
@@ -233,7 +238,9 @@ fn source_told<S: Source>(source: &mut S, told: &mut Vec<u8>) -> Result<(), Fail
 }
 
 // How many of the bytes a write takes, as a digit, or ! for a failure.
-fn taken<S: Sink>(sink: &mut S, bytes: &[u8]) -> u8 {
+fn taken<S: Sink>(sink: &mut S, bytes: &[u8]) -> u8
+    requires is_open { IsFalse (S.is_closed sink.old) }
+{
     match sink.write(bytes) {
         Ok(count) => b'0'.saturating_add(count.min(9) as u8),
         Err(_) => b'!',
@@ -245,7 +252,10 @@ fn streams_told<I: Source, O: Sink>(
     alloc: Global,
     input: &mut I,
     output: &mut O,
-) -> Result<Vec<u8>, Fail> {
+) -> Result<Vec<u8>, Fail>
+    requires input { IsFalse (I.is_closed input.old) }
+    requires output { IsFalse (O.is_closed output.old) }
+{
     let mut told = Vec::new(alloc);
     source_told(input, &mut told)?;
     told.push(taken(output, b"bytes"))?;
