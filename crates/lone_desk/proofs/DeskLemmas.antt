@@ -3,17 +3,17 @@ use Rattle.std.proofs.Common.{◌≡◌, ◌+◌, ◌<◌, ◌≤◌, Bool, true
 use Rattle.std.proofs.lemmas.List.{length_push}
 use Rattle.kr_base.specs.declared.ids.ConnId.{ConnId}
 use Rattle.service_tables.specs.declared.rows.DeskRow.{DeskRow}
-use Rattle.service_machine.specs.declared.event.Event.{Event}
-use Rattle.service_machine.specs.declared.event.Event.TheVariants as event
-use Rattle.service_machine.specs.declared.event.Output.{Output}
-use Rattle.service_machine.specs.declared.event.Output.TheVariants as output
+use Rattle.service_events.specs.declared.event.Event.{Event}
+use Rattle.service_events.specs.declared.event.Event.TheVariants as event
+use Rattle.service_events.specs.declared.event.Output.{Output}
+use Rattle.service_events.specs.declared.event.Output.TheVariants as output
 use Rattle.service_tables.specs.Connections.{desk_of}
 use Rattle.service_tables.specs.Limits.{most_events}
 use Rattle.service_tables.proofs.FitLemmas.{has-told, has-none}
-use Rattle.service_machine.specs.Fates.{with_fates, IsFaultless}
-use Rattle.service_machine.specs.Step.{step, output_of, Fits}
-use Rattle.service_machine.specs.declared.event.Arrival.{Arrival}
-use Rattle.service_machine.specs.declared.event.BroughtKey.{BroughtKey}
+use Rattle.service_events.specs.Fates.{with_fates, IsFaultless}
+use Rattle.service_events.specs.Step.{step, output_of, Fits}
+use Rattle.service_events.specs.declared.event.Arrival.{Arrival}
+use Rattle.service_events.specs.declared.event.BroughtKey.{BroughtKey}
 use Rattle.secret_calls.specs.declared.work.Work.{Work}
 use Rattle.secret_calls.specs.declared.taken.Refused.{Refused}
 use Rattle.secret_calls.specs.declared.taken.Refused.TheVariants as refused

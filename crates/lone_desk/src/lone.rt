@@ -1,5 +1,5 @@
 ghost use Rattle.std.specs.Prelude.{◌≡◌, ◌≤◌, ◌+◌, IfOk, IsErrOf};
-ghost use Rattle.service_machine.specs.Step.{step, IsCrowded, Fits};
+ghost use Rattle.service_events.specs.Step.{step, IsCrowded, Fits};
 ghost use Rattle.service_tables.specs.Limits.{IsSpent};
 ghost use Rattle.service_tables.specs.Sound.{IsSound};
 ghost use Rattle.service_history.specs.Windows.{total};

@@ -3,12 +3,12 @@ use Rattle.std.proofs.Common.{◌≡◌, ◌+◌, IsTrue, List, [], ◌∷◌, �
 use Rattle.std.specs.List.{AllByRecursion}
 use Rattle.std.proofs.lemmas.List.{map-append, length-map}
 use Rattle.service_tables.specs.State.{State}
-use Rattle.service_machine.specs.declared.event.Event.{Event}
-use Rattle.service_machine.specs.declared.event.Output.{Output}
-use Rattle.service_machine.specs.Fates.{IsFaultless}
-use Rattle.service_machine.specs.Step.{step, output_of}
-use Rattle.service_machine.specs.Replay.{replay, Legal}
-use Rattle.service_machine.proofs.ReplayLemmas.{replay-append}
+use Rattle.service_events.specs.declared.event.Event.{Event}
+use Rattle.service_events.specs.declared.event.Output.{Output}
+use Rattle.service_events.specs.Fates.{IsFaultless}
+use Rattle.service_events.specs.Step.{step, output_of}
+use Rattle.service_events.specs.Replay.{replay, Legal}
+use Rattle.service_events.proofs.ReplayLemmas.{replay-append}
 use Rattle.service_tables.proofs.EachLemmas.{each-append}
 use Rattle.service_desk.specs.Places.{Told, Place, IsSame, Looks, Extends}
 use Rattle.service_desk.specs.Views.{View, with_others, with_own}

@@ -2,10 +2,10 @@
 use Rattle.std.proofs.Common.{◌≡◌, ℕ, ◌+◌, ◌≤◌, List, [], ◌∷◌, ◌++◌, length, refl, ap, ◌∙◌, sym, arith, length-append, append-nil}
 use Rattle.std.proofs.lemmas.List.{length_push}
 use Rattle.service_tables.specs.State.{State}
-use Rattle.service_machine.specs.declared.event.Event.{Event}
-use Rattle.service_machine.specs.Step.{step, output_of, Fits}
-use Rattle.service_machine.specs.Replay.{replay, Legal, outputs}
-use Rattle.service_machine.proofs.ReplayLemmas.{replay-append, Legal-append, outputs-append}
+use Rattle.service_events.specs.declared.event.Event.{Event}
+use Rattle.service_events.specs.Step.{step, output_of, Fits}
+use Rattle.service_events.specs.Replay.{replay, Legal, outputs}
+use Rattle.service_events.proofs.ReplayLemmas.{replay-append, Legal-append, outputs-append}
 use Rattle.service_desk.specs.Views.{View, ArePlaces, IsView, with_others, with_own}
 
 -- places below a bound are also below a greater one

@@ -7,17 +7,17 @@ use Rattle.secret_calls.specs.declared.taken.Taken.{Taken}
 use Rattle.secret_calls.specs.declared.taken.Taken.TheVariants as taken
 use Rattle.service_tables.specs.State.{State}
 use Rattle.secret_calls.specs.declared.work.Work.{Work}
-use Rattle.service_machine.specs.declared.event.Arrival.{Arrival}
-use Rattle.service_machine.specs.declared.event.BroughtKey.{BroughtKey}
-use Rattle.service_machine.specs.declared.event.Derivation.{Derivation}
-use Rattle.service_machine.specs.declared.event.Event.TheVariants as event
+use Rattle.service_events.specs.declared.event.Arrival.{Arrival}
+use Rattle.service_events.specs.declared.event.BroughtKey.{BroughtKey}
+use Rattle.service_events.specs.declared.event.Derivation.{Derivation}
+use Rattle.service_events.specs.declared.event.Event.TheVariants as event
 use Rattle.service_tables.specs.declared.fate.Fate.{Fate}
-use Rattle.service_machine.specs.declared.event.Output.TheVariants as output
-use Rattle.service_machine.specs.Fates.{with_fates}
+use Rattle.service_events.specs.declared.event.Output.TheVariants as output
+use Rattle.service_events.specs.Fates.{with_fates}
 use Rattle.service_tables.specs.Connections.{desk_of}
 use Rattle.service_tables.specs.Limits.{most_events, IsSpent}
-use Rattle.service_machine.specs.Machine.{IsBroughtBy}
-use Rattle.service_machine.specs.Step.{IsMissing}
+use Rattle.service_events.specs.Incoming.{IsBroughtBy}
+use Rattle.service_events.specs.Step.{IsMissing}
 use Rattle.service_desk.specs.Places.{Told, Place, Looks, Extends}
 
 -- the connection is there, and this is whether outputs wait, whether one was lost, and whether it is leaving

@@ -2,11 +2,11 @@
 use Rattle.std.specs.Prelude.{◌≡◌, ℕ, ◌+◌, Bool, IsTrue, List, [], length}
 use Rattle.kr_base.specs.declared.ids.ConnId.{ConnId}
 use Rattle.service_tables.specs.State.{State}
-use Rattle.service_machine.specs.declared.event.Event.{Event}
-use Rattle.service_machine.specs.declared.event.Output.{Output}
-use Rattle.service_machine.specs.Fates.{IsFaultless}
-use Rattle.service_machine.specs.Step.{step, output_of, Fits}
-use Rattle.service_machine.specs.Replay.{replay, Legal}
+use Rattle.service_events.specs.declared.event.Event.{Event}
+use Rattle.service_events.specs.declared.event.Output.{Output}
+use Rattle.service_events.specs.Fates.{IsFaultless}
+use Rattle.service_events.specs.Step.{step, output_of, Fits}
+use Rattle.service_events.specs.Replay.{replay, Legal}
 use Rattle.service_desk.specs.Views.{View, with_others, with_own}
 
 -- what is known of a desk, and of the service as far as the desk has seen it

@@ -3,12 +3,12 @@ use Rattle.std.specs.Prelude.{◌≡◌, ◌+◌, IsTrue, List, [], ◌∷◌, �
 use Rattle.std.specs.List.{AllByRecursion}
 use Rattle.secret_calls.specs.declared.out.Out.{Out}
 use Rattle.service_tables.specs.State.{State}
-use Rattle.service_machine.specs.declared.event.Event.{Event}
-use Rattle.service_machine.specs.declared.event.Output.{Output}
-use Rattle.service_machine.specs.declared.event.Output.TheVariants as output
-use Rattle.service_machine.specs.Fates.{IsFaultless}
-use Rattle.service_machine.specs.Step.{step, output_of, Fits}
-use Rattle.service_machine.specs.Replay.{replay}
+use Rattle.service_events.specs.declared.event.Event.{Event}
+use Rattle.service_events.specs.declared.event.Output.{Output}
+use Rattle.service_events.specs.declared.event.Output.TheVariants as output
+use Rattle.service_events.specs.Fates.{IsFaultless}
+use Rattle.service_events.specs.Step.{step, output_of, Fits}
+use Rattle.service_events.specs.Replay.{replay}
 use Rattle.service_desk.specs.Places.{Place, IsSame}
 use Rattle.service_desk.specs.Views.{View, with_others, with_own}
 

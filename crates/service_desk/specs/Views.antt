@@ -1,8 +1,8 @@
 -- What a desk has seen of the service's history: from a start, the events since then, and which of them are its own.
 use Rattle.std.specs.Prelude.{◌≡◌, ℕ, ◌+◌, ◌≤◌, List, [], ◌∷◌, ◌++◌, length}
 use Rattle.service_tables.specs.State.{State}
-use Rattle.service_machine.specs.declared.event.Event.{Event}
-use Rattle.service_machine.specs.Replay.{replay, Legal}
+use Rattle.service_events.specs.declared.event.Event.{Event}
+use Rattle.service_events.specs.Replay.{replay, Legal}
 
 -- a start, the number of events of the run before it, the events seen since then, and the places of the desk's own
 -- among them

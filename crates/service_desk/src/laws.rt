@@ -2,10 +2,10 @@
 // does nothing.
 ghost use Rattle.std.specs.Prelude.{◌≡◌, ◌+◌, ◌++◌, ◌∷◌, [], ℕ, List, length};
 ghost use Rattle.service_tables.specs.State.{State};
-ghost use Rattle.service_machine.specs.declared.event.Event.{Event};
-ghost use Rattle.service_machine.specs.Step.{step, output_of, Fits};
-ghost use Rattle.service_machine.specs.Replay.{replay, Legal, outputs};
-ghost use Rattle.service_machine.specs.declared.event.Output.{Output};
+ghost use Rattle.service_events.specs.declared.event.Event.{Event};
+ghost use Rattle.service_events.specs.Step.{step, output_of, Fits};
+ghost use Rattle.service_events.specs.Replay.{replay, Legal, outputs};
+ghost use Rattle.service_events.specs.declared.event.Output.{Output};
 ghost use Rattle.service_desk.specs.Places.{place, Looks, Extends};
 ghost use Rattle.service_desk.specs.Records.{Seen, Own, Records, of_others};
 ghost use Rattle.service_desk.specs.Views.{View, IsView, with_others, with_own};

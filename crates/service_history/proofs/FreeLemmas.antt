@@ -38,15 +38,15 @@ use Rattle.service_disk.specs.Opening.{row_opened}
 use Rattle.service_disk.specs.Resolving.{is_file, row_found, rows_found, rows_resolved}
 use Rattle.replace_slot.specs.declared.images.Found.{Found}
 use Rattle.replace_slot.specs.declared.images.Found.TheVariants as image
-use Rattle.service_machine.specs.declared.event.Arrival.{Arrival}
-use Rattle.service_machine.specs.declared.event.Event.{Event}
-use Rattle.service_machine.specs.declared.event.Event.TheVariants as event
-use Rattle.service_machine.specs.declared.event.Incoming.TheVariants as incoming
-use Rattle.service_machine.specs.Machine.{Records}
-use Rattle.service_machine.specs.Plan.{Change, Lock_collection, Demand, Store, Erase, Set_alias, Read_aliases, Read_collection, Make, Plan, Ends, After, Asks, Opens}
-use Rattle.service_machine.specs.Run.{asked, demanded, key_with, made_of, performed, performed_all, unlocked_with}
-use Rattle.service_machine.specs.Stored.{StoresDemand, StoresEvent, StoresOf}
-use Rattle.service_machine.specs.Step.{brought_by, plan_of}
+use Rattle.service_events.specs.declared.event.Arrival.{Arrival}
+use Rattle.service_events.specs.declared.event.Event.{Event}
+use Rattle.service_events.specs.declared.event.Event.TheVariants as event
+use Rattle.service_events.specs.declared.event.Incoming.TheVariants as incoming
+use Rattle.service_events.specs.Incoming.{Records}
+use Rattle.service_events.specs.Plan.{Change, Lock_collection, Demand, Store, Erase, Set_alias, Read_aliases, Read_collection, Make, Plan, Ends, After, Asks, Opens}
+use Rattle.service_events.specs.Run.{asked, demanded, key_with, made_of, performed, performed_all, unlocked_with}
+use Rattle.service_events.specs.Stored.{StoresDemand, StoresEvent, StoresOf}
+use Rattle.service_events.specs.Step.{brought_by, plan_of}
 
 -- ---- what isn't in a list
 

@@ -6,9 +6,9 @@ use Rattle.secret_calls.specs.declared.call.Call.{Call}
 use Rattle.secret_calls.specs.declared.call.Call.TheVariants as call
 use Rattle.secret_calls.specs.declared.call.CallFault.{CallFault}
 use Rattle.service_tables.specs.State.{State}
-use Rattle.service_machine.specs.declared.event.Event.{Event}
-use Rattle.service_machine.specs.declared.event.Event.TheVariants as event
-use Rattle.service_machine.specs.Replay.{replay, Legal, cost}
+use Rattle.service_events.specs.declared.event.Event.{Event}
+use Rattle.service_events.specs.declared.event.Event.TheVariants as event
+use Rattle.service_events.specs.Replay.{replay, Legal, cost}
 use Rattle.service_history.specs.Limits.{most_stored, most_cost}
 
 -- a window

@@ -7,12 +7,12 @@ ghost use Rattle.service_tables.specs.Disk.{IsLoaded, FailedToLoad, disk_state};
 ghost use Rattle.service_tables.specs.Opened.{IsOpened, contents_of};
 ghost use Rattle.service_tables.specs.Sound.{AreSoundContents};
 ghost use Rattle.service_tables.specs.Limits.{IsSpent, most_events};
-ghost use Rattle.service_machine.specs.Fates.{is_steady};
+ghost use Rattle.service_events.specs.Fates.{is_steady};
 ghost use Rattle.service_machine.specs.Rows.{rows_of};
-ghost use Rattle.service_machine.specs.Stored.{KeepsDisk, KeepsSlotOrAll};
+ghost use Rattle.service_events.specs.Stored.{KeepsDisk, KeepsSlotOrAll};
 ghost use Rattle.service_history.specs.Inside.{IsReady};
-ghost use Rattle.service_machine.specs.Machine.{IsOfNone, IsConnect};
-ghost use Rattle.service_machine.specs.Step.{IsMissing, IsCrowded};
+ghost use Rattle.service_events.specs.Incoming.{IsOfNone, IsConnect};
+ghost use Rattle.service_events.specs.Step.{IsMissing, IsCrowded};
 ghost use Rattle.service_history.specs.Windows.{total};
 ghost use Rattle.service_history.specs.History.{opened_history, IsHistory, Stores, StoresKey, StoresOn, StoresRequest, RecordsOn, IsAsked, given_for, taken_by, left_by, gone_by, told};
 

@@ -1,6 +1,6 @@
 ghost use Rattle.std.specs.Prelude.{◌≡◌, ◌+◌, ◌<◌, ◌≤◌, IfOk, OnOk};
 ghost use Rattle.service_machine.specs.Rows.{rows_of};
-ghost use Rattle.service_machine.specs.Replay.{cost_of};
+ghost use Rattle.service_events.specs.Replay.{cost_of};
 ghost use Rattle.service_history.specs.Limits.{most_counted};
 ghost use Rattle.service_history.specs.Room.{enough};
 ghost use Rattle.service_history.specs.Windows.{begun, total, is_due, may_hide, stored};

@@ -6,14 +6,15 @@ use Rattle.keyring_text.specs.Fields.{IsBytes}
 use Rattle.service_tables.specs.Connections.{has}
 use Rattle.service_tables.specs.Disk.{DiskState}
 use Rattle.service_tables.specs.State.{State}
-use Rattle.service_machine.specs.declared.derived_key.Settled.{Settled}
-use Rattle.service_machine.specs.declared.event.Derivation.{Derivation}
-use Rattle.service_machine.specs.declared.event.Event.TheVariants as event
-use Rattle.service_machine.specs.Derivation.{derived}
-use Rattle.service_machine.specs.Fates.{AreFaultless, is_steady}
-use Rattle.service_machine.specs.Run.{AreFates, asked, led}
-use Rattle.service_machine.specs.Step.{AreByteFiles, Fits, IsSalt, brought_derived, step, terms_of, with_delivered}
-use Rattle.service_machine.specs.Stored.{Settles, StoresEvent, StoresOf, settled_fates}
+use Rattle.service_answers.specs.declared.derived_key.Settled.{Settled}
+use Rattle.service_events.specs.declared.event.Derivation.{Derivation}
+use Rattle.service_events.specs.declared.event.Event.TheVariants as event
+use Rattle.service_events.specs.Derivation.{derived}
+use Rattle.service_events.specs.Fates.{AreFaultless, is_steady}
+use Rattle.service_events.specs.Run.{AreFates, asked, led}
+use Rattle.service_events.specs.Step.{AreByteFiles, Fits, IsSalt, brought_derived, step, terms_of, with_delivered}
+use Rattle.service_events.specs.Stored.{StoresEvent, StoresOf}
+use Rattle.service_answers.specs.Settled.{Settles, settled_fates}
 use Rattle.service_machine.proofs.SteadyLemmas.{stores-faultless, stores-steady}
 
 module _ {F S : Type 0} (folder_honest folder_steady : F → Bool) (folder_faults : F → ℕ) (images : F → List ℕ → Image) (folder_leaves : F → List ℕ → Image → Type 0) (names_made : F → List (List ℕ)) (is_honest slot_steady : S → Bool) (faults moment : S → ℕ) (left_since : S → ℕ → Image → Type 0) (may_leave : S → Image → Type 0) where

@@ -24,10 +24,10 @@ use Rattle.service_tables.specs.Opened.{Contents, contents_of}
 use Rattle.service_disk.specs.Making.{MakesAt}
 use Rattle.service_tables.specs.Slots.{IsFault, StoresAliases, StoresAt, are_steady, slot_at}
 use Rattle.service_tables.specs.Storing.{Brought}
-use Rattle.service_machine.specs.Fates.{AreFaultless, is_steady}
-use Rattle.service_machine.specs.Plan.{Demand, Store, Erase, Set_alias, Read_aliases, Read_collection, Make, Plan, Ends, After, Asks, Opens}
-use Rattle.service_machine.specs.Run.{AreFates, AreNone, asked, demanded, performed_all, unlocked_with}
-use Rattle.service_machine.specs.Stored.{StoresDemand, StoresOf}
+use Rattle.service_events.specs.Fates.{AreFaultless, is_steady}
+use Rattle.service_events.specs.Plan.{Demand, Store, Erase, Set_alias, Read_aliases, Read_collection, Make, Plan, Ends, After, Asks, Opens}
+use Rattle.service_events.specs.Run.{AreFates, AreNone, asked, demanded, performed_all, unlocked_with}
+use Rattle.service_events.specs.Stored.{StoresDemand, StoresOf}
 
 and-both : (a b : Bool) → (a && b) ≡ true → (a ≡ true) × (b ≡ true)
 and-both true b is = (refl, is)

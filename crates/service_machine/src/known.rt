@@ -1,7 +1,7 @@
 // What the types of the files of the collections guarantee, as a fact that a contract can cite. No byte of them is
 // read.
 ghost use Rattle.std.specs.List.{AllByRecursion};
-ghost use Rattle.service_machine.specs.Step.{AreByteFiles, AreByteImages};
+ghost use Rattle.service_events.specs.Step.{AreByteFiles, AreByteImages};
 ghost use Rattle.service_tables.specs.Disk.{contents_in};
 
 use collection_store::Collection;

@@ -14,31 +14,14 @@
 //! prompts.
 #![tactic(auto)]
 
-mod agent;
-mod aliases;
-mod answer;
-mod answering;
-mod collection;
-mod creating;
-mod derived_key;
-mod event;
-mod item;
+mod derived;
 mod known;
-mod laws;
 mod machine;
-mod prompt;
-mod service;
-mod session;
-mod storing;
-mod unlocking;
 
-pub use event::{
+pub use machine::Machine;
+pub use service_events::{
     ApplyRefused, Arrival, Arrived, BroughtKey, Derivation, Event, Incoming, JoinRefused, Output,
-    Recorded,
-};
-pub use laws::{
-    alike_requests_lead_to_one_state, lists_of_events_go_on, outputs_can_wait,
+    Recorded, alike_requests_lead_to_one_state, lists_of_events_go_on, outputs_can_wait,
     steps_keep_the_rows_sound,
 };
-pub use machine::Machine;
 pub use service_tables::{ConnRow, ConnRows, DeskRow, Disk, Fate, OpenRefused, Rows};

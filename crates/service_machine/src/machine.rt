@@ -5,20 +5,18 @@ ghost use Rattle.service_tables.specs.Slots.{LeavesKnown, file_at};
 ghost use Rattle.folder_store.specs.Ring.{IsAsFound};
 ghost use Rattle.service_tables.specs.Connections.{HasRoom, has, waiting_for, desk_of};
 ghost use Rattle.service_tables.specs.Disk.{IsLoaded, FailedToLoad, disk_state};
-ghost use Rattle.service_machine.specs.Fates.{with_fates, AreFaultless, IsFaultless, is_steady};
-ghost use Rattle.service_machine.specs.Machine.{AreFreeFor, Records, IsDue, IsOfNone, IsConnect, IsSoundFor, TakesMemory};
+ghost use Rattle.service_events.specs.Fates.{with_fates, AreFaultless, IsFaultless, is_steady};
+ghost use Rattle.service_events.specs.Incoming.{AreFreeFor, Records, IsDue, IsOfNone, IsConnect, IsSoundFor, TakesMemory};
 ghost use Rattle.service_tables.specs.Opened.{IsOpened, contents_of};
 ghost use Rattle.service_tables.specs.Storing.{Brought};
-ghost use Rattle.service_machine.specs.Run.{asked, ran};
+ghost use Rattle.service_events.specs.Run.{asked, ran};
 ghost use Rattle.service_disk.specs.Making.{AreFree};
-ghost use Rattle.service_machine.specs.declared.event.Output.TheVariants as Output;
+ghost use Rattle.service_events.specs.declared.event.Output.TheVariants as Output;
 ghost use Rattle.service_tables.specs.Sound.{AreSoundContents, IsSound};
-ghost use Rattle.service_machine.specs.Step.{step, output_of, brought_by, brought_with, plan_of, row_of, message_of, replies, with_delivered, IsMissing, IsCrowded, CanJoin, HasTypes, IsSalt, IsTypedName, Fits};
-ghost use Rattle.service_machine.specs.Stored.{HasRoomToReply, IsPlain, KeepsDisk, Leads, SendsNothing, StoresEvent, fates_of};
+ghost use Rattle.service_events.specs.Step.{step, output_of, brought_by, brought_with, plan_of, row_of, message_of, replies, with_delivered, IsMissing, IsCrowded, CanJoin, HasTypes, IsSalt, IsTypedName, Fits};
+ghost use Rattle.service_events.specs.Stored.{IsPlain, KeepsDisk, SendsNothing, StoresEvent};
+ghost use Rattle.service_calls.specs.Done.{HasRoomToReply, Leads, fates_of};
 
-use crate::answer::{Answer, bounded};
-use crate::answering::password_in;
-use crate::storing::{Done, refused, unstored};
 use crate::{ApplyRefused, Arrival, Arrived, Event, Incoming, Output, Recorded};
 use keyring_text::known_bytes;
 use kr_base::{ConnId, OutOfMemory, Stem};
@@ -26,6 +24,8 @@ use kr_items::Items;
 use kr_outside::Folder;
 use prompt_state::PromptState;
 use secret_calls::{AliasName, Body, Call, CallFault, Out, Request, Serial, Work};
+use service_answers::{answer_prompt, password_in, work_of};
+use service_calls::{Answer, Done, Tables, bounded, refused, unstored};
 use service_tables::{
     Connections, DeskRow, Disk, Fate, OpenRefused, Rows, Sent, known_alias, known_item,
     known_secret, known_text,
@@ -38,11 +38,7 @@ use stem_choice::{a_used_stem_is_in_the_list, adding_a_stem_uses_it_alone};
 /// collections and aliases.
 #[derive(Drop)]
 pub struct Machine<F: Folder> {
-    pub(crate) alloc: Global,
-    pub(crate) connections: Connections,
-    pub(crate) sessions: SessionTable,
-    pub(crate) prompts: PromptState,
-    pub(crate) disk: Disk<F>,
+    pub(crate) tables: Tables<F>,
 }
 
 impl<F: Folder> Machine<F> {
@@ -81,11 +77,13 @@ impl<F: Folder> Machine<F> {
         a_used_stem_is_in_the_list();
         adding_a_stem_uses_it_alone();
         Ok(Machine {
-            alloc,
-            connections: Connections::new(alloc),
-            sessions: SessionTable::new(alloc),
-            prompts: PromptState::new(alloc),
-            disk,
+            tables: Tables {
+                alloc,
+                connections: Connections::new(alloc),
+                sessions: SessionTable::new(alloc),
+                prompts: PromptState::new(alloc),
+                disk,
+            },
         })
     }
 
@@ -95,7 +93,7 @@ impl<F: Folder> Machine<F> {
         ensures collections { collections_of result.collections.entries
             ≡ (rows_of self).collections }
     {
-        self.disk
+        self.tables.disk
     }
 
     /// Performs one event, and returns its answer and the event as it is to be recorded. The rows
@@ -193,7 +191,7 @@ impl<F: Folder> Machine<F> {
     pub fn has(&self, conn: ConnId) -> bool
         ensures { result ≡ has conn (rows_of self.now).connections.rows }
     {
-        self.connections.has(conn)
+        self.tables.connections.has(conn)
     }
 
     /// Whether no further connection can join: 256 are there, or no number is left. It takes no memory.
@@ -201,7 +199,7 @@ impl<F: Folder> Machine<F> {
         ensures crowded { result ≡ true → IsCrowded (rows_of self.now) }
         ensures room { result ≡ false → CanJoin (rows_of self.now) }
     {
-        self.connections.is_crowded()
+        self.tables.connections.is_crowded()
     }
 
     /// A connection joins, and gets the next number.
@@ -213,7 +211,7 @@ impl<F: Folder> Machine<F> {
         ensures disk { disk_of self.new ≡ disk_of self.old }
         ensures unchanged { OnErr result (rows_of self.new ≡ rows_of self.old) }
     {
-        self.connections.join()
+        self.tables.connections.join()
     }
 
     /// Answers the request of a connection that is there; the reply waits for it, and then the signals that the
@@ -241,11 +239,11 @@ impl<F: Folder> Machine<F> {
             × (disk_of self.new ≡ disk_of self.old)) }
     {
         known_request(arrival);
-        self.connections.reserve(arrival.conn, 1)?;
-        let fates = Vec::with_capacity(self.alloc, 2)?;
+        self.tables.connections.reserve(arrival.conn, 1)?;
+        let fates = Vec::with_capacity(self.tables.alloc, 2)?;
         let password = password_in(&arrival.request)?;
         let (answer, sends, read, fate) = self.call(arrival)?.into_parts();
-        let work = self.work_of(&arrival.request, &answer, password);
+        let work = work_of(&self.tables, &arrival.request, &answer, password);
         self.reply(arrival.conn, &arrival.request, answer, sends);
         Ok((work, Items::new(with_fates(fates, read, fate))))
     }
@@ -253,23 +251,25 @@ impl<F: Folder> Machine<F> {
     // The reply to a request waits for its connection, if it is wanted, and what is sent after it waits. It
     // takes no memory.
     fn reply(&mut self, conn: ConnId, request: &Request, answer: Answer, sends: Items<Sent>)
-        requires { HasRoomToReply conn sends self.old.connections.rooms }
+        requires { HasRoomToReply conn sends self.old.tables.connections.rooms }
         ensures rows { rows_of self.new
             ≡ with_delivered (replies conn request.now answer ++ sends) (rows_of self.old) }
         ensures disk { disk_of self.new ≡ disk_of self.old }
     {
         if !request.wants_reply {
-            self.connections.deliver(sends.into_vec());
+            self.tables.connections.deliver(sends.into_vec());
             return;
         }
-        self.connections.push(conn, message(request.serial, answer));
-        self.connections.deliver(sends.into_vec());
+        self.tables
+            .connections
+            .push(conn, message(request.serial, answer));
+        self.tables.connections.deliver(sends.into_vec());
     }
 
     // Performs the row of a request's call, or answers the fault of its message. There is room for the reply
     // and for what is sent after it.
     fn call(&mut self, arrival: &Arrival) -> Result<Done, OutOfMemory>
-        requires { HasRoom 1 arrival.now.conn self.old.connections.rooms }
+        requires { HasRoom 1 arrival.now.conn self.old.tables.connections.rooms }
         ensures leads { IfOk result (Leads F.is_honest F.is_steady F.faults F.images
             F.may_leave F.made F.Cell.is_honest F.Cell.is_steady F.Cell.faults
             F.Cell.moment F.Cell.left_since F.Cell.may_leave arrival.entry.now.conn
@@ -278,13 +278,13 @@ impl<F: Folder> Machine<F> {
             (asked arrival.entry.now.conn (brought_by arrival.entry.now) (rows_of self.old)))
             (rows_of self.old) (rows_of self.new) (disk_of self.old) (disk_of self.new)) }
         ensures room { IfOk result (λ done.
-            HasRoomToReply arrival.entry.now.conn done.sends self.new.connections.rooms) }
+            HasRoomToReply arrival.entry.now.conn done.sends self.new.tables.connections.rooms) }
         ensures unchanged { OnErr result ((rows_of self.new ≡ rows_of self.old)
             × (disk_of self.new ≡ disk_of self.old)) }
     {
         match &arrival.request.call {
             Ok(call) => self.perform(arrival.conn, call, arrival.now, arrival.salt),
-            Err(fault) => Ok(refused(self.alloc, fault.error())),
+            Err(fault) => Ok(refused(self.tables.alloc, fault.error())),
         }
     }
 
@@ -296,23 +296,28 @@ impl<F: Folder> Machine<F> {
         now: u64,
         salt: [u8; 8],
     ) -> Result<Done, OutOfMemory>
-        requires { HasRoom 1 conn self.old.connections.rooms }
+        requires { HasRoom 1 conn self.old.tables.connections.rooms }
         ensures leads { IfOk result (Leads F.is_honest F.is_steady F.faults F.images
             F.may_leave F.made F.Cell.is_honest F.Cell.is_steady F.Cell.faults
             F.Cell.moment F.Cell.left_since F.Cell.may_leave conn (brought_with now (Ok call.now))
             (row_of salt call.now (asked conn (brought_with now (Ok call.now)) (rows_of self.old)))
             (rows_of self.old) (rows_of self.new) (disk_of self.old) (disk_of self.new)) }
         ensures room { IfOk result (λ done.
-            HasRoomToReply conn done.sends self.new.connections.rooms) }
+            HasRoomToReply conn done.sends self.new.tables.connections.rooms) }
         ensures unchanged { OnErr result ((rows_of self.new ≡ rows_of self.old)
             × (disk_of self.new ≡ disk_of self.old)) }
     {
         match call {
-            Call::Prompt { prompt } => self.call_prompt(conn, *prompt),
-            Call::Dismiss { prompt } => self.dismiss(conn, *prompt),
-            Call::Register => self.register(conn),
-            Call::Answer { prompt, round, .. } => self.answer_prompt(conn, *prompt, *round),
-            Call::Refuse { prompt, round } => self.refuse(conn, *prompt, *round),
+            Call::Prompt { prompt } => self.tables.call_prompt(conn, *prompt),
+            Call::Dismiss { prompt } => self.tables.dismiss(conn, *prompt),
+            Call::Register => self.tables.register(conn),
+            Call::Answer { prompt, round, .. } => answer_prompt(
+                &mut self.tables,
+                conn,
+                *prompt,
+                *round,
+            ),
+            Call::Refuse { prompt, round } => self.tables.refuse(conn, *prompt, *round),
             _ => self.perform_silently(conn, call, now, salt),
         }
     }
@@ -332,30 +337,34 @@ impl<F: Folder> Machine<F> {
             (row_of salt call.now (asked conn (brought_with now (Ok call.now)) (rows_of self.old)))
             (rows_of self.old) (rows_of self.new) (disk_of self.old) (disk_of self.new)) }
         ensures silent { IfOk result (λ done. done.sends ≡ []) }
-        ensures room { self.new.connections ≡ self.old.connections }
+        ensures room { self.new.tables.connections ≡ self.old.tables.connections }
         ensures unchanged { OnErr result ((rows_of self.new ≡ rows_of self.old)
             × (disk_of self.new ≡ disk_of self.old)) }
     {
         match call {
             Call::CreateCollection { label, alias } => {
-                self.create_collection(conn, label, alias, salt)
+                self.tables.create_collection(conn, label, alias, salt)
             }
-            Call::Unlock { objects } => self.unlock(conn, objects.as_slice()),
-            Call::Unregister => Ok(self.unregister(conn)),
+            Call::Unlock { objects } => self.tables.unlock(conn, objects.as_slice()),
+            Call::Unregister => Ok(self.tables.unregister(conn)),
             Call::CreateItem {
                 collection,
                 label,
                 attributes,
                 secret,
                 replace,
-            } => self.create_item(conn, collection, label, attributes, secret, *replace, now),
-            Call::DeleteCollection { collection } => self.delete_collection(conn, collection),
-            Call::DeleteItem { stem, item } => self.delete_item(conn, stem, *item, now),
+            } => self
+                .tables
+                .create_item(conn, collection, label, attributes, secret, *replace, now),
+            Call::DeleteCollection { collection } => self
+                .tables
+                .delete_collection(conn, collection),
+            Call::DeleteItem { stem, item } => self.tables.delete_item(conn, stem, *item, now),
             Call::SetSecret { stem, item, secret } => {
-                self.set_secret(conn, stem, *item, secret, now)
+                self.tables.set_secret(conn, stem, *item, secret, now)
             }
-            Call::SetAlias { alias, object } => self.set_alias(conn, alias, object),
-            _ => Ok(unstored(self.alloc, self.ask(conn, call)?)),
+            Call::SetAlias { alias, object } => self.tables.set_alias(conn, alias, object),
+            _ => Ok(unstored(self.tables.alloc, self.ask(conn, call)?)),
         }
     }
 
@@ -368,28 +377,28 @@ impl<F: Folder> Machine<F> {
             → answer ≡ (ran conn brought (row_of salt call.now) [] (rows_of self.old)).answer) }
         ensures state { (salt : List ℕ) → OnOk result ((brought : Brought) → rows_of self.new
             ≡ (ran conn brought (row_of salt call.now) [] (rows_of self.old)).state) }
-        ensures room { self.new.connections ≡ self.old.connections }
+        ensures room { self.new.tables.connections ≡ self.old.tables.connections }
         ensures disk { disk_of self.new ≡ disk_of self.old }
         ensures unchanged { OnErr result (rows_of self.new ≡ rows_of self.old) }
     {
         match call {
             Call::Ping => Ok(bounded(Ok(Body::Empty))),
-            Call::OpenSession { algorithm } => self.open_session(conn, algorithm),
-            Call::CloseSession { session } => Ok(self.close_session(conn, *session)),
-            Call::SearchItems { wanted } => self.search_items(conn, wanted),
-            Call::ReadAlias { name } => self.read_alias(conn, name),
-            Call::Lock { objects } => self.lock(conn, objects.as_slice()),
+            Call::OpenSession { algorithm } => self.tables.open_session(conn, algorithm),
+            Call::CloseSession { session } => Ok(self.tables.close_session(conn, *session)),
+            Call::SearchItems { wanted } => self.tables.search_items(conn, wanted),
+            Call::ReadAlias { name } => self.tables.read_alias(conn, name),
+            Call::Lock { objects } => self.tables.lock(conn, objects.as_slice()),
             Call::GetSecrets { items, session } => {
-                self.get_secrets(conn, items.as_slice(), *session)
+                self.tables.get_secrets(conn, items.as_slice(), *session)
             }
             Call::SearchCollection { collection, wanted } => {
-                self.search_collection(conn, collection, wanted)
+                self.tables.search_collection(conn, collection, wanted)
             }
             Call::GetSecret {
                 stem,
                 item,
                 session,
-            } => self.get_secret(conn, stem, *item, *session),
+            } => self.tables.get_secret(conn, stem, *item, *session),
             _ => unreachable!(),
         }
     }
@@ -401,7 +410,7 @@ impl<F: Folder> Machine<F> {
             F.Cell.is_honest F.Cell.moment F.Cell.left_since
             (file_at stem.now (rows_of self.now).collections)) }
     {
-        self.disk.untouched(stem);
+        self.tables.disk.untouched(stem);
     }
 
     /// While no call runs, a crash leaves of the file of the aliases what is known of it: its image, or one
@@ -410,7 +419,7 @@ impl<F: Folder> Machine<F> {
         ensures { IfSome (rows_of self.now).aliases (λ rows. LeavesKnown F.Cell.is_honest
             F.Cell.moment F.Cell.left_since rows.file (disk_of self.now).aliases) }
     {
-        self.disk.untouched_aliases();
+        self.tables.disk.untouched_aliases();
     }
 
     /// Marks that a connection asks no more. It takes no memory.
@@ -419,7 +428,7 @@ impl<F: Folder> Machine<F> {
         ensures stepped { rows_of self.new ≡ step (rows_of self.old) (Event.Leave conn) }
         ensures disk { disk_of self.new ≡ disk_of self.old }
     {
-        self.connections.leave(conn);
+        self.tables.connections.leave(conn);
     }
 
     /// Takes what waits for a connection. It takes no memory.
@@ -429,7 +438,7 @@ impl<F: Folder> Machine<F> {
         ensures stepped { rows_of self.new ≡ step (rows_of self.old) (Event.Take conn) }
         ensures disk { disk_of self.new ≡ disk_of self.old }
     {
-        self.connections.take(conn)
+        self.tables.connections.take(conn)
     }
 
     /// Removes a connection that is gone, and with it its sessions and its prompts, and the agent if it was
@@ -439,16 +448,16 @@ impl<F: Folder> Machine<F> {
         ensures stepped { rows_of self.new ≡ step (rows_of self.old) (Event.Gone conn) }
         ensures disk { disk_of self.new ≡ disk_of self.old }
     {
-        self.connections.remove(conn);
-        self.sessions.gone(conn);
-        self.prompts.gone(conn);
+        self.tables.connections.remove(conn);
+        self.tables.sessions.gone(conn);
+        self.tables.prompts.gone(conn);
     }
 
     /// The connection's status, or None if it isn't there. It takes no memory.
     pub fn desk(&self, conn: ConnId) -> Option<DeskRow>
         ensures { result ≡ desk_of conn (rows_of self.now).connections.rows }
     {
-        self.connections.desk(conn)
+        self.tables.connections.desk(conn)
     }
 
     /// A copy of the connections, the sessions and the prompts, as plain data, made in one pass over them.
@@ -459,9 +468,9 @@ impl<F: Folder> Machine<F> {
         ensures prompts { IfOk result (λ rows. rows.prompts ≡ (rows_of self.now).prompts) }
     {
         Ok(Rows {
-            connections: self.connections.rows()?,
-            sessions: self.sessions.rows()?,
-            prompts: self.prompts.rows()?,
+            connections: self.tables.connections.rows()?,
+            sessions: self.tables.sessions.rows()?,
+            prompts: self.tables.prompts.rows()?,
         })
     }
 }
@@ -521,8 +530,8 @@ fn known_name(alias: &Option<AliasName>)
     }
 }
 
-// What the type of the random bytes guarantees. It does nothing.
-fn known_salt(salt: &[u8; 8])
+/// A law: what the type of the random bytes guarantees. The call does nothing.
+pub fn known_salt(salt: &[u8; 8])
     ensures { IsSalt salt.now }
 {
     known_bytes(salt.as_slice());

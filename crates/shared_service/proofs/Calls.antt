@@ -5,14 +5,14 @@ use Rattle.kr_base.specs.declared.ids.ConnId.{ConnId}
 use Rattle.secret_calls.specs.declared.taken.Taken.{Taken}
 use Rattle.service_tables.specs.State.{State}
 use Rattle.service_tables.specs.declared.rows.DeskRow.{DeskRow}
-use Rattle.service_machine.specs.declared.event.Event.{Event}
-use Rattle.service_machine.specs.declared.event.Event.TheVariants as event
+use Rattle.service_events.specs.declared.event.Event.{Event}
+use Rattle.service_events.specs.declared.event.Event.TheVariants as event
 use Rattle.service_tables.specs.Connections.{desk_of, has}
-use Rattle.service_machine.specs.Fates.{with_fates, IsFaultless}
-use Rattle.service_machine.specs.Step.{step, output_of, Fits, IsMissing, IsCrowded}
-use Rattle.service_machine.specs.Replay.{replay, Legal}
+use Rattle.service_events.specs.Fates.{with_fates, IsFaultless}
+use Rattle.service_events.specs.Step.{step, output_of, Fits, IsMissing, IsCrowded}
+use Rattle.service_events.specs.Replay.{replay, Legal}
 use Rattle.service_tables.proofs.FitLemmas.{has-told, has-none}
-use Rattle.service_machine.proofs.ReplayLemmas.{replay-append}
+use Rattle.service_events.proofs.ReplayLemmas.{replay-append}
 use Rattle.service_history.specs.History.{History, Stores, StoresKey, StoresRequest, given_for}
 use Rattle.service_history.specs.History as history
 use Rattle.service_history.specs.Windows.{total}
@@ -21,12 +21,12 @@ use Rattle.service_desk.specs.Views.{View, with_others, with_own}
 use Rattle.service_desk.specs.Calls.{Arrives, Finishes, IsRefusal, Leaves, Goes, Takes}
 use Rattle.service_tables.specs.Limits.{most_events, IsSpent}
 use Rattle.secret_calls.specs.declared.work.Work.{Work}
-use Rattle.service_machine.specs.declared.event.Arrival.{Arrival}
-use Rattle.service_machine.specs.declared.event.BroughtKey.{BroughtKey}
-use Rattle.service_machine.specs.declared.event.Output.{Output}
-use Rattle.service_machine.specs.declared.event.Output.TheVariants as output
-use Rattle.service_machine.specs.declared.event.JoinRefused.{JoinRefused}
-use Rattle.service_machine.specs.declared.event.JoinRefused.TheVariants as join
+use Rattle.service_events.specs.declared.event.Arrival.{Arrival}
+use Rattle.service_events.specs.declared.event.BroughtKey.{BroughtKey}
+use Rattle.service_events.specs.declared.event.Output.{Output}
+use Rattle.service_events.specs.declared.event.Output.TheVariants as output
+use Rattle.service_events.specs.declared.event.JoinRefused.{JoinRefused}
+use Rattle.service_events.specs.declared.event.JoinRefused.TheVariants as join
 use Rattle.secret_calls.specs.declared.taken.Refused.{Refused}
 use Rattle.secret_calls.specs.declared.taken.Refused.TheVariants as refused
 use Rattle.shared_service.specs.Passes.{spot, told, state_of, count_of, HasCause, IsRefused}

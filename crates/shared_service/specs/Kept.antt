@@ -4,10 +4,10 @@ use mathlib.Core.Path.{sym, subst}
 use mathlib.Core.HLevel.{×_prop, Unit-prop}
 use Rattle.std.proofs.Props.{props}
 use Rattle.service_tables.specs.State.{State}
-use Rattle.service_machine.specs.declared.event.Event.{Event}
-use Rattle.service_machine.specs.Step.{step}
-use Rattle.service_machine.proofs.EventLemmas.{fits-prop}
-use Rattle.service_machine.specs.Replay.{Legal}
+use Rattle.service_events.specs.declared.event.Event.{Event}
+use Rattle.service_events.specs.Step.{step}
+use Rattle.service_events.proofs.EventLemmas.{fits-prop}
+use Rattle.service_events.specs.Replay.{Legal}
 use Rattle.service_desk.specs.Views.{View, ArePlaces, IsView}
 use Rattle.shared_service.specs.Passes.{state_of, count_of}
 

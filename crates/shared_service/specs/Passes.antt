@@ -3,16 +3,16 @@ use Rattle.std.specs.Prelude.{◌≡◌, ℕ, ◌+◌, Bool, true, false, [], le
 use Rattle.atomic_table.specs.Seated.{TableId}
 use Rattle.kr_base.specs.declared.ids.ConnId.{ConnId}
 use Rattle.service_tables.specs.State.{State}
-use Rattle.service_machine.specs.declared.event.Event.{Event}
-use Rattle.service_machine.specs.Step.{IsCrowded}
+use Rattle.service_events.specs.declared.event.Event.{Event}
+use Rattle.service_events.specs.Step.{IsCrowded}
 use Rattle.service_tables.specs.Opened.{opened_state}
-use Rattle.service_machine.specs.Replay.{replay, Legal}
+use Rattle.service_events.specs.Replay.{replay, Legal}
 use Rattle.service_history.specs.Windows.{Window}
 use Rattle.service_desk.specs.Views.{View, ArePlaces}
 use Rattle.service_desk.specs.Places.{Told, Place, Looks}
 use Rattle.service_tables.specs.Limits.{IsSpent}
-use Rattle.service_machine.specs.declared.event.JoinRefused.{JoinRefused}
-use Rattle.service_machine.specs.declared.event.JoinRefused.TheVariants as join
+use Rattle.service_events.specs.declared.event.JoinRefused.{JoinRefused}
+use Rattle.service_events.specs.declared.event.JoinRefused.TheVariants as join
 use Rattle.shared_turn.specs.Passes as turn
 use Rattle.shared_turn.specs.Places.{StartsWith, longer, merged}
 use Rattle.shared_service.specs.Standing.{Start}

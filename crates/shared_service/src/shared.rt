@@ -1,10 +1,10 @@
 ghost use Rattle.std.specs.Prelude.{◌≡◌, ◌+◌, ◌∷◌, [], true, IfOk, OnOk, OnErr, IfErr};
-ghost use Rattle.service_machine.specs.declared.event.Event.{Event};
-ghost use Rattle.service_machine.specs.declared.event.Event.TheVariants as event;
-ghost use Rattle.service_machine.specs.Fates.{is_steady};
+ghost use Rattle.service_events.specs.declared.event.Event.{Event};
+ghost use Rattle.service_events.specs.declared.event.Event.TheVariants as event;
+ghost use Rattle.service_events.specs.Fates.{is_steady};
 ghost use Rattle.service_history.specs.History.{IsHistory};
 ghost use Rattle.service_history.specs.Windows.{total};
-ghost use Rattle.service_machine.specs.declared.event.Output.TheVariants as output;
+ghost use Rattle.service_events.specs.declared.event.Output.TheVariants as output;
 ghost use Rattle.service_desk.specs.Places.{Looks, Extends};
 ghost use Rattle.service_desk.specs.Calls.{Arrives, Finishes, IsRefusal, Leaves, Takes, Goes};
 ghost use Rattle.shared_turn.specs.Passes.{outside, recorded};

@@ -1,12 +1,13 @@
 use Rattle.std.proofs.Common.{◌≡◌, ◌++◌, Option, ap, subst, sym, ◌∙◌}
 use Rattle.secret_calls.specs.declared.work.Work.{Work}
-use Rattle.service_machine.specs.declared.event.Output.TheVariants.{Arrived}
-use Rattle.service_machine.specs.Fates.{with_fates, AreFaultless, is_steady}
+use Rattle.service_events.specs.declared.event.Output.TheVariants.{Arrived}
+use Rattle.service_events.specs.Fates.{with_fates, AreFaultless, is_steady}
 use Rattle.service_machine.specs.Rows.{disk_of, rows_of}
-use Rattle.service_machine.specs.Run.{asked}
-use Rattle.service_machine.specs.Step.{Fits, brought_by, output_of, plan_of, replies, step, with_delivered, work_of}
-use Rattle.service_machine.specs.Stored.{StoresEvent, fates_in, fates_of}
-use Rattle.service_machine.proofs.LeadsLemmas.{leads-fits, leads-stepped, leads-stores, leads-work}
+use Rattle.service_events.specs.Run.{asked}
+use Rattle.service_events.specs.Step.{Fits, brought_by, output_of, plan_of, replies, step, with_delivered, work_of}
+use Rattle.service_events.specs.Stored.{StoresEvent}
+use Rattle.service_calls.specs.Done.{fates_in, fates_of}
+use Rattle.service_calls.proofs.LeadsLemmas.{leads-fits, leads-stepped, leads-stores, leads-work}
 use Rattle.service_machine.proofs.SteadyLemmas.{stores-faultless, stores-steady}
 use Rattle.service_machine.proofs.machine.Machine.arrive.Goals as goal
 
@@ -18,7 +19,7 @@ returns-clause-stepped g c =
     let arrival = c.args.arrival.now in
     let old = rows_of c.args.self.now in
     let done = c.in_ok-call.field-0 in
-    let same : rows_of (record c.args.self.now { connections = c.reserve.new.self }) ≡ old =
+    let same : rows_of (record c.args.self.now { tables = record c.args.self.now.tables { connections = c.reserve.new.self } }) ≡ old =
     λ i. record old { connections = record { rows = c.reserve.ensures.unchanged i; next = c.reserve.ensures.next i } } in
     let fates : c.new.result ≡ fates_in done =
     c.new.ensures ∙ c.with_fates.ensures
@@ -37,7 +38,7 @@ returns-clause-fits g c =
     let arrival = c.args.arrival.now in
     let old = rows_of c.args.self.now in
     let done = c.in_ok-call.field-0 in
-    let same : rows_of (record c.args.self.now { connections = c.reserve.new.self }) ≡ old =
+    let same : rows_of (record c.args.self.now { tables = record c.args.self.now.tables { connections = c.reserve.new.self } }) ≡ old =
     λ i. record old { connections = record { rows = c.reserve.ensures.unchanged i; next = c.reserve.ensures.next i } } in
     let fates : c.new.result ≡ fates_in done =
     c.new.ensures ∙ c.with_fates.ensures
@@ -55,7 +56,7 @@ returns-clause-work g c =
     let request = arrival.request in
     let old = rows_of c.args.self.now in
     let done = c.in_ok-call.field-0 in
-    let same : rows_of (record c.args.self.now { connections = c.reserve.new.self }) ≡ old =
+    let same : rows_of (record c.args.self.now { tables = record c.args.self.now.tables { connections = c.reserve.new.self } }) ≡ old =
     λ i. record old { connections = record { rows = c.reserve.ensures.unchanged i; next = c.reserve.ensures.next i } } in
     let fates : c.new.result ≡ fates_in done =
     c.new.ensures ∙ c.with_fates.ensures
@@ -76,7 +77,7 @@ returns-clause-disk g c =
     let old = rows_of c.args.self.now in
     let disk = disk_of c.args.self.now in
     let done = c.in_ok-call.field-0 in
-    let same : rows_of (record c.args.self.now { connections = c.reserve.new.self }) ≡ old =
+    let same : rows_of (record c.args.self.now { tables = record c.args.self.now.tables { connections = c.reserve.new.self } }) ≡ old =
     λ i. record old { connections = record { rows = c.reserve.ensures.unchanged i; next = c.reserve.ensures.next i } } in
     let fates : c.new.result ≡ fates_in done =
     c.new.ensures ∙ c.with_fates.ensures
@@ -92,7 +93,7 @@ returns-clause-faultless g c = λ steady.
     let folder = g.F.Folder in
     let slot = g.F.Cell.Slot in
     let arrival = c.args.arrival.now in
-    let before = rows_of (record c.args.self.now { connections = c.reserve.new.self }) in
+    let before = rows_of (record c.args.self.now { tables = record c.args.self.now.tables { connections = c.reserve.new.self } }) in
     let done = c.in_ok-call.field-0 in
     let leads = c.in_ok-call.ensures.leads in
     let fates : c.new.result ≡ fates_in done =
@@ -107,7 +108,7 @@ returns-clause-steady g c =
     let folder = g.F.Folder in
     let slot = g.F.Cell.Slot in
     let arrival = c.args.arrival.now in
-    let before = rows_of (record c.args.self.now { connections = c.reserve.new.self }) in
+    let before = rows_of (record c.args.self.now { tables = record c.args.self.now.tables { connections = c.reserve.new.self } }) in
     let done = c.in_ok-call.field-0 in
     let leads = c.in_ok-call.ensures.leads in
     ap (is_steady g.F.Folder.is_steady slot.is_steady) c.reply.ensures.disk

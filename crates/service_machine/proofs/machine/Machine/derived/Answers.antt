@@ -1,14 +1,16 @@
 use Rattle.std.proofs.Common.{◌≡◌, ◌++◌, sym, ap, subst, ◌∙◌}
 use Rattle.service_tables.specs.Connections.{HasRoomFor, delivered}
-use Rattle.service_machine.specs.declared.event.Derivation.{Derivation}
+use Rattle.service_events.specs.declared.event.Derivation.{Derivation}
+use Rattle.service_calls.specs.Rows.{disk_of as disk_with, rows_of as rows_in}
 use Rattle.service_machine.specs.Rows.{disk_of, rows_of}
-use Rattle.service_machine.specs.Stored.{fates_of, settled_fates}
+use Rattle.service_calls.specs.Done.{fates_of}
+use Rattle.service_answers.specs.Settled.{settled_fates}
 use Rattle.service_machine.proofs.RecordedLemmas.{from-key, key-faultless, key-fits, key-steady, key-stepped, key-stores}
 use Rattle.service_machine.proofs.machine.Machine.derived.Goals as goal
 
 -- there is room for what is sent
 pub deliver-requires : goal.deliver-requires
-deliver-requires g c = subst (λ sends. HasRoomFor sends c.settle.new.self.connections.rooms) (sym (c.into_vec.ensures ∙ c.into_parts-sends.ensures.sends)) c.in_ok-made.ensures.room
+deliver-requires g c = subst (λ sends. HasRoomFor sends c.settle.new.tables.connections.rooms) (sym (c.into_vec.ensures ∙ c.into_parts-sends.ensures.sends)) c.in_ok-made.ensures.room
 
 -- it is recorded with its types and its fates
 pub returns-clause-fits : goal.returns-clause-fits
@@ -17,9 +19,9 @@ returns-clause-fits g c =
     let slot = g.F.Cell.Slot in
     let key = c.args.brought.done.key in
     let old = rows_of c.args.self.now in
-    let mid = rows_of c.settle.new.self in
+    let mid = rows_in c.settle.new.tables in
     let disk = disk_of c.args.self.now in
-    let new = disk_of c.settle.new.self in
+    let new = disk_with c.settle.new.tables in
     let settled = c.in_ok-made.field-0 in
     let came : Derivation = record {
       conn = c.args.brought.conn;
@@ -46,9 +48,9 @@ returns-clause-stepped g c =
     let slot = g.F.Cell.Slot in
     let key = c.args.brought.done.key in
     let old = rows_of c.args.self.now in
-    let mid = rows_of c.settle.new.self in
+    let mid = rows_in c.settle.new.tables in
     let disk = disk_of c.args.self.now in
-    let new = disk_of c.settle.new.self in
+    let new = disk_with c.settle.new.tables in
     let settled = c.in_ok-made.field-0 in
     let came : Derivation = record {
       conn = c.args.brought.conn;
@@ -75,9 +77,9 @@ returns-clause-disk g c =
     let slot = g.F.Cell.Slot in
     let key = c.args.brought.done.key in
     let old = rows_of c.args.self.now in
-    let mid = rows_of c.settle.new.self in
+    let mid = rows_in c.settle.new.tables in
     let disk = disk_of c.args.self.now in
-    let new = disk_of c.settle.new.self in
+    let new = disk_with c.settle.new.tables in
     let settled = c.in_ok-made.field-0 in
     let came : Derivation = record {
       conn = c.args.brought.conn;
@@ -102,9 +104,9 @@ returns-clause-faultless g c =
     let slot = g.F.Cell.Slot in
     let key = c.args.brought.done.key in
     let old = rows_of c.args.self.now in
-    let mid = rows_of c.settle.new.self in
+    let mid = rows_in c.settle.new.tables in
     let disk = disk_of c.args.self.now in
-    let new = disk_of c.settle.new.self in
+    let new = disk_with c.settle.new.tables in
     let settled = c.in_ok-made.field-0 in
     let came : Derivation = record {
       conn = c.args.brought.conn;
@@ -129,9 +131,9 @@ returns-clause-steady g c =
     let slot = g.F.Cell.Slot in
     let key = c.args.brought.done.key in
     let old = rows_of c.args.self.now in
-    let mid = rows_of c.settle.new.self in
+    let mid = rows_in c.settle.new.tables in
     let disk = disk_of c.args.self.now in
-    let new = disk_of c.settle.new.self in
+    let new = disk_with c.settle.new.tables in
     let settled = c.in_ok-made.field-0 in
     let came : Derivation = record {
       conn = c.args.brought.conn;

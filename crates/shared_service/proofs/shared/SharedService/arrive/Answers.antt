@@ -1,8 +1,8 @@
 use Rattle.std.proofs.Common.{◌≡◌, Option, Some, IfOk, OnErr, IfErr, ap, ◌∙◌, subst}
 use Rattle.secret_calls.specs.declared.work.Work.{Work}
-use Rattle.service_machine.specs.declared.event.Arrival.{Arrival}
-use Rattle.service_machine.specs.declared.event.Event.{Event}
-use Rattle.service_machine.specs.Fates.{with_fates, is_steady}
+use Rattle.service_events.specs.declared.event.Arrival.{Arrival}
+use Rattle.service_events.specs.declared.event.Event.{Event}
+use Rattle.service_events.specs.Fates.{with_fates, is_steady}
 use Rattle.service_history.specs.History.{StoresOn, StoresRequest}
 use Rattle.service_desk.specs.Views.{View}
 use Rattle.service_desk.specs.Places.{Looks}

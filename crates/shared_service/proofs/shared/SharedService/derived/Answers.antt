@@ -1,7 +1,7 @@
 use Rattle.std.proofs.Common.{◌≡◌, Some, OnOk, OnErr, IfErr, ap, ◌∙◌, subst}
-use Rattle.service_machine.specs.declared.event.BroughtKey.{BroughtKey}
-use Rattle.service_machine.specs.declared.event.Event.{Event}
-use Rattle.service_machine.specs.Fates.{is_steady}
+use Rattle.service_events.specs.declared.event.BroughtKey.{BroughtKey}
+use Rattle.service_events.specs.declared.event.Event.{Event}
+use Rattle.service_events.specs.Fates.{is_steady}
 use Rattle.service_history.specs.History.{StoresKey, StoresOn}
 use Rattle.service_desk.specs.Views.{View}
 use Rattle.service_desk.specs.Places.{Looks}

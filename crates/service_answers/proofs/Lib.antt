@@ -1,0 +1,4 @@
+pub mod AnswerLemmas
+pub mod DerivedLemmas
+pub mod FollowedLemmas
+pub mod NewLemmas

@@ -1,0 +1,62 @@
+use Rattle.std.proofs.Common.{◌≡◌, true, false, [], ◌∷◌, sym, ap, subst, ◌∙◌}
+use Rattle.std.proofs.lemmas.List.{append-nil}
+use Rattle.collection_table.specs.Rows.{has}
+use Rattle.secret_calls.specs.declared.out.Body.TheVariants as body
+use Rattle.service_tables.specs.Desks.{Table}
+use Rattle.service_events.specs.Plan.{Go_on}
+use Rattle.service_calls.specs.Rows.{disk_of, rows_of}
+use Rattle.service_events.specs.Run.{asked, sent_by}
+use Rattle.service_calls.specs.Done.{HasRoomToReply}
+use Rattle.service_calls.specs.declared.storing.Done.{Done}
+use Rattle.service_answers.proofs.AnswerLemmas.{small-empty, target-gone, target-locked, taken-round, taken-there}
+use Rattle.service_calls.proofs.LeadsLemmas.{leads-as, leads-changes, room-alone}
+use Rattle.service_answers.proofs.answering.answer_found.Goals as goal
+
+pub go_on_now-requires-clause-there : goal.go_on_now-requires-clause-there
+go_on_now-requires-clause-there g c = taken-there c.args.prompt c.args.round c.args.conn c.args.tables.now.prompts c.requires.taken
+
+pub go_on_now-requires-clause-round : goal.go_on_now-requires-clause-round
+go_on_now-requires-clause-round g c = taken-round c.args.prompt c.args.round c.args.conn c.args.tables.now.prompts c.requires.taken c.requires.below
+
+-- the collection is there, and locked
+pub returns-then-has-clause-leads : goal.returns-then-has-clause-leads
+returns-then-has-clause-leads g c = λ brought.
+    let folder = g.F.Folder in
+    let slot = g.F.Cell.Slot in
+    let conn = c.args.conn in
+    let old = rows_of c.args.tables.now in
+    let there : has c.args.stem.now old.collections ≡ true = sym c.has.ensures ∙ c.if-has.true in
+    leads-as folder.is_honest folder.is_steady folder.faults folder.images folder.may_leave folder.made slot.is_honest slot.is_steady slot.faults slot.moment slot.left_since slot.may_leave conn brought old _ (disk_of c.args.tables.now) _ _ _ _
+    (target-locked c.args.prompt c.args.round (asked conn brought old) c.args.stem.now there c.requires.locked) (c.derive.ensures.leads brought)
+
+pub returns-then-has-clause-room : goal.returns-then-has-clause-room
+returns-then-has-clause-room g c =
+    let conn = c.args.conn in
+    let rooms = c.args.tables.now.connections.rooms in
+    subst (λ (table : Table). HasRoomToReply conn c.derive.result.sends table.rooms) (sym c.derive.ensures.room)
+    (subst (λ sends. HasRoomToReply conn sends rooms) (sym c.derive.ensures.silent) (room-alone conn c.args.sends.items rooms c.requires.room))
+
+-- it is gone
+pub returns-clause-leads : goal.returns-clause-leads
+returns-clause-leads g c = λ brought.
+    let folder = g.F.Folder in
+    let slot = g.F.Cell.Slot in
+    let conn = c.args.conn in
+    let prompt = c.args.prompt in
+    let old = rows_of c.args.tables.now in
+    let disk = disk_of c.args.tables.now in
+    let gone : has c.args.stem.now old.collections ≡ false = sym c.has.ensures ∙ c.if-has.false in
+    let done = c.sending.result in
+    let sent = ap (λ (d : Done). d.sends) c.sending.ensures ∙ c.requires.sends gone in
+    leads-as folder.is_honest folder.is_steady folder.faults folder.images folder.may_leave folder.made slot.is_honest slot.is_steady slot.faults slot.moment slot.left_since slot.may_leave conn brought old _ disk _ _ _ _
+    (target-gone prompt c.args.round (asked conn brought old) c.args.stem.now gone)
+    (leads-changes folder.is_honest folder.is_steady folder.faults folder.images folder.may_leave folder.made slot.is_honest slot.is_steady slot.faults slot.moment slot.left_since slot.may_leave conn brought old _ disk _ body.Empty (Go_on prompt ∷ []) done
+    (ap (λ (d : Done). d.answer) c.sending.ensures) (sent ∙ sym (append-nil (sent_by conn (Go_on prompt) old))) (ap (λ (d : Done). d.read) c.sending.ensures) (ap (λ (d : Done). d.fate) c.sending.ensures)
+    small-empty c.go_on_now.ensures.rows c.go_on_now.ensures.disk)
+
+pub returns-clause-room : goal.returns-clause-room
+returns-clause-room g c =
+    let conn = c.args.conn in
+    let rooms = c.args.tables.now.connections.rooms in
+    subst (λ (table : Table). HasRoomToReply conn c.sending.result.sends table.rooms) (sym c.go_on_now.ensures.room)
+    (subst (λ sends. HasRoomToReply conn sends rooms) (sym (ap (λ (done : Done). done.sends) c.sending.ensures)) c.requires.room)

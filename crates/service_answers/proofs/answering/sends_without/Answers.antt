@@ -1,0 +1,26 @@
+use Rattle.std.proofs.Common.{◌≡◌, Some, sym, ap, ◌∙◌}
+use Rattle.std.specs.Option.{option_copied}
+use Rattle.collection_table.specs.Entries.{without}
+use Rattle.prompt_state.specs.Prompts.{row_at}
+use Rattle.service_tables.specs.Opened.{contents_of}
+use Rattle.service_tables.specs.Reading.{asked_collections}
+use Rattle.service_events.specs.PromptCalls.{advance_sent, go_on_sent, passed_kind}
+use Rattle.service_calls.specs.Rows.{rows_of}
+use Rattle.service_answers.proofs.AnswerLemmas.{sent-without}
+use Rattle.service_calls.proofs.LeadsLemmas.{map-ok}
+use Rattle.service_answers.proofs.answering.sends_without.Goals as goal
+
+-- the prompt is there, and the collection that it is asked for is another one
+pub returns : goal.returns
+returns g c =
+    let old = rows_of c.args.tables.now in
+    let row = c.in-Some.row.now in
+    let stem = c.args.stem.now in
+    let rest = without stem old.collections in
+    let asked = asked_collections (record (contents_of old) { collections = rest }) in
+    let found : row_at c.args.prompt old.prompts ≡ Some row = sym c.row.ensures.row ∙ ap option_copied c.in-Some.is in
+    let kind : c.pass_kind_without.new.kind ≡ passed_kind asked row.kind = c.pass_kind_without.ensures ∙ ap (passed_kind asked) c.in_ok-kind.ensures in
+    map-ok c.advance_sent.result _ _
+    (λ sends is. is ∙ ap (λ k. advance_sent old.collections row k old.prompts.agent) kind ∙ sent-without stem (contents_of old) row row.kind old.prompts.agent
+    ∙ sym (ap (go_on_sent asked rest old.prompts.agent) found))
+    c.advance_sent.ensures

@@ -1,0 +1,580 @@
+// The agent's call Answer (docs/SERVICE.md, "Interfaces" and "Prompts"), and the work that it gives.
+ghost use Rattle.std.specs.Prelude.{◌≡◌, ℕ, ◌<◌, ◌≤◌, List, [], None, Some, Ok, true, false, IfOk, OnErr};
+ghost use Rattle.std.specs.Option.{is_some, option_map};
+ghost use Rattle.kr_base.specs.Attributes.{is_name, value_at};
+ghost use Rattle.collection_table.specs.Entries.{without};
+ghost use Rattle.collection_table.specs.Rows.{has, is_open};
+ghost use Rattle.prompt_state.specs.Prompts.{first_of_row, last_round, next_round, refusal, row_at};
+ghost use Rattle.service_disk.specs.Resolving.{is_doubtful};
+ghost use Rattle.service_events.specs.AnswerCalls.{answer_prompt, creates_row, deriving_key, going_on, row_answered, target_answered, target_settled};
+ghost use Rattle.service_events.specs.Plan.{Go_on};
+ghost use Rattle.service_events.specs.PromptCalls.{go_on_sent, passed, passed_kind};
+ghost use Rattle.service_calls.specs.Rows.{disk_of, rows_of};
+ghost use Rattle.service_events.specs.Run.{asked, performed, sent_by};
+ghost use Rattle.service_events.specs.Step.{answer_work, file_terms, password_in, prompt_work, row_terms, terms_for, work_of};
+ghost use Rattle.service_calls.specs.Done.{HasRoomToReply, Leads};
+ghost use Rattle.service_tables.specs.Connections.{HasRoom};
+ghost use Rattle.service_tables.specs.Disk.{contents_in};
+ghost use Rattle.service_tables.specs.Opened.{contents_of};
+ghost use Rattle.service_tables.specs.Reading.{asked_collections};
+ghost use Rattle.service_tables.specs.Storing.{Brought};
+
+use kr_base::{Bytes, ConnId, OutOfMemory, PromptId, Stem};
+use kr_outside::Folder;
+use prompt_state::{PromptKind, Targets};
+use secret_calls::{Body, Call, Request, Work};
+use service_calls::{
+    Answer, Done, Tables, error_for, pass_kind, refused, sending, unread, unstored,
+};
+use service_disk::{is_doubtful, prepare_resolve, resolve};
+use service_tables::{Disk, Fate, Sent};
+use std::cmp::Ordering;
+
+/// An answer in this round ends its prompt.
+const LAST_ROUND: u64 = 18_446_744_073_709_551_615;
+
+/// How often the password of a new collection is hashed.
+pub const NEW_ITERATIONS: u32 = 10_000;
+
+/// The password that a request brings, if it is an answer.
+pub fn password_in(request: &Request) -> Result<Option<Bytes>, OutOfMemory>
+    ensures { IfOk result (λ password. password ≡ password_in request.now.call) }
+{
+    match &request.call {
+        Ok(Call::Answer { password, .. }) => Ok(Some(password.copy()?)),
+        _ => Ok(None),
+    }
+}
+
+// Whether a stem is the other one.
+fn is_same(stem: &Stem, other: &Stem) -> bool
+    ensures { result ≡ is_name stem.now other.now }
+{
+    match stem.cmp(other) {
+        Ordering::Equal => true,
+        _ => false,
+    }
+}
+
+// Whether there is a collection of the other stem, if that of a stem weren't there.
+fn has_without<F: Folder>(disk: &Disk<F>, stem: &Stem, other: &Stem) -> bool
+    ensures { result ≡ has other.now (without stem.now (contents_in disk.now).collections) }
+{
+    if is_same(stem, other) {
+        return false;
+    }
+    disk.collections.has(other)
+}
+
+// Whether it is unlocked.
+fn is_open_without<F: Folder>(disk: &Disk<F>, stem: &Stem, other: &Stem) -> bool
+    ensures { result ≡ is_open other.now (without stem.now (contents_in disk.now).collections) }
+{
+    if is_same(stem, other) {
+        return false;
+    }
+    disk.collections.is_open(other)
+}
+
+// Passes over the first targets that are left, as if the collection of a stem weren't there. It takes no memory.
+fn pass_over_without<F: Folder>(disk: &Disk<F>, stem: &Stem, targets: &mut Targets)
+    ensures { targets.new ≡ passed (asked_collections (record (contents_in disk.now) {
+      collections = without stem.now (contents_in disk.now).collections;
+    })) targets.old.done targets.old.left }
+{
+    while let Some(target) = targets.first() {
+        let there = has_without(disk, stem, &target.stem);
+        let open = is_open_without(disk, stem, &target.stem);
+        if there && !open {
+            return;
+        }
+        if there {
+            targets.finish_first();
+        } else {
+            targets.drop_first();
+        }
+    }
+}
+
+// The same for what a prompt is for.
+fn pass_kind_without<F: Folder>(disk: &Disk<F>, stem: &Stem, kind: &mut PromptKind)
+    ensures { kind.new ≡ passed_kind (asked_collections (record (contents_in disk.now) {
+      collections = without stem.now (contents_in disk.now).collections;
+    })) kind.old }
+{
+    match kind {
+        PromptKind::Unlock(targets) => pass_over_without(disk, stem, targets),
+        PromptKind::Create { .. } => {}
+    }
+}
+
+// What a key is derived with besides the password: the salt and the iterations of a collection's file. It takes no
+// memory.
+fn file_terms<F: Folder>(disk: &Disk<F>, stem: &Stem) -> Option<([u8; 8], u32)>
+    ensures { option_map (λ terms. record { salt = terms.0; iterations = terms.1 }) result
+        ≡ option_map file_terms (value_at stem.now (contents_in disk.now).collections) }
+{
+    match disk.collections.get(stem) {
+        Some(collection) => Some((collection.salt(), collection.iterations())),
+        None => None,
+    }
+}
+
+// The same for what a prompt is for: those of the file of its first target, or those of a new collection.
+fn kind_terms<F: Folder>(disk: &Disk<F>, kind: &PromptKind) -> Option<([u8; 8], u32)>
+    ensures { option_map (λ terms. record { salt = terms.0; iterations = terms.1 }) result
+        ≡ terms_for (contents_in disk.now).collections kind.now }
+{
+    match kind {
+        PromptKind::Unlock(targets) => match targets.first() {
+            Some(target) => file_terms(disk, &target.stem),
+            None => None,
+        },
+        PromptKind::Create { salt, .. } => Some((*salt, NEW_ITERATIONS)),
+    }
+}
+
+/// Performs the row of Answer. All memory is taken before the first call of the device.
+pub fn answer_prompt<F: Folder>(
+    tables: &mut Tables<F>,
+    conn: ConnId,
+    prompt: Option<PromptId>,
+    round: u64,
+) -> Result<Done, OutOfMemory>
+    requires { HasRoom 1 conn tables.old.connections.rooms }
+    ensures leads { IfOk result (λ done. (brought : Brought)
+        → Leads F.is_honest F.is_steady F.faults F.images
+        F.may_leave F.made F.Cell.is_honest F.Cell.is_steady
+        F.Cell.faults F.Cell.moment
+        F.Cell.left_since F.Cell.may_leave conn brought
+        (answer_prompt prompt round (asked conn brought (rows_of tables.old)))
+        (rows_of tables.old) (rows_of tables.new) (disk_of tables.old) (disk_of tables.new) done) }
+    ensures room { IfOk result (λ done.
+        HasRoomToReply conn done.sends tables.new.connections.rooms) }
+    ensures unchanged { OnErr result ((rows_of tables.new ≡ rows_of tables.old)
+        × (disk_of tables.new ≡ disk_of tables.old)) }
+{
+    let Some(prompt) = prompt else {
+        return Ok(tables.refuse_none(conn));
+    };
+    match tables.prompts.refusal(prompt, round, conn) {
+        Some(why) => Ok(refused(tables.alloc, error_for(why))),
+        None => take_answer(tables, conn, prompt, round),
+    }
+}
+
+// Takes an answer that isn't refused.
+fn take_answer<F: Folder>(
+    tables: &mut Tables<F>,
+    conn: ConnId,
+    prompt: PromptId,
+    round: u64,
+) -> Result<Done, OutOfMemory>
+    requires taken { refusal prompt round conn (rows_of tables.old).prompts ≡ None }
+    requires room { HasRoom 1 conn tables.old.connections.rooms }
+    ensures leads { IfOk result (λ done. (brought : Brought)
+        → Leads F.is_honest F.is_steady F.faults F.images
+        F.may_leave F.made F.Cell.is_honest F.Cell.is_steady
+        F.Cell.faults F.Cell.moment
+        F.Cell.left_since F.Cell.may_leave conn brought
+        (row_answered prompt round (row_at prompt (rows_of tables.old).prompts)
+        (asked conn brought (rows_of tables.old)))
+        (rows_of tables.old) (rows_of tables.new) (disk_of tables.old) (disk_of tables.new) done) }
+    ensures room { IfOk result (λ done.
+        HasRoomToReply conn done.sends tables.new.connections.rooms) }
+    ensures unchanged { OnErr result ((rows_of tables.new ≡ rows_of tables.old)
+        × (disk_of tables.new ≡ disk_of tables.old)) }
+{
+    if round == LAST_ROUND {
+        return tables.end_dismissed(conn, prompt);
+    }
+    let first = first_stem(tables, prompt)?;
+    match first {
+        Some(stem) => answer_target(tables, conn, prompt, round, &stem),
+        None => answer_without_target(tables, conn, prompt, round),
+    }
+}
+
+// The answer to a prompt that is asked for no collection that is there: one that creates a collection.
+fn answer_without_target<F: Folder>(
+    tables: &mut Tables<F>,
+    conn: ConnId,
+    prompt: PromptId,
+    round: u64,
+) -> Result<Done, OutOfMemory>
+    requires taken { refusal prompt round conn (rows_of tables.old).prompts ≡ None }
+    requires below { round < last_round }
+    requires none { first_of_row (row_at prompt (rows_of tables.old).prompts) ≡ None }
+    requires room { HasRoom 1 conn tables.old.connections.rooms }
+    ensures leads { IfOk result (λ done. (brought : Brought)
+        → Leads F.is_honest F.is_steady F.faults F.images
+        F.may_leave F.made F.Cell.is_honest F.Cell.is_steady
+        F.Cell.faults F.Cell.moment
+        F.Cell.left_since F.Cell.may_leave conn brought
+        (row_answered prompt round (row_at prompt (rows_of tables.old).prompts)
+        (asked conn brought (rows_of tables.old)))
+        (rows_of tables.old) (rows_of tables.new) (disk_of tables.old) (disk_of tables.new) done) }
+    ensures room { IfOk result (λ done.
+        HasRoomToReply conn done.sends tables.new.connections.rooms) }
+    ensures unchanged { OnErr result ((rows_of tables.new ≡ rows_of tables.old)
+        × (disk_of tables.new ≡ disk_of tables.old)) }
+{
+    if creates(tables, prompt) {
+        return Ok(derive(tables, conn, prompt, round));
+    }
+    go_on_alone(tables, conn, prompt)
+}
+
+// The answer to a prompt that is asked for the collection of a stem.
+fn answer_target<F: Folder>(
+    tables: &mut Tables<F>,
+    conn: ConnId,
+    prompt: PromptId,
+    round: u64,
+    stem: &Stem,
+) -> Result<Done, OutOfMemory>
+    requires taken { refusal prompt round conn (rows_of tables.old).prompts ≡ None }
+    requires below { round < last_round }
+    requires room { HasRoom 1 conn tables.old.connections.rooms }
+    ensures leads { IfOk result (λ done. (brought : Brought)
+        → Leads F.is_honest F.is_steady F.faults F.images
+        F.may_leave F.made F.Cell.is_honest F.Cell.is_steady
+        F.Cell.faults F.Cell.moment
+        F.Cell.left_since F.Cell.may_leave conn brought
+        (target_settled prompt round stem.now (asked conn brought (rows_of tables.old)))
+        (rows_of tables.old) (rows_of tables.new) (disk_of tables.old) (disk_of tables.new) done) }
+    ensures room { IfOk result (λ done.
+        HasRoomToReply conn done.sends tables.new.connections.rooms) }
+    ensures unchanged { OnErr result ((rows_of tables.new ≡ rows_of tables.old)
+        × (disk_of tables.new ≡ disk_of tables.old)) }
+{
+    if is_doubtful(&tables.disk, stem) {
+        return answer_in_doubt(tables, conn, prompt, round, stem);
+    }
+    answer_known(tables, conn, prompt, round, stem)
+}
+
+// The same of a collection whose file is known.
+fn answer_known<F: Folder>(
+    tables: &mut Tables<F>,
+    conn: ConnId,
+    prompt: PromptId,
+    round: u64,
+    stem: &Stem,
+) -> Result<Done, OutOfMemory>
+    requires taken { refusal prompt round conn (rows_of tables.old).prompts ≡ None }
+    requires below { round < last_round }
+    requires room { HasRoom 1 conn tables.old.connections.rooms }
+    ensures leads { IfOk result (λ done. (brought : Brought)
+        → Leads F.is_honest F.is_steady F.faults F.images
+        F.may_leave F.made F.Cell.is_honest F.Cell.is_steady
+        F.Cell.faults F.Cell.moment
+        F.Cell.left_since F.Cell.may_leave conn brought
+        (target_answered prompt round stem.now (asked conn brought (rows_of tables.old)))
+        (rows_of tables.old) (rows_of tables.new) (disk_of tables.old) (disk_of tables.new) done) }
+    ensures room { IfOk result (λ done.
+        HasRoomToReply conn done.sends tables.new.connections.rooms) }
+    ensures unchanged { OnErr result ((rows_of tables.new ≡ rows_of tables.old)
+        × (disk_of tables.new ≡ disk_of tables.old)) }
+{
+    if !tables.disk.collections.has(stem) {
+        return go_on_alone(tables, conn, prompt);
+    }
+    if tables.disk.collections.is_open(stem) {
+        return go_on_alone(tables, conn, prompt);
+    }
+    Ok(derive(tables, conn, prompt, round))
+}
+
+// The same of a collection whose file is in doubt. What is sent if the collection is found to be gone is made
+// before the file is read.
+fn answer_in_doubt<F: Folder>(
+    tables: &mut Tables<F>,
+    conn: ConnId,
+    prompt: PromptId,
+    round: u64,
+    stem: &Stem,
+) -> Result<Done, OutOfMemory>
+    requires taken { refusal prompt round conn (rows_of tables.old).prompts ≡ None }
+    requires below { round < last_round }
+    requires doubt { is_doubtful stem.now (rows_of tables.old).collections ≡ true }
+    requires room { HasRoom 1 conn tables.old.connections.rooms }
+    ensures leads { IfOk result (λ done. (brought : Brought)
+        → Leads F.is_honest F.is_steady F.faults F.images
+        F.may_leave F.made F.Cell.is_honest F.Cell.is_steady
+        F.Cell.faults F.Cell.moment
+        F.Cell.left_since F.Cell.may_leave conn brought
+        (target_settled prompt round stem.now (asked conn brought (rows_of tables.old)))
+        (rows_of tables.old) (rows_of tables.new) (disk_of tables.old) (disk_of tables.new) done) }
+    ensures room { IfOk result (λ done.
+        HasRoomToReply conn done.sends tables.new.connections.rooms) }
+    ensures unchanged { OnErr result ((rows_of tables.new ≡ rows_of tables.old)
+        × (disk_of tables.new ≡ disk_of tables.old)) }
+{
+    let sends = sends_without(tables, prompt, stem)?;
+    tables.connections.reserve_for(conn, &sends)?;
+    let taken = stem.copy()?;
+    let mut buffer = prepare_resolve(tables.alloc, &mut tables.disk, stem)?;
+    let read = resolve(&mut tables.disk, taken, &mut buffer);
+    match read {
+        Fate::ReadFailed => Ok(unread(tables.alloc, read)),
+        _ => Ok(answer_found(tables, conn, prompt, round, stem, sends).after(read)),
+    }
+}
+
+// The same once the file was read again. What is sent if the collection is gone is given. It takes no memory.
+fn answer_found<F: Folder>(
+    tables: &mut Tables<F>,
+    conn: ConnId,
+    prompt: PromptId,
+    round: u64,
+    stem: &Stem,
+    sends: Vec<Sent>,
+) -> Done
+    requires taken { refusal prompt round conn (rows_of tables.old).prompts ≡ None }
+    requires below { round < last_round }
+    requires locked { is_open stem.now (rows_of tables.old).collections ≡ false }
+    requires sends { has stem.now (rows_of tables.old).collections ≡ false
+        → sends.items ≡ sent_by conn (Go_on prompt) (rows_of tables.old) }
+    requires room { HasRoomToReply conn sends.items tables.old.connections.rooms }
+    ensures leads { (brought : Brought)
+        → Leads F.is_honest F.is_steady F.faults F.images
+        F.may_leave F.made F.Cell.is_honest F.Cell.is_steady
+        F.Cell.faults F.Cell.moment
+        F.Cell.left_since F.Cell.may_leave conn brought
+        (target_answered prompt round stem.now (asked conn brought (rows_of tables.old)))
+        (rows_of tables.old) (rows_of tables.new) (disk_of tables.old) (disk_of tables.new) result }
+    ensures unread { result.read ≡ None }
+    ensures room { HasRoomToReply conn result.sends tables.new.connections.rooms }
+{
+    if tables.disk.collections.has(stem) {
+        return derive(tables, conn, prompt, round);
+    }
+    go_on_now(tables, conn, prompt);
+    sending(Ok(Body::Empty), sends)
+}
+
+// The key for a prompt is derived in the round in which it is asked, which isn't the greatest. It takes no memory.
+fn derive<F: Folder>(tables: &mut Tables<F>, conn: ConnId, prompt: PromptId, round: u64) -> Done
+    requires taken { refusal prompt round conn (rows_of tables.old).prompts ≡ None }
+    requires below { round < last_round }
+    ensures leads { (brought : Brought)
+        → Leads F.is_honest F.is_steady F.faults F.images
+        F.may_leave F.made F.Cell.is_honest F.Cell.is_steady
+        F.Cell.faults F.Cell.moment
+        F.Cell.left_since F.Cell.may_leave conn brought (deriving_key prompt round)
+        (rows_of tables.old) (rows_of tables.new) (disk_of tables.old) (disk_of tables.new) result }
+    ensures silent { result.sends ≡ [] }
+    ensures unread { result.read ≡ None }
+    ensures room { tables.new.connections ≡ tables.old.connections }
+{
+    match tables.prompts.answer(prompt, round, conn) {
+        Ok(_) => unstored(tables.alloc, Ok(Body::Empty)),
+        Err(_) => unreachable!(),
+    }
+}
+
+/// A prompt that is there, and has a next round, advances after it was asked. All memory is taken before the
+/// prompt changes.
+pub fn go_on_alone<F: Folder>(
+    tables: &mut Tables<F>,
+    conn: ConnId,
+    prompt: PromptId,
+) -> Result<Done, OutOfMemory>
+    requires there { is_some (row_at prompt (rows_of tables.old).prompts) ≡ true }
+    requires round { next_round (row_at prompt (rows_of tables.old).prompts) ≤ last_round }
+    ensures leads { IfOk result (λ done. (brought : Brought)
+        → Leads F.is_honest F.is_steady F.faults F.images
+        F.may_leave F.made F.Cell.is_honest F.Cell.is_steady
+        F.Cell.faults F.Cell.moment
+        F.Cell.left_since F.Cell.may_leave conn brought (going_on prompt)
+        (rows_of tables.old) (rows_of tables.new) (disk_of tables.old) (disk_of tables.new) done) }
+    ensures room { IfOk result (λ done.
+        HasRoomToReply conn done.sends tables.new.connections.rooms) }
+    ensures unchanged { OnErr result ((rows_of tables.new ≡ rows_of tables.old)
+        × (disk_of tables.new ≡ disk_of tables.old)) }
+{
+    let sends = go_on_sends(tables, conn, prompt)?;
+    tables.connections.reserve_for(conn, &sends)?;
+    go_on_now(tables, conn, prompt);
+    Ok(sending(Ok(Body::Empty), sends))
+}
+
+// What is sent when a prompt advances that is there and has a next round.
+fn go_on_sends<F: Folder>(
+    tables: &Tables<F>,
+    conn: ConnId,
+    prompt: PromptId,
+) -> Result<Vec<Sent>, OutOfMemory>
+    requires there { is_some (row_at prompt (rows_of tables.now).prompts) ≡ true }
+    requires round { next_round (row_at prompt (rows_of tables.now).prompts) ≤ last_round }
+    ensures { IfOk result (λ sends. sends.items
+        ≡ sent_by conn (Go_on prompt) (rows_of tables.now)) }
+{
+    let _ = conn;
+    let Some(row) = tables.prompts.row(prompt) else {
+        unreachable!();
+    };
+    let mut kind = row.kind.copy()?;
+    pass_kind(&tables.disk, &mut kind);
+    tables.advance_sent(row, row.wrong, &kind)
+}
+
+// The same if the collection of a stem weren't there.
+fn sends_without<F: Folder>(
+    tables: &Tables<F>,
+    prompt: PromptId,
+    stem: &Stem,
+) -> Result<Vec<Sent>, OutOfMemory>
+    requires there { is_some (row_at prompt (rows_of tables.now).prompts) ≡ true }
+    requires round { next_round (row_at prompt (rows_of tables.now).prompts) ≤ last_round }
+    ensures { IfOk result (λ sends. sends.items
+        ≡ go_on_sent (asked_collections (record (contents_of (rows_of tables.now)) {
+          collections = without stem.now (rows_of tables.now).collections;
+        })) (without stem.now (rows_of tables.now).collections)
+        (rows_of tables.now).prompts.agent (row_at prompt (rows_of tables.now).prompts)) }
+{
+    let Some(row) = tables.prompts.row(prompt) else {
+        unreachable!();
+    };
+    let mut kind = row.kind.copy()?;
+    pass_kind_without(&tables.disk, stem, &mut kind);
+    tables.advance_sent(row, row.wrong, &kind)
+}
+
+/// A prompt that is there, and has a next round, advances. It takes no memory.
+pub fn go_on_now<F: Folder>(tables: &mut Tables<F>, conn: ConnId, prompt: PromptId)
+    requires there { is_some (row_at prompt (rows_of tables.old).prompts) ≡ true }
+    requires round { next_round (row_at prompt (rows_of tables.old).prompts) ≤ last_round }
+    ensures rows { rows_of tables.new ≡ performed conn (Go_on prompt) (rows_of tables.old) }
+    ensures room { tables.new.connections ≡ tables.old.connections }
+    ensures disk { disk_of tables.new ≡ disk_of tables.old }
+{
+    tables.pass_targets(conn, prompt);
+    if tables.has_ended(prompt) {
+        let _ended = tables.prompts.end(prompt);
+    } else {
+        let _round = tables.prompts.again(prompt);
+    }
+}
+
+// The stem of the first target of a prompt that is left, if it has targets.
+fn first_stem<F: Folder>(tables: &Tables<F>, prompt: PromptId) -> Result<Option<Stem>, OutOfMemory>
+    ensures { IfOk result (λ stem. stem ≡ option_map (λ target. target.stem)
+        (first_of_row (row_at prompt (rows_of tables.now).prompts))) }
+{
+    match tables.prompts.first_open(prompt) {
+        Some(target) => Ok(Some(target.stem.copy()?)),
+        None => Ok(None),
+    }
+}
+
+// Whether a prompt is there that creates a collection.
+fn creates<F: Folder>(tables: &Tables<F>, prompt: PromptId) -> bool
+    ensures { result ≡ creates_row (row_at prompt (rows_of tables.now).prompts) }
+{
+    match tables.prompts.row(prompt) {
+        Some(row) => match &row.kind {
+            PromptKind::Unlock(_) => false,
+            PromptKind::Create { .. } => true,
+        },
+        None => false,
+    }
+}
+
+// The same for a prompt, if it is there.
+fn terms_for<F: Folder>(tables: &Tables<F>, prompt: PromptId) -> Option<([u8; 8], u32)>
+    ensures { option_map (λ terms. record { salt = terms.0; iterations = terms.1 }) result
+        ≡ row_terms (rows_of tables.now).collections
+        (row_at prompt (rows_of tables.now).prompts) }
+{
+    match tables.prompts.row(prompt) {
+        Some(row) => kind_terms(&tables.disk, &row.kind),
+        None => None,
+    }
+}
+
+/// The work that a request gives which was answered so: a key, if it is an answer that was taken, and the key
+/// for its prompt is to be derived. It takes no memory.
+pub fn work_of<F: Folder>(
+    tables: &Tables<F>,
+    request: &Request,
+    answer: &Answer,
+    password: Option<Bytes>,
+) -> Option<Work>
+    requires { password ≡ password_in request.now.call }
+    ensures { result ≡ work_of request.now.call answer.now (rows_of tables.now) }
+{
+    match &request.call {
+        Ok(call) => work_of_call(tables, call, answer, password),
+        Err(_) => None,
+    }
+}
+
+// The same for a call.
+fn work_of_call<F: Folder>(
+    tables: &Tables<F>,
+    call: &Call,
+    answer: &Answer,
+    password: Option<Bytes>,
+) -> Option<Work>
+    requires { password ≡ password_in (Ok call.now) }
+    ensures { result ≡ work_of (Ok call.now) answer.now (rows_of tables.now) }
+{
+    match call {
+        Call::Answer { prompt, round, .. } => {
+            answer_work(tables, prompt, *round, answer, password)
+        }
+        _ => None,
+    }
+}
+
+// The same for an answer.
+fn answer_work<F: Folder>(
+    tables: &Tables<F>,
+    prompt: &Option<PromptId>,
+    round: u64,
+    answer: &Answer,
+    password: Option<Bytes>,
+) -> Option<Work>
+    ensures { (given : List ℕ) → password ≡ Some given
+        → result ≡ answer_work prompt.now round given answer.now (rows_of tables.now) }
+{
+    let Some(prompt) = *prompt else {
+        return None;
+    };
+    match answer {
+        Ok(_) => prompt_work(tables, prompt, round, password),
+        Err(_) => None,
+    }
+}
+
+// The same for a prompt, if its key is being derived in this round.
+fn prompt_work<F: Folder>(
+    tables: &Tables<F>,
+    prompt: PromptId,
+    round: u64,
+    password: Option<Bytes>,
+) -> Option<Work>
+    ensures { (given : List ℕ) → password ≡ Some given
+        → result ≡ prompt_work prompt round given (rows_of tables.now).collections
+        (row_at prompt (rows_of tables.now).prompts) }
+{
+    if !tables.prompts.derived(prompt, round) {
+        return None;
+    }
+    let Some(terms) = terms_for(tables, prompt) else {
+        return None;
+    };
+    let salt = terms.0;
+    match password {
+        Some(password) => Some(Work {
+            prompt,
+            round,
+            salt,
+            iterations: terms.1,
+            password,
+        }),
+        None => None,
+    }
+}

@@ -1,0 +1,722 @@
+// What becomes of a prompt once the key was derived that its answer asked for (docs/SERVICE.md, "Prompts").
+ghost use Rattle.std.specs.Prelude.{◌↔◌, length, Contains, Ok, ◌≡◌, ◌⊎◌, ◌+◌, ◌^◌, ◌∷◌, ◌<◌, ◌≤◌, ℕ, nat_le, List, Option, [], None, Some, true, false, IsTrue, IfOk, IfNone, IfSome, OnErr, OnOk};
+ghost use Rattle.std.specs.Option.{is_some};
+ghost use Rattle.kr_base.specs.declared.ids.ConnId.{ConnId};
+ghost use Rattle.kr_names.specs.Path.{IsAliasName};
+ghost use Rattle.folder_store.specs.Limits.{the_limits};
+ghost use Rattle.service_tables.specs.Reading.{asked_collections};
+ghost use Rattle.collection_table.specs.Entries.{changed, inserted};
+ghost use Rattle.collection_table.specs.Rows.{CollectionRow, has as has_collection, locked};
+ghost use Rattle.prompt_state.specs.Prompts.{derives_in, last_round, next_round, row_at};
+ghost use Rattle.service_disk.specs.Making.{AreFree, has_room};
+ghost use Rattle.stem_choice.specs.Choice.{chosen};
+ghost use Rattle.service_prompts.specs.Prompting.{completed_sent};
+ghost use Rattle.secret_calls.specs.declared.out.Body.TheVariants as body;
+ghost use Rattle.service_tables.specs.declared.fate.Fate.TheVariants as Fate;
+ghost use Rattle.service_disk.specs.Opening.{opening_of, rows_opened};
+ghost use Rattle.service_disk.specs.declared.opening.Opening.TheVariants as Opening;
+ghost use Rattle.service_events.specs.AliasCalls.{alias_settled};
+ghost use Rattle.service_events.specs.Derivation.{alias_given, can_make, collection_made, making_ended, new_iterations, derived, most_wrong_answers, opening_ended, quietly, wrong_again};
+ghost use Rattle.service_events.specs.Fates.{is_steady};
+ghost use Rattle.service_events.specs.Plan.{After, Asks, Ask_prompt, Clear_wrong, Go_on, Make};
+ghost use Rattle.service_events.specs.PromptCalls.{asks_for};
+ghost use Rattle.service_calls.specs.Rows.{disk_of, rows_of};
+ghost use Rattle.service_events.specs.Run.{asked, sent_all};
+ghost use Rattle.service_answers.specs.Purposes.{IsPurposeOf, SetsAlias};
+ghost use Rattle.service_answers.specs.declared.derived_key.Purpose.TheVariants as Purpose;
+ghost use Rattle.service_events.specs.Stored.{KeepsSlotOrAll};
+ghost use Rattle.service_calls.specs.Done.{HasRoomToReply, Leads};
+ghost use Rattle.service_answers.specs.Settled.{Settles};
+ghost use Rattle.service_tables.specs.Aliases.{IsPreparedFor};
+ghost use Rattle.service_tables.specs.Connections.{HasRoomFor};
+ghost use Rattle.service_tables.specs.Opened.{contents_of};
+ghost use Rattle.service_tables.specs.Sound.{IsSound};
+ghost use Rattle.service_tables.specs.Storing.{Brought};
+
+use crate::answering::{NEW_ITERATIONS, go_on_alone, go_on_now};
+use alias_table::AliasChange;
+use folder_store::LIMITS;
+use key_derivation::Derived;
+use kr_base::{ConnId, OutOfMemory, PromptId, Stem, Text};
+use kr_outside::Folder;
+use prompt_state::{Ask, PromptKind};
+use secret_calls::Body;
+use service_calls::{Done, Tables, pass_kind, sending, unstored};
+use service_disk::{Opening, has_room, make, unlock};
+use service_prompts::{ask_signal, completed_sent};
+use service_tables::{Fate, Sent};
+use std::alloc::Global;
+use stem_choice::chosen_stem;
+
+/// At so many wrong answers, one after the other, a prompt ends.
+const MOST_WRONG_ANSWERS: u32 = 3;
+
+/// What a derived key led to: how the making of a collection ended, if it asked for one, and what is sent, with
+/// how the resolve and the storing of the aliases ended that came after it. The answer in it is sent to no one.
+#[derive(Drop)]
+pub struct Settled {
+    /// How the making of a collection ended.
+    pub made: Option<Fate>,
+    /// What came after it.
+    pub done: Done,
+}
+
+/// What is needed to make a collection that a prompt creates, and for what is sent after that.
+#[derive(Drop)]
+pub struct Prepared {
+    /// The stem of the collection.
+    pub stem: Stem,
+    /// What is sent if it isn't made.
+    pub dismissed: Vec<Sent>,
+    /// What is sent if it is.
+    pub completed: Vec<Sent>,
+    /// The change that sets its alias, if it gets one.
+    pub change: Option<AliasChange>,
+}
+
+/// What a prompt is for, as far as a derived key needs it.
+#[derive(Drop)]
+pub enum Purpose {
+    /// It unlocks the collection of this stem, if one of its targets is left.
+    Unlock(Option<Stem>),
+    /// It creates a collection.
+    Create {
+        /// The label.
+        label: Text,
+        /// The alias, or the empty text.
+        alias: Text,
+        /// The salt.
+        salt: [u8; 8],
+    },
+}
+
+// What is asked for no making.
+fn unmade(done: Done) -> Settled
+    ensures { result ≡ record { made = None; done = done } }
+{
+    Settled { made: None, done }
+}
+
+// What becomes of a key that comes too late.
+fn nothing_done(alloc: Global) -> Settled
+    ensures { result ≡ record {
+      made = None;
+      done = record { answer = Ok body.Empty; sends = []; read = None; fate = None };
+    } }
+{
+    unmade(unstored(alloc, Ok(Body::Empty)))
+}
+
+// Whether one more wrong answer than these is one too many.
+fn is_last_wrong(wrong: u32) -> bool
+    ensures last { result ≡ nat_le most_wrong_answers (wrong + 1) }
+    ensures few { result ≡ false → wrong + 1 < 2 ^ 32 }
+{
+    wrong >= MOST_WRONG_ANSWERS - 1
+}
+
+// Whether a key has the terms of a new collection's whose prompt keeps this salt.
+fn are_terms(salt: &[u8; 8], key: &Derived) -> bool
+    ensures terms { IsTrue result
+        ↔ (key.now.salt ≡ salt.now) × (key.now.iterations ≡ new_iterations) }
+    ensures eight { length key.now.salt ≡ 8 }
+{
+    key.salt() == *salt && key.iterations() == NEW_ITERATIONS
+}
+
+/// Performs what a derived key leads to: its prompt goes on if it still waits for the key, and otherwise nothing happens.
+/// Room is made for what is sent. All memory is taken before the first call of a device.
+///
+/// Refused with `OutOfMemory` alone; a slot that was made for a new collection by then is kept for the next one under
+/// its stem.
+pub fn settle<F: Folder>(
+    tables: &mut Tables<F>,
+    conn: ConnId,
+    prompt: PromptId,
+    round: u64,
+    key: Derived,
+    now: u64,
+) -> Result<Settled, OutOfMemory>
+    requires sound { IsSound (rows_of tables.old) }
+    requires free { AreFree F.is_honest F.images F.may_leave F.made F.Cell.is_honest
+        F.Cell.may_leave (disk_of tables.old) }
+    ensures settles { IfOk result (Settles F.is_honest F.is_steady F.faults F.images
+        F.may_leave F.made F.Cell.is_honest F.Cell.is_steady
+        F.Cell.faults F.Cell.moment F.Cell.left_since F.Cell.may_leave conn
+        (record { now = now; value = key.password })
+        (derived prompt round (record { salt = key.salt; iterations = key.iterations })
+        (asked conn (record { now = now; value = key.password }) (rows_of tables.old)))
+        (rows_of tables.old) (rows_of tables.new) (disk_of tables.old) (disk_of tables.new)) }
+    ensures room { IfOk result (λ settled.
+        HasRoomFor settled.done.sends tables.new.connections.rooms) }
+    ensures free { AreFree F.is_honest F.images F.may_leave F.made F.Cell.is_honest
+        F.Cell.may_leave (disk_of tables.new) }
+    ensures unchanged { OnErr result (rows_of tables.new ≡ rows_of tables.old) }
+    ensures kept { OnErr result (KeepsSlotOrAll F.is_honest F.is_steady F.faults F.images
+        F.may_leave F.made F.Cell.is_honest F.Cell.is_steady F.Cell.faults
+        (disk_of tables.old) (disk_of tables.new)) }
+{
+    if !tables.prompts.derived(prompt, round) {
+        return Ok(nothing_done(tables.alloc));
+    }
+    match purpose_of(tables, prompt)? {
+        Purpose::Unlock(stem) => Ok(unmade(unlock_target(tables, conn, prompt, round, stem, key)?)),
+        Purpose::Create { label, alias, salt } => {
+            create(tables, conn, prompt, label, alias, salt, key, now)
+        }
+    }
+}
+
+// What a prompt is for that is there.
+fn purpose_of<F: Folder>(tables: &Tables<F>, prompt: PromptId) -> Result<Purpose, OutOfMemory>
+    requires { is_some (row_at prompt (rows_of tables.now).prompts) ≡ true }
+    ensures { IfOk result (λ purpose.
+        IsPurposeOf purpose (row_at prompt (rows_of tables.now).prompts)) }
+{
+    let Some(row) = tables.prompts.row(prompt) else {
+        unreachable!();
+    };
+    match &row.kind {
+        PromptKind::Unlock(targets) => match targets.first() {
+            Some(target) => Ok(Purpose::Unlock(Some(target.stem.copy()?))),
+            None => Ok(Purpose::Unlock(None)),
+        },
+        PromptKind::Create { label, alias, salt } => Ok(Purpose::Create {
+            label: label.copy()?,
+            alias: alias.copy()?,
+            salt: *salt,
+        }),
+    }
+}
+
+// ---- a prompt that unlocks
+
+// Tries a key on the collection of a prompt's first target that is left; if none is left, the prompt advances.
+fn unlock_target<F: Folder>(
+    tables: &mut Tables<F>,
+    conn: ConnId,
+    prompt: PromptId,
+    round: u64,
+    stem: Option<Stem>,
+    key: Derived,
+) -> Result<Done, OutOfMemory>
+    requires there { is_some (row_at prompt (rows_of tables.old).prompts) ≡ true }
+    requires round { next_round (row_at prompt (rows_of tables.old).prompts) ≤ last_round }
+    requires derives { derives_in round (row_at prompt (rows_of tables.old).prompts) ≡ true }
+    requires purpose { IsPurposeOf (Purpose.Unlock stem)
+        (row_at prompt (rows_of tables.old).prompts) }
+    ensures leads { IfOk result (λ done. (now : ℕ)
+        → Leads F.is_honest F.is_steady F.faults F.images
+        F.may_leave F.made F.Cell.is_honest F.Cell.is_steady
+        F.Cell.faults F.Cell.moment F.Cell.left_since F.Cell.may_leave conn
+        (record { now = now; value = key.password })
+        (derived prompt round (record { salt = key.salt; iterations = key.iterations })
+        (asked conn (record { now = now; value = key.password }) (rows_of tables.old)))
+        (rows_of tables.old) (rows_of tables.new) (disk_of tables.old) (disk_of tables.new) done) }
+    ensures room { IfOk result (λ done.
+        HasRoomToReply conn done.sends tables.new.connections.rooms) }
+    ensures disk { disk_of tables.new ≡ disk_of tables.old }
+    ensures unchanged { OnErr result ((rows_of tables.new ≡ rows_of tables.old)
+        × (disk_of tables.new ≡ disk_of tables.old)) }
+{
+    match stem {
+        Some(stem) => try_key(tables, conn, prompt, &stem, key),
+        None => go_on_alone(tables, conn, prompt),
+    }
+}
+
+// Tries a key on the collection of a stem, for which the prompt is asked, and which has a next round.
+fn try_key<F: Folder>(
+    tables: &mut Tables<F>,
+    conn: ConnId,
+    prompt: PromptId,
+    stem: &Stem,
+    key: Derived,
+) -> Result<Done, OutOfMemory>
+    requires there { is_some (row_at prompt (rows_of tables.old).prompts) ≡ true }
+    requires round { next_round (row_at prompt (rows_of tables.old).prompts) ≤ last_round }
+    ensures leads { IfOk result (λ done. (now : ℕ) → IfSome
+        (row_at prompt (rows_of tables.old).prompts) (λ row.
+        Leads F.is_honest F.is_steady F.faults F.images
+        F.may_leave F.made F.Cell.is_honest F.Cell.is_steady
+        F.Cell.faults F.Cell.moment F.Cell.left_since F.Cell.may_leave conn
+        (record { now = now; value = key.password })
+        (opening_ended prompt row.wrong stem.now
+        (record { salt = key.salt; iterations = key.iterations })
+        (opening_of key stem.now (rows_of tables.old).collections))
+        (rows_of tables.old) (rows_of tables.new) (disk_of tables.old) (disk_of tables.new) done)) }
+    ensures room { IfOk result (λ done.
+        HasRoomToReply conn done.sends tables.new.connections.rooms) }
+    ensures disk { disk_of tables.new ≡ disk_of tables.old }
+    ensures unchanged { OnErr result ((rows_of tables.new ≡ rows_of tables.old)
+        × (disk_of tables.new ≡ disk_of tables.old)) }
+{
+    match open_with(tables, stem, key)? {
+        Opening::Settled => go_on_alone(tables, conn, prompt),
+        Opening::Unfit => ask_again(tables, conn, prompt),
+        Opening::WrongPassword => count_wrong(tables, conn, prompt),
+        Opening::Damaged => tables.end_dismissed(conn, prompt),
+        Opening::Opened => match go_on_cleared(tables, conn, prompt) {
+            Ok(done) => Ok(done),
+            Err(refused) => {
+                // It was locked before, and nothing else has changed.
+                tables.disk.collections.lock(stem);
+                Err(refused)
+            }
+        },
+    }
+}
+
+// Unlocks the collection of a stem, if the key opens its file, and returns how that ended. It was locked then.
+fn open_with<F: Folder>(
+    tables: &mut Tables<F>,
+    stem: &Stem,
+    key: Derived,
+) -> Result<Opening, OutOfMemory>
+    ensures opening { IfOk result (λ opening.
+        opening ≡ opening_of key stem.now (rows_of tables.old).collections) }
+    ensures opened { OnOk result (rows_of tables.new ≡ record (rows_of tables.old) {
+      collections = rows_opened key stem.now (rows_of tables.old).collections;
+    }) }
+    ensures shut { IfOk result (λ opening. ¬ (opening ≡ Opening.Opened)
+        → rows_of tables.new ≡ rows_of tables.old) }
+    ensures locked { IfOk result (λ opening. opening ≡ Opening.Opened
+        → changed stem.now locked (rows_of tables.new).collections
+        ≡ (rows_of tables.old).collections) }
+    ensures prompts { tables.new.prompts ≡ tables.old.prompts }
+    ensures room { tables.new.connections ≡ tables.old.connections }
+    ensures disk { disk_of tables.new ≡ disk_of tables.old }
+    ensures unchanged { OnErr result (rows_of tables.new ≡ rows_of tables.old) }
+{
+    let _ordered = tables.disk.collections.entries();
+    unlock(&mut tables.disk, stem, key)
+}
+
+// The prompt advances with no wrong answers. All memory is taken before it changes.
+fn go_on_cleared<F: Folder>(
+    tables: &mut Tables<F>,
+    conn: ConnId,
+    prompt: PromptId,
+) -> Result<Done, OutOfMemory>
+    requires there { is_some (row_at prompt (rows_of tables.old).prompts) ≡ true }
+    requires round { next_round (row_at prompt (rows_of tables.old).prompts) ≤ last_round }
+    ensures leads { IfOk result (λ done. (brought : Brought)
+        → Leads F.is_honest F.is_steady F.faults F.images
+        F.may_leave F.made F.Cell.is_honest F.Cell.is_steady
+        F.Cell.faults F.Cell.moment F.Cell.left_since F.Cell.may_leave conn brought
+        (quietly (Clear_wrong prompt ∷ Go_on prompt ∷ []))
+        (rows_of tables.old) (rows_of tables.new) (disk_of tables.old) (disk_of tables.new) done) }
+    ensures room { IfOk result (λ done.
+        HasRoomToReply conn done.sends tables.new.connections.rooms) }
+    ensures unchanged { OnErr result ((rows_of tables.new ≡ rows_of tables.old)
+        × (disk_of tables.new ≡ disk_of tables.old)) }
+{
+    let sends = cleared_sends(tables, conn, prompt)?;
+    tables.connections.reserve_for(conn, &sends)?;
+    tables.prompts.clear_wrong(prompt);
+    go_on_now(tables, conn, prompt);
+    Ok(sending(Ok(Body::Empty), sends))
+}
+
+// What is sent when a prompt advances with no wrong answers.
+fn cleared_sends<F: Folder>(
+    tables: &Tables<F>,
+    conn: ConnId,
+    prompt: PromptId,
+) -> Result<Vec<Sent>, OutOfMemory>
+    requires there { is_some (row_at prompt (rows_of tables.now).prompts) ≡ true }
+    requires round { next_round (row_at prompt (rows_of tables.now).prompts) ≤ last_round }
+    ensures { IfOk result (λ sends. sends.items
+        ≡ sent_all conn (Clear_wrong prompt ∷ Go_on prompt ∷ []) (rows_of tables.now)) }
+{
+    let _ = conn;
+    let Some(row) = tables.prompts.row(prompt) else {
+        unreachable!();
+    };
+    let mut kind = row.kind.copy()?;
+    pass_kind(&tables.disk, &mut kind);
+    tables.advance_sent(row, 0, &kind)
+}
+
+// The prompt is asked again, for the same target. All memory is taken before it changes.
+fn ask_again<F: Folder>(
+    tables: &mut Tables<F>,
+    conn: ConnId,
+    prompt: PromptId,
+) -> Result<Done, OutOfMemory>
+    requires there { is_some (row_at prompt (rows_of tables.old).prompts) ≡ true }
+    requires round { next_round (row_at prompt (rows_of tables.old).prompts) ≤ last_round }
+    ensures leads { IfOk result (λ done. (brought : Brought)
+        → Leads F.is_honest F.is_steady F.faults F.images
+        F.may_leave F.made F.Cell.is_honest F.Cell.is_steady
+        F.Cell.faults F.Cell.moment F.Cell.left_since F.Cell.may_leave conn brought
+        (quietly (Ask_prompt prompt ∷ []))
+        (rows_of tables.old) (rows_of tables.new) (disk_of tables.old) (disk_of tables.new) done) }
+    ensures room { IfOk result (λ done.
+        HasRoomToReply conn done.sends tables.new.connections.rooms) }
+    ensures unchanged { OnErr result ((rows_of tables.new ≡ rows_of tables.old)
+        × (disk_of tables.new ≡ disk_of tables.old)) }
+{
+    let wrong = wrong_of(tables, prompt);
+    let sends = ask_sends(tables, prompt, wrong)?;
+    tables.connections.reserve_for(conn, &sends)?;
+    let _round = tables.prompts.again(prompt);
+    Ok(sending(Ok(Body::Empty), sends))
+}
+
+// One more wrong answer: the prompt is asked again, or ends dismissed if these are too many. All memory is taken
+// before it changes.
+fn count_wrong<F: Folder>(
+    tables: &mut Tables<F>,
+    conn: ConnId,
+    prompt: PromptId,
+) -> Result<Done, OutOfMemory>
+    requires there { is_some (row_at prompt (rows_of tables.old).prompts) ≡ true }
+    requires round { next_round (row_at prompt (rows_of tables.old).prompts) ≤ last_round }
+    ensures leads { IfOk result (λ done. (brought : Brought) → IfSome
+        (row_at prompt (rows_of tables.old).prompts) (λ row.
+        Leads F.is_honest F.is_steady F.faults F.images
+        F.may_leave F.made F.Cell.is_honest F.Cell.is_steady
+        F.Cell.faults F.Cell.moment F.Cell.left_since F.Cell.may_leave conn brought
+        (wrong_again prompt row.wrong)
+        (rows_of tables.old) (rows_of tables.new) (disk_of tables.old) (disk_of tables.new) done)) }
+    ensures room { IfOk result (λ done.
+        HasRoomToReply conn done.sends tables.new.connections.rooms) }
+    ensures disk { disk_of tables.new ≡ disk_of tables.old }
+    ensures unchanged { OnErr result ((rows_of tables.new ≡ rows_of tables.old)
+        × (disk_of tables.new ≡ disk_of tables.old)) }
+{
+    let wrong = wrong_of(tables, prompt);
+    if is_last_wrong(wrong) {
+        return tables.end_dismissed(conn, prompt);
+    }
+    let sends = ask_sends(tables, prompt, wrong + 1)?;
+    tables.connections.reserve_for(conn, &sends)?;
+    let _wrong = tables.prompts.wrong(prompt);
+    let _round = tables.prompts.again(prompt);
+    Ok(sending(Ok(Body::Empty), sends))
+}
+
+// How many wrong answers a prompt has that is there.
+fn wrong_of<F: Folder>(tables: &Tables<F>, prompt: PromptId) -> u32
+    ensures { IfSome (row_at prompt (rows_of tables.now).prompts) (λ row. result ≡ row.wrong) }
+{
+    match tables.prompts.row(prompt) {
+        Some(row) => row.wrong,
+        None => 0,
+    }
+}
+
+// What is sent when a prompt is asked again that is there and has a next round, with so many wrong answers.
+fn ask_sends<F: Folder>(
+    tables: &Tables<F>,
+    prompt: PromptId,
+    wrong: u32,
+) -> Result<Vec<Sent>, OutOfMemory>
+    requires there { is_some (row_at prompt (rows_of tables.now).prompts) ≡ true }
+    requires round { next_round (row_at prompt (rows_of tables.now).prompts) ≤ last_round }
+    ensures { IfOk result (λ sends. IfSome (row_at prompt (rows_of tables.now).prompts) (λ row.
+        sends.items ≡ asks_for (rows_of tables.now).collections (record row { wrong = wrong })
+        row.kind (rows_of tables.now).prompts.agent)) }
+{
+    let mut sends = Vec::with_capacity(tables.alloc, 1)?;
+    let Some(row) = tables.prompts.row(prompt) else {
+        unreachable!();
+    };
+    let Some(agent) = tables.prompts.agent() else {
+        return Ok(sends);
+    };
+    let ask = Ask {
+        agent,
+        prompt: row.prompt,
+        round: row.stage.round() + 1,
+        wrong,
+    };
+    let sent = ask_signal(tables.alloc, &tables.disk, &row.kind, ask)?;
+    sends.push(sent)?;
+    Ok(sends)
+}
+
+// ---- a prompt that creates a collection
+
+// Whether a collection of this label can be made with the key: it is the one that was asked for, one more
+// collection may be there, and there is room for its file. It takes no memory.
+fn can_make<F: Folder>(tables: &Tables<F>, label: &Text, salt: &[u8; 8], key: &Derived) -> bool
+    ensures { (conn : ConnId) (now : ℕ) → result ≡ can_make label.now salt.now
+        (record { salt = key.now.salt; iterations = key.now.iterations })
+        (asked conn (record { now = now; value = key.now.password }) (rows_of tables.now)) }
+{
+    if !are_terms(salt, key) {
+        return false;
+    }
+    if !has_place(tables) {
+        return false;
+    }
+    has_room(&tables.disk, label)
+}
+
+// Whether one more collection may be there.
+fn has_place<F: Folder>(tables: &Tables<F>) -> bool
+    ensures { result ≡ nat_le
+        ((asked_collections (contents_of (rows_of tables.now))).count + 1)
+        the_limits.collections }
+{
+    tables.disk.count() < LIMITS.collections
+}
+
+// Makes the collection of a prompt, if it can be made with the key, and then sets its alias. All memory is taken
+// before the first call of a device.
+fn create<F: Folder>(
+    tables: &mut Tables<F>,
+    conn: ConnId,
+    prompt: PromptId,
+    label: Text,
+    alias: Text,
+    salt: [u8; 8],
+    key: Derived,
+    now: u64,
+) -> Result<Settled, OutOfMemory>
+    requires there { is_some (row_at prompt (rows_of tables.old).prompts) ≡ true }
+    requires alias { (alias ≡ []) ⊎ IsAliasName alias }
+    requires sound { IsSound (rows_of tables.old) }
+    requires free { AreFree F.is_honest F.images F.may_leave F.made F.Cell.is_honest
+        F.Cell.may_leave (disk_of tables.old) }
+    ensures settles { IfOk result (Settles F.is_honest F.is_steady F.faults F.images
+        F.may_leave F.made F.Cell.is_honest F.Cell.is_steady
+        F.Cell.faults F.Cell.moment F.Cell.left_since F.Cell.may_leave conn
+        (record { now = now; value = key.password })
+        (collection_made prompt label alias salt
+        (record { salt = key.salt; iterations = key.iterations })
+        (asked conn (record { now = now; value = key.password }) (rows_of tables.old)))
+        (rows_of tables.old) (rows_of tables.new) (disk_of tables.old) (disk_of tables.new)) }
+    ensures room { IfOk result (λ settled.
+        HasRoomToReply conn settled.done.sends tables.new.connections.rooms) }
+    ensures free { AreFree F.is_honest F.images F.may_leave F.made F.Cell.is_honest
+        F.Cell.may_leave (disk_of tables.new) }
+    ensures unchanged { OnErr result (rows_of tables.new ≡ rows_of tables.old) }
+    ensures kept { OnErr result (KeepsSlotOrAll F.is_honest F.is_steady F.faults F.images
+        F.may_leave F.made F.Cell.is_honest F.Cell.is_steady F.Cell.faults
+        (disk_of tables.old) (disk_of tables.new)) }
+{
+    if !can_make(tables, &label, &salt, &key) {
+        return Ok(unmade(tables.end_dismissed(conn, prompt)?));
+    }
+    make_new(tables, conn, prompt, label, alias, key, now)
+}
+
+// Makes a collection for which there is room, with a key of the terms of a new one, and then sets its alias.
+fn make_new<F: Folder>(
+    tables: &mut Tables<F>,
+    conn: ConnId,
+    prompt: PromptId,
+    label: Text,
+    alias: Text,
+    key: Derived,
+    now: u64,
+) -> Result<Settled, OutOfMemory>
+    requires there { is_some (row_at prompt (rows_of tables.old).prompts) ≡ true }
+    requires alias { (alias ≡ []) ⊎ IsAliasName alias }
+    requires sound { IsSound (rows_of tables.old) }
+    requires free { AreFree F.is_honest F.images F.may_leave F.made F.Cell.is_honest
+        F.Cell.may_leave (disk_of tables.old) }
+    requires iterations { key.iterations ≡ new_iterations }
+    requires room { has_room (record { label = label; key = key; now = now })
+        (rows_of tables.old).collections ≡ true }
+    ensures settles { IfOk result (Settles F.is_honest F.is_steady F.faults F.images
+        F.may_leave F.made F.Cell.is_honest F.Cell.is_steady
+        F.Cell.faults F.Cell.moment F.Cell.left_since F.Cell.may_leave conn
+        (record { now = now; value = key.password })
+        (Asks (Make (chosen label (rows_of tables.old).used) label
+        (record { salt = key.salt; iterations = key.iterations }))
+        (making_ended prompt alias (chosen label (rows_of tables.old).used)))
+        (rows_of tables.old) (rows_of tables.new) (disk_of tables.old) (disk_of tables.new)) }
+    ensures room { IfOk result (λ settled.
+        HasRoomToReply conn settled.done.sends tables.new.connections.rooms) }
+    ensures free { AreFree F.is_honest F.images F.may_leave F.made F.Cell.is_honest
+        F.Cell.may_leave (disk_of tables.new) }
+    ensures unchanged { OnErr result (rows_of tables.new ≡ rows_of tables.old) }
+    ensures kept { OnErr result (KeepsSlotOrAll F.is_honest F.is_steady F.faults F.images
+        F.may_leave F.made F.Cell.is_honest F.Cell.is_steady F.Cell.faults
+        (disk_of tables.old) (disk_of tables.new)) }
+{
+    let Prepared {
+        stem,
+        dismissed,
+        completed,
+        change,
+    } = prepare_new(tables, conn, prompt, &label, alias)?;
+    let fate = make(tables.alloc, &mut tables.disk, stem, label, key, now)?;
+    let done = end_made(tables, prompt, fate, dismissed, completed, change);
+    Ok(Settled {
+        made: Some(fate),
+        done,
+    })
+}
+
+// What is needed to make a collection of this label that a prompt creates, and room for what is sent after that.
+fn prepare_new<F: Folder>(
+    tables: &mut Tables<F>,
+    conn: ConnId,
+    prompt: PromptId,
+    label: &Text,
+    alias: Text,
+) -> Result<Prepared, OutOfMemory>
+    requires alias { (alias ≡ []) ⊎ IsAliasName alias }
+    requires sound { IsSound (rows_of tables.old) }
+    ensures stem { IfOk result (λ new. new.stem ≡ chosen label.now (rows_of tables.old).used) }
+    ensures unused { IfOk result (λ new. ¬ (Contains (rows_of tables.old).used new.stem)) }
+    ensures unlisted { IfOk result (λ new.
+        has_collection new.stem (rows_of tables.old).collections ≡ false) }
+    ensures dismissed { IfOk result (λ new. new.dismissed.items
+        ≡ completed_sent prompt true None (rows_of tables.old).prompts) }
+    ensures completed { IfOk result (λ new. new.completed.items
+        ≡ completed_sent prompt false (Some new.stem) (rows_of tables.old).prompts) }
+    ensures change { IfOk result (λ new. (row : CollectionRow) → SetsAlias alias new.stem
+        (inserted new.stem row (rows_of tables.old).collections)
+        (rows_of tables.old).aliases new.change) }
+    ensures room { IfOk result (λ new.
+        HasRoomToReply conn new.dismissed.items tables.new.connections.rooms
+        × HasRoomToReply conn new.completed.items tables.new.connections.rooms) }
+    ensures rows { rows_of tables.new ≡ rows_of tables.old }
+    ensures disk { disk_of tables.new ≡ disk_of tables.old }
+{
+    let stem = new_stem(tables, label)?;
+    let created = Some(stem.copy()?);
+    let dismissed = completed_sent(tables.alloc, &tables.prompts, prompt, true, &None)?;
+    let completed = completed_sent(tables.alloc, &tables.prompts, prompt, false, &created)?;
+    tables.connections.reserve_for(conn, &completed)?;
+    let change = change_for(tables, alias, &stem)?;
+    Ok(Prepared {
+        stem,
+        dismissed,
+        completed,
+        change,
+    })
+}
+
+// The stem of a new collection of this label. It isn't used, so no collection has it.
+fn new_stem<F: Folder>(tables: &Tables<F>, label: &Text) -> Result<Stem, OutOfMemory>
+    requires { IsSound (rows_of tables.now) }
+    ensures stem { IfOk result (λ stem. stem ≡ chosen label.now (rows_of tables.now).used) }
+    ensures unused { IfOk result (λ stem. ¬ (Contains (rows_of tables.now).used stem)) }
+    ensures unlisted { IfOk result (λ stem.
+        has_collection stem (rows_of tables.now).collections ≡ false) }
+{
+    chosen_stem(tables.alloc, label, &tables.disk.used)
+}
+
+// The change that sets an alias to a collection to come. None if no alias is given, or the file of the aliases
+// was left alone.
+fn change_for<F: Folder>(
+    tables: &Tables<F>,
+    alias: Text,
+    stem: &Stem,
+) -> Result<Option<AliasChange>, OutOfMemory>
+    requires alias { (alias ≡ []) ⊎ IsAliasName alias }
+    requires new { has_collection stem.now (rows_of tables.now).collections ≡ false }
+    ensures { IfOk result (λ change. (row : CollectionRow) → SetsAlias alias stem.now
+        (inserted stem.now row (rows_of tables.now).collections)
+        (rows_of tables.now).aliases change) }
+{
+    if alias.as_bytes().is_empty() {
+        return Ok(None);
+    }
+    tables.disk.prepare_alias_of_new(alias, stem.copy()?)
+}
+
+// Ends the prompt of a collection whose making ended so: if it was stored, its alias is set first. It takes no
+// memory.
+fn end_made<F: Folder>(
+    tables: &mut Tables<F>,
+    prompt: PromptId,
+    fate: Fate,
+    dismissed: Vec<Sent>,
+    completed: Vec<Sent>,
+    change: Option<AliasChange>,
+) -> Done
+    requires there { is_some (row_at prompt (rows_of tables.old).prompts) ≡ true }
+    requires prepared { fate ≡ Fate.Stored → IfSome change (λ change. (alias : List ℕ)
+        × (stem : Option (List ℕ))
+        × IsPreparedFor alias stem (contents_of (rows_of tables.old)) change) }
+    ensures settles { (conn : ConnId) (brought : Brought) (alias stem : List ℕ)
+        → dismissed.items ≡ completed_sent prompt true None (rows_of tables.old).prompts
+        → completed.items ≡ completed_sent prompt false (Some stem) (rows_of tables.old).prompts
+        → (fate ≡ Fate.Stored → SetsAlias alias stem (rows_of tables.old).collections
+        (rows_of tables.old).aliases change)
+        → Settles F.is_honest F.is_steady F.faults F.images
+        F.may_leave F.made F.Cell.is_honest F.Cell.is_steady
+        F.Cell.faults F.Cell.moment F.Cell.left_since F.Cell.may_leave conn brought
+        (making_ended prompt alias stem fate)
+        (rows_of tables.old) (rows_of tables.new) (disk_of tables.old) (disk_of tables.new)
+        (record { made = None; done = result }) }
+    ensures sends { (result.sends ≡ dismissed.items) ⊎ (result.sends ≡ completed.items) }
+    ensures room { tables.new.connections ≡ tables.old.connections }
+    ensures rest { disk_of tables.new
+        ≡ record (disk_of tables.old) { aliases = (disk_of tables.new).aliases } }
+{
+    match fate {
+        Fate::Stored => end_completed(tables, prompt, completed, change),
+        _ => {
+            let _ended = tables.prompts.end(prompt);
+            sending(Ok(Body::Empty), dismissed)
+        }
+    }
+}
+
+// Sets the alias of a collection that was made, if a change was prepared for it, and ends its prompt completed. It
+// takes no memory.
+fn end_completed<F: Folder>(
+    tables: &mut Tables<F>,
+    prompt: PromptId,
+    completed: Vec<Sent>,
+    change: Option<AliasChange>,
+) -> Done
+    requires there { is_some (row_at prompt (rows_of tables.old).prompts) ≡ true }
+    requires prepared { IfSome change (λ change. (alias : List ℕ) × (stem : Option (List ℕ))
+        × IsPreparedFor alias stem (contents_of (rows_of tables.old)) change) }
+    ensures settles { (conn : ConnId) (brought : Brought) (alias stem : List ℕ)
+        → completed.items ≡ completed_sent prompt false (Some stem) (rows_of tables.old).prompts
+        → SetsAlias alias stem (rows_of tables.old).collections (rows_of tables.old).aliases change
+        → Settles F.is_honest F.is_steady F.faults F.images
+        F.may_leave F.made F.Cell.is_honest F.Cell.is_steady
+        F.Cell.faults F.Cell.moment F.Cell.left_since F.Cell.may_leave conn brought
+        (After [] (alias_given prompt alias stem))
+        (rows_of tables.old) (rows_of tables.new) (disk_of tables.old) (disk_of tables.new)
+        (record { made = None; done = result }) }
+    ensures sends { result.sends ≡ completed.items }
+    ensures room { tables.new.connections ≡ tables.old.connections }
+    ensures rest { disk_of tables.new
+        ≡ record (disk_of tables.old) { aliases = (disk_of tables.new).aliases } }
+{
+    let set = set_new_alias(tables, change);
+    let _ended = tables.prompts.end(prompt);
+    set.followed(completed)
+}
+
+// Sets the alias of a collection that was made, if a change was prepared for it. It takes no memory.
+fn set_new_alias<F: Folder>(tables: &mut Tables<F>, change: Option<AliasChange>) -> Done
+    requires { IfSome change (λ change. (alias : List ℕ) × (stem : Option (List ℕ))
+        × IsPreparedFor alias stem (contents_of (rows_of tables.old)) change) }
+    ensures set { IfSome change (λ change. (conn : ConnId) (brought : Brought)
+        (alias : List ℕ) (stem : Option (List ℕ))
+        → IsPreparedFor alias stem (contents_of (rows_of tables.old)) change
+        → Leads F.is_honest F.is_steady F.faults F.images
+        F.may_leave F.made F.Cell.is_honest F.Cell.is_steady
+        F.Cell.faults F.Cell.moment F.Cell.left_since F.Cell.may_leave conn brought
+        (alias_settled alias stem (asked conn brought (rows_of tables.old)))
+        (rows_of tables.old) (rows_of tables.new)
+        (disk_of tables.old) (disk_of tables.new) result) }
+    ensures unset { IfNone change ((rows_of tables.new ≡ rows_of tables.old)
+        × (disk_of tables.new ≡ disk_of tables.old) × (result
+        ≡ record { answer = Ok body.Empty; sends = []; read = None; fate = None })) }
+    ensures silent { result.sends ≡ [] }
+    ensures prompts { tables.new.prompts ≡ tables.old.prompts }
+    ensures room { tables.new.connections ≡ tables.old.connections }
+    ensures rest { disk_of tables.new
+        ≡ record (disk_of tables.old) { aliases = (disk_of tables.new).aliases } }
+{
+    match change {
+        Some(change) => tables.settle_alias(change),
+        None => unstored(tables.alloc, Ok(Body::Empty)),
+    }
+}

@@ -1,0 +1,4 @@
+pub mod AliasLemmas
+pub mod LeadsLemmas
+pub mod LockLemmas
+pub mod PassLemmas

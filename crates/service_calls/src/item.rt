@@ -1,0 +1,54 @@
+// The calls of the interface Item.
+ghost use Rattle.std.specs.Prelude.{◌≡◌, [], IfOk};
+ghost use Rattle.service_events.specs.ItemCalls.{get_secret};
+ghost use Rattle.service_calls.specs.Rows.{rows_of};
+ghost use Rattle.service_tables.specs.Storing.{Brought};
+ghost use Rattle.service_events.specs.Run.{ran, secret_returned};
+
+use crate::Tables;
+use crate::answer::{Answer, bounded};
+use kr_base::{ConnId, ItemId, OutOfMemory, SessionId, Stem};
+use kr_outside::Folder;
+use secret_calls::{Body, ErrorName, ReturnedSecret};
+
+// The return with a secret.
+fn secret_returned(secret: Option<ReturnedSecret>) -> Answer
+    ensures { result ≡ secret_returned secret }
+{
+    match secret {
+        Some(secret) => Ok(Body::Secret(secret)),
+        None => Err(ErrorName::NoSuchObject),
+    }
+}
+
+impl<F: Folder> Tables<F> {
+    /// Performs the row of GetSecret.
+    pub fn get_secret(
+        &self,
+        conn: ConnId,
+        stem: &Stem,
+        item: ItemId,
+        session: Option<SessionId>,
+    ) -> Result<Answer, OutOfMemory>
+        ensures answer { IfOk result (λ answer. (brought : Brought)
+            → answer ≡ (ran conn brought (get_secret stem.now item session) []
+            (rows_of self.now)).answer) }
+        ensures state { (brought : Brought) → rows_of self.now
+            ≡ (ran conn brought (get_secret stem.now item session) [] (rows_of self.now)).state }
+    {
+        if !self.disk.collections.has_item(stem, item) {
+            return Ok(Err(ErrorName::NoSuchObject));
+        }
+        let Some(session) = session else {
+            return Ok(Err(ErrorName::NoSession));
+        };
+        if !self.sessions.owned_by(session, conn) {
+            return Ok(Err(ErrorName::NoSession));
+        }
+        if !self.disk.collections.is_open(stem) {
+            return Ok(Err(ErrorName::IsLocked));
+        }
+        let secret = self.disk.secret_of(session, stem, item)?;
+        Ok(bounded(secret_returned(secret)))
+    }
+}

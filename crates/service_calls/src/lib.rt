@@ -1,0 +1,25 @@
+//! The calls of the service, each performed on the tables as its row of the table of calls says
+//! (`service_events`). Callers may rely on these: a call leads to the answer, the rows and the signals of
+//! its plan, with the fates of what it asked of the disk (`Leads` in `specs/Done.antt`); a call that runs out
+//! of memory changes nothing; all memory is taken before the first call of a device; and what is sent has
+//! room before anything changes. What the agent's answer leads to is in `service_answers`.
+#![tactic(auto)]
+
+mod agent;
+mod aliases;
+mod answer;
+mod collection;
+mod creating;
+mod item;
+mod prompt;
+mod service;
+mod session;
+mod storing;
+mod tables;
+mod unlocking;
+
+pub use agent::error_for;
+pub use answer::{Answer, bounded};
+pub use prompt::pass_kind;
+pub use storing::{Done, refused, sending, unread, unstored};
+pub use tables::Tables;

@@ -1,0 +1,351 @@
+// The calls of the interface Prompt, and how a prompt advances and ends.
+ghost use Rattle.std.specs.Prelude.{◌≡◌, ◌+◌, ◌∷◌, ◌≤◌, [], Option, None, Some, true, false, IsTrue, IfOk, IfSome, OnErr};
+ghost use Rattle.std.specs.Option.{is_some, option_copied};
+ghost use Rattle.kr_base.specs.declared.ids.ConnId.{ConnId};
+ghost use Rattle.kr_base.specs.declared.ids.PromptId.{PromptId};
+ghost use Rattle.collection_table.specs.Rows.{has, is_open};
+ghost use Rattle.prompt_state.specs.Prompts.{AreSound, first_of_row, last_round, next_round, round_of, row_at};
+ghost use Rattle.secret_calls.specs.declared.out.Body.{Body};
+ghost use Rattle.secret_calls.specs.declared.out.Body.TheVariants as body;
+ghost use Rattle.service_events.specs.Plan.{End_prompt, answered};
+ghost use Rattle.service_events.specs.PromptCalls.{advance_sent, are_none, call_prompt, dismiss, is_made_row, is_over, is_over_row, passed, passed_kind, passed_over, row_advance};
+ghost use Rattle.service_calls.specs.Rows.{disk_of, rows_of};
+ghost use Rattle.service_events.specs.Run.{asked, performed_all, sent_all};
+ghost use Rattle.service_events.specs.ServiceCalls.{next_prompt, with_new_prompt};
+ghost use Rattle.service_calls.specs.Done.{HasRoomToReply, Leads};
+ghost use Rattle.service_tables.specs.Connections.{HasRoom};
+ghost use Rattle.service_tables.specs.Disk.{contents_in};
+ghost use Rattle.service_tables.specs.Opened.{contents_of};
+ghost use Rattle.service_tables.specs.Reading.{asked_collections};
+ghost use Rattle.service_tables.specs.Storing.{Brought};
+
+use crate::Tables;
+use crate::answer::is_small;
+use crate::storing::{Done, refused, sending, unstored};
+use kr_base::{ConnId, OutOfMemory, PromptId, Stem};
+use kr_outside::Folder;
+use prompt_state::{Ask, PromptKind, PromptRefused, PromptRow, PromptState, Target, Targets};
+use secret_calls::{Body, ErrorName};
+use service_prompts::{ask_signal, completed_sent, completed_signal};
+use service_tables::{Disk, Sent};
+use std::alloc::AllocError;
+
+// The first target of a prompt that is left. Shows that no two prompts have one number.
+fn first_open(prompts: &PromptState, prompt: PromptId) -> Option<&Target>
+    ensures first { option_copied result ≡ first_of_row (row_at prompt prompts.now) }
+    ensures sound { AreSound prompts.now }
+{
+    match prompts.row(prompt) {
+        Some(row) => row.kind.first_left(),
+        None => None,
+    }
+}
+
+// Passes over the first targets that are left: each whose collection is gone is dropped, and each whose collection
+// is unlocked is done. It takes no memory.
+fn pass_over<F: Folder>(disk: &Disk<F>, targets: &mut Targets)
+    ensures { targets.new ≡ passed (asked_collections (contents_in disk.now))
+        targets.old.done targets.old.left }
+{
+    while let Some(target) = targets.first() {
+        let there = disk.collections.has(&target.stem);
+        let open = disk.collections.is_open(&target.stem);
+        if there && !open {
+            return;
+        }
+        if there {
+            targets.finish_first();
+        } else {
+            targets.drop_first();
+        }
+    }
+}
+
+/// The same for what a prompt is for.
+pub fn pass_kind<F: Folder>(disk: &Disk<F>, kind: &mut PromptKind)
+    ensures { kind.new ≡ passed_kind (asked_collections (contents_in disk.now)) kind.old }
+{
+    match kind {
+        PromptKind::Unlock(targets) => pass_over(disk, targets),
+        PromptKind::Create { .. } => {}
+    }
+}
+
+/// Whether there are no targets.
+pub fn are_none(targets: &[Target]) -> bool
+    ensures { result ≡ are_none targets.now }
+{
+    match targets.first() {
+        Some(_) => false,
+        None => true,
+    }
+}
+
+// Whether there is nothing more to ask for.
+fn is_over(kind: &PromptKind) -> bool
+    ensures { result ≡ is_over kind.now }
+{
+    match kind {
+        PromptKind::Unlock(targets) => are_none(targets.left()),
+        PromptKind::Create { .. } => false,
+    }
+}
+
+impl<F: Folder> Tables<F> {
+    /// Performs the row of Prompt. All memory is taken before the prompt changes.
+    pub fn call_prompt(&mut self, conn: ConnId, prompt: PromptId) -> Result<Done, OutOfMemory>
+        requires { HasRoom 1 conn self.old.connections.rooms }
+        ensures leads { IfOk result (λ done. (brought : Brought)
+            → Leads F.is_honest F.is_steady F.faults F.images
+            F.may_leave F.made F.Cell.is_honest F.Cell.is_steady
+            F.Cell.faults F.Cell.moment
+            F.Cell.left_since F.Cell.may_leave conn brought
+            (call_prompt prompt (asked conn brought (rows_of self.old)))
+            (rows_of self.old) (rows_of self.new) (disk_of self.old) (disk_of self.new) done) }
+        ensures room { IfOk result (λ done.
+            HasRoomToReply conn done.sends self.new.connections.rooms) }
+        ensures unchanged { OnErr result ((rows_of self.new ≡ rows_of self.old)
+            × (disk_of self.new ≡ disk_of self.old)) }
+    {
+        if !self.prompts.owned_by(prompt, conn) {
+            return Ok(refused(self.alloc, ErrorName::NoSuchObject));
+        }
+        if !self.is_made(prompt) {
+            return Ok(unstored(self.alloc, Ok(Body::Empty)));
+        }
+        self.advance(conn, prompt)
+    }
+
+    /// Performs the row of Dismiss. All memory is taken before the prompt ends.
+    pub fn dismiss(&mut self, conn: ConnId, prompt: PromptId) -> Result<Done, OutOfMemory>
+        requires { HasRoom 1 conn self.old.connections.rooms }
+        ensures leads { IfOk result (λ done. (brought : Brought)
+            → Leads F.is_honest F.is_steady F.faults F.images
+            F.may_leave F.made F.Cell.is_honest F.Cell.is_steady
+            F.Cell.faults F.Cell.moment
+            F.Cell.left_since F.Cell.may_leave conn brought
+            (dismiss prompt (asked conn brought (rows_of self.old)))
+            (rows_of self.old) (rows_of self.new) (disk_of self.old) (disk_of self.new) done) }
+        ensures room { IfOk result (λ done.
+            HasRoomToReply conn done.sends self.new.connections.rooms) }
+        ensures unchanged { OnErr result ((rows_of self.new ≡ rows_of self.old)
+            × (disk_of self.new ≡ disk_of self.old)) }
+    {
+        if !self.prompts.owned_by(prompt, conn) {
+            return Ok(refused(self.alloc, ErrorName::NoSuchObject));
+        }
+        self.end_dismissed(conn, prompt)
+    }
+
+    /// Ends a prompt that is there, dismissed. All memory is taken before it ends.
+    pub fn end_dismissed(&mut self, conn: ConnId, prompt: PromptId) -> Result<Done, OutOfMemory>
+        requires there { is_some (row_at prompt (rows_of self.old).prompts) ≡ true }
+        ensures leads { IfOk result (λ done. (brought : Brought)
+            → Leads F.is_honest F.is_steady F.faults F.images
+            F.may_leave F.made F.Cell.is_honest F.Cell.is_steady
+            F.Cell.faults F.Cell.moment
+            F.Cell.left_since F.Cell.may_leave conn brought
+            (answered body.Empty (End_prompt prompt true None ∷ []))
+            (rows_of self.old) (rows_of self.new) (disk_of self.old) (disk_of self.new) done) }
+        ensures room { IfOk result (λ done.
+            HasRoomToReply conn done.sends self.new.connections.rooms) }
+        ensures unchanged { OnErr result ((rows_of self.new ≡ rows_of self.old)
+            × (disk_of self.new ≡ disk_of self.old)) }
+    {
+        let sends = completed_sent(self.alloc, &self.prompts, prompt, true, &None)?;
+        self.connections.reserve_for(conn, &sends)?;
+        let _ended = self.prompts.end(prompt);
+        Ok(sending(Ok(Body::Empty), sends))
+    }
+
+    /// Begins a prompt of this kind, which is returned with the body. `fits` is whether what it would complete
+    /// with is short enough.
+    pub fn begin(
+        &mut self,
+        conn: ConnId,
+        fits: bool,
+        body: Body,
+        kind: PromptKind,
+    ) -> Result<Done, OutOfMemory>
+        ensures leads { IfOk result (λ done. (brought : Brought) (returned : Option PromptId → Body)
+            → body ≡ returned (Some (next_prompt (asked conn brought (rows_of self.old))))
+            → Leads F.is_honest F.is_steady F.faults F.images
+            F.may_leave F.made F.Cell.is_honest F.Cell.is_steady
+            F.Cell.faults F.Cell.moment
+            F.Cell.left_since F.Cell.may_leave conn brought
+            (with_new_prompt fits returned kind (asked conn brought (rows_of self.old)))
+            (rows_of self.old) (rows_of self.new) (disk_of self.old) (disk_of self.new) done) }
+        ensures silent { IfOk result (λ done. done.sends ≡ []) }
+        ensures room { self.new.connections ≡ self.old.connections }
+        ensures unchanged { OnErr result ((rows_of self.new ≡ rows_of self.old)
+            × (disk_of self.new ≡ disk_of self.old)) }
+    {
+        if self.prompts.is_full(conn) {
+            return Ok(refused(self.alloc, ErrorName::LimitsExceeded));
+        }
+        if !fits || !is_small(&body) {
+            return Ok(refused(self.alloc, ErrorName::LimitsExceeded));
+        }
+        match self.prompts.begin(conn, kind) {
+            Ok(_) => Ok(unstored(self.alloc, Ok(body))),
+            Err(PromptRefused::OutOfMemory) => Err(AllocError),
+            Err(_) => Ok(refused(self.alloc, ErrorName::LimitsExceeded)),
+        }
+    }
+
+    // Whether there is such a prompt, on which Prompt hasn't been called yet.
+    fn is_made(&self, prompt: PromptId) -> bool
+        ensures made { result ≡ is_made_row (row_at prompt (rows_of self.now).prompts) }
+        ensures there { result ≡ true
+            → is_some (row_at prompt (rows_of self.now).prompts) ≡ true }
+        ensures round { result ≡ true
+            → next_round (row_at prompt (rows_of self.now).prompts) ≡ 1 }
+    {
+        match self.prompts.row(prompt) {
+            Some(row) => row.stage.is_made(),
+            None => false,
+        }
+    }
+
+    // A prompt that is there advances, and has a next round. All memory is taken before it changes.
+    fn advance(&mut self, conn: ConnId, prompt: PromptId) -> Result<Done, OutOfMemory>
+        requires there { is_some (row_at prompt (rows_of self.old).prompts) ≡ true }
+        requires round { next_round (row_at prompt (rows_of self.old).prompts) ≤ last_round }
+        ensures leads { IfOk result (λ done. (brought : Brought)
+            → Leads F.is_honest F.is_steady F.faults F.images
+            F.may_leave F.made F.Cell.is_honest F.Cell.is_steady
+            F.Cell.faults F.Cell.moment
+            F.Cell.left_since F.Cell.may_leave conn brought
+            (answered body.Empty (row_advance prompt
+            (asked_collections (contents_of (rows_of self.old)))
+            (row_at prompt (rows_of self.old).prompts)))
+            (rows_of self.old) (rows_of self.new) (disk_of self.old) (disk_of self.new) done) }
+        ensures room { IfOk result (λ done.
+            HasRoomToReply conn done.sends self.new.connections.rooms) }
+        ensures unchanged { OnErr result ((rows_of self.new ≡ rows_of self.old)
+            × (disk_of self.new ≡ disk_of self.old)) }
+    {
+        let sends = self.advance_sends(conn, prompt)?;
+        self.connections.reserve_for(conn, &sends)?;
+        self.go_on(conn, prompt);
+        Ok(sending(Ok(Body::Empty), sends))
+    }
+
+    // What is sent when a prompt that is there, and has a next round, advances.
+    fn advance_sends(&self, conn: ConnId, prompt: PromptId) -> Result<Vec<Sent>, OutOfMemory>
+        requires there { is_some (row_at prompt (rows_of self.now).prompts) ≡ true }
+        requires round { next_round (row_at prompt (rows_of self.now).prompts) ≤ last_round }
+        ensures { IfOk result (λ sends. sends.items ≡ sent_all conn
+            (row_advance prompt (asked_collections (contents_of (rows_of self.now)))
+            (row_at prompt (rows_of self.now).prompts)) (rows_of self.now)) }
+    {
+        let _ = conn;
+        let Some(row) = self.prompts.row(prompt) else {
+            unreachable!();
+        };
+        let mut kind = row.kind.copy()?;
+        pass_kind(&self.disk, &mut kind);
+        self.advance_sent(row, row.wrong, &kind)
+    }
+
+    /// What is sent when a prompt advances that has a next round, once its first targets are passed over, with so
+    /// many wrong answers.
+    pub fn advance_sent(
+        &self,
+        row: &PromptRow,
+        wrong: u32,
+        kind: &PromptKind,
+    ) -> Result<Vec<Sent>, OutOfMemory>
+        requires { round_of row.now.stage + 1 ≤ last_round }
+        ensures { IfOk result (λ sends. sends.items
+            ≡ advance_sent (rows_of self.now).collections
+            (record row.now { wrong = wrong }) kind.now
+            (rows_of self.now).prompts.agent) }
+    {
+        let mut sends = Vec::with_capacity(self.alloc, 1)?;
+        if is_over(kind) {
+            let none: Option<Stem> = None;
+            let sent = completed_signal(self.alloc, row.prompt, row.owner, kind, false, &none)?;
+            sends.push(sent)?;
+            return Ok(sends);
+        }
+        let Some(agent) = self.prompts.agent() else {
+            return Ok(sends);
+        };
+        let ask = Ask {
+            agent,
+            prompt: row.prompt,
+            round: row.stage.round() + 1,
+            wrong,
+        };
+        let sent = ask_signal(self.alloc, &self.disk, kind, ask)?;
+        sends.push(sent)?;
+        Ok(sends)
+    }
+
+    // A prompt that is there, and has a next round, advances. It takes no memory.
+    fn go_on(&mut self, conn: ConnId, prompt: PromptId)
+        requires there { is_some (row_at prompt (rows_of self.old).prompts) ≡ true }
+        requires round { next_round (row_at prompt (rows_of self.old).prompts) ≤ last_round }
+        ensures rows { rows_of self.new ≡ performed_all conn
+            (row_advance prompt (asked_collections (contents_of (rows_of self.old)))
+            (row_at prompt (rows_of self.old).prompts)) (rows_of self.old) }
+        ensures room { self.new.connections ≡ self.old.connections }
+        ensures disk { disk_of self.new ≡ disk_of self.old }
+    {
+        self.pass_targets(conn, prompt);
+        if self.has_ended(prompt) {
+            let _ended = self.prompts.end(prompt);
+        } else {
+            let _round = self.prompts.again(prompt);
+        }
+    }
+
+    /// Passes over the first targets of a prompt that are left. It takes no memory.
+    pub fn pass_targets(&mut self, conn: ConnId, prompt: PromptId)
+        requires there { is_some (row_at prompt (rows_of self.old).prompts) ≡ true }
+        ensures there { is_some (row_at prompt (rows_of self.new).prompts) ≡ true }
+        ensures round { next_round (row_at prompt (rows_of self.new).prompts)
+            ≡ next_round (row_at prompt (rows_of self.old).prompts) }
+        ensures passed { rows_of self.new ≡ record (rows_of self.old) {
+          prompts = passed_over prompt (asked_collections (contents_of (rows_of self.old)))
+              (rows_of self.old).prompts;
+        } }
+        ensures left { IfSome (first_of_row (row_at prompt (rows_of self.new).prompts)) (λ target.
+            IsTrue (has target.stem (rows_of self.new).collections)
+            × (is_open target.stem (rows_of self.new).collections ≡ false)) }
+
+        // What is left to be done leads to the same as before.
+        ensures rows { performed_all conn
+            (row_advance prompt (asked_collections (contents_of (rows_of self.new)))
+            (row_at prompt (rows_of self.new).prompts)) (rows_of self.new)
+            ≡ performed_all conn
+            (row_advance prompt (asked_collections (contents_of (rows_of self.old)))
+            (row_at prompt (rows_of self.old).prompts)) (rows_of self.old) }
+        ensures room { self.new.connections ≡ self.old.connections }
+        ensures disk { disk_of self.new ≡ disk_of self.old }
+    {
+        let _ = conn;
+        while let Some(target) = first_open(&self.prompts, prompt) {
+            let there = self.disk.collections.has(&target.stem);
+            let open = self.disk.collections.is_open(&target.stem);
+            if !there {
+                self.prompts.drop_target(prompt);
+            } else if open {
+                self.prompts.done(prompt);
+            } else {
+                return;
+            }
+        }
+    }
+
+    /// Whether there is such a prompt, and nothing more to ask for.
+    pub fn has_ended(&self, prompt: PromptId) -> bool
+        ensures { result ≡ is_over_row (row_at prompt (rows_of self.now).prompts) }
+    {
+        match self.prompts.row(prompt) {
+            Some(row) => is_over(&row.kind),
+            None => false,
+        }
+    }
+}

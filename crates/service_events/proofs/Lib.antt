@@ -1,0 +1,15 @@
+pub mod AdvanceLemmas
+pub mod AllowedLemmas
+pub mod AloneLemmas
+pub mod DerivedMayLemmas
+pub mod EventLemmas
+pub mod GoneOnLemmas
+pub mod MadeLemmas
+pub mod OpenedLemmas
+pub mod ReplayLemmas
+pub mod RowsMayLemmas
+pub mod RunLemmas
+pub mod SendLemmas
+pub mod SmallLemmas
+pub mod SoundLemmas
+pub mod StemLemmas

@@ -1,0 +1,306 @@
+-- What a plan leaves alone, whatever it does, and which plans ask nothing of the disk.
+use Rattle.std.proofs.Common.{◌≡◌, ℕ, Bool, true, false, cond, nat_le, List, [], ◌∷◌, ◌++◌, filter, map, Option, Some, None, Result, Ok, refl, ap, ◌∙◌}
+use Rattle.std.specs.List.{AllByRecursion, filter_map}
+use Rattle.std.specs.Option.{option_and_then}
+use Rattle.kr_base.specs.declared.ids.ConnId.{ConnId}
+use Rattle.kr_base.specs.declared.ids.PromptId.{PromptId}
+use Rattle.kr_base.specs.declared.ids.SessionId.{SessionId}
+use Rattle.kr_outside.specs.RenameDisk.{Image}
+use Rattle.folder_store.specs.Limits.{the_limits}
+use Rattle.prompt_state.specs.Targets.{all_left}
+use Rattle.prompt_state.specs.declared.row.PromptKind.{PromptKind}
+use Rattle.prompt_state.specs.declared.row.PromptKind.TheVariants as kind
+use Rattle.prompt_state.specs.declared.table.PromptRefused.{PromptRefused}
+use Rattle.prompt_state.specs.declared.targets.Target.{Target}
+use Rattle.secret_calls.specs.declared.call.Call.{Call}
+use Rattle.secret_calls.specs.declared.call.Call.TheVariants as call
+use Rattle.secret_calls.specs.declared.call.CallFault.{CallFault}
+use Rattle.secret_calls.specs.declared.out.Body.{Body}
+use Rattle.secret_calls.specs.declared.out.Body.TheVariants as body
+use Rattle.secret_calls.specs.declared.out.ErrorName.TheVariants as name
+use Rattle.service_tables.specs.declared.fate.Fate.{Fate}
+use Rattle.service_tables.specs.Disk.{DiskState}
+use Rattle.service_tables.specs.Objects.{collection_around, collection_named, is_there, once, paths_of}
+use Rattle.service_tables.specs.Targets.{are_light}
+use Rattle.service_prompts.specs.Unlocking.{targets_of, unlocked_there}
+use Rattle.service_tables.specs.State.{State}
+use Rattle.service_tables.specs.Storing.{Brought}
+use Rattle.service_events.specs.declared.event.Recorded.{Recorded}
+use Rattle.service_events.specs.AgentCalls.{in_round, unless_refused}
+use Rattle.service_events.specs.CollectionCalls.{on_collection}
+use Rattle.service_events.specs.ItemCalls.{secret_if_open}
+use Rattle.service_events.specs.Plan.{Change, Open_session, Close_session, Lock_collection, Begin_prompt, Ask_prompt, Derive_key, Count_wrong, Clear_wrong, Go_on, Finish_target, Drop_target, End_prompt, Become_agent, Leave_agent, Plan, Ends, After, Asks, Opens, Questions, Secret_of, given, refused}
+use Rattle.service_events.specs.Run.{AreFates, AreNone, asked, led, demanded, performed, performed_all, sent_all, sent_by, Ran, run, limited, unlocked_with}
+use Rattle.service_events.specs.ServiceCalls.{answered_if_small, creating, is_plain, is_small, next_prompt, no_collection, there_already, unlocking, with_new_prompt}
+use Rattle.service_events.specs.SessionCalls.{with_session}
+use Rattle.service_events.specs.Step.{brought_by, plan_of, row_of, served}
+use Rattle.service_events.specs.Stored.{IsPlain, StoresNothing, StoresOf}
+
+-- no change is one of the connections
+pub connections-performed : (caller : ConnId) (change : Change) (state : State) → (performed caller change state).connections ≡ state.connections
+connections-performed caller Open_session state = refl
+connections-performed caller (Close_session session) state = refl
+connections-performed caller (Lock_collection stem) state = refl
+connections-performed caller (Begin_prompt kind) state = refl
+connections-performed caller (Ask_prompt prompt) state = refl
+connections-performed caller (Derive_key prompt round) state = refl
+connections-performed caller (Count_wrong prompt) state = refl
+connections-performed caller (Clear_wrong prompt) state = refl
+connections-performed caller (Go_on prompt) state = refl
+connections-performed caller (Finish_target prompt) state = refl
+connections-performed caller (Drop_target prompt) state = refl
+connections-performed caller (End_prompt prompt dismissed created) state = refl
+connections-performed caller Become_agent state = refl
+connections-performed caller Leave_agent state = refl
+
+pub connections-all : (caller : ConnId) (changes : List Change) (state : State) → (performed_all caller changes state).connections ≡ state.connections
+connections-all caller [] state = refl
+connections-all caller (change ∷ changes) state = connections-all caller changes (performed caller change state) ∙ connections-performed caller change state
+
+connections-run : (caller : ConnId) (brought : Brought) (plan : Plan) (fates : List Fate) (state : State) → (run caller brought plan fates state).state.connections ≡ state.connections
+connections-run caller brought (Ends answer changes) fates state = connections-all caller changes state
+connections-run caller brought (After changes next) fates state =
+    connections-run caller brought (next (asked caller brought (performed_all caller changes state))) fates (performed_all caller changes state) ∙ connections-all caller changes state
+connections-run caller brought (Asks demand next) [] state = refl
+connections-run caller brought (Asks demand next) (fate ∷ fates) state = connections-run caller brought (next fate) fates (demanded brought demand fate state)
+connections-run caller brought (Opens stem terms next) fates state = connections-run caller brought next fates (unlocked_with brought stem terms state)
+
+-- a limit changes no more than the answer
+pub state-limited : (plan : Plan) (ran : Ran) → (limited plan ran).state ≡ ran.state
+state-limited (Ends answer []) ran = refl
+state-limited (Ends answer (change ∷ changes)) ran = refl
+state-limited (After changes next) ran = refl
+state-limited (Asks demand next) ran = refl
+state-limited (Opens stem terms next) ran = refl
+
+pub sends-limited : (plan : Plan) (ran : Ran) → (limited plan ran).sends ≡ ran.sends
+sends-limited (Ends answer []) ran = refl
+sends-limited (Ends answer (change ∷ changes)) ran = refl
+sends-limited (After changes next) ran = refl
+sends-limited (Asks demand next) ran = refl
+sends-limited (Opens stem terms next) ran = refl
+
+-- the plan of a request, in a state
+abbrev pub plan_for : Recorded → State → Plan
+plan_for came state = plan_of came.arrival.salt came.arrival.request.call (asked came.arrival.conn (brought_by came.arrival) state)
+
+pub connections-served : (came : Recorded) (state : State) → (served came state).state.connections ≡ state.connections
+connections-served came state =
+    ap (λ (s : State). s.connections) (state-limited (plan_for came state) (run came.arrival.conn (brought_by came.arrival) (plan_for came state) came.fates state))
+    ∙ connections-run came.arrival.conn (brought_by came.arrival) (plan_for came state) came.fates state
+
+-- ---- what is sent
+
+-- a change that sends nothing
+abbrev pub IsSilent : Change → Type 0
+IsSilent Open_session = Unit {0}
+IsSilent (Close_session session) = Unit {0}
+IsSilent (Lock_collection stem) = Unit {0}
+IsSilent (Begin_prompt kind) = Unit {0}
+IsSilent (Ask_prompt prompt) = ⊥
+IsSilent (Derive_key prompt round) = Unit {0}
+IsSilent (Count_wrong prompt) = Unit {0}
+IsSilent (Clear_wrong prompt) = Unit {0}
+IsSilent (Go_on prompt) = ⊥
+IsSilent (Finish_target prompt) = Unit {0}
+IsSilent (Drop_target prompt) = Unit {0}
+IsSilent (End_prompt prompt dismissed created) = ⊥
+IsSilent Become_agent = ⊥
+IsSilent Leave_agent = Unit {0}
+
+-- changes that send nothing
+abbrev pub AreSilent : List Change → Type 0
+AreSilent changes = AllByRecursion IsSilent changes
+
+silent-one : (caller : ConnId) (change : Change) (state : State) → IsSilent change → sent_by caller change state ≡ []
+silent-one caller Open_session state silent = refl
+silent-one caller (Close_session session) state silent = refl
+silent-one caller (Lock_collection stem) state silent = refl
+silent-one caller (Begin_prompt kind) state silent = refl
+silent-one caller (Ask_prompt prompt) state silent = absurd silent
+silent-one caller (Derive_key prompt round) state silent = refl
+silent-one caller (Count_wrong prompt) state silent = refl
+silent-one caller (Clear_wrong prompt) state silent = refl
+silent-one caller (Go_on prompt) state silent = absurd silent
+silent-one caller (Finish_target prompt) state silent = refl
+silent-one caller (Drop_target prompt) state silent = refl
+silent-one caller (End_prompt prompt dismissed created) state silent = absurd silent
+silent-one caller Become_agent state silent = absurd silent
+silent-one caller Leave_agent state silent = refl
+
+pub silent-all : (caller : ConnId) (changes : List Change) (state : State) → AreSilent changes → sent_all caller changes state ≡ []
+silent-all caller [] state silent = refl
+silent-all caller (change ∷ changes) state silent =
+    ap (λ sends. sends ++ sent_all caller changes (performed caller change state)) (silent-one caller change state silent.0)
+    ∙ silent-all caller changes (performed caller change state) silent.1
+
+-- a change that locks no collection
+silent-locks : (stems : List (List ℕ)) → AreSilent (map Lock_collection stems)
+silent-locks [] = tt
+silent-locks (stem ∷ stems) = (tt, silent-locks stems)
+
+-- ---- plans that end at once
+
+-- a plan asks nothing of the disk, and nothing of a state in between
+abbrev pub EndsAtOnce : Plan → Type 0
+EndsAtOnce (Ends answer changes) = Unit {0}
+EndsAtOnce (After changes next) = ⊥
+EndsAtOnce (Asks demand next) = ⊥
+EndsAtOnce (Opens stem terms next) = ⊥
+
+-- it has no fates
+pub no-fates : (caller : ConnId) (brought : Brought) (plan : Plan) (state : State) → EndsAtOnce plan → AreFates caller brought plan [] state
+no-fates caller brought (Ends answer changes) state quiet = tt
+no-fates caller brought (After changes next) state quiet = absurd quiet
+no-fates caller brought (Asks demand next) state quiet = absurd quiet
+no-fates caller brought (Opens stem terms next) state quiet = absurd quiet
+
+pub fates-none : (caller : ConnId) (brought : Brought) (plan : Plan) (fates : List Fate) (state : State) → EndsAtOnce plan → AreFates caller brought plan fates state → AreNone fates
+fates-none caller brought (Ends answer changes) fates state quiet are = are
+fates-none caller brought (After changes next) fates state quiet are = absurd quiet
+fates-none caller brought (Asks demand next) fates state quiet are = absurd quiet
+fates-none caller brought (Opens stem terms next) fates state quiet are = absurd quiet
+
+-- it leads to the same whatever the request brings
+pub ended-alike : (caller : ConnId) (one other : Brought) (plan : Plan) (fates : List Fate) (state : State) → EndsAtOnce plan → led caller one plan fates state ≡ led caller other plan fates state
+ended-alike caller one other (Ends answer []) fates state quiet = refl
+ended-alike caller one other (Ends answer (change ∷ changes)) fates state quiet = refl
+ended-alike caller one other (After changes next) fates state quiet = absurd quiet
+ended-alike caller one other (Asks demand next) fates state quiet = absurd quiet
+ended-alike caller one other (Opens stem terms next) fates state quiet = absurd quiet
+
+-- and leaves the disk alone
+module _ {F S : Type 0} (folder_honest folder_steady : F → Bool) (folder_faults : F → ℕ) (images : F → List ℕ → Image) (folder_leaves : F → List ℕ → Image → Type 0) (names_made : F → List (List ℕ)) (is_honest is_steady : S → Bool) (faults moment : S → ℕ) (left_since : S → ℕ → Image → Type 0) (may_leave : S → Image → Type 0) where
+  pub no-storing : (caller : ConnId) (brought : Brought) (plan : Plan) (state : State) (old new : DiskState F S) → EndsAtOnce plan → new ≡ old
+      → StoresOf folder_honest folder_steady folder_faults images folder_leaves names_made is_honest is_steady faults moment left_since may_leave caller brought plan [] state old new
+  no-storing caller brought (Ends answer changes) state old new quiet same = same
+  no-storing caller brought (After changes next) state old new quiet same = absurd quiet
+  no-storing caller brought (Asks demand next) state old new quiet same = absurd quiet
+  no-storing caller brought (Opens stem terms next) state old new quiet same = absurd quiet
+
+-- ---- the rows of the table of calls that ask for no storing
+
+quiet-if : (b : Bool) (one other : Plan) → EndsAtOnce one → EndsAtOnce other → EndsAtOnce (cond b one other)
+quiet-if true one other first second = first
+quiet-if false one other first second = second
+
+quiet-session : (session : Option SessionId) (asked : Questions) (next : SessionId → Plan) → ((own : SessionId) → EndsAtOnce (next own)) → EndsAtOnce (with_session session asked next)
+quiet-session None asked next quiet = tt
+quiet-session (Some session) asked next quiet = quiet-if (asked.sessions.owns session) (next session) _ (quiet session) tt
+
+quiet-collection : (named : Option (List ℕ)) (next : List ℕ → Plan) → ((stem : List ℕ) → EndsAtOnce (next stem)) → EndsAtOnce (on_collection named next)
+quiet-collection None next quiet = tt
+quiet-collection (Some stem) next quiet = quiet stem
+
+quiet-small : (body : Body) (changes : List Change) → EndsAtOnce (answered_if_small body changes)
+quiet-small body changes = quiet-if (is_small body) _ (refused name.LimitsExceeded) tt tt
+
+quiet-new : (fits : Bool) (returned : Option PromptId → Body) (kind : PromptKind) (asked : Questions) → EndsAtOnce (with_new_prompt fits returned kind asked)
+quiet-new fits returned kind asked =
+    quiet-if asked.prompts.is_full (refused name.LimitsExceeded) _ tt
+    (quiet-if fits _ (refused name.LimitsExceeded) (quiet-small (returned (Some (next_prompt asked))) (Begin_prompt kind ∷ [])) tt)
+
+quiet-unlocking : (paths : List (List ℕ)) (targets : List Target) (asked : Questions) → EndsAtOnce (unlocking paths targets asked)
+quiet-unlocking paths [] asked = quiet-small (body.ObjectsAndPrompt paths None) []
+quiet-unlocking paths (target ∷ targets) asked = quiet-new (are_light (target ∷ targets)) (body.ObjectsAndPrompt paths) (kind.Unlock (all_left (target ∷ targets))) asked
+
+quiet-creating : (label : List ℕ) (alias : Option (List ℕ)) (salt : List ℕ) (asked : Questions) → EndsAtOnce (creating label alias salt asked)
+quiet-creating label alias salt asked = quiet-if (nat_le the_limits.collections asked.collections.count) (refused name.LimitsExceeded) _ tt (quiet-new true no_collection _ asked)
+
+quiet-there : (named : Option (List ℕ)) (next : Plan) → EndsAtOnce next → EndsAtOnce (there_already named next)
+quiet-there None next quiet = quiet
+quiet-there (Some stem) next quiet = tt
+
+quiet-unless : (why : Option PromptRefused) (next : Plan) → EndsAtOnce next → EndsAtOnce (unless_refused why next)
+quiet-unless None next quiet = quiet
+quiet-unless (Some why) next quiet = tt
+
+quiet-round : (prompt : Option PromptId) (round : ℕ) (asked : Questions) (next : PromptId → Plan) → ((it : PromptId) → EndsAtOnce (next it)) → EndsAtOnce (in_round prompt round asked next)
+quiet-round None round asked next quiet = quiet-if asked.prompts.is_agent (refused name.NoSuchObject) (refused name.AccessDenied) tt tt
+quiet-round (Some prompt) round asked next quiet = quiet-unless (asked.prompts.refusal prompt round) (next prompt) (quiet prompt)
+
+pub quiet-row : (salt : List ℕ) (call : Result Call CallFault) (asked : Questions) → StoresNothing call → EndsAtOnce (plan_of salt call asked)
+quiet-row salt (Ok (call.OpenSession algorithm)) asked nothing =
+    quiet-if (is_plain algorithm) _ (refused name.NotSupported) (quiet-if asked.sessions.is_full (refused name.LimitsExceeded) _ tt tt) tt
+quiet-row salt (Ok (call.CloseSession session)) asked nothing = quiet-if (asked.sessions.owns session) _ (refused name.NoSession) tt tt
+quiet-row salt (Ok (call.SetAlias alias object)) asked nothing = absurd nothing
+quiet-row salt (Ok (call.Lock objects)) asked nothing = quiet-if (is_small (body.ObjectsAndPrompt (paths_of (once (filter (is_there asked.collections) objects))) None)) _ (refused name.LimitsExceeded) tt tt
+quiet-row salt (Ok (call.GetSecrets items session)) asked nothing = quiet-session session asked _ (λ own. tt)
+quiet-row salt (Ok (call.SearchCollection collection wanted)) asked nothing = quiet-collection (collection_named asked.collections collection) _ (λ stem. tt)
+quiet-row salt (Ok (call.GetSecret stem item session)) asked nothing =
+    quiet-if (asked.collections.has_item stem item) _ (refused name.NoSuchObject)
+    (quiet-session session asked (secret_if_open stem item asked) (λ own. quiet-if (asked.collections.is_open stem) (given (Secret_of own stem item)) (refused name.IsLocked) tt tt)) tt
+quiet-row salt (Ok (call.CreateItem collection label attributes secret replace)) asked nothing = absurd nothing
+quiet-row salt (Ok (call.DeleteCollection collection)) asked nothing = absurd nothing
+quiet-row salt (Ok (call.DeleteItem stem item)) asked nothing = absurd nothing
+quiet-row salt (Ok (call.SetSecret stem item secret)) asked nothing = absurd nothing
+quiet-row salt (Ok (call.CreateCollection label alias)) asked nothing = quiet-there (option_and_then asked.collections.alias alias) (creating label alias salt asked) (quiet-creating label alias salt asked)
+quiet-row salt (Ok (call.Unlock objects)) asked nothing = quiet-unlocking (unlocked_there asked.collections objects) (targets_of asked.collections objects) asked
+quiet-row salt (Ok (call.Prompt prompt)) asked nothing = quiet-if (asked.prompts.owns prompt) _ (refused name.NoSuchObject) tt tt
+quiet-row salt (Ok (call.Dismiss prompt)) asked nothing = quiet-if (asked.prompts.owns prompt) _ (refused name.NoSuchObject) tt tt
+quiet-row salt (Ok call.Register) asked nothing = quiet-if asked.prompts.is_taken (refused name.AgentTaken) _ tt tt
+quiet-row salt (Ok call.Unregister) asked nothing = quiet-if asked.prompts.is_agent _ (refused name.AccessDenied) tt tt
+quiet-row salt (Ok (call.Answer prompt round password)) asked nothing = absurd nothing
+quiet-row salt (Ok (call.Refuse prompt round)) asked nothing = quiet-round prompt round asked _ (λ it. tt)
+quiet-row salt _ asked nothing = tt
+
+-- ---- plain rows: they end at once, and send nothing
+
+abbrev pub EndsSilently : Plan → Type 0
+EndsSilently (Ends answer changes) = AreSilent changes
+EndsSilently (After changes next) = ⊥
+EndsSilently (Asks demand next) = ⊥
+EndsSilently (Opens stem terms next) = ⊥
+
+pub ends-silently : (plan : Plan) → EndsSilently plan → EndsAtOnce plan
+ends-silently (Ends answer changes) silent = tt
+ends-silently (After changes next) silent = absurd silent
+ends-silently (Asks demand next) silent = absurd silent
+ends-silently (Opens stem terms next) silent = absurd silent
+
+-- such a plan sends nothing
+pub silent-led : (caller : ConnId) (brought : Brought) (plan : Plan) (fates : List Fate) (state : State) → EndsSilently plan → (led caller brought plan fates state).sends ≡ []
+silent-led caller brought (Ends answer []) fates state silent = refl
+silent-led caller brought (Ends answer (change ∷ changes)) fates state silent = silent-all caller (change ∷ changes) state silent
+silent-led caller brought (After changes next) fates state silent = absurd silent
+silent-led caller brought (Asks demand next) fates state silent = absurd silent
+silent-led caller brought (Opens stem terms next) fates state silent = absurd silent
+
+plain-if : (b : Bool) (one other : Plan) → EndsSilently one → EndsSilently other → EndsSilently (cond b one other)
+plain-if true one other first second = first
+plain-if false one other first second = second
+
+plain-session : (session : Option SessionId) (asked : Questions) (next : SessionId → Plan) → ((own : SessionId) → EndsSilently (next own)) → EndsSilently (with_session session asked next)
+plain-session None asked next plain = tt
+plain-session (Some session) asked next plain = plain-if (asked.sessions.owns session) (next session) _ (plain session) tt
+
+plain-collection : (named : Option (List ℕ)) (next : List ℕ → Plan) → ((stem : List ℕ) → EndsSilently (next stem)) → EndsSilently (on_collection named next)
+plain-collection None next plain = tt
+plain-collection (Some stem) next plain = plain stem
+
+pub plain-row : (salt : List ℕ) (call : Call) (asked : Questions) → IsPlain call → EndsSilently (row_of salt call asked)
+plain-row salt (call.OpenSession algorithm) asked plain =
+    plain-if (is_plain algorithm) _ (refused name.NotSupported) (plain-if asked.sessions.is_full (refused name.LimitsExceeded) _ tt (tt, tt)) tt
+plain-row salt (call.CloseSession session) asked plain = plain-if (asked.sessions.owns session) _ (refused name.NoSession) (tt, tt) tt
+plain-row salt (call.Lock objects) asked plain =
+    plain-if (is_small (body.ObjectsAndPrompt (paths_of (once (filter (is_there asked.collections) objects))) None)) _ (refused name.LimitsExceeded)
+    (silent-locks (filter_map (collection_around asked.collections) objects)) tt
+plain-row salt (call.GetSecrets items session) asked plain = plain-session session asked _ (λ own. tt)
+plain-row salt (call.SearchCollection collection wanted) asked plain = plain-collection (collection_named asked.collections collection) _ (λ stem. tt)
+plain-row salt (call.GetSecret stem item session) asked plain =
+    plain-if (asked.collections.has_item stem item) _ (refused name.NoSuchObject)
+    (plain-session session asked (secret_if_open stem item asked) (λ own. plain-if (asked.collections.is_open stem) (given (Secret_of own stem item)) (refused name.IsLocked) tt tt)) tt
+plain-row salt (call.SetAlias alias object) asked plain = absurd plain
+plain-row salt (call.CreateItem collection label attributes secret replace) asked plain = absurd plain
+plain-row salt (call.DeleteCollection collection) asked plain = absurd plain
+plain-row salt (call.DeleteItem stem item) asked plain = absurd plain
+plain-row salt (call.SetSecret stem item secret) asked plain = absurd plain
+plain-row salt (call.CreateCollection label alias) asked plain = absurd plain
+plain-row salt (call.Unlock objects) asked plain = absurd plain
+plain-row salt (call.Prompt prompt) asked plain = absurd plain
+plain-row salt (call.Dismiss prompt) asked plain = absurd plain
+plain-row salt call.Register asked plain = absurd plain
+plain-row salt call.Unregister asked plain = absurd plain
+plain-row salt (call.Answer prompt round password) asked plain = absurd plain
+plain-row salt (call.Refuse prompt round) asked plain = absurd plain
+plain-row salt _ asked plain = tt

@@ -1,0 +1,68 @@
+-- The row of the table of calls for the agent's answer (docs/SERVICE.md, "Interfaces" and "Prompts"). The refusals are in their order. No row
+-- sees the password: the event gives it to its caller, with what its key is derived with.
+use Rattle.std.specs.Prelude.{ℕ, Bool, false, true, if◌then◌else◌, nat_eq, List, [], ◌∷◌, Option, Some, None}
+use Rattle.kr_base.specs.declared.ids.PromptId.{PromptId}
+use Rattle.prompt_state.specs.declared.row.PromptKind.{PromptKind}
+use Rattle.prompt_state.specs.declared.row.PromptKind.TheVariants as kind
+use Rattle.prompt_state.specs.declared.row.PromptRow.{PromptRow}
+use Rattle.prompt_state.specs.declared.targets.Target.{Target}
+use Rattle.prompt_state.specs.Prompts.{last_round}
+use Rattle.secret_calls.specs.declared.out.Body.TheVariants as body
+use Rattle.secret_calls.specs.declared.out.ErrorName.TheVariants as name
+use Rattle.service_events.specs.AgentCalls.{in_round}
+use Rattle.service_events.specs.AliasCalls.{once_read}
+use Rattle.service_events.specs.Plan.{Questions, Plan, Asks, Derive_key, End_prompt, Go_on, Read_collection, refused, answered}
+
+-- whether a kind of prompt creates a collection
+abbrev pub creates : PromptKind → Bool
+creates (kind.Unlock targets) = false
+creates (kind.Create label alias salt) = true
+
+-- the prompt advances
+abbrev pub going_on : PromptId → Plan
+going_on prompt = answered body.Empty (Go_on prompt ∷ [])
+
+-- the key for the prompt is derived in this round
+abbrev pub deriving_key : PromptId → ℕ → Plan
+deriving_key prompt round = answered body.Empty (Derive_key prompt round ∷ [])
+
+-- the key of a target is derived, unless its collection is gone or unlocked by now: then the prompt advances
+abbrev pub target_answered : PromptId → ℕ → List ℕ → Questions → Plan
+target_answered prompt round stem asked =
+    if asked.collections.has stem
+    then (if asked.collections.is_open stem then going_on prompt else deriving_key prompt round)
+    else going_on prompt
+
+-- the same, after the file of the collection was read again if it is in doubt: IOError if it couldn't be read, and all stays
+abbrev pub target_settled : PromptId → ℕ → List ℕ → Questions → Plan
+target_settled prompt round stem asked =
+    if asked.files.in_doubt stem
+    then Asks (Read_collection stem) (once_read (target_answered prompt round stem))
+    else target_answered prompt round stem asked
+
+-- the same of the first target that is left
+abbrev pub left_answered : PromptId → ℕ → List Target → Questions → Plan
+left_answered prompt round [] asked = going_on prompt
+left_answered prompt round (target ∷ left) asked = target_settled prompt round target.stem asked
+
+-- the same by what the prompt is for; nothing is asked of the disk for one that creates a collection
+abbrev pub kind_answered : PromptId → ℕ → PromptKind → Questions → Plan
+kind_answered prompt round (kind.Unlock targets) asked = left_answered prompt round targets.left asked
+kind_answered prompt round (kind.Create label alias salt) asked = deriving_key prompt round
+
+-- whether there is a prompt that creates a collection
+abbrev pub creates_row : Option PromptRow → Bool
+creates_row None = false
+creates_row (Some row) = creates row.kind
+
+-- the same of a prompt that is there; in the greatest round it ends dismissed, since it can't be asked again
+abbrev pub row_answered : PromptId → ℕ → Option PromptRow → Questions → Plan
+row_answered prompt round None asked = refused name.NoSuchObject
+row_answered prompt round (Some row) asked =
+    if nat_eq round last_round
+    then answered body.Empty (End_prompt prompt true None ∷ [])
+    else kind_answered prompt round row.kind asked
+
+-- Answer: the key for what the prompt is asked for is derived, outside the service
+abbrev pub answer_prompt : Option PromptId → ℕ → Questions → Plan
+answer_prompt prompt round asked = in_round prompt round asked (λ it. row_answered it round (asked.prompts.row it) asked)

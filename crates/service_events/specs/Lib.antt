@@ -1,0 +1,17 @@
+pub mod AgentCalls
+pub mod AliasCalls
+pub mod AnswerCalls
+pub mod CollectionCalls
+pub mod Derivation
+pub mod Fates
+pub mod Incoming
+pub mod ItemCalls
+pub mod Plan
+pub mod PromptCalls
+pub mod Replay
+pub mod Run
+pub mod ServiceCalls
+pub mod SessionCalls
+pub mod Single
+pub mod Step
+pub mod Stored

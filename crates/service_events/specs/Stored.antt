@@ -1,0 +1,108 @@
+-- What the storings that a plan asks for do to the disk, one after the other, and which calls ask for one, send something, or change a prompt.
+use Rattle.std.specs.Prelude.{◌≡◌, ℕ, ◌⊎◌, Bool, List, [], ◌∷◌, Result, Ok}
+use Rattle.kr_base.specs.declared.ids.ConnId.{ConnId}
+use Rattle.kr_outside.specs.RenameDisk.{Image}
+use Rattle.secret_calls.specs.declared.call.Call.{Call}
+use Rattle.secret_calls.specs.declared.call.Call.TheVariants as call
+use Rattle.secret_calls.specs.declared.call.CallFault.{CallFault}
+use Rattle.service_disk.specs.Making.{KeepsSlot, MakesAt}
+use Rattle.service_tables.specs.declared.fate.Fate.{Fate}
+use Rattle.service_tables.specs.declared.fate.Fate.TheVariants as fate
+use Rattle.service_tables.specs.Disk.{DiskState}
+use Rattle.service_tables.specs.Opened.{Contents, contents_of}
+use Rattle.service_tables.specs.Slots.{StoresAliases, StoresAt}
+use Rattle.service_tables.specs.State.{State}
+use Rattle.service_tables.specs.Storing.{Brought}
+use Rattle.service_events.specs.declared.event.Event.{Event}
+use Rattle.service_events.specs.declared.event.Event.TheVariants as event
+use Rattle.service_events.specs.declared.event.Incoming.{Incoming}
+use Rattle.service_events.specs.declared.event.Incoming.TheVariants as incoming
+use Rattle.service_events.specs.Plan.{Plan, Ends, After, Asks, Opens, Demand, Store, Erase, Set_alias, Read_aliases, Read_collection, Make, Questions}
+use Rattle.service_events.specs.Run.{asked, demanded, performed_all, unlocked_with}
+use Rattle.service_events.specs.Derivation.{derived}
+use Rattle.service_events.specs.Step.{brought_by, brought_derived, plan_of, terms_of}
+
+-- a call that stores nothing
+abbrev pub StoresNothing : Result Call CallFault → Type 0
+StoresNothing (Ok (call.CreateItem collection label attributes secret replace)) = ⊥
+StoresNothing (Ok (call.DeleteCollection collection)) = ⊥
+StoresNothing (Ok (call.DeleteItem stem item)) = ⊥
+StoresNothing (Ok (call.SetSecret stem item secret)) = ⊥
+StoresNothing (Ok (call.SetAlias alias object)) = ⊥
+StoresNothing (Ok (call.Answer prompt round password)) = ⊥
+StoresNothing _ = Unit {0}
+
+-- a call that sends nothing besides its reply
+abbrev pub SendsNothing : Call → Type 0
+SendsNothing (call.Prompt prompt) = ⊥
+SendsNothing (call.Dismiss prompt) = ⊥
+SendsNothing call.Register = ⊥
+SendsNothing (call.Answer prompt round password) = ⊥
+SendsNothing (call.Refuse prompt round) = ⊥
+SendsNothing _ = Unit {0}
+
+-- a call that neither stores something nor changes a prompt or the agent
+abbrev pub IsPlain : Call → Type 0
+IsPlain (call.CreateItem collection label attributes secret replace) = ⊥
+IsPlain (call.DeleteCollection collection) = ⊥
+IsPlain (call.DeleteItem stem item) = ⊥
+IsPlain (call.SetSecret stem item secret) = ⊥
+IsPlain (call.SetAlias alias object) = ⊥
+IsPlain (call.CreateCollection label alias) = ⊥
+IsPlain (call.Unlock objects) = ⊥
+IsPlain (call.Prompt prompt) = ⊥
+IsPlain (call.Dismiss prompt) = ⊥
+IsPlain call.Register = ⊥
+IsPlain call.Unregister = ⊥
+IsPlain (call.Answer prompt round password) = ⊥
+IsPlain (call.Refuse prompt round) = ⊥
+IsPlain _ = Unit {0}
+
+module _ {F S : Type 0} (folder_honest folder_steady : F → Bool) (folder_faults : F → ℕ) (images : F → List ℕ → Image)
+    (folder_leaves : F → List ℕ → Image → Type 0) (names_made : F → List (List ℕ)) (is_honest is_steady : S → Bool) (faults : S → ℕ) where
+  -- after a refusal the disk is as before, but for a slot that was made for a collection, which is kept for the next one under its stem
+  abbrev pub KeepsSlotOrAll : DiskState F S → DiskState F S → Type 0
+  KeepsSlotOrAll old new =
+      (new ≡ old) ⊎ ((stem : List ℕ) × KeepsSlot folder_honest folder_steady folder_faults images folder_leaves names_made is_honest is_steady faults stem old new)
+
+  -- the same by what came: only a derived key makes a slot
+  abbrev pub KeepsDisk : Incoming → DiskState F S → DiskState F S → Type 0
+  KeepsDisk (incoming.Derived brought) old new = KeepsSlotOrAll old new
+  KeepsDisk _ old new = new ≡ old
+
+module _ {F S : Type 0} (folder_honest folder_steady : F → Bool) (folder_faults : F → ℕ) (images : F → List ℕ → Image)
+    (folder_leaves : F → List ℕ → Image → Type 0) (names_made : F → List (List ℕ)) (is_honest is_steady : S → Bool) (faults moment : S → ℕ)
+    (left_since : S → ℕ → Image → Type 0) (may_leave : S → Image → Type 0) where
+  -- what is asked of the disk, which ended so: the slot of its file is used, and no other
+  abbrev pub StoresDemand : Demand → Fate → Contents → Contents → DiskState F S → DiskState F S → Type 0
+  StoresDemand (Store stem edit) fate before after old new = StoresAt is_honest is_steady faults moment left_since may_leave stem fate before.collections after.collections old new
+  StoresDemand (Erase stem) fate before after old new = StoresAt is_honest is_steady faults moment left_since may_leave stem fate before.collections after.collections old new
+  StoresDemand (Set_alias alias stem) fate before after old new = StoresAliases is_honest is_steady faults moment left_since may_leave fate before.aliases after.aliases old new
+  StoresDemand Read_aliases fate before after old new = StoresAliases is_honest is_steady faults moment left_since may_leave fate before.aliases after.aliases old new
+  StoresDemand (Read_collection stem) fate before after old new = StoresAt is_honest is_steady faults moment left_since may_leave stem fate before.collections after.collections old new
+  StoresDemand (Make stem label terms) fate before after old new =
+      MakesAt folder_honest folder_steady folder_faults images folder_leaves names_made is_honest is_steady faults moment left_since may_leave stem fate before.collections after.collections old new
+
+  -- each storing and each resolve that a plan asks for is one of the disk, in a state of its own; no other slot is used
+  abbrev pub StoresOf : ConnId → Brought → Plan → List Fate → State → DiskState F S → DiskState F S → Type 0
+  StoresOf caller brought (Ends answer changes) fates state old new = new ≡ old
+  StoresOf caller brought (After changes next) fates state old new =
+      StoresOf caller brought (next (asked caller brought (performed_all caller changes state))) fates (performed_all caller changes state) old new
+  StoresOf caller brought (Asks demand next) [] state old new = ⊥
+  StoresOf caller brought (Asks demand next) (fate ∷ fates) state old new =
+      (mid : DiskState F S)
+      × StoresDemand demand fate (contents_of state) (contents_of (demanded brought demand fate state)) old mid
+      × StoresOf caller brought (next fate) fates (demanded brought demand fate state) mid new
+  StoresOf caller brought (Opens stem terms next) fates state old new = StoresOf caller brought next fates (unlocked_with brought stem terms state) old new
+
+  -- the same of a row of the table of calls
+  abbrev pub StoresRow : ConnId → Brought → (Questions → Plan) → List Fate → State → DiskState F S → DiskState F S → Type 0
+  StoresRow caller brought row fates state old new = StoresOf caller brought (row (asked caller brought state)) fates state old new
+
+  -- what an event does to the disk: a request and a derived key store what their rows ask for, and any other event leaves the disk alone
+  abbrev pub StoresEvent : Event → State → DiskState F S → DiskState F S → Type 0
+  StoresEvent (event.Arrive came) state old new =
+      StoresRow came.arrival.conn (brought_by came.arrival) (plan_of came.arrival.salt came.arrival.request.call) came.fates state old new
+  StoresEvent (event.Derived came) state old new =
+      StoresRow came.conn (brought_derived came) (derived came.prompt came.round (terms_of came)) came.fates state old new
+  StoresEvent _ state old new = new ≡ old

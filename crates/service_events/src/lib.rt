@@ -1,0 +1,19 @@
+//! The events of the service, and what each of them leads to, as definitions over plain rows: the table
+//! of calls (`specs/Plan.antt` and the files of its interfaces), what a row of it leads to
+//! (`specs/Run.antt`), the step of an event (`specs/Step.antt`), lists of events (`specs/Replay.antt`), and
+//! what an event asks of the disk (`specs/Stored.antt`). Callers may rely on these laws: a sound state
+//! stays sound, what is sent has a spelling and can wait, lists of events go on, and requests that are
+//! alike lead to one state if what they asked of the disk ended alike. The code here is the types alone.
+#![tactic(auto)]
+
+mod event;
+mod laws;
+
+pub use event::{
+    ApplyRefused, Arrival, Arrived, BroughtKey, Derivation, Event, Incoming, JoinRefused, Output,
+    Recorded,
+};
+pub use laws::{
+    alike_requests_lead_to_one_state, lists_of_events_go_on, outputs_can_wait,
+    steps_keep_the_rows_sound,
+};

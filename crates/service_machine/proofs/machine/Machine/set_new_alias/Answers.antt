@@ -1,6 +1,0 @@
-use Rattle.service_tables.proofs.SlotLemmas.{of-some}
-use Rattle.service_machine.proofs.machine.Machine.set_new_alias.Goals as goal
-
--- the change was prepared
-pub settle_alias-requires : goal.settle_alias-requires
-settle_alias-requires g c = of-some _ c.args.change c.in-Some.change c.in-Some.is c.requires

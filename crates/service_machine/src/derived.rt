@@ -1,0 +1,110 @@
+// The event that a derived key was brought, which is recorded by what the key was derived from.
+ghost use Rattle.std.specs.Prelude.{Ok, ◌≡◌, ◌+◌, ◌^◌, ◌++◌, ◌<◌, ◌≤◌, Some, true, IsTrue, IfOk, OnErr, vec_capacity, vec_len};
+ghost use Rattle.service_disk.specs.Making.{AreFree};
+ghost use Rattle.service_tables.specs.declared.fate.Fate.TheVariants as Fate;
+ghost use Rattle.service_events.specs.Derivation.{derived};
+ghost use Rattle.service_events.specs.Fates.{AreFaultless, is_steady};
+ghost use Rattle.service_events.specs.declared.event.Event.TheVariants as Event;
+ghost use Rattle.service_events.specs.Incoming.{IsBroughtBy};
+ghost use Rattle.service_machine.specs.Rows.{disk_of, rows_of};
+ghost use Rattle.service_events.specs.Step.{Fits, IsSalt, step};
+ghost use Rattle.service_events.specs.Stored.{KeepsSlotOrAll, StoresEvent};
+ghost use Rattle.service_calls.specs.Done.{fates_of};
+ghost use Rattle.keyring_text.specs.Fields.{IsBytes};
+ghost use Rattle.service_tables.specs.Connections.{has};
+ghost use Rattle.service_tables.specs.Sound.{IsSound};
+
+use crate::known::known_files;
+use crate::machine::{known_salt, with_fates};
+use crate::{BroughtKey, Derivation, Machine};
+use keyring_text::known_bytes;
+use kr_base::OutOfMemory;
+use kr_items::Items;
+use kr_outside::Folder;
+use secret_calls::Finished;
+use service_answers::{Settled, settle};
+use service_tables::Fate;
+
+// What the types of a derived key guarantee that is recorded. It does nothing.
+fn known_derivation(came: &Derivation)
+    ensures moment { came.entry.now.now < 2 ^ 64 }
+    ensures round { came.entry.now.round < 2 ^ 64 }
+    ensures password { IsBytes came.entry.now.password }
+    ensures salt { IsSalt came.entry.now.salt }
+    ensures iterations { came.entry.now.iterations < 2 ^ 32 }
+{
+    known_bytes(came.password.as_slice());
+    known_salt(&came.salt);
+    let _moment = came.now;
+    let _round = came.round;
+    let _iterations = came.iterations;
+}
+
+// A list of fates with one more, if there is one. It takes no memory.
+fn with_fate(fates: Vec<Fate>, fate: Option<Fate>) -> Vec<Fate>
+    requires { vec_len fates + 3 ≤ vec_capacity fates }
+    ensures items { result.items ≡ fates.items ++ fates_of fate }
+    ensures room { vec_len result + 2 ≤ vec_capacity result }
+{
+    let mut fates = fates;
+    if let Some(fate) = fate {
+        fates.push(fate).unwrap();
+    }
+    fates
+}
+
+impl<F: Folder> Machine<F> {
+    /// Takes a key that was derived for a prompt, as a connection that is there brought it, and returns it as it is
+    /// to be recorded: its prompt goes on if it still waits for the key, and otherwise nothing happens. What that
+    /// sends waits for its connections. All memory is taken before the first call of a device.
+    ///
+    /// Refused with `OutOfMemory` alone; a slot that was made for a new collection by then is kept for the next one
+    /// under its stem.
+    pub fn derived(&mut self, brought: BroughtKey) -> Result<Derivation, OutOfMemory>
+        requires there { has brought.conn (rows_of self.old).connections.rows ≡ true }
+        requires sound { IsSound (rows_of self.old) }
+        requires free { AreFree F.is_honest F.images F.may_leave F.made F.Cell.is_honest
+            F.Cell.may_leave (disk_of self.old) }
+        ensures recorded { IfOk result (IsBroughtBy brought) }
+        ensures fits { IfOk result (λ came. Fits (rows_of self.old) (Event.Derived came)) }
+        ensures stepped { IfOk result (λ came.
+            rows_of self.new ≡ step (rows_of self.old) (Event.Derived came)) }
+        ensures disk { IfOk result (λ came. StoresEvent F.is_honest F.is_steady F.faults F.images
+            F.may_leave F.made F.Cell.is_honest F.Cell.is_steady
+            F.Cell.faults F.Cell.moment F.Cell.left_since F.Cell.may_leave
+            (Event.Derived came) (rows_of self.old) (disk_of self.old) (disk_of self.new)) }
+        ensures faultless { IsTrue (is_steady F.is_steady F.Cell.is_steady (disk_of self.old))
+            → IfOk result (λ came. AreFaultless came.fates) }
+        ensures steady { is_steady F.is_steady F.Cell.is_steady (disk_of self.new)
+            ≡ is_steady F.is_steady F.Cell.is_steady (disk_of self.old) }
+        ensures free { AreFree F.is_honest F.images F.may_leave F.made F.Cell.is_honest
+            F.Cell.may_leave (disk_of self.new) }
+        ensures unchanged { OnErr result (rows_of self.new ≡ rows_of self.old) }
+        ensures kept { OnErr result (KeepsSlotOrAll F.is_honest F.is_steady F.faults F.images
+            F.may_leave F.made F.Cell.is_honest F.Cell.is_steady F.Cell.faults
+            (disk_of self.old) (disk_of self.new)) }
+    {
+        known_files(&self.tables.disk);
+        let BroughtKey { conn, done, now } = brought;
+        let Finished { prompt, round, key } = done;
+        let fates = Vec::with_capacity(self.tables.alloc, 3)?;
+        let password = key.password().copy()?;
+        let salt = key.salt();
+        let iterations = key.iterations();
+        let Settled { made, done } = settle(&mut self.tables, conn, prompt, round, key, now)?;
+        let (_, sends, read, fate) = done.into_parts();
+        self.tables.connections.deliver(sends.into_vec());
+        let came = Derivation {
+            conn,
+            prompt,
+            round,
+            password,
+            salt,
+            iterations,
+            now,
+            fates: Items::new(with_fates(with_fate(fates, made), read, fate)),
+        };
+        known_derivation(&came);
+        Ok(came)
+    }
+}
