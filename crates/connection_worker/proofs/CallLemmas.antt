@@ -13,10 +13,10 @@ use Rattle.call_wire.specs.CallOf.{CallOf}
 use Rattle.connection_worker.specs.declared.ending.End.{End}
 use Rattle.connection_worker.specs.declared.ending.End.TheVariants as end
 use Rattle.connection_worker.specs.Streams.{Output, GaveFront}
-use Rattle.service_machine.specs.Replay.{replay}
-use Rattle.service_machine.specs.Single.{MayBeFinished, TimedKey, TimedRequest, arrival, asking, derivation, turns, work_for}
-use Rattle.service_machine.specs.Step.{Fits, step}
-use Rattle.service_machine.proofs.AloneLemmas.{waiting_row}
+use Rattle.service_events.specs.Replay.{replay}
+use Rattle.service_events.specs.Single.{MayBeFinished, TimedKey, TimedRequest, arrival, asking, derivation, turns, work_for}
+use Rattle.service_events.specs.Step.{Fits, step}
+use Rattle.service_events.proofs.AloneLemmas.{waiting_row}
 use Rattle.connection_worker.specs.Written.{given_by, spelled_behind}
 use Rattle.connection_worker.specs.Serving.{World, place_of, IsOwed, owed, Asks, Brings, HasArrived, HasBrought, HasGiven, Gives}
 use Rattle.connection_worker.specs.Answering.{AnswersCall}
@@ -168,7 +168,8 @@ answers-alone parts request old mid new serials next from to call all asks gives
         recorded = recorded-one old mid new a asks.1.keyless asks.2 gives.0;
         finished = (ap is_some asks.1.keyless ∙ ap is_some asks.3, tt);
         idle = given-idle (place_of mid) new all gives.0;
-        wrote = λ taken are. rw e (gives.1 taken are);
+        as_open = gives.1;
+        wrote = λ taken are. rw e (gives.2 taken are);
       },
     )
 
@@ -189,7 +190,7 @@ broke-late parts request work old mid first last serials next from o end.EventsS
         recorded = recorded-late old (behind mid first) (a ∷ []) last brings.0 (recorded-one old mid first a asks.1.keyless asks.2 gives.0) lost;
         finished = keyless-may old a asks.1.keyless;
         idle = idle-still first.told last.told lost.calls.same.conn lost.calls.state (given-idle (place_of mid) first all gives.0);
-        wrote = λ taken are. rw e (omega (arith, brings.2, lost.calls.count), (gives.1 taken are).0);
+        wrote = λ taken are. rw e (omega (arith, brings.2, lost.calls.count), (gives.2 taken are).0);
       },
       rw asks.1.same call,
     )
@@ -206,7 +207,7 @@ broke-late parts request work old mid first last serials next from o end.Memory 
         recorded = recorded-late old (behind mid first) (a ∷ []) last brings.0 (recorded-one old mid first a asks.1.keyless asks.2 gives.0) lost;
         finished = keyless-may old a asks.1.keyless;
         idle = idle-still first.told last.told lost.calls.same.conn lost.calls.state (given-idle (place_of mid) first all gives.0);
-        wrote = λ taken are. rw e (GaveFront-whole from o (spelled_behind taken (owed mid.told)) (gives.1 taken are).0);
+        wrote = λ taken are. rw e (GaveFront-whole from o (spelled_behind taken (owed mid.told)) (gives.2 taken are).0);
       },
       rw asks.1.same call,
     )
@@ -229,9 +230,10 @@ answers parts request work key old mid last first new serials next after from o 
         recorded = recorded-keyed old mid (behind mid first) last new a work key (sym asks.3) asks.2 (asking-one old mid first a asks.2 gives.0) refl refl brings then.0;
         finished = (ap is_some asks.3, tt);
         idle = given-idle (place_of last) new all then.0;
+        as_open = then.1 ∙ gives.1;
         wrote = λ taken are.
-            let begun = gives.1 taken are in
-            let ended = then.1 (taken + length one) begun.1 in (
+            let begun = gives.2 taken are in
+            let ended = then.2 (taken + length one) begun.1 in (
               rw (e, spelled_behind-append taken one two) (Gave-trans from o to (spelled_behind taken one) (spelled_behind (taken + length one) two) begun.0 ended.0),
               rw (e, length-append one two) (omega (arith, ended.1)),
             );
@@ -252,7 +254,7 @@ answers parts request work key old mid last first new serials next after from o 
         finished = λ key. sym (ap is_some asks.3);
         idle = given-idle (place_of last) new all then.0;
         wrote = λ taken are.
-            let begun = gives.1 taken are in
+            let begun = gives.2 taken are in
             rw (e, spelled_behind-append taken one two) (
               rose-later from.faults o.faults to.faults begun.0.later then.1,
               GaveFront-behind from o to (spelled_behind taken one) (spelled_behind (taken + length one) two) begun.0 (then.2 (taken + length one) begun.1),
@@ -275,7 +277,7 @@ answers parts request work key old mid last first new serials next after from o 
         finished = λ key. sym (ap is_some asks.3);
         idle = given-idle (place_of last) new all then.0;
         wrote = λ taken are.
-            let begun = gives.1 taken are in
+            let begun = gives.2 taken are in
             rw (e, spelled_behind-append taken one two)
             (GaveFront-behind from o to (spelled_behind taken one) (spelled_behind (taken + length one) two) begun.0 (then.1 (taken + length one) begun.1));
       },

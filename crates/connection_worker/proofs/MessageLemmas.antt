@@ -6,7 +6,7 @@ use Rattle.std.proofs.lemmas.List.Elements.{filter-append}
 use Rattle.kr_base.specs.declared.ids.ConnId.{ConnId}
 use Rattle.secret_calls.specs.declared.call.Request.{Request}
 use Rattle.service_tables.specs.State.{State}
-use Rattle.service_machine.specs.Replay.{replay}
+use Rattle.service_events.specs.Replay.{replay}
 use Rattle.dbus_framing.specs.Framers.{Framing}
 use Rattle.dbus_framing.specs.Messages.{Parts}
 use Rattle.dbus_framing.specs.Streams.{Cut, Stream}
@@ -15,7 +15,7 @@ use Rattle.connection_worker.specs.declared.ending.End.{End}
 use Rattle.connection_worker.specs.declared.ending.End.TheVariants as end
 use Rattle.connection_worker.specs.Arrivals.{calls_in, AreRequests, FirstRequests}
 use Rattle.connection_worker.specs.Streams.{Output, Gave}
-use Rattle.service_machine.specs.Single.{AllFinished, AreFinished, TimedRequest, requests_of, turns}
+use Rattle.service_events.specs.Single.{AllFinished, AreFinished, TimedRequest, requests_of, turns}
 use Rattle.connection_worker.specs.Written.{given_by, spelled_behind, written_after}
 use Rattle.service_desk.proofs.RecordLemmas.{own-state}
 use Rattle.connection_worker.specs.Serving.{World, place_of, IsOwed, Recorded, EndsEarly}
@@ -57,6 +57,7 @@ answered-none w serials o idle = record {
   recorded = recorded-none w;
   finished = tt;
   idle = idle;
+  as_open = refl;
   wrote = λ taken are. (Gave-none o, omega (arith, are));
 }
 
@@ -70,6 +71,7 @@ answered-more old mid new serials next behind from o to asked more p q =
       recorded = recorded-more old mid new asked more [] [] p.recorded q.recorded;
       finished = finished-all old.told.conn old.told.state asked more p.finished (all-here old mid asked more p.recorded q.finished);
       idle = q.idle;
+      as_open = q.as_open ∙ p.as_open;
       wrote = λ taken are.
           let first = p.wrote taken are in
           let second = q.wrote (taken + length one) first.1 in (

@@ -22,15 +22,15 @@ use Rattle.service_tables.specs.declared.fate.Fate.{Fate}
 use Rattle.service_tables.specs.declared.rows.Sent.{Sent}
 use Rattle.service_tables.proofs.EachLemmas.{each-append}
 use Rattle.service_prompts.specs.Prompting.{ask_sent, ask_signal, ask_signal_in, completed_sent, completed_signal}
-use Rattle.service_machine.specs.declared.event.Derivation.{Derivation}
-use Rattle.service_machine.specs.declared.event.Recorded.{Recorded}
-use Rattle.service_machine.specs.Derivation.{derived}
-use Rattle.service_machine.specs.PromptCalls.{asks_for, completes, go_on_sent, is_over, passed_kind}
-use Rattle.service_machine.specs.Single.{TimedKey}
-use Rattle.service_machine.specs.Plan.{Change, Open_session, Close_session, Lock_collection, Begin_prompt, Ask_prompt, Derive_key, Count_wrong, Clear_wrong, Go_on, Finish_target, Drop_target, End_prompt, Become_agent, Leave_agent, Plan, Ends, After, Asks, Opens}
-use Rattle.service_machine.specs.Run.{asked, demanded, led, performed, performed_all, run, sent_all, sent_by, unlocked_with}
-use Rattle.service_machine.specs.Step.{brought_by, brought_derived, finished, message_of, put_out, served, terms_of}
-use Rattle.service_machine.proofs.RunLemmas.{plan_for}
+use Rattle.service_events.specs.declared.event.Derivation.{Derivation}
+use Rattle.service_events.specs.declared.event.Recorded.{Recorded}
+use Rattle.service_events.specs.Derivation.{derived}
+use Rattle.service_events.specs.PromptCalls.{asks_for, completes, go_on_sent, is_over, passed_kind}
+use Rattle.service_events.specs.Single.{TimedKey}
+use Rattle.service_events.specs.Plan.{Change, Open_session, Close_session, Lock_collection, Begin_prompt, Ask_prompt, Derive_key, Count_wrong, Clear_wrong, Go_on, Finish_target, Drop_target, End_prompt, Become_agent, Leave_agent, Plan, Ends, After, Asks, Opens}
+use Rattle.service_events.specs.Run.{asked, demanded, led, performed, performed_all, run, sent_all, sent_by, unlocked_with}
+use Rattle.service_events.specs.Step.{brought_by, brought_derived, finished, message_of, put_out, served, terms_of}
+use Rattle.service_events.proofs.RunLemmas.{plan_for}
 use Rattle.connection_worker.specs.Replies.{is_reply, key_outputs}
 use Rattle.connection_worker.proofs.ServingLemmas.{same}
 use Rattle.service_tables.specs.Opened.{contents_of}

@@ -16,7 +16,7 @@ use Rattle.connection_worker.specs.Arrivals.{calls_in, AllRequests, FirstRequest
 use Rattle.connection_worker.specs.Streams.{Input, Output, Took, IsStill, Gave}
 use Rattle.kr_base.specs.declared.ids.ConnId.{ConnId}
 use Rattle.service_tables.specs.State.{State}
-use Rattle.service_machine.specs.Single.{AllFinished, AreFinished, TimedRequest, requests_of, turns}
+use Rattle.service_events.specs.Single.{AllFinished, AreFinished, TimedRequest, requests_of, turns}
 use Rattle.connection_worker.specs.Written.{written_after}
 use Rattle.connection_worker.specs.Serving.{World, IsOwed, EndsEarly}
 use Rattle.connection_worker.specs.Answering.{IsEarly, MayRefuse, ServedPrefix, AnswersEarly, AnswersAll}
@@ -196,7 +196,7 @@ broke-end has from now left old mid new next sink o to why most so early =
     }
 
 -- a violation that bytes show isn't EndInside
-shown : (cause : Violation) (to : Input) (rest : List ℕ) → Breaks most_bytes rest cause → IsViolated cause to rest
+pub shown : (cause : Violation) (to : Input) (rest : List ℕ) → Breaks most_bytes rest cause → IsViolated cause to rest
 shown violation.EndInside to rest breaks = absurd (never_ends most_bytes rest breaks)
 shown violation.Endian to rest breaks = breaks
 shown violation.Version to rest breaks = breaks
@@ -249,7 +249,7 @@ answers-end has from now left more old mid new next behind sink o to end.Memory 
 answers-end has from now left more old mid new next behind sink o to _ most so answers = absurd answers.1.early
 
 -- no more bytes were read
-stays : (a b c : Input) (x : List ℕ) → Took a b x → Took b c [] → Took a c x
+pub stays : (a b c : Input) (x : List ℕ) → Took a b x → Took b c [] → Took a c x
 stays a b c x p q = let e : x ++ [] ≡ x = append-nil x in rw (sym e) (Took-trans a b c x [] p q)
 
 pub feeds-end : (has : Framing) (from now later : Input) (left fed : Framing) (old new : World) (behind : ℕ) (sink o : Output) (why : End) → has.most ≡ most_bytes

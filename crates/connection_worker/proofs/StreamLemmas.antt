@@ -1,27 +1,29 @@
 -- Readings and writings one after the other.
-use Rattle.std.proofs.Common.{ℕ, List, [], ◌++◌, sym, ◌∙◌, ap, arith, append_assoc, append-nil}
+use Rattle.std.proofs.Common.{ℕ, List, [], ◌++◌, refl, sym, ◌∙◌, ap, arith, append_assoc, append-nil}
 use Rattle.std.proofs.KnownBytes.{Appends-nil, Appends-trans, Consumes-nil, Consumes-trans}
 use Rattle.kr_outside.proofs.FaultLemmas.{KeepsSteady-none, KeepsSteady-trans}
 use Rattle.connection_worker.specs.Streams.{Input, Output, Took, Gave, GaveFront}
 
 pub Took-none : (i : Input) → Took i i []
-Took-none i = record { consumed = Consumes-nil i.left; later = omega arith; steady = KeepsSteady-none i.is_steady i.faults }
+Took-none i = record { consumed = Consumes-nil i.left; later = omega arith; steady = KeepsSteady-none i.is_steady i.faults; closed = refl }
 
 pub Took-trans : (a b c : Input) (x y : List ℕ) → Took a b x → Took b c y → Took a c (x ++ y)
 Took-trans a b c x y p q = record {
   consumed = Consumes-trans a.left b.left c.left x y p.consumed q.consumed;
   later = omega (arith, p.later, q.later);
   steady = KeepsSteady-trans a.is_steady b.is_steady c.is_steady a.faults b.faults c.faults p.steady q.steady;
+  closed = q.closed ∙ p.closed;
 }
 
 pub Gave-none : (o : Output) → Gave o o []
-Gave-none o = record { appended = Appends-nil o.written; later = omega arith; steady = KeepsSteady-none o.is_steady o.faults }
+Gave-none o = record { appended = Appends-nil o.written; later = omega arith; steady = KeepsSteady-none o.is_steady o.faults; closed = refl }
 
 pub Gave-trans : (a b c : Output) (x y : List ℕ) → Gave a b x → Gave b c y → Gave a c (x ++ y)
 Gave-trans a b c x y p q = record {
   appended = Appends-trans a.written b.written c.written x y p.appended q.appended;
   later = omega (arith, p.later, q.later);
   steady = KeepsSteady-trans a.is_steady b.is_steady c.is_steady a.faults b.faults c.faults p.steady q.steady;
+  closed = q.closed ∙ p.closed;
 }
 
 -- all of the bytes are a prefix of them
@@ -30,6 +32,7 @@ GaveFront-whole a b x p = record {
   appended = record { front = x; rest = []; whole = sym (append-nil x); put = p.appended };
   later = p.later;
   steady = p.steady;
+  closed = p.closed;
 }
 
 -- a prefix is one of more bytes
@@ -43,6 +46,7 @@ GaveFront-more a b x y p = record {
   };
   later = p.later;
   steady = p.steady;
+  closed = p.closed;
 }
 
 -- a prefix after bytes that were written completely
@@ -56,4 +60,5 @@ GaveFront-behind a b c x y p q = record {
   };
   later = omega (arith, p.later, q.later);
   steady = KeepsSteady-trans a.is_steady b.is_steady c.is_steady a.faults b.faults c.faults p.steady q.steady;
+  closed = q.closed ∙ p.closed;
 }

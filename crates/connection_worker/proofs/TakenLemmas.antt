@@ -3,18 +3,18 @@ use Rattle.std.proofs.Common.{◌≡◌, Bool, true, false, cond, List, [], ◌�
 use Rattle.kr_base.specs.declared.ids.ConnId.{ConnId}
 use Rattle.secret_calls.specs.declared.work.Work.{Work}
 use Rattle.service_tables.specs.State.{State}
-use Rattle.service_machine.specs.declared.event.Event.{Event}
-use Rattle.service_machine.specs.declared.event.Event.TheVariants as event
-use Rattle.service_machine.specs.Step.{step}
-use Rattle.service_machine.specs.Replay.{replay}
-use Rattle.service_machine.specs.Single.{TimedKey, TimedRequest, arrival, asking, derivation, finishing, is_owed, taking, turn, turns, single, work_for}
+use Rattle.service_events.specs.declared.event.Event.{Event}
+use Rattle.service_events.specs.declared.event.Event.TheVariants as event
+use Rattle.service_events.specs.Step.{step}
+use Rattle.service_events.specs.Replay.{replay}
+use Rattle.service_events.specs.Single.{TimedKey, TimedRequest, arrival, asking, derivation, finishing, is_owed, taking, turn, turns, single, work_for}
 use Rattle.service_desk.specs.Records as records
 use Rattle.service_desk.proofs.RecordLemmas.{own-append}
 use Rattle.connection_worker.specs.Written.{given_by}
 use Rattle.connection_worker.proofs.RecordLemmas.{given_by-append}
 use Rattle.connection_worker.proofs.ServingLemmas.{same}
 
-given-append : (seen more : List records.Seen) → records.given (seen ++ more) ≡ records.given seen ++ records.given more
+pub given-append : (seen more : List records.Seen) → records.given (seen ++ more) ≡ records.given seen ++ records.given more
 given-append [] more = refl
 given-append (records.Others event ∷ seen) more = given-append seen more
 given-append (records.Own event answer ∷ seen) more =

@@ -46,21 +46,21 @@ use Rattle.service_tables.proofs.EachLemmas.{each-weaker}
 use Rattle.service_prompts.specs.Prompting.{completed_signal}
 use Rattle.service_prompts.specs.Unlocking.{targets_of, unlocked_there}
 use Rattle.service_prompts.proofs.SignalLemmas.{found-row}
-use Rattle.service_machine.specs.declared.event.Recorded.{Recorded}
-use Rattle.service_machine.specs.AgentCalls.{refuse, unless_refused}
-use Rattle.service_machine.specs.AliasCalls.{alias_settled, alias_stored, on_target, once_read}
-use Rattle.service_machine.specs.AnswerCalls.{answer_prompt, deriving_key, going_on, kind_answered, left_answered, row_answered, target_answered}
-use Rattle.service_machine.specs.CollectionCalls.{by_fate, if_open, made, no_prompt, on_collection, secret_stored, storing, storing_secret}
-use Rattle.service_machine.specs.Plan.{Become_agent, Begin_prompt, End_prompt, Go_on, Leave_agent, Demand, Store, Erase, Set_alias, Read_aliases, Read_collection, Plan, Ends, After, Asks, Opens, Questions, answered, refused}
-use Rattle.service_machine.specs.PromptCalls.{advance_sent, asks_for, completes, first_advance, go_on_sent, is_over, passed, passed_kind, row_advance}
-use Rattle.service_machine.specs.Run.{Ran, asked, demanded, led, run, sent_all}
-use Rattle.service_machine.specs.ServiceCalls.{answered_if_small, creating, is_small, next_prompt, no_collection, there_already, unlocking, with_new_prompt}
-use Rattle.service_machine.specs.SessionCalls.{with_session}
-use Rattle.service_machine.specs.Step.{brought_by, message_of, plan_of, put_out, replies, row_of, served}
-use Rattle.service_machine.specs.Stored.{IsPlain}
-use Rattle.service_machine.proofs.RunLemmas.{EndsSilently, plain-row, plan_for, silent-all}
-use Rattle.service_machine.proofs.SendLemmas.{advance-sends}
-use Rattle.service_machine.proofs.SmallLemmas.{reply-small}
+use Rattle.service_events.specs.declared.event.Recorded.{Recorded}
+use Rattle.service_events.specs.AgentCalls.{refuse, unless_refused}
+use Rattle.service_events.specs.AliasCalls.{alias_settled, alias_stored, on_target, once_read}
+use Rattle.service_events.specs.AnswerCalls.{answer_prompt, deriving_key, going_on, kind_answered, left_answered, row_answered, target_answered}
+use Rattle.service_events.specs.CollectionCalls.{by_fate, if_open, made, no_prompt, on_collection, secret_stored, storing, storing_secret}
+use Rattle.service_events.specs.Plan.{Become_agent, Begin_prompt, End_prompt, Go_on, Leave_agent, Demand, Store, Erase, Set_alias, Read_aliases, Read_collection, Plan, Ends, After, Asks, Opens, Questions, answered, refused}
+use Rattle.service_events.specs.PromptCalls.{advance_sent, asks_for, completes, first_advance, go_on_sent, is_over, passed, passed_kind, row_advance}
+use Rattle.service_events.specs.Run.{Ran, asked, demanded, led, run, sent_all}
+use Rattle.service_events.specs.ServiceCalls.{answered_if_small, creating, is_small, next_prompt, no_collection, there_already, unlocking, with_new_prompt}
+use Rattle.service_events.specs.SessionCalls.{with_session}
+use Rattle.service_events.specs.Step.{brought_by, message_of, plan_of, put_out, replies, row_of, served}
+use Rattle.service_events.specs.Stored.{IsPlain}
+use Rattle.service_events.proofs.RunLemmas.{EndsSilently, plain-row, plan_for, silent-all}
+use Rattle.service_events.proofs.SendLemmas.{advance-sends}
+use Rattle.service_events.proofs.SmallLemmas.{reply-small}
 use Rattle.connection_worker.proofs.SizeLemmas.{asks-size, done_weight, one-ask, one-completed, size_sent}
 
 -- nothing is sent beside the reply; or the reply is empty, and what is sent is short enough to wait beside it

@@ -9,8 +9,8 @@ use Rattle.connection_worker.specs.declared.ending.End.TheVariants as end
 use Rattle.connection_worker.specs.Arrivals.{calls_in, AreRequests, FirstRequests}
 use Rattle.connection_worker.specs.Sending.{AreBehind}
 use Rattle.connection_worker.specs.Serving.{World, IsOwed, Recorded, EndsEarly}
-use Rattle.service_machine.specs.Single.{AllFinished, AreFinished, TimedRequest, requests_of, turns}
-use Rattle.connection_worker.specs.Streams.{Output, Gave}
+use Rattle.service_events.specs.Single.{AllFinished, AreFinished, TimedRequest, requests_of, turns}
+use Rattle.connection_worker.specs.Streams.{Output, StaysAsOpen, Gave}
 use Rattle.connection_worker.specs.Written.{given_by, written_after}
 
 -- the request of this message, or none
@@ -24,6 +24,7 @@ pub record Answered (old new : World) (serials behind : ℕ) (from to : Output) 
   pub recorded : Recorded old new asked [] []
   pub finished : AllFinished old.told.conn old.told.state asked
   pub idle : IsOwed new.told []
+  pub as_open : StaysAsOpen from to
   pub wrote : (taken : ℕ) → AreBehind taken serials
       → Gave from to (written_after old.told.conn taken old.told.state (turns old.told.conn old.told.state asked))
       × AreBehind (taken + length (given_by old.told.conn old.told.state (turns old.told.conn old.told.state asked))) behind

@@ -13,7 +13,7 @@ use Rattle.connection_worker.specs.Arrivals.{AllRequests, FirstRequests}
 use Rattle.connection_worker.specs.Handshakes.{most_bytes, Awaits, IsRefusedFor}
 use Rattle.kr_base.specs.declared.ids.ConnId.{ConnId}
 use Rattle.service_tables.specs.State.{State}
-use Rattle.service_machine.specs.Single.{AllFinished, AreFinished, TimedRequest, requests_of}
+use Rattle.service_events.specs.Single.{AllFinished, AreFinished, TimedRequest, requests_of}
 use Rattle.connection_worker.specs.Streams.{Input, Output, IsStill, Gave, GaveFront}
 
 -- all complete requests after the handshake were recorded, and the rest is this one

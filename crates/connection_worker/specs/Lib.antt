@@ -4,10 +4,13 @@ pub mod Causes
 pub mod Handshakes
 pub mod Lines
 pub mod OneThread
+pub mod Reading
 pub mod Replies
 pub mod Salts
 pub mod Sending
 pub mod Serving
 pub mod ServingOn
+pub mod Sides
 pub mod Streams
+pub mod Writing
 pub mod Written

@@ -6,9 +6,9 @@ use Rattle.secret_calls.specs.declared.out.Out.TheVariants as out
 use Rattle.secret_calls.specs.declared.work.Work.{Work}
 use Rattle.service_tables.specs.State.{State}
 use Rattle.service_tables.specs.Connections.{sent_to}
-use Rattle.service_machine.specs.Step.{message_of, puts_out, served}
-use Rattle.service_machine.specs.Replay.{replay}
-use Rattle.service_machine.specs.Single.{TimedKey, TimedRequest, arrival, asking, derivation, recorded_of, turn, work_for}
+use Rattle.service_events.specs.Step.{message_of, puts_out, served}
+use Rattle.service_events.specs.Replay.{replay}
+use Rattle.service_events.specs.Single.{TimedKey, TimedRequest, arrival, asking, derivation, recorded_of, turn, work_for}
 
 -- the outputs of the key of work for its connection, if it was recorded: the signals that it sends
 abbrev pub key_outputs : ConnId → State → Option Work → Option TimedKey → List Out

@@ -5,7 +5,7 @@ use Rattle.secret_calls.specs.declared.out.Out.{Out}
 use Rattle.secret_calls.specs.Serials.{last_serial}
 use Rattle.connection_worker.specs.declared.ending.End.{End}
 use Rattle.connection_worker.specs.declared.ending.End.TheVariants as end
-use Rattle.connection_worker.specs.Streams.{Output, Gave, GaveFront}
+use Rattle.connection_worker.specs.Streams.{Output, StaysAsOpen, Gave, GaveFront}
 use Rattle.connection_worker.specs.Written.{spelled_behind}
 
 -- the serials are those after this many outputs
@@ -18,7 +18,8 @@ Spells outs old new bytes = (taken : ℕ) → AreBehind taken old → (bytes ≡
 
 -- The outputs were written; or a prefix of them, because of a fault of the sink or for lack of memory.
 abbrev pub Sends : List Out → ℕ → ℕ → Output → Output → Result Unit End → Type 0
-Sends outs old new from to (Ok done) = (taken : ℕ) → AreBehind taken old → Gave from to (spelled_behind taken outs) × AreBehind (taken + length outs) new
+Sends outs old new from to (Ok done) =
+    StaysAsOpen from to × ((taken : ℕ) → AreBehind taken old → Gave from to (spelled_behind taken outs) × AreBehind (taken + length outs) new)
 Sends outs old new from to (Err end.WriteFault) = Rose from.faults to.faults × ((taken : ℕ) → AreBehind taken old → GaveFront from to (spelled_behind taken outs))
 Sends outs old new from to (Err end.Memory) = (taken : ℕ) → AreBehind taken old → GaveFront from to (spelled_behind taken outs)
 Sends outs old new from to (Err _) = ⊥

@@ -15,9 +15,9 @@ use Rattle.connection_worker.specs.declared.ending.End.{End}
 use Rattle.connection_worker.specs.declared.ending.End.TheVariants as end
 use Rattle.connection_worker.specs.Salts.{Salting, words_at}
 use Rattle.connection_worker.specs.Sending.{AreBehind}
-use Rattle.service_machine.specs.Single.{TimedKey, TimedRequest, arrival, derivation, moments_of, taking, turns, work_for}
+use Rattle.service_events.specs.Single.{TimedKey, TimedRequest, arrival, derivation, moments_of, taking, turns, work_for}
 use Rattle.connection_worker.specs.Written.{spelled_behind}
-use Rattle.connection_worker.specs.Streams.{Output, Gave, GaveFront}
+use Rattle.connection_worker.specs.Streams.{Output, StaysAsOpen, Gave, GaveFront}
 
 -- what serving requests changes, apart from the sink: the desk, which has a place in the history, the clock,
 -- and the salts
@@ -130,7 +130,8 @@ HasGiven old new = Records old new (of_own old.told.state (taking old.told.conn 
 -- the outputs that waited were taken and written; or they were taken, and a prefix of them was written
 abbrev pub Gives : Place → Place → ℕ → ℕ → Output → Output → Result Unit End → Type 0
 Gives old new serials behind from to (Ok done) =
-    HasGiven old new × ((taken : ℕ) → AreBehind taken serials → Gave from to (spelled_behind taken (owed old.told)) × AreBehind (taken + length (owed old.told)) behind)
+    HasGiven old new × StaysAsOpen from to
+    × ((taken : ℕ) → AreBehind taken serials → Gave from to (spelled_behind taken (owed old.told)) × AreBehind (taken + length (owed old.told)) behind)
 Gives old new serials behind from to (Err end.WriteFault) =
     HasGiven old new × Rose from.faults to.faults × ((taken : ℕ) → AreBehind taken serials → GaveFront from to (spelled_behind taken (owed old.told)))
 Gives old new serials behind from to (Err end.Memory) =

@@ -1,13 +1,21 @@
-// Laws of the definitions of one thread. Each law is the contract of a function that does nothing.
-ghost use Rattle.std.specs.Prelude.{◌≡◌, List, [], filter};
+// Laws of the definitions of one thread and of a reader. Each law is the contract of a function that does nothing.
+ghost use Rattle.std.specs.Prelude.{◌≡◌, ◌++◌, ℕ, List, [], filter, Some};
+ghost use Rattle.dbus_framing.specs.Messages.{Parts};
+ghost use Rattle.dbus_framing.specs.Streams.{Stream};
+ghost use Rattle.kr_outside.specs.Faults.{StandsStill};
+ghost use Rattle.secret_calls.specs.declared.call.Request.{Request};
+ghost use Rattle.connection_worker.specs.declared.ending.End.{End};
+ghost use Rattle.connection_worker.specs.Handshakes.{most_bytes};
+ghost use Rattle.connection_worker.specs.Reading.{ReadFor, IsWholeEnd};
+ghost use Rattle.connection_worker.specs.Streams.{Input, Took};
 ghost use Rattle.kr_base.specs.declared.ids.ConnId.{ConnId};
 ghost use Rattle.service_tables.specs.State.{State};
 ghost use Rattle.service_desk.specs.Places.{Told};
 ghost use Rattle.service_desk.specs.Records as records;
 ghost use Rattle.connection_worker.specs.Replies.{is_reply, outputs_to, replies_to};
 ghost use Rattle.connection_worker.specs.Serving.{IsOwed};
-ghost use Rattle.service_machine.specs.Replay.{Legal};
-ghost use Rattle.service_machine.specs.Single.{TimedRequest, single};
+ghost use Rattle.service_events.specs.Replay.{Legal};
+ghost use Rattle.service_events.specs.Single.{TimedRequest, single};
 ghost use Rattle.connection_worker.specs.Written.{given_by};
 
 /// What the only connection is given is the outputs of its requests, in order, and nothing else: of each
@@ -33,4 +41,14 @@ pub fn what_is_given_was_taken()
     ensures { (conn : ConnId) (state : State) (asked : List TimedRequest)
         → given_by conn state (single conn state asked)
         ≡ records.given (records.of_own state (single conn state asked)) }
+{}
+
+/// A reader reads to the end what consists of complete messages, if its source reports its bytes and
+/// doesn't fail: it ends with Done, unless its desk refused a call or memory ran out.
+pub fn complete_messages_are_read_to_their_end()
+    ensures { (how : End) (rest read bytes : List ℕ) (requests : List Request)
+        (messages : List Parts) (from to : Input)
+        → Took from to read → ReadFor how (rest ++ read) requests from to
+        → from.left ≡ Some bytes → StandsStill from.faults to.faults
+        → Stream most_bytes (rest ++ bytes) messages [] → IsWholeEnd how }
 {}

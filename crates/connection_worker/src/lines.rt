@@ -1,5 +1,5 @@
 // The lines of a handshake, as far as they are in some bytes.
-ghost use Rattle.std.specs.Prelude.{◌≡◌, ◌+◌, ◌<◌, ◌≤◌, ℕ, length};
+ghost use Rattle.std.specs.Prelude.{◌≡◌, ◌+◌, ◌<◌, ◌≤◌, ℕ, length, IsFalse};
 ghost use Rattle.connection_worker.specs.Lines.{IsLineEnd, LineOf, TurnOf};
 ghost use Rattle.connection_worker.specs.Streams.{output_of};
 
@@ -66,9 +66,10 @@ fn first_line(auth: &mut Auth, bytes: &[u8]) -> Line
 ///
 /// Refused with `Failed` if the sink fails.
 pub fn answer_lines<O: Sink>(auth: &mut Auth, output: &mut O, bytes: &[u8]) -> Result<Turn, Failed>
+    requires output_open { IsFalse (O.is_closed output.old) }
     ensures { TurnOf auth.old bytes.now
-        (output_of O.written O.faults O.is_steady output.old)
-        (output_of O.written O.faults O.is_steady output.new) result auth.new }
+        (output_of O.written O.faults O.is_steady O.is_closed output.old)
+        (output_of O.written O.faults O.is_steady O.is_closed output.new) result auth.new }
 {
     let mut taken = 0;
     'lines: loop {

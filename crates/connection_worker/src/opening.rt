@@ -1,5 +1,5 @@
 // The handshake over a source and a sink.
-ghost use Rattle.std.specs.Prelude.{◌≡◌, ◌≤◌, ℕ, IfOk, OnErr, IsErrOf, List, drop, length, vec_len};
+ghost use Rattle.std.specs.Prelude.{◌≡◌, ◌≤◌, ℕ, IfOk, OnErr, IsErrOf, List, drop, length, vec_len, IsFalse};
 ghost use Rattle.dbus_framing.specs.Framers.{just_fed};
 ghost use Rattle.connection_worker.specs.Streams.{input_of, most_read, output_of};
 ghost use Rattle.connection_worker.specs.Handshakes.{HandshakeOutcome, HandshakeOutcomeAfter, ReadsMore, most_bytes};
@@ -20,10 +20,11 @@ const MOST_MESSAGE_BYTES: u32 = 1_048_576;
 
 // Reads a piece, and appends it to the bytes that are held.
 fn read_more<I: Source>(input: &mut I, piece: &mut [u8], held: &mut Vec<u8>) -> Result<(), End>
-    requires { length piece.old ≡ most_read }
+    requires room { length piece.old ≡ most_read }
+    requires input_open { IsFalse (I.is_closed input.old) }
     ensures { ReadsMore held.old.items held.new.items
-        (input_of I.left I.faults I.is_steady input.old)
-        (input_of I.left I.faults I.is_steady input.new) result }
+        (input_of I.left I.faults I.is_steady I.is_closed input.old)
+        (input_of I.left I.faults I.is_steady I.is_closed input.new) result }
 {
     match input.read(&mut *piece) {
         Err(Failed) => Err(End::ReadFault),
@@ -69,15 +70,17 @@ fn shake<R: Wait, I: Source, O: Sink>(
     output: &mut O,
     piece: &mut [u8],
 ) -> Result<Framer, End>
-    requires { length piece.old ≡ most_read }
+    requires room { length piece.old ≡ most_read }
+    requires input_open { IsFalse (I.is_closed input.old) }
+    requires output_open { IsFalse (O.is_closed output.old) }
     ensures { HandshakeOutcomeAfter auth held.items
         (record {
-          input = input_of I.left I.faults I.is_steady input.old;
-          output = output_of O.written O.faults O.is_steady output.old;
+          input = input_of I.left I.faults I.is_steady I.is_closed input.old;
+          output = output_of O.written O.faults O.is_steady O.is_closed output.old;
         })
         (record {
-          input = input_of I.left I.faults I.is_steady input.new;
-          output = output_of O.written O.faults O.is_steady output.new;
+          input = input_of I.left I.faults I.is_steady I.is_closed input.new;
+          output = output_of O.written O.faults O.is_steady O.is_closed output.new;
         }) result }
 {
     let mut auth = auth;
@@ -107,15 +110,17 @@ pub fn handshake<R: AllocGlobal + Wait, I: Source, O: Sink>(
     input: &mut I,
     output: &mut O,
 ) -> Result<Framer, End>
-    requires { auth.state ≡ State.WaitingForAuth }
+    requires fresh { auth.state ≡ State.WaitingForAuth }
+    requires input_open { IsFalse (I.is_closed input.old) }
+    requires output_open { IsFalse (O.is_closed output.old) }
     ensures { HandshakeOutcome auth.uid auth.guid
         (record {
-          input = input_of I.left I.faults I.is_steady input.old;
-          output = output_of O.written O.faults O.is_steady output.old;
+          input = input_of I.left I.faults I.is_steady I.is_closed input.old;
+          output = output_of O.written O.faults O.is_steady O.is_closed output.old;
         })
         (record {
-          input = input_of I.left I.faults I.is_steady input.new;
-          output = output_of O.written O.faults O.is_steady output.new;
+          input = input_of I.left I.faults I.is_steady I.is_closed input.new;
+          output = output_of O.written O.faults O.is_steady O.is_closed output.new;
         }) result }
 {
     let alloc = rt.alloc();

@@ -1,5 +1,5 @@
 // Outputs that were taken are turned into bytes and written.
-ghost use Rattle.std.specs.Prelude.{◌≡◌, ◌++◌, IfOk, OnErr, IsErrOf};
+ghost use Rattle.std.specs.Prelude.{◌≡◌, ◌++◌, IfOk, OnErr, IsErrOf, IsFalse};
 ghost use Rattle.connection_worker.specs.Streams.{output_of};
 ghost use Rattle.connection_worker.specs.Sending.{Spells, Sends};
 
@@ -49,9 +49,10 @@ pub fn send<O: Sink>(
     serials: &mut Serials,
     output: &mut O,
 ) -> Result<(), End>
+    requires output_open { IsFalse (O.is_closed output.old) }
     ensures { Sends outs.now serials.old serials.new
-        (output_of O.written O.faults O.is_steady output.old)
-        (output_of O.written O.faults O.is_steady output.new) result }
+        (output_of O.written O.faults O.is_steady O.is_closed output.old)
+        (output_of O.written O.faults O.is_steady O.is_closed output.new) result }
 {
     let bytes = match messages_of(alloc, outs, serials) {
         Ok(bytes) => bytes,

@@ -1,5 +1,5 @@
 // Serving requests on one thread.
-ghost use Rattle.std.specs.Prelude.{◌≡◌, IsTrue, [], length};
+ghost use Rattle.std.specs.Prelude.{◌≡◌, IsTrue, IsFalse, [], length};
 ghost use Rattle.service_desk.specs.Places.{place};
 ghost use Rattle.connection_worker.specs.Serving.{world, owed, IsOwed, Asks, Brings, Gives};
 ghost use Rattle.connection_worker.specs.Answering.{AnswersCall, AnswersMessage, AnswersAll};
@@ -71,10 +71,11 @@ fn give<O: Sink, D: WriteDesk>(
 ) -> Result<(), End>
     requires alone { IsTrue (D.told desk.old).is_alone }
     requires owed { IsOwed (D.told desk.old) (owed (D.told desk.old)) }
+    requires output_open { IsFalse (O.is_closed output.old) }
     ensures { Gives (place D.told D.has_seen desk.old) (place D.told D.has_seen desk.new)
         serials.old serials.new
-        (output_of O.written O.faults O.is_steady output.old)
-        (output_of O.written O.faults O.is_steady output.new) result }
+        (output_of O.written O.faults O.is_steady O.is_closed output.old)
+        (output_of O.written O.faults O.is_steady O.is_closed output.new) result }
 {
     match desk.take() {
         Taken::Outs(outs) => send(alloc, outs.as_slice(), serials, output),
@@ -98,12 +99,13 @@ fn answer_call<O: Sink, D: ReadDesk + WriteDesk, C: Clock>(
     requires call { message.now.kind ≡ 1 }
     requires alone { IsTrue (D.told desk.old).is_alone }
     requires idle { IsOwed (D.told desk.old) [] }
+    requires output_open { IsFalse (O.is_closed output.old) }
     ensures { AnswersCall (parts_of message.now)
         (world D.told D.has_seen C.coming desk.old clock.old salts.old)
         (world D.told D.has_seen C.coming desk.new clock.new salts.new)
         serials.old serials.new
-        (output_of O.written O.faults O.is_steady output.old)
-        (output_of O.written O.faults O.is_steady output.new) result }
+        (output_of O.written O.faults O.is_steady O.is_closed output.old)
+        (output_of O.written O.faults O.is_steady O.is_closed output.new) result }
 {
     let Ok(request) = call_of(alloc, message) else {
         return Err(End::Memory);
@@ -136,12 +138,13 @@ fn answer_message<O: Sink, D: ReadDesk + WriteDesk, C: Clock>(
 ) -> Result<(), End>
     requires alone { IsTrue (D.told desk.old).is_alone }
     requires idle { IsOwed (D.told desk.old) [] }
+    requires output_open { IsFalse (O.is_closed output.old) }
     ensures { AnswersMessage (parts_of message.now)
         (world D.told D.has_seen C.coming desk.old clock.old salts.old)
         (world D.told D.has_seen C.coming desk.new clock.new salts.new)
         serials.old serials.new
-        (output_of O.written O.faults O.is_steady output.old)
-        (output_of O.written O.faults O.is_steady output.new) result }
+        (output_of O.written O.faults O.is_steady O.is_closed output.old)
+        (output_of O.written O.faults O.is_steady O.is_closed output.new) result }
 {
     if message.kind != 1 {
         return Ok(());
@@ -161,12 +164,13 @@ fn answer_messages<R: AllocGlobal + Wait, O: Sink, D: ReadDesk + WriteDesk, C: C
 ) -> Result<(), End>
     requires alone { IsTrue (D.told desk.old).is_alone }
     requires idle { IsOwed (D.told desk.old) [] }
+    requires output_open { IsFalse (O.is_closed output.old) }
     ensures { AnswersAll framer.old framer.new
         (world D.told D.has_seen C.coming desk.old clock.old salts.old)
         (world D.told D.has_seen C.coming desk.new clock.new salts.new)
         serials.old serials.new
-        (output_of O.written O.faults O.is_steady output.old)
-        (output_of O.written O.faults O.is_steady output.new) result }
+        (output_of O.written O.faults O.is_steady O.is_closed output.old)
+        (output_of O.written O.faults O.is_steady O.is_closed output.new) result }
 {
     for _ in rt.forever() {
         let message = match framer.next() {
@@ -183,12 +187,13 @@ fn answer_messages<R: AllocGlobal + Wait, O: Sink, D: ReadDesk + WriteDesk, C: C
     unreachable!()
 }
 
-// Reads a piece and feeds it.
-fn feed_more<I: Source>(input: &mut I, piece: &mut [u8], framer: &mut Framer) -> Result<(), End>
-    requires { length piece.old ≡ most_read }
+/// Reads a piece and feeds it.
+pub fn feed_more<I: Source>(input: &mut I, piece: &mut [u8], framer: &mut Framer) -> Result<(), End>
+    requires room { length piece.old ≡ most_read }
+    requires input_open { IsFalse (I.is_closed input.old) }
     ensures { FeedsMore framer.old framer.new
-        (input_of I.left I.faults I.is_steady input.old)
-        (input_of I.left I.faults I.is_steady input.new) result }
+        (input_of I.left I.faults I.is_steady I.is_closed input.old)
+        (input_of I.left I.faults I.is_steady I.is_closed input.new) result }
 {
     match input.read(&mut *piece) {
         Err(Failed) => Err(End::ReadFault),
@@ -221,13 +226,15 @@ fn serve_by<R: AllocGlobal + Wait, I: Source, O: Sink, D: ReadDesk + WriteDesk, 
     requires idle { IsOwed (D.told desk.old) [] }
     requires most { framer.most ≡ most_bytes }
     requires room { length piece.old ≡ most_read }
+    requires input_open { IsFalse (I.is_closed input.old) }
+    requires output_open { IsFalse (O.is_closed output.old) }
     ensures { ServesOn framer
-        (input_of I.left I.faults I.is_steady input.old)
-        (input_of I.left I.faults I.is_steady input.new)
+        (input_of I.left I.faults I.is_steady I.is_closed input.old)
+        (input_of I.left I.faults I.is_steady I.is_closed input.new)
         (world D.told D.has_seen C.coming desk.old clock.old salts.old)
         (world D.told D.has_seen C.coming desk.new clock.new salts.new)
-        (output_of O.written O.faults O.is_steady output.old)
-        (output_of O.written O.faults O.is_steady output.new) result }
+        (output_of O.written O.faults O.is_steady O.is_closed output.old)
+        (output_of O.written O.faults O.is_steady O.is_closed output.new) result }
 {
     let mut framer = framer;
     let mut serials = Serials::new();
@@ -261,13 +268,15 @@ pub fn serve<R: AllocGlobal + Wait, I: Source, O: Sink, D: ReadDesk + WriteDesk,
     requires alone { IsTrue (D.told desk.old).is_alone }
     requires idle { IsOwed (D.told desk.old) [] }
     requires most { framer.most ≡ most_bytes }
+    requires input_open { IsFalse (I.is_closed input.old) }
+    requires output_open { IsFalse (O.is_closed output.old) }
     ensures { ServesOn framer
-        (input_of I.left I.faults I.is_steady input.old)
-        (input_of I.left I.faults I.is_steady input.new)
+        (input_of I.left I.faults I.is_steady I.is_closed input.old)
+        (input_of I.left I.faults I.is_steady I.is_closed input.new)
         (world D.told D.has_seen C.coming desk.old clock.old salts.old)
         (world D.told D.has_seen C.coming desk.new clock.new salts.new)
-        (output_of O.written O.faults O.is_steady output.old)
-        (output_of O.written O.faults O.is_steady output.new) result }
+        (output_of O.written O.faults O.is_steady O.is_closed output.old)
+        (output_of O.written O.faults O.is_steady O.is_closed output.new) result }
 {
     let Ok(mut piece) = vec![in rt.alloc(); 0; MOST_READ] else {
         return End::Memory;

@@ -1,5 +1,5 @@
 // One connection on one thread.
-ghost use Rattle.std.specs.Prelude.{◌≡◌, IsTrue};
+ghost use Rattle.std.specs.Prelude.{◌≡◌, IsTrue, IsFalse};
 ghost use Rattle.service_tables.specs.Sound.{IsSound};
 ghost use Rattle.connection_worker.specs.OneThread.{IsServed};
 ghost use Rattle.connection_worker.specs.Serving.{world, HasJoined};
@@ -40,11 +40,13 @@ pub fn one_thread<R: AllocGlobal + Wait, I: Source, O: Sink, D: ReadDesk + Write
     requires alone { IsTrue (D.told desk.old).is_alone }
     requires joined { HasJoined (D.told desk.old) }
     requires sound { IsSound (D.told desk.old).state }
+    requires input_open { IsFalse (I.is_closed input.old) }
+    requires output_open { IsFalse (O.is_closed output.old) }
     ensures { IsServed auth.uid auth.guid
-        (input_of I.left I.faults I.is_steady input.old)
-        (input_of I.left I.faults I.is_steady input.new)
-        (output_of O.written O.faults O.is_steady output.old)
-        (output_of O.written O.faults O.is_steady output.new)
+        (input_of I.left I.faults I.is_steady I.is_closed input.old)
+        (input_of I.left I.faults I.is_steady I.is_closed input.new)
+        (output_of O.written O.faults O.is_steady O.is_closed output.old)
+        (output_of O.written O.faults O.is_steady O.is_closed output.new)
         (world D.told D.has_seen C.coming desk.old clock.old salts.old)
         (world D.told D.has_seen C.coming desk.new clock.new salts.new) result }
 {

@@ -1,4 +1,4 @@
-use Rattle.std.proofs.Common.{refl, arith, length-drop}
+use Rattle.std.proofs.Common.{refl, sym, ◌∙◌, arith, length-drop}
 use Rattle.connection_worker.proofs.LineLemmas.{answers-more, answers-failed}
 use Rattle.connection_worker.proofs.HandshakeLemmas.{rose-later}
 use Rattle.connection_worker.proofs.lines.answer_lines.Goals as goal
@@ -10,7 +10,7 @@ returns-in-Err g c =
     let line = rw c.split_at.ensures.back at c.in-Answered.ensures in (
       rose-later _ _ _ c.lines.invariant.1.gave.later (wrote.cause.failed refl),
       answers-failed _ _ _ _ _ _ _ c.in-Answered.answer c.lines.invariant.1 line.2
-          (record { appended = rw c.bytes.ensures at wrote.front; later = wrote.cause.later; steady = wrote.steady }),
+          (record { appended = rw c.bytes.ensures at wrote.front; later = wrote.cause.later; steady = wrote.steady; closed = wrote.is_open ∙ sym (c.lines.invariant.1.gave.closed ∙ c.requires.output_open) }),
     )
 
 -- one more line was answered
@@ -20,5 +20,5 @@ lines-preserved g c =
     let line = rw c.split_at.ensures.back at c.in-Answered.ensures in (
       omega (arith, line.1, length-drop c.lines.taken c.args.bytes.now, c.lines.invariant.0),
       answers-more _ _ _ c.lines.taken c.in-Answered.size _ _ _ _ c.in-Answered.answer c.lines.invariant.1 line.2
-          (record { appended = rw c.bytes.ensures at wrote.whole; later = wrote.cause.later; steady = wrote.steady }),
+          (record { appended = rw c.bytes.ensures at wrote.whole; later = wrote.cause.later; steady = wrote.steady; closed = wrote.is_open ∙ sym (c.lines.invariant.1.gave.closed ∙ c.requires.output_open) }),
     )

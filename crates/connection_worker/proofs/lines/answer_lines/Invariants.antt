@@ -9,8 +9,8 @@ abbrev pub invariant-lines : goal.invariant-lines
 invariant-lines g l =
     let sink = g.O.Sink in
     (l.taken ≤ length l.bytes)
-    × Answers l.fn.auth l.bytes (output_of sink.written sink.faults sink.is_steady l.initial.output)
-    (output_of sink.written sink.faults sink.is_steady l.output) (run l.auth (drop l.taken l.bytes))
+    × Answers l.fn.auth l.bytes (output_of sink.written sink.faults sink.is_steady sink.is_closed l.initial.output)
+    (output_of sink.written sink.faults sink.is_steady sink.is_closed l.output) (run l.auth (drop l.taken l.bytes))
 
 abbrev pub decreases-lines : goal.decreases-lines
 decreases-lines g l = length l.bytes - l.taken

@@ -7,8 +7,8 @@ use Rattle.connection_worker.proofs.opening.handshake.Goals as goal
 pub returns-in-Err : goal.returns-in-Err
 returns-in-Err g c =
     let source = g.I.Source in
-    let from = input_of source.left source.faults source.is_steady c.args.input.now in
-    let to = input_of source.left source.faults source.is_steady c.read_more.new.input in
+    let from = input_of source.left source.faults source.is_steady source.is_closed c.args.input.now in
+    let to = input_of source.left source.faults source.is_steady source.is_closed c.read_more.new.input in
     never_began c.args.auth.uid c.args.auth.guid c.read_more.new.held.items from to _ c.in-Err.end
     (more_behind c.new-held.result.items [] c.read_more.new.held.items from to (Err c.in-Err.end) c.new-held.ensures.items c.in-Err.ensures)
 
@@ -23,5 +23,5 @@ returns-then-index-ne0 g c =
 pub returns : goal.returns
 returns g c =
     let more = rw c.new-held.ensures.items at c.in_default-read_more.ensures in
-    began-at c.args.auth c.read_more.new.held.items c.remove_front.new.bytes.items _ _ _ _ _ c.requires c.remove_front.ensures more
+    began-at c.args.auth c.read_more.new.held.items c.remove_front.new.bytes.items _ _ _ _ _ c.requires.fresh c.remove_front.ensures more
     (sym (first_is c.read_more.new.held.items _ c.index.ensures (rw more.2 more.3)) ∙ c.if-index-ne0.false) c.shake.ensures

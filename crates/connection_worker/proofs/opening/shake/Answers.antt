@@ -31,8 +31,8 @@ returns-in-Err g c =
 pub returns-in-Err-read_more : goal.returns-in-Err-read_more
 returns-in-Err-read_more g c =
     let source = g.I.Source in
-    let from = input_of source.left source.faults source.is_steady c.loop.input in
-    let to = input_of source.left source.faults source.is_steady c.read_more.new.input in
+    let from = input_of source.left source.faults source.is_steady source.is_closed c.loop.input in
+    let to = input_of source.left source.faults source.is_steady source.is_closed c.read_more.new.input in
     let rest = drop c.in-Ok-Waits.size c.loop.held.items in
     let turn = rw (c.in-Ok-Waits.field-0-is, c.as_slice.ensures.value) at c.in-Ok-Waits.ensures in
     reads_no_more _ c.answer_lines.new.auth _ rest c.read_more.new.held.items _ from to _ c.in-Err-read_more.end

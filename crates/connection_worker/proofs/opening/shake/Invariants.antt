@@ -9,6 +9,6 @@ invariant-loop g l =
     let source = g.I.Source in
     let sink = g.O.Sink in
     Reached l.fn.auth l.fn.held.items
-    (record { input = input_of source.left source.faults source.is_steady l.initial.input; output = output_of sink.written sink.faults sink.is_steady l.initial.output })
-    (record { input = input_of source.left source.faults source.is_steady l.input; output = output_of sink.written sink.faults sink.is_steady l.output })
+    (record { input = input_of source.left source.faults source.is_steady source.is_closed l.initial.input; output = output_of sink.written sink.faults sink.is_steady sink.is_closed l.initial.output })
+    (record { input = input_of source.left source.faults source.is_steady source.is_closed l.input; output = output_of sink.written sink.faults sink.is_steady sink.is_closed l.output })
     (run l.auth l.held.items)

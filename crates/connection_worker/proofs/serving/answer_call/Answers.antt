@@ -34,7 +34,7 @@ returns-in-Err-give g c =
     let old = world told g.D.Desk.has_seen g.C.Clock.coming c.args.desk.now c.args.clock.now c.args.salts.now in
     let mid = world told g.D.Desk.has_seen g.C.Clock.coming c.ask.new.desk c.ask.new.clock c.ask.new.salts in
     broke-first (parts_of c.args.message.now) c.in-Ok.request c.in-Ok-ask.work old mid (place told g.D.Desk.has_seen c.give.new.desk) c.args.serials.now c.give.new.serials
-    (output_of sink.written sink.faults sink.is_steady c.args.output.now) (output_of sink.written sink.faults sink.is_steady c.give.new.output) c.in-Err-give.end c.in-Ok.ensures
+    (output_of sink.written sink.faults sink.is_steady sink.is_closed c.args.output.now) (output_of sink.written sink.faults sink.is_steady sink.is_closed c.give.new.output) c.in-Err-give.end c.in-Ok.ensures
     (arrived-owed (told c.args.desk.now) (told c.ask.new.desk) asks.0 c.requires.idle (asked-fits _ _ asks.0 asks.2) asks.2.calls.same.conn asks.2.calls.state) asks c.in-Err-give.ensures
 
 -- it was, and no key is asked for
@@ -47,7 +47,7 @@ returns-in_default-work g c =
     let mid = world told g.D.Desk.has_seen g.C.Clock.coming c.ask.new.desk c.ask.new.clock c.ask.new.salts in
     let first = place told g.D.Desk.has_seen c.give.new.desk in
     answers-alone (parts_of c.args.message.now) c.in-Ok.request old mid first c.args.serials.now c.give.new.serials
-    (output_of sink.written sink.faults sink.is_steady c.args.output.now) (output_of sink.written sink.faults sink.is_steady c.give.new.output) c.in-Ok.ensures
+    (output_of sink.written sink.faults sink.is_steady sink.is_closed c.args.output.now) (output_of sink.written sink.faults sink.is_steady sink.is_closed c.give.new.output) c.in-Ok.ensures
     (arrived-owed (told c.args.desk.now) (told c.ask.new.desk) asks.0 c.requires.idle (asked-fits _ _ asks.0 asks.2) asks.2.calls.same.conn asks.2.calls.state)
     (subst (λ work. Asks c.in-Ok.request old mid (Ok work)) c.in_default-work.is asks) c.in_default-give.ensures
 
@@ -70,7 +70,7 @@ returns-in-Err-bring g c =
     let first = place told g.D.Desk.has_seen c.give.new.desk in
     let last = world told g.D.Desk.has_seen g.C.Clock.coming c.bring.new.desk c.bring.new.clock c.ask.new.salts in
     broke-late (parts_of c.args.message.now) c.in-Ok.request c.in-Some.work old mid first last c.args.serials.now c.give.new.serials
-    (output_of sink.written sink.faults sink.is_steady c.args.output.now) (output_of sink.written sink.faults sink.is_steady c.give.new.output) c.in-Err-bring.end c.in-Ok.ensures
+    (output_of sink.written sink.faults sink.is_steady sink.is_closed c.args.output.now) (output_of sink.written sink.faults sink.is_steady sink.is_closed c.give.new.output) c.in-Err-bring.end c.in-Ok.ensures
     (arrived-owed (told c.args.desk.now) (told c.ask.new.desk) asks.0 c.requires.idle (asked-fits _ _ asks.0 asks.2) asks.2.calls.same.conn asks.2.calls.state)
     (subst (λ work. Asks c.in-Ok.request old mid (Ok work)) c.in-Some.is asks) c.in_default-give.ensures (c.in-Err-bring.ensures c.ask.new.salts)
 
@@ -107,7 +107,11 @@ returns g c =
     let idle = given-idle (place_of mid) first (arrived-owed (told c.args.desk.now) (told c.ask.new.desk) asks.0 c.requires.idle (asked-fits _ _ asks.0 asks.2) asks.2.calls.same.conn asks.2.calls.state) c.in_default-give.ensures.0 in
     let brings = c.in_default-bring.ensures c.ask.new.salts in
     answers (parts_of c.args.message.now) c.in-Ok.request c.in-Some.work brings.0 old mid last first (place told g.D.Desk.has_seen c.give-2.new.desk) c.args.serials.now c.give.new.serials c.give-2.new.serials
-    (output_of sink.written sink.faults sink.is_steady c.args.output.now) (output_of sink.written sink.faults sink.is_steady c.give.new.output)
-    (output_of sink.written sink.faults sink.is_steady c.give-2.new.output) c.give-2.result c.in-Ok.ensures
+    (output_of sink.written sink.faults sink.is_steady sink.is_closed c.args.output.now) (output_of sink.written sink.faults sink.is_steady sink.is_closed c.give.new.output)
+    (output_of sink.written sink.faults sink.is_steady sink.is_closed c.give-2.new.output) c.give-2.result c.in-Ok.ensures
     (derived-owed first.told last.told c.in-Some.work brings.0 idle (brought-fits (behind mid first) last c.in-Some.work brings.0 brings.1) brings.1.calls.same.conn brings.1.calls.state)
     (subst (λ work. Asks c.in-Ok.request old mid (Ok work)) c.in-Some.is asks) c.in_default-give.ensures brings.1 c.give-2.ensures
+
+-- the sink stays open
+pub give-requires-2-clause-output_open : goal.give-requires-2-clause-output_open
+give-requires-2-clause-output_open g c = c.in_default-give.ensures.1 ∙ c.requires.output_open

@@ -15,5 +15,5 @@ returns g c =
     let sink = g.O.Sink in
     answers-call (parts_of c.args.message.now) (world told g.D.Desk.has_seen g.C.Clock.coming c.args.desk.now c.args.clock.now c.args.salts.now)
     (world told g.D.Desk.has_seen g.C.Clock.coming c.answer_call.new.desk c.answer_call.new.clock c.answer_call.new.salts) c.args.serials.now c.answer_call.new.serials
-    (output_of sink.written sink.faults sink.is_steady c.args.output.now) (output_of sink.written sink.faults sink.is_steady c.answer_call.new.output) c.answer_call.result
+    (output_of sink.written sink.faults sink.is_steady sink.is_closed c.args.output.now) (output_of sink.written sink.faults sink.is_steady sink.is_closed c.answer_call.new.output) c.answer_call.result
     (is-one c.args.message.now.kind c.if-message-ne1.false) c.answer_call.ensures

@@ -43,9 +43,9 @@ returns-in-Err g c =
     let old = world told g.D.Desk.has_seen coming c.args.desk.now c.args.clock.now c.args.salts.now in
     let mid = world told g.D.Desk.has_seen coming c.loop.desk c.loop.clock c.loop.salts in
     let new = world told g.D.Desk.has_seen coming c.answer_message.new.desk c.answer_message.new.clock c.answer_message.new.salts in
-    let from = output_of sink.written sink.faults sink.is_steady c.args.output.now in
-    let o = output_of sink.written sink.faults sink.is_steady c.loop.output in
-    let to = output_of sink.written sink.faults sink.is_steady c.answer_message.new.output in
+    let from = output_of sink.written sink.faults sink.is_steady sink.is_closed c.args.output.now in
+    let o = output_of sink.written sink.faults sink.is_steady sink.is_closed c.loop.output in
+    let to = output_of sink.written sink.faults sink.is_steady sink.is_closed c.answer_message.new.output in
     let cut = rw (c.in-Ok-Some.field-0-is, c.loop.invariant.0) at c.in-Ok-Some.ensures.message in
     early c.args.framer.now c.next-in-loop.new.self old new c.args.serials.now c.answer_message.new.serials from to c.in-Err.end
     (broke-message c.args.framer.now.most c.args.framer.now.rest c.loop.framer.rest c.next-in-loop.new.self.rest old mid new c.args.serials.now c.loop.serials
@@ -58,3 +58,7 @@ loop-preserved g c =
       c.in-Ok-Some.ensures.most ∙ c.loop.invariant.0,
       going-on _ _ _ _ _ _ _ _ _ _ _ _ _ (parts_of c.in-Ok-Some.message) c.loop.invariant.1 cut c.in_default.ensures,
     )
+
+-- the sink stays open
+pub answer_message-requires-clause-output_open : goal.answer_message-requires-clause-output_open
+answer_message-requires-clause-output_open g c = c.loop.invariant.1.answered.as_open ∙ c.requires.output_open

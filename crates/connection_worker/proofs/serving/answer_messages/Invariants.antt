@@ -11,5 +11,5 @@ invariant-loop g l =
     let sink = g.O.Sink in
     (l.framer.most ≡ l.fn.framer.most)
     × ServedPrefix l.fn.framer.most l.fn.framer.rest l.framer.rest (world told g.D.Desk.has_seen g.C.Clock.coming l.initial.desk l.initial.clock l.initial.salts)
-    (world told g.D.Desk.has_seen g.C.Clock.coming l.desk l.clock l.salts) l.initial.serials l.serials (output_of sink.written sink.faults sink.is_steady l.initial.output)
-    (output_of sink.written sink.faults sink.is_steady l.output)
+    (world told g.D.Desk.has_seen g.C.Clock.coming l.desk l.clock l.salts) l.initial.serials l.serials (output_of sink.written sink.faults sink.is_steady sink.is_closed l.initial.output)
+    (output_of sink.written sink.faults sink.is_steady sink.is_closed l.output)
