@@ -1,0 +1,2 @@
+mod AcceptLemmas
+mod FinishLemmas

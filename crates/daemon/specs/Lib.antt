@@ -1,0 +1,4 @@
+pub mod Accepts
+pub mod Hubs
+pub mod Jobs
+pub mod Spawners
