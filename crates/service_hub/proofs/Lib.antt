@@ -1,0 +1,3 @@
+pub mod HubLemmas
+pub mod LoopLemmas
+pub mod Sends

@@ -1,0 +1,45 @@
+-- What of secret_calls may be sent to another thread.
+use denote.Param.Send.{IsSend, sendable}
+use Rattle.secret_calls.specs.contracts.alias.AliasName as AliasName
+use Rattle.secret_calls.specs.contracts.call.Call as Call
+use Rattle.secret_calls.specs.contracts.call.Request as Request
+use Rattle.secret_calls.specs.contracts.out.Body as Body
+use Rattle.secret_calls.specs.contracts.out.Out as Out
+use Rattle.secret_calls.specs.contracts.secret.ItemSecret as ItemSecret
+use Rattle.secret_calls.specs.contracts.secret.ReturnedSecret as ReturnedSecret
+use Rattle.secret_calls.specs.contracts.secret.Secret as Secret
+use Rattle.secret_calls.specs.contracts.signal.Completion as Completion
+use Rattle.secret_calls.specs.contracts.signal.Signal as Signal
+use Rattle.service_hub.proofs.Sends.KrBase.{Attributes-send, Bytes-send, Stem-send, Text-send}
+use Rattle.service_hub.proofs.Sends.KrItems.{Items-send}
+use Rattle.service_hub.proofs.Sends.KrNames.{ObjectName-field-send, ObjectName-send}
+
+AliasName-send : IsSend AliasName.the_row
+AliasName-send = search (Text-send, sendable) depth 30
+
+Secret-send : IsSend (Secret.the_field).row
+Secret-send = search (Bytes-send, Text-send, sendable) depth 40
+
+Call-send : IsSend Call.the_row
+Call-send = search (Text-send, Bytes-send, Stem-send, Attributes-send, AliasName-send, ObjectName-send, ObjectName-field-send, Secret-send, Items-send, sendable) depth 40 fits 20000
+
+pub Request-send : IsSend (Request.the_field).row
+Request-send = search (Call-send, sendable) depth 40
+
+ReturnedSecret-send : IsSend (ReturnedSecret.the_field).row
+ReturnedSecret-send = search (Bytes-send, Text-send, sendable) depth 40
+
+ItemSecret-send : IsSend ItemSecret.the_row
+ItemSecret-send = search (Text-send, ReturnedSecret-send, sendable) depth 40
+
+Body-send : IsSend (Body.the_field).row
+Body-send = search (Text-send, ReturnedSecret-send, ItemSecret-send, Items-send, sendable) depth 40 fits 20000
+
+Completion-send : IsSend (Completion.the_field).row
+Completion-send = search (Text-send, Items-send, sendable) depth 40
+
+Signal-send : IsSend (Signal.the_field).row
+Signal-send = search (Text-send, Completion-send, sendable) depth 40
+
+pub Out-send : IsSend Out.the_row
+Out-send = search (Body-send, Signal-send, sendable) depth 40

@@ -1,0 +1,34 @@
+-- What of service_tables may be sent to another thread.
+use denote.RattleType.{RattleType}
+use denote.Param.Send.{IsSend, sendable}
+use Rattle.std.proofs.Crossing as heap
+use Rattle.std.proofs.MapsCrossing as maps
+use Rattle.kr_outside.specs.declared.slot.Slot as slot
+use Rattle.service_tables.specs.contracts.aliases.KeptAliases as KeptAliases
+use Rattle.service_tables.specs.contracts.connections.Connections as Connections
+use Rattle.service_tables.specs.contracts.desk.Desk as Desk
+use Rattle.service_tables.specs.contracts.disk.Disk as Disk
+use Rattle.service_tables.specs.contracts.fate.Fate as Fate
+use Rattle.service_hub.proofs.Sends.CollectionTable.{CollectionTable-send}
+use Rattle.service_hub.proofs.Sends.AliasTable.{AliasTable-send}
+use Rattle.service_hub.proofs.Sends.FolderStore.{LeftAlone-send}
+use Rattle.service_hub.proofs.Sends.KrBase.{Stem-send}
+use Rattle.service_hub.proofs.Sends.ReplaceSlot.{FileCell-send}
+use Rattle.service_hub.proofs.Sends.SecretCalls.{Out-send}
+use Rattle.service_hub.proofs.Sends.StemChoice.{UsedStems-send}
+
+pub Fate-send : IsSend Fate.the_row
+Fate-send = search sendable depth 40
+
+Desk-send : IsSend Desk.the_row
+Desk-send = search (Out-send, sendable, heap.crosses) depth 40
+
+pub Connections-send : IsSend Connections.the_row
+Connections-send = search (Desk-send, sendable, heap.crosses, maps.crosses) depth 40 fits 20000
+
+module _ (S : RattleType) (s : slot.Ghosts S.Denot) where
+  KeptAliases-send : IsSend S → IsSend (KeptAliases.the_field S s).row
+  KeptAliases-send of-slot = search (AliasTable-send, FileCell-send, sendable) depth 40
+
+pub Disk-send : (F S : RattleType) (s : slot.Ghosts S.Denot) → IsSend F → IsSend S → IsSend (Disk.the_field F S s).row
+Disk-send F S s of-folder of-slot = search (CollectionTable-send, LeftAlone-send, KeptAliases-send, FileCell-send, Stem-send, UsedStems-send, sendable, heap.crosses) depth 40 fits 20000
