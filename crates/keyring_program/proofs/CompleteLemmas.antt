@@ -17,7 +17,7 @@ use Rattle.connection_worker.specs.Handshakes.{most_bytes, Awaits, IsRefusedFor}
 use Rattle.connection_worker.specs.declared.ending.End as ending
 use Rattle.connection_worker.specs.declared.ending.End.TheVariants as end
 use Rattle.connection_worker.specs.Causes.{AllServed, FirstServed, IsViolated, HasCause}
-use Rattle.service_machine.specs.Single.{TimedRequest, requests_of}
+use Rattle.service_events.specs.Single.{TimedRequest, requests_of}
 use Rattle.connection_worker.specs.Streams.{Input, Output}
 use Rattle.keyring_program.specs.Events.{events_until, events_of, the_connection}
 use Rattle.keyring_program.specs.ServerNumber.{guid}
@@ -25,8 +25,8 @@ use Rattle.keyring_program.specs.Serves.{Serves, handshake_run}
 use Rattle.keyring_program.specs.WholeInput.{IsWholeInput}
 use Rattle.keyring_program.specs.declared.status.Status.{Status}
 use Rattle.keyring_program.specs.declared.status.Status.TheVariants as status
-use Rattle.keyring_program.specs.Status.{status_of}
-use Rattle.service_machine.specs.declared.event.Event.TheVariants as event
+use Rattle.keyring_program.specs.Status.{IsStdioStatus, status_of}
+use Rattle.service_events.specs.declared.event.Event.TheVariants as event
 use Rattle.service_tables.specs.Limits.{most_events}
 use Rattle.service_tables.specs.Opened.{Contents}
 
@@ -173,19 +173,19 @@ complete uid seed bytes coming from to sink behind steady contents how so whole 
     by_cause end.OtherEnded cause = absurd cause
     by_cause end.Overrun cause = absurd cause
 
--- no end has the status of invalid arguments
-no-usage : (how : ending.End) → status_of how ≡ status.Usage → ⊥
-no-usage end.Done is = cc
-no-usage (end.Violation which) is = cc
-no-usage (end.AuthRefused why) is = cc
-no-usage end.ReadFault is = cc
-no-usage end.WriteFault is = cc
-no-usage end.EventsSpent is = cc
-no-usage end.Memory is = cc
-no-usage end.OtherEnded is = cc
-no-usage end.Overrun is = cc
+-- each end has a status of a command that serves the standard streams
+end-status : (how : ending.End) → IsStdioStatus (status_of how)
+end-status end.Done = tt
+end-status (end.Violation which) = tt
+end-status (end.AuthRefused why) = tt
+end-status end.ReadFault = tt
+end-status end.WriteFault = tt
+end-status end.EventsSpent = tt
+end-status end.Memory = tt
+end-status end.OtherEnded = tt
+end-status end.Overrun = tt
 
--- so no run with valid arguments ends with Usage
-pub never-usage : (uid : ℕ) (seed : List ℕ) (coming : Option (ℕ → ℕ)) (from to : Input) (sink behind : Output) (steady : Bool) (contents : Contents) (how : Status)
-    → Serves uid seed coming from to sink behind steady contents how → how ≡ status.Usage → ⊥
-never-usage uid seed coming from to sink behind steady contents how so is = no-usage so.how (sym so.status_is ∙ is)
+-- so each run that serves them has one
+pub stdio-status : (uid : ℕ) (seed : List ℕ) (coming : Option (ℕ → ℕ)) (from to : Input) (sink behind : Output) (steady : Bool) (contents : Contents) (how : Status)
+    → Serves uid seed coming from to sink behind steady contents how → IsStdioStatus how
+stdio-status uid seed coming from to sink behind steady contents how so = subst IsStdioStatus (sym so.status_is) (end-status so.how)

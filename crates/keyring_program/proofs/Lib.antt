@@ -1,5 +1,6 @@
 pub mod CommandLemmas
 pub mod CompleteLemmas
+pub mod DoorLemmas
 pub mod FolderLemmas
 pub mod GivingLemmas
 pub mod ServeLemmas

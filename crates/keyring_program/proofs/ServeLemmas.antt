@@ -4,15 +4,17 @@ use Rattle.std.specs.List.{concat}
 use Rattle.std.proofs.KnownBytes.{Appends-nil, Consumes-nil}
 use Rattle.rand_chacha.specs.ChaCha.{key_of}
 use Rattle.kr_base.specs.declared.ids.ConnId.{ConnId}
+use Rattle.kr_base.proofs.AttributeLemmas.{IsInOrder-nil}
+use Rattle.collection_table.specs.Rows.{CollectionRow}
 use Rattle.kr_outside.proofs.FaultLemmas.{KeepsSteady-none}
 use Rattle.dbus_auth.specs.Handshake.{Run}
 use Rattle.service_tables.specs.State.{State}
-use Rattle.service_machine.specs.declared.event.Event.TheVariants as event
+use Rattle.service_events.specs.declared.event.Event.TheVariants as event
 use Rattle.service_tables.specs.Connections.{has, new_row}
-use Rattle.service_machine.specs.Step.{Fits}
+use Rattle.service_events.specs.Step.{Fits}
 use Rattle.service_tables.specs.Opened.{Contents, opened_state}
 use Rattle.service_tables.specs.Sound.{AreSoundContents}
-use Rattle.service_machine.specs.Replay.{Legal, replay}
+use Rattle.service_events.specs.Replay.{Legal, replay}
 use Rattle.service_desk.specs.Places.{Told}
 use Rattle.service_desk.proofs.RecordLemmas.{own-legal}
 use Rattle.connection_worker.specs.declared.ending.End.{End}
@@ -20,7 +22,7 @@ use Rattle.connection_worker.specs.declared.ending.End.TheVariants as end
 use Rattle.connection_worker.specs.Causes.{HasCause, HasFinished, HasWritten}
 use Rattle.connection_worker.specs.OneThread.{IsServed}
 use Rattle.connection_worker.specs.Serving.{World, HasJoined, GivesSalts}
-use Rattle.service_machine.specs.Single.{AreFinished, TimedRequest, turn, turns, single}
+use Rattle.service_events.specs.Single.{AreFinished, TimedRequest, turn, turns, single}
 use Rattle.connection_worker.specs.Streams.{Input, Output}
 use Rattle.connection_worker.specs.Written.{written}
 use Rattle.keyring_program.specs.Events.{the_connection, joined, events_until, text_of, HaveMoments}
@@ -122,7 +124,7 @@ serves-none contents uid seed coming from sink steady sound =
     let text = text_of contents (handshake_run uid seed []) [] in
     record {
       read = [];
-      took = record { consumed = Consumes-nil from.left; later = omega arith; steady = KeepsSteady-none from.is_steady from.faults };
+      took = record { consumed = Consumes-nil from.left; later = omega arith; steady = KeepsSteady-none from.is_steady from.faults; closed = refl };
       asked = [];
       sound = sound;
       legal = (joins contents, (there contents, tt));
@@ -137,9 +139,26 @@ serves-none contents uid seed coming from sink steady sound =
         appended = record { front = []; rest = text; whole = refl; put = Appends-nil sink.written };
         later = omega arith;
         steady = KeepsSteady-none sink.is_steady sink.faults;
+        closed = refl;
       };
     }
   where
     none-given : (coming : Option (ℕ → ℕ)) → HaveMoments coming []
     none-given None = tt
     none-given (Some give) = tt
+
+-- ---- no service was opened
+
+-- a service that starts with nothing
+pub nothing : Contents
+nothing = record { collections = []; aliases = None; used = [] }
+
+pub nothing-sound : AreSoundContents nothing
+unfolding nothing
+nothing-sound = record {
+  collections = record { ordered = IsInOrder-nil CollectionRow; each = tt };
+  aliases = tt;
+  certain = refl;
+  known = tt;
+  stems = record { ordered = IsInOrder-nil CollectionRow; taken = tt };
+}

@@ -11,23 +11,23 @@ use Rattle.dbus_framing.specs.Streams.{Stream}
 use Rattle.dbus_framing.proofs.Cuts.{one_stream}
 use Rattle.call_wire.specs.CallOf.{CallOf}
 use Rattle.service_tables.specs.State.{State}
-use Rattle.service_machine.specs.declared.event.Derivation.{Derivation}
-use Rattle.service_machine.specs.declared.event.Event.{Event}
-use Rattle.service_machine.specs.declared.event.Event.TheVariants as event
-use Rattle.service_machine.specs.declared.event.Recorded.{Recorded}
+use Rattle.service_events.specs.declared.event.Derivation.{Derivation}
+use Rattle.service_events.specs.declared.event.Event.{Event}
+use Rattle.service_events.specs.declared.event.Event.TheVariants as event
+use Rattle.service_events.specs.declared.event.Recorded.{Recorded}
 use Rattle.service_tables.specs.Opened.{Contents, opened_state}
 use Rattle.service_tables.specs.Sound.{AreSoundContents}
-use Rattle.service_machine.specs.Fates.{IsCertain}
-use Rattle.service_machine.specs.Run.{Ran, ran}
-use Rattle.service_machine.specs.Step.{step, AreAlike, Fits, brought_with, plan_of, served, work_of}
-use Rattle.service_machine.specs.Replay.{replay, Legal}
-use Rattle.service_machine.proofs.EventLemmas.{fates_alike, key_fates, moment-alike, step_alike, step_certain}
-use Rattle.service_machine.proofs.ReplayLemmas.{replay-append}
+use Rattle.service_events.specs.Fates.{IsCertain}
+use Rattle.service_events.specs.Run.{Ran, ran}
+use Rattle.service_events.specs.Step.{step, AreAlike, Fits, brought_with, plan_of, served, work_of}
+use Rattle.service_events.specs.Replay.{replay, Legal}
+use Rattle.service_events.proofs.EventLemmas.{fates_alike, key_fates, moment-alike, step_alike, step_certain}
+use Rattle.service_events.proofs.ReplayLemmas.{replay-append}
 use Rattle.connection_worker.specs.Arrivals.{calls_in, AreRequests}
 use Rattle.connection_worker.specs.Handshakes.{most_bytes}
 use Rattle.connection_worker.specs.Salts.{salt_of}
 use Rattle.connection_worker.specs.Causes.{AllServed}
-use Rattle.service_machine.specs.Single.{AllFaultless, AllFinished, IsKeyFaultless, TimedKey, TimedRequest, arrival, derivation, finishing, is_owed, recorded_of, requests_of, taking, turn, turns, work_for}
+use Rattle.service_events.specs.Single.{AllFaultless, AllFinished, IsKeyFaultless, TimedKey, TimedRequest, arrival, derivation, finishing, is_owed, recorded_of, requests_of, taking, turn, turns, work_for}
 use Rattle.connection_worker.specs.Written.{given, given_by, spelled_behind}
 use Rattle.keyring_program.specs.Events.{the_connection, joined, events_of, text_of, AreGivenFrom, HasSameKeyFates, HasSameMoment, HaveSalts, HaveSameMoments, HaveSameFates}
 

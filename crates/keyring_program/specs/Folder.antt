@@ -26,6 +26,7 @@ pub record HasOpened (S : Type 0) (images : List ℕ → Image) (contents : Cont
 -- a run that ended with this status had its folder open
 abbrev pub HadFolder : Status → Type 0
 HadFolder status.Usage = ⊥
+HadFolder status.NotBuilt = ⊥
 HadFolder status.FolderFault = ⊥
 HadFolder status.Memory = ⊥
 HadFolder _ = Unit {0}

@@ -1,4 +1,5 @@
-pub mod Command
+pub mod Commands
+pub mod Doors
 pub mod Events
 pub mod Folder
 pub mod ServerNumber

@@ -2,6 +2,8 @@
 use Rattle.std.specs.Prelude.{ℕ}
 use Rattle.connection_worker.specs.declared.ending.End.{End}
 use Rattle.connection_worker.specs.declared.ending.End.TheVariants as end
+use Rattle.daemon.specs.declared.accepting.LoopEnd.{LoopEnd}
+use Rattle.daemon.specs.declared.accepting.LoopEnd.TheVariants as loop
 use Rattle.keyring_program.specs.declared.status.Status.{Status}
 use Rattle.keyring_program.specs.declared.status.Status.TheVariants as status
 
@@ -15,13 +17,37 @@ number_of status.FolderFault = 5
 number_of (status.Violation cause) = 7
 number_of (status.AuthRefused why) = 8
 number_of status.Memory = 9
+number_of status.ListenFault = 10
 number_of status.EventsSpent = 11
+number_of status.NotBuilt = 12
 
 -- serving the only connection of a service may end in this way: nobody else ends it, and no output is lost
 abbrev pub IsOnlyEnd : End → Type 0
 IsOnlyEnd end.OtherEnded = ⊥
 IsOnlyEnd end.Overrun = ⊥
 IsOnlyEnd _ = Unit {0}
+
+-- a command that is there and serves the standard streams may end in this way
+abbrev pub IsStdioStatus : Status → Type 0
+IsStdioStatus status.Usage = ⊥
+IsStdioStatus status.ListenFault = ⊥
+IsStdioStatus status.NotBuilt = ⊥
+IsStdioStatus _ = Unit {0}
+
+-- a command that is there and serves the links of a door may end in this way
+abbrev pub IsServeStatus : Status → Type 0
+IsServeStatus status.Done = Unit {0}
+IsServeStatus status.FolderFault = Unit {0}
+IsServeStatus status.ListenFault = Unit {0}
+IsServeStatus status.Memory = Unit {0}
+IsServeStatus _ = ⊥
+
+-- the status of a run over whose links the loop ended in this way
+abbrev pub status_of_loop : LoopEnd → Status
+status_of_loop loop.Ended = status.Done
+status_of_loop loop.Reached = status.Done
+status_of_loop loop.ListenFault = status.ListenFault
+status_of_loop loop.Memory = status.Memory
 
 -- the status of a run whose connection ended in this way; the last row is for the ends that can't come
 abbrev pub status_of : End → Status

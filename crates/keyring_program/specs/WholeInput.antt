@@ -7,7 +7,7 @@ use Rattle.service_tables.specs.Limits.{most_events}
 use Rattle.service_tables.specs.Opened.{Contents}
 use Rattle.connection_worker.specs.Arrivals.{FirstRequests}
 use Rattle.connection_worker.specs.Handshakes.{most_bytes}
-use Rattle.service_machine.specs.Single.{TimedRequest, requests_of}
+use Rattle.service_events.specs.Single.{TimedRequest, requests_of}
 use Rattle.keyring_program.specs.Events.{events_of}
 use Rattle.keyring_program.specs.Serves.{handshake_run}
 

@@ -1,10 +1,10 @@
 // The connection of the standard streams.
-ghost use Rattle.std.specs.Prelude.{◌≡◌};
+ghost use Rattle.std.specs.Prelude.{◌≡◌, IsFalse};
 ghost use Rattle.connection_worker.specs.Streams.{input_of, output_of};
 ghost use Rattle.service_history.specs.History.{opened_history};
 ghost use Rattle.service_tables.specs.Opened.{IsOpened, contents_of};
 ghost use Rattle.service_tables.specs.Sound.{AreSoundContents};
-ghost use Rattle.service_machine.specs.Fates.{is_steady};
+ghost use Rattle.service_events.specs.Fates.{is_steady};
 ghost use Rattle.keyring_program.specs.Serves.{Serves};
 
 use crate::server_number::guid_of;
@@ -30,14 +30,16 @@ pub fn serve_client<R: AllocGlobal + Wait, I: Source, O: Sink, C: Clock, F: Fold
     clock: &mut C,
     service: Service<F>,
 ) -> Status
+    requires input_open { IsFalse (I.is_closed input.old) }
+    requires output_open { IsFalse (O.is_closed output.old) }
     requires starts { IsOpened service.history.state }
     requires sound { AreSoundContents (contents_of service.history.state) }
     requires history { service.history ≡ opened_history service.history.state }
     ensures { Serves uid seed (C.coming clock.old)
-        (input_of I.left I.faults I.is_steady input.old)
-        (input_of I.left I.faults I.is_steady input.new)
-        (output_of O.written O.faults O.is_steady output.old)
-        (output_of O.written O.faults O.is_steady output.new)
+        (input_of I.left I.faults I.is_steady I.is_closed input.old)
+        (input_of I.left I.faults I.is_steady I.is_closed input.new)
+        (output_of O.written O.faults O.is_steady O.is_closed output.old)
+        (output_of O.written O.faults O.is_steady O.is_closed output.new)
         (is_steady F.is_steady F.Cell.is_steady service.disk)
         (contents_of service.history.state) result }
 {

@@ -6,7 +6,7 @@ ghost use Rattle.kr_outside.specs.RenameDisk.{Image};
 ghost use Rattle.service_history.specs.History.{opened_history};
 ghost use Rattle.service_tables.specs.Opened.{IsOpened, contents_of};
 ghost use Rattle.service_tables.specs.Sound.{AreSoundContents};
-ghost use Rattle.service_machine.specs.Fates.{is_steady};
+ghost use Rattle.service_events.specs.Fates.{is_steady};
 ghost use Rattle.keyring_program.specs.Folder.{HasOpened};
 
 use kr_outside::{Host, OutsideRefused};
@@ -38,11 +38,12 @@ pub fn open_service<H: Host>(
     ensures cause { IsErrOf result OpenRefused.Folder
         → Rose (H.faults host.old) (H.faults host.new) ⊎ ¬ (IsTrue (H.is_steady host.old)) }
 
-    // The host opened this folder and no other, and its clock is as it was.
+    // The host opened this folder and no other, and its clock and its doors are as they were.
     ensures given { OnOk result (GivesOne (H.given host.old) (H.given host.new)) }
     ensures one { GivesOneAtMost (H.given host.old) (H.given host.new) }
     ensures still { OnOk result (H.faults host.new ≡ H.faults host.old) }
     ensures coming { H.coming host.new ≡ H.coming host.old }
+    ensures doors { H.shut_doors host.new ≡ H.shut_doors host.old }
     ensures later { H.faults host.old ≤ H.faults host.new }
     ensures honest { H.is_honest host.new ≡ H.is_honest host.old }
     ensures steady { KeepsSteady (H.is_steady host.old) (H.is_steady host.new)

@@ -5,16 +5,18 @@
 //! and the text of each status. The program only makes the real streams and the real host.
 #![tactic(auto)]
 
-mod command;
 mod connection;
 mod folder;
 mod laws;
 mod program;
+mod serve;
 mod server_number;
 mod status;
+mod stdio;
 mod words;
 
 pub use laws::{each_request_has_its_reply, what_is_written_is_one};
 pub use program::run;
+pub use serve::HostSpawner;
 pub use status::Status;
 pub use words::words_of;

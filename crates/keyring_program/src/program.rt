@@ -1,24 +1,27 @@
 // The top call: from the arguments and the streams to the end.
-ghost use Rattle.std.specs.Prelude.{◌≡◌, ◌≤◌, ◌⊎◌, ◌↔◌, ℕ, IsTrue, List};
+ghost use Rattle.std.specs.Prelude.{◌≡◌, ◌≤◌, ◌⊎◌, ◌↔◌, ℕ, IsTrue, IsFalse, List, [], Option};
+ghost use Rattle.command_words.specs.CommandLines.{IsCommandLine, IsNoCommandLine};
 ghost use Rattle.kr_outside.specs.Faults.{KeepsSteady, Rose, StandsStill};
 ghost use Rattle.kr_outside.specs.Host.{GivesOne, GivesOneAtMost};
 ghost use Rattle.kr_outside.specs.RenameDisk.{Image};
 ghost use Rattle.connection_worker.specs.Streams.{input_of, output_of};
-ghost use Rattle.keyring_program.specs.Command.{IsStdio, IsStdioIn, IsNoCommand};
+ghost use Rattle.keyring_program.specs.Commands.{IsUnbuilt};
+ghost use Rattle.keyring_program.specs.Doors.{HasServed, TakesBackOneAtMost};
 ghost use Rattle.keyring_program.specs.Folder.{IsOpened, HadFolder, HasOpened};
 ghost use Rattle.service_tables.specs.Opened.{Contents};
 ghost use Rattle.keyring_program.specs.Serves.{Serves};
+ghost use Rattle.keyring_program.specs.Status.{IsServeStatus, IsStdioStatus};
 ghost use Rattle.keyring_program.specs.WholeInput.{IsWholeInput};
 
-use crate::command::stdio_words;
-use crate::connection::serve_client;
-use crate::folder::open_service;
+use crate::serve::{HostSpawner, run_serve};
 use crate::status::Status;
+use crate::stdio::run_stdio;
+use command_words::{CommandLine, read_words};
 use kr_base::Text;
-use kr_outside::{Host, Sink, Source};
-use service_machine::OpenRefused;
+use kr_outside::{Folder, Host, Listener, Sink, Source};
 use std::alloc::AllocGlobal;
 use std::sync::Wait;
+use std::thread::Threads;
 
 /// Runs the command of these arguments, which follow the program's name, over the input and the
 /// output, on this host. The seed determines all that is random: the server's number and the salts.
@@ -27,76 +30,143 @@ use std::sync::Wait;
 /// end, and serves the client of the user UID: the handshake, and each call with its reply. The
 /// clock is asked once for each call, and once for each key that is derived for an answer.
 ///
-/// Ends with `Usage` exactly if the arguments are invalid; with `FolderFault` only if the host's
+/// Ends with `Usage` exactly if the arguments are invalid; with `NotBuilt` only if they are those
+/// of the command that isn't there yet, `load`; with `FolderFault` only if the host's
 /// count of faults rose, or the folder that it opened may fail; with `Memory` if none is left
 /// before a byte is read; and otherwise as `one_thread` of connection_worker says (its `HasCause`
 /// has a row for each end). Everything that was put out is written by then, except that at
 /// `WriteFault` and `Memory` it may be only a prefix of it.
-pub fn run<R: AllocGlobal + Wait, I: Source, O: Sink, H: Host>(
+pub fn run<
+    R: AllocGlobal + Threads + Wait + Copy + Send + Sync + Drop + 'static,
+    I: Source,
+    O: Sink,
+    H: Host,
+>(
     rt: &R,
     words: &[Text],
     input: &mut I,
     output: &mut O,
     host: &mut H,
+    spawner: &mut HostSpawner<R, H>,
     seed: [u8; 32],
 ) -> Status
+where
+    H::Dir: Send + 'static,
+    H::Time: Send + 'static,
+    <H::Dir as Folder>::Cell: Send + 'static,
+    <H::Door as Listener>::In: Send + 'static,
+    <H::Door as Listener>::Out: Send + 'static,
+    // No job is left over from before.
+    requires idle { spawner.old.started ≡ [] }
+
+    // Both streams are open.
+    requires input_open { IsFalse (I.is_closed input.old) }
+    requires output_open { IsFalse (O.is_closed output.old) }
+
     // The arguments are looked at first: if they are invalid, everything is as before. The folder
     // comes next: until it is open nothing is read or written, and the clock isn't taken.
-    ensures usage { (result ≡ Status.Usage) ↔ IsNoCommand words.now }
-    ensures untouched { result ≡ Status.Usage
+    ensures usage { (result ≡ Status.Usage) ↔ IsNoCommandLine words.now }
+    ensures not_built { result ≡ Status.NotBuilt → IsUnbuilt words.now }
+    ensures unbuilt { IsUnbuilt words.now
+        → (result ≡ Status.NotBuilt) ⊎ (result ≡ Status.Memory) }
+    ensures untouched { (result ≡ Status.Usage) ⊎ (result ≡ Status.NotBuilt)
         → (input.new ≡ input.old) × (output.new ≡ output.old) × (host.new ≡ host.old) }
     ensures unserved { result ≡ Status.FolderFault → (input.new ≡ input.old)
         × (output.new ≡ output.old) × (H.coming host.new ≡ H.coming host.old) }
 
-    // The host opens one folder at most, and exactly one if the run had it; the host has no fault then.
+    // The host opens one folder at most, and exactly one if the run had it; it takes back one door at
+    // most. No job is left.
     ensures one_folder { GivesOneAtMost (H.given host.old) (H.given host.new) }
-    ensures had_folder { HadFolder result → GivesOne (H.given host.old) (H.given host.new)
-        × (H.faults host.new ≡ H.faults host.old) }
+    ensures had_folder { HadFolder result → GivesOne (H.given host.old) (H.given host.new) }
+    ensures one_door { TakesBackOneAtMost (H.shut_doors host.old) (H.shut_doors host.new) }
+    ensures idle { spawner.new.started ≡ [] }
 
-    // The folder is at fault only if the host's count rose, or if what the host opened may fail.
-    // Otherwise the folder named by the arguments was loaded.
+    // The folder and the socket are at fault only if the host's count rose, or if what the host opened may
+    // fail. Otherwise the folder named by the arguments was loaded.
     ensures folder_fault { result ≡ Status.FolderFault
         → Rose (H.faults host.old) (H.faults host.new) ⊎ ¬ (IsTrue (H.is_steady host.old)) }
+    ensures listen_fault { result ≡ Status.ListenFault
+        → Rose (H.faults host.old) (H.faults host.new) ⊎ ¬ (IsTrue (H.is_steady host.old)) }
     ensures opened { (folder : List ℕ) (uid : ℕ) (images : List ℕ → Image)
-        → IsStdioIn words.now folder uid → IsTrue (H.is_honest host.old)
+        → IsCommandLine (CommandLine.Stdio folder uid) words.now → IsTrue (H.is_honest host.old)
         → H.told host.old folder ≡ Some images → HadFolder result → IsOpened images }
     ensures host_later { H.faults host.old ≤ H.faults host.new }
     ensures host_honest { H.is_honest host.new ≡ H.is_honest host.old }
     ensures host_steady { KeepsSteady (H.is_steady host.old) (H.is_steady host.new)
         (H.faults host.old) (H.faults host.new) }
 
+    // `serve` leaves the standard streams alone, and ends in one of four ways: it is done only if the host took
+    // back a door that had ended, or had given as many links as were to be accepted.
+    ensures serve_status { (folder socket : List ℕ) (uid : ℕ) (connections : Option ℕ)
+        → IsCommandLine (CommandLine.Serve folder socket uid connections) words.now
+        → IsServeStatus result × (input.new ≡ input.old) × (output.new ≡ output.old) }
+    ensures serve_done { (folder socket : List ℕ) (uid : ℕ) (connections : Option ℕ)
+        → IsCommandLine (CommandLine.Serve folder socket uid connections) words.now
+        → result ≡ Status.Done
+        → HasServed connections (H.shut_doors host.old) (H.shut_doors host.new) }
+    ensures serve_opened { (folder socket : List ℕ) (uid : ℕ) (connections : Option ℕ)
+        → (images : List ℕ → Image)
+        → IsCommandLine (CommandLine.Serve folder socket uid connections) words.now
+        → IsTrue (H.is_honest host.old) → H.told host.old folder ≡ Some images
+        → HadFolder result → IsOpened images }
+    ensures serve_complete { (folder socket : List ℕ) (uid : ℕ) (connections : Option ℕ)
+        → IsCommandLine (CommandLine.Serve folder socket uid connections) words.now
+        → IsTrue (H.is_steady host.old) → (result ≡ Status.Done) ⊎ (result ≡ Status.Memory) }
+
+    // `stdio` opens no door, and the host has no fault once the folder is open.
+    ensures stdio_status { (folder : List ℕ) (uid : ℕ)
+        → IsCommandLine (CommandLine.Stdio folder uid) words.now → IsStdioStatus result
+        × (H.shut_doors host.new ≡ H.shut_doors host.old)
+        × (HadFolder result → H.faults host.new ≡ H.faults host.old) }
+
     // What was read, recorded and written, and why the run ended as it did; the service starts with what the
     // folder has. Over a steady host no device failed in what was recorded.
-    ensures served { (uid : ℕ) → IsStdio words.now uid → (result ≡ Status.FolderFault)
-        ⊎ ((contents : Contents)
-        × (HadFolder result → (folder : List ℕ) (images : List ℕ → Image)
-        → IsStdioIn words.now folder uid → IsTrue (H.is_honest host.old)
+    ensures served { (folder : List ℕ) (uid : ℕ)
+        → IsCommandLine (CommandLine.Stdio folder uid) words.now
+        → (result ≡ Status.FolderFault) ⊎ ((contents : Contents)
+        × (HadFolder result → (images : List ℕ → Image) → IsTrue (H.is_honest host.old)
         → H.told host.old folder ≡ Some images → HasOpened H.Dir.Cell images contents)
         × Serves uid seed (H.coming host.old)
-        (input_of I.left I.faults I.is_steady input.old)
-        (input_of I.left I.faults I.is_steady input.new)
-        (output_of O.written O.faults O.is_steady output.old)
-        (output_of O.written O.faults O.is_steady output.new)
+        (input_of I.left I.faults I.is_steady I.is_closed input.old)
+        (input_of I.left I.faults I.is_steady I.is_closed input.new)
+        (output_of O.written O.faults O.is_steady O.is_closed output.old)
+        (output_of O.written O.faults O.is_steady O.is_closed output.new)
         (H.is_steady host.old) contents result) }
 
     // Over a host that never fails and streams that didn't, an open handshake and a stream of messages
     // after it are answered to their end.
-    ensures complete { (uid : ℕ) (bytes : List ℕ) → IsStdio words.now uid
+    ensures complete { (folder : List ℕ) (uid : ℕ) (bytes : List ℕ)
+        → IsCommandLine (CommandLine.Stdio folder uid) words.now
         → IsWholeInput uid seed bytes → I.left input.old ≡ Some bytes
         → IsTrue (H.is_steady host.old)
         → StandsStill (I.faults input.old) (I.faults input.new)
         → StandsStill (O.faults output.old) (O.faults output.new)
         → (result ≡ Status.Done) ⊎ (result ≡ Status.Memory) }
 {
-    let Some((folder, uid)) = stdio_words(words) else {
-        return Status::Usage;
+    let line = match read_words(words) {
+        Ok(Some(line)) => line,
+        Ok(None) => return Status::Usage,
+        Err(_) => return Status::Memory,
     };
-    match open_service(rt.alloc(), host, folder) {
-        Ok(service) => {
-            let mut clock = host.clock();
-            serve_client(rt, uid, seed, input, output, &mut clock, service)
+    match line {
+        CommandLine::Stdio { folder, uid } => {
+            run_stdio(rt, folder.as_str(), uid, input, output, host, seed)
         }
-        Err(OpenRefused::Folder) => Status::FolderFault,
-        Err(OpenRefused::OutOfMemory) => Status::Memory,
+        CommandLine::Serve {
+            folder,
+            socket,
+            uid,
+            connections,
+        } => run_serve(
+            rt,
+            folder.as_str(),
+            socket.as_str(),
+            uid,
+            connections,
+            host,
+            spawner,
+            seed,
+        ),
+        CommandLine::Load { .. } => Status::NotBuilt,
     }
 }

@@ -1,8 +1,9 @@
 // How the program ends.
 ghost use Rattle.std.specs.Prelude.{◌≡◌};
-ghost use Rattle.keyring_program.specs.Status.{IsOnlyEnd, status_of};
+ghost use Rattle.keyring_program.specs.Status.{IsOnlyEnd, status_of, status_of_loop};
 
 use connection_worker::End;
+use daemon::LoopEnd;
 use dbus_auth::AuthFault;
 use dbus_framing::Violation;
 use std::fmt;
@@ -10,7 +11,8 @@ use std::fmt;
 /// How the program ended. It is displayed as the text that is printed on standard error.
 #[derive(Clone, Copy, Debug, PartialEq, Eq)]
 pub enum Status {
-    /// The input ended between two messages, and every call was answered.
+    /// `stdio`: the input ended between two messages, and every call was answered. `serve`: no further link
+    /// comes, or as many as were to be accepted were, and all have ended.
     Done,
     /// The arguments are invalid (docs/DECISIONS.md, "Words of the command line").
     Usage,
@@ -26,8 +28,12 @@ pub enum Status {
     AuthRefused(AuthFault),
     /// No memory was left. A prefix of the output was written.
     Memory,
+    /// The socket couldn't be made, or it failed.
+    ListenFault,
     /// The service has recorded as many events as it can count (`most_events` of service_machine).
     EventsSpent,
+    /// The command isn't there yet.
+    NotBuilt,
 }
 
 impl Status {
@@ -50,6 +56,17 @@ impl Status {
         }
     }
 
+    /// The status of a run over whose links the loop ended in this way.
+    pub fn of_loop(end: LoopEnd) -> Status
+        ensures { result ≡ status_of_loop end }
+    {
+        match end {
+            LoopEnd::Ended | LoopEnd::Reached => Status::Done,
+            LoopEnd::ListenFault => Status::ListenFault,
+            LoopEnd::Memory => Status::Memory,
+        }
+    }
+
     /// The exit number of the process.
     pub fn number(self) -> u8
         ensures { result ≡ number_of self }
@@ -63,7 +80,9 @@ impl Status {
             Status::Violation(_) => 7,
             Status::AuthRefused(_) => 8,
             Status::Memory => 9,
+            Status::ListenFault => 10,
             Status::EventsSpent => 11,
+            Status::NotBuilt => 12,
         }
     }
 }
@@ -81,7 +100,9 @@ impl fmt::Display for Status {
             Status::Violation(cause) => write!(f, "bad message: {cause}"),
             Status::AuthRefused(why) => write!(f, "handshake refused: {why}"),
             Status::Memory => f.write_str("out of memory"),
+            Status::ListenFault => f.write_str("socket failed"),
             Status::EventsSpent => f.write_str("events spent"),
+            Status::NotBuilt => f.write_str("input of a form that is not built"),
         }
     }
 }

@@ -1,17 +1,18 @@
 //! keyringd, the program: it keeps passwords and other secrets for mail clients, browsers and scripts,
-//! and serves them by the Secret Service API (draft 0.2) over D-Bus messages. Today it opens and
-//! loads its folder, and serves one client on its standard streams: the handshake, and the calls of
-//! docs/SERVICE.md.
+//! and serves them by the Secret Service API (draft 0.2) over D-Bus messages: to the clients that connect
+//! to a Unix socket, each by threads of its own, or to one client on its standard streams.
 //!
-//! All that it does is `run` of keyring_program, a function of its arguments, its streams, its host
-//! and a seed. Here are only the real streams and the real host, the seed, which is 32 random bytes of
-//! the system, and the exit code of the process: the number of the run's status.
+//! All that it does is `run` of keyring_program, a function of its arguments, its streams, its host, its
+//! spawner of threads and a seed. Here are only the real streams, the real host and the real spawner, the
+//! seed, which is 32 random bytes of the system, and the exit code of the process: the number of the run's
+//! status.
 #![tactic(auto)]
 
 ghost use Rattle.std.specs.Prelude.{◌≡◌};
 ghost use Rattle.std.specs.Process.{exit_status};
 ghost use Rattle.keyring_program.specs.Status.{number_of};
 
+use daemon::Spawner;
 use keyring_program::{Status, run, words_of};
 use real_edges::{ReaderSource, RealHost, WriterSink};
 use std::process::ExitCode;
@@ -46,6 +47,7 @@ fn main(rt: HostRuntime) -> ExitCode {
     let mut input = ReaderSource::new(rt.stdin());
     let mut output = WriterSink::new(rt.stdout());
     let mut host = RealHost::new(rt);
+    let mut spawner = Spawner::in_threads(rt.alloc());
     let status = match words_of(&rt) {
         Ok(words) => run(
             &rt,
@@ -53,6 +55,7 @@ fn main(rt: HostRuntime) -> ExitCode {
             &mut input,
             &mut output,
             &mut host,
+            &mut spawner,
             seed,
         ),
         Err(status) => status,

@@ -3,9 +3,9 @@ use Rattle.rand_chacha.specs.ChaCha.{key_of}
 use Rattle.kr_base.specs.declared.ids.ConnId.{ConnId}
 use Rattle.dbus_auth.specs.Exchange.{Exchange}
 use Rattle.service_tables.specs.State.{State}
-use Rattle.service_machine.specs.declared.event.Event.TheVariants as event
+use Rattle.service_events.specs.declared.event.Event.TheVariants as event
 use Rattle.service_tables.specs.Opened.{Contents, contents_of, opened_state}
-use Rattle.service_machine.specs.Step.{step, Fits}
+use Rattle.service_events.specs.Step.{step, Fits}
 use Rattle.service_history.specs.History.{History}
 use Rattle.service_history.specs.Windows.{total}
 use Rattle.lone_desk.specs.Lone.{told, has_seen}
@@ -22,10 +22,10 @@ use Rattle.keyring_program.proofs.connection.serve_client.Goals as goal
 pub returns : goal.returns
 returns g c =
     let desk = c.in-Ok.desk in
-    let from = input_of g.I.Source.left g.I.Source.faults g.I.Source.is_steady c.args.input.now in
-    let to = input_of g.I.Source.left g.I.Source.faults g.I.Source.is_steady c.one_thread-end.new.input in
-    let sink = output_of g.O.Sink.written g.O.Sink.faults g.O.Sink.is_steady c.args.output.now in
-    let behind = output_of g.O.Sink.written g.O.Sink.faults g.O.Sink.is_steady c.one_thread-end.new.output in
+    let from = input_of g.I.Source.left g.I.Source.faults g.I.Source.is_steady g.I.Source.is_closed c.args.input.now in
+    let to = input_of g.I.Source.left g.I.Source.faults g.I.Source.is_steady g.I.Source.is_closed c.one_thread-end.new.input in
+    let sink = output_of g.O.Sink.written g.O.Sink.faults g.O.Sink.is_steady g.O.Sink.is_closed c.args.output.now in
+    let behind = output_of g.O.Sink.written g.O.Sink.faults g.O.Sink.is_steady g.O.Sink.is_closed c.one_thread-end.new.output in
     let known = told g.F.Folder.is_steady g.F.Cell.Slot.is_steady in
     let old = world known has_seen g.C.Clock.coming desk c.args.clock.now c.new-salts.result in
     let new = world known has_seen g.C.Clock.coming c.one_thread-end.new.desk c.one_thread-end.new.clock c.one_thread-end.new.salts in
@@ -47,5 +47,5 @@ returns g c =
 -- there was no memory for the joining
 pub returns-in-Err-OutOfMemory : goal.returns-in-Err-OutOfMemory
 returns-in-Err-OutOfMemory g c =
-    serves-none (contents_of c.args.service.history.state) c.args.uid c.args.seed (g.C.Clock.coming c.args.clock.now) (input_of g.I.Source.left g.I.Source.faults g.I.Source.is_steady c.args.input.now)
-    (output_of g.O.Sink.written g.O.Sink.faults g.O.Sink.is_steady c.args.output.now) _ c.requires.sound
+    serves-none (contents_of c.args.service.history.state) c.args.uid c.args.seed (g.C.Clock.coming c.args.clock.now) (input_of g.I.Source.left g.I.Source.faults g.I.Source.is_steady g.I.Source.is_closed c.args.input.now)
+    (output_of g.O.Sink.written g.O.Sink.faults g.O.Sink.is_steady g.O.Sink.is_closed c.args.output.now) _ c.requires.sound

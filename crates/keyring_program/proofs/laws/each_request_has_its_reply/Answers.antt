@@ -1,6 +1,6 @@
 use Rattle.std.proofs.Common.{◌++◌, true, refl, ap, false}
 use Rattle.std.specs.List.{concat}
-use Rattle.service_machine.specs.declared.event.Event.TheVariants as event
+use Rattle.service_events.specs.declared.event.Event.TheVariants as event
 use Rattle.service_tables.specs.Opened.{Contents, opened_state}
 use Rattle.service_tables.specs.Sound.{IsSound}
 use Rattle.service_desk.specs.Places.{Told}

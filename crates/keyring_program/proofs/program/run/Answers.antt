@@ -1,78 +1,177 @@
-use Rattle.std.proofs.Common.{[], inr, refl, sym, ◌∙◌, None}
-use Rattle.kr_base.proofs.AttributeLemmas.{IsInOrder-nil}
-use Rattle.collection_table.specs.Rows.{CollectionRow}
-use Rattle.service_tables.specs.Opened.{Contents, contents_of}
-use Rattle.service_tables.specs.Sound.{AreSoundContents}
+use Rattle.std.proofs.Common.{◌≡◌, List, ℕ, inl, inr, refl, sym, ◌∙◌, ap, subst}
+use Rattle.command_words.specs.CommandLines.{IsCommandLine}
+use Rattle.command_words.specs.declared.command_line.CommandLine.TheVariants.{Stdio, Serve, Load}
 use Rattle.connection_worker.specs.Streams.{input_of, output_of}
-use Rattle.keyring_program.proofs.CommandLemmas.{one_user, one_folder}
-use Rattle.keyring_program.proofs.CompleteLemmas.{complete, never-usage}
-use Rattle.keyring_program.proofs.FolderLemmas.{is-opened}
-use Rattle.keyring_program.proofs.ServeLemmas.{serves-none}
+use Rattle.keyring_program.specs.Status.{IsStdioStatus, IsServeStatus}
+use Rattle.keyring_program.proofs.CommandLemmas.{one_stdio, one_serve, serve_or_stdio, load_or_stdio, load_or_serve, is_built}
+use Rattle.keyring_program.proofs.ServeLemmas.{nothing, nothing-sound, serves-none}
 use Rattle.keyring_program.proofs.program.run.Goals as goal
 
--- a service that starts with nothing
-nothing : Contents
-nothing = record { collections = []; aliases = None; used = [] }
-
-nothing-sound : AreSoundContents nothing
-unfolding nothing
-nothing-sound = record {
-  collections = record { ordered = IsInOrder-nil CollectionRow; each = tt };
-  aliases = tt;
-  certain = refl;
-  known = tt;
-  stems = record { ordered = IsInOrder-nil CollectionRow; taken = tt };
-}
-
 -- the arguments are invalid
-pub returns-in_default-clause-opened : goal.returns-in_default-clause-opened
-returns-in_default-clause-opened g c folder uid images words = absurd (c.in_default.ensures uid words.is)
+pub returns-in-Ok-None-clause-unbuilt : goal.returns-in-Ok-None-clause-unbuilt
+returns-in-Ok-None-clause-unbuilt g c un = absurd ((rw c.in-Ok-None.field-0-is at c.in-Ok-None.ensures.read) un.0 un.1)
 
-pub returns-in_default-clause-served : goal.returns-in_default-clause-served
-returns-in_default-clause-served g c uid words = absurd (c.in_default.ensures uid words)
+pub returns-in-Ok-None-clause-opened : goal.returns-in-Ok-None-clause-opened
+returns-in-Ok-None-clause-opened g c folder uid images words = absurd ((rw c.in-Ok-None.field-0-is at c.in-Ok-None.ensures.read) (Stdio folder uid) words)
 
-pub returns-in_default-clause-complete : goal.returns-in_default-clause-complete
-returns-in_default-clause-complete g c uid bytes words whole told steady input output = absurd (c.in_default.ensures uid words)
+pub returns-in-Ok-None-clause-served : goal.returns-in-Ok-None-clause-served
+returns-in-Ok-None-clause-served g c folder uid words = absurd ((rw c.in-Ok-None.field-0-is at c.in-Ok-None.ensures.read) (Stdio folder uid) words)
 
--- the folder is open
-pub returns-in-Ok-clause-usage : goal.returns-in-Ok-clause-usage
-returns-in-Ok-clause-usage g c = (
-  λ usage. absurd (never-usage c.in-Some.uid c.args.seed _ _ _ _ _ _ _ c.serve_client.result c.serve_client.ensures usage),
-  λ off. absurd (off c.in-Some.uid c.in-Some.ensures.is),
-)
+pub returns-in-Ok-None-clause-complete : goal.returns-in-Ok-None-clause-complete
+returns-in-Ok-None-clause-complete g c folder uid bytes words = absurd ((rw c.in-Ok-None.field-0-is at c.in-Ok-None.ensures.read) (Stdio folder uid) words)
 
-pub returns-in-Ok-clause-opened : goal.returns-in-Ok-clause-opened
-returns-in-Ok-clause-opened g c folder uid images words honest told had =
-    is-opened images _ _ (c.in-Ok.ensures.opened images honest (rw (one_folder c.args.words.now c.in-Some.folder.now folder c.in-Some.uid uid c.in-Some.ensures words) told)).opened
+pub returns-in-Ok-None-clause-serve_status : goal.returns-in-Ok-None-clause-serve_status
+returns-in-Ok-None-clause-serve_status g c folder socket uid most words = absurd ((rw c.in-Ok-None.field-0-is at c.in-Ok-None.ensures.read) (Serve folder socket uid most) words)
 
-pub returns-in-Ok-clause-served : goal.returns-in-Ok-clause-served
-returns-in-Ok-clause-served g c uid words =
-    inr (
-      contents_of c.in-Ok.service.history.state,
-      λ had folder images here honest told.
-          (c.in-Ok.ensures.opened images honest (rw (one_folder c.args.words.now c.in-Some.folder.now folder c.in-Some.uid uid c.in-Some.ensures here) told)),
-      rw (one_user c.args.words.now uid c.in-Some.uid words c.in-Some.ensures.is, sym (c.clock-clock.ensures.told ∙ c.open_service.ensures.coming), sym c.in-Ok.ensures.steady_disk) c.serve_client.ensures,
-    )
+pub returns-in-Ok-None-clause-serve_opened : goal.returns-in-Ok-None-clause-serve_opened
+returns-in-Ok-None-clause-serve_opened g c folder socket uid most images words = absurd ((rw c.in-Ok-None.field-0-is at c.in-Ok-None.ensures.read) (Serve folder socket uid most) words)
 
-pub returns-in-Ok-clause-complete : goal.returns-in-Ok-clause-complete
-returns-in-Ok-clause-complete g c uid bytes words whole told steady input output =
-    let serves = rw (one_user c.args.words.now c.in-Some.uid uid c.in-Some.ensures.is words) at c.serve_client.ensures in
-    complete uid c.args.seed bytes _ _ _ _ _ _ _ c.serve_client.result serves whole told input output
+pub returns-in-Ok-None-clause-serve_complete : goal.returns-in-Ok-None-clause-serve_complete
+returns-in-Ok-None-clause-serve_complete g c folder socket uid most words = absurd ((rw c.in-Ok-None.field-0-is at c.in-Ok-None.ensures.read) (Serve folder socket uid most) words)
 
--- it isn't
-pub returns-in-Err-Folder-clause-usage : goal.returns-in-Err-Folder-clause-usage
-returns-in-Err-Folder-clause-usage g c =
-    (λ same. absurd (let never : ⊥ = cc in never), λ off. absurd (off c.in-Some.uid c.in-Some.ensures.is))
+pub returns-in-Ok-None-clause-stdio_status : goal.returns-in-Ok-None-clause-stdio_status
+returns-in-Ok-None-clause-stdio_status g c folder uid words = absurd ((rw c.in-Ok-None.field-0-is at c.in-Ok-None.ensures.read) (Stdio folder uid) words)
 
-pub returns-in-Err-OutOfMemory-clause-usage : goal.returns-in-Err-OutOfMemory-clause-usage
-returns-in-Err-OutOfMemory-clause-usage g c =
-    (λ same. absurd (let never : ⊥ = cc in never), λ off. absurd (off c.in-Some.uid c.in-Some.ensures.is))
+-- no memory was left to read them
+pub returns-in-Err-clause-usage : goal.returns-in-Err-clause-usage
+returns-in-Err-clause-usage g c =
+    (λ same. absurd (let never : ⊥ = cc in never), λ none. absurd (none c.in-Err.ensures.memory.0 c.in-Err.ensures.memory.1))
 
-pub returns-in-Err-OutOfMemory-clause-served : goal.returns-in-Err-OutOfMemory-clause-served
-returns-in-Err-OutOfMemory-clause-served g c uid words =
+pub returns-in-Err-clause-served : goal.returns-in-Err-clause-served
+returns-in-Err-clause-served g c folder uid words =
     inr (
       nothing,
       λ had. absurd had,
       serves-none nothing uid c.args.seed (g.H.Host.coming c.args.host.now)
-          (input_of g.I.Source.left g.I.Source.faults g.I.Source.is_steady c.args.input.now) (output_of g.O.Sink.written g.O.Sink.faults g.O.Sink.is_steady c.args.output.now) _ nothing-sound,
+          (input_of g.I.Source.left g.I.Source.faults g.I.Source.is_steady g.I.Source.is_closed c.args.input.now) (output_of g.O.Sink.written g.O.Sink.faults g.O.Sink.is_steady g.O.Sink.is_closed c.args.output.now) _ nothing-sound,
     )
+
+-- the arguments are those of `stdio`
+pub returns-in-Stdio-clause-usage : goal.returns-in-Stdio-clause-usage
+returns-in-Stdio-clause-usage g c = (
+  λ same. absurd (subst IsStdioStatus same c.run_stdio.ensures.status),
+  λ none. absurd (none (Stdio c.in-Stdio.folder c.in-Stdio.uid) (rw c.in-Stdio.is at (rw c.in-Ok-Some.field-0-is at c.in-Ok-Some.ensures.read))),
+)
+
+pub returns-in-Stdio-clause-not_built : goal.returns-in-Stdio-clause-not_built
+returns-in-Stdio-clause-not_built g c same = absurd (subst IsStdioStatus same c.run_stdio.ensures.status)
+
+pub returns-in-Stdio-clause-unbuilt : goal.returns-in-Stdio-clause-unbuilt
+returns-in-Stdio-clause-unbuilt g c un =
+    absurd (is_built c.args.words.now (Stdio c.in-Stdio.folder c.in-Stdio.uid) (rw c.in-Stdio.is at (rw c.in-Ok-Some.field-0-is at c.in-Ok-Some.ensures.read)) (λ none. none) un)
+
+pub returns-in-Stdio-clause-opened : goal.returns-in-Stdio-clause-opened
+returns-in-Stdio-clause-opened g c folder uid images words honest told had =
+    let same = one_stdio c.args.words.now c.in-Stdio.folder folder c.in-Stdio.uid uid (rw c.in-Stdio.is at (rw c.in-Ok-Some.field-0-is at c.in-Ok-Some.ensures.read)) words in
+    c.run_stdio.ensures.opened images honest (rw (c.as_str.ensures.value ∙ same.0) told) had
+
+pub returns-in-Stdio-clause-served : goal.returns-in-Stdio-clause-served
+returns-in-Stdio-clause-served g c folder uid words =
+    let same = one_stdio c.args.words.now c.in-Stdio.folder folder c.in-Stdio.uid uid (rw c.in-Stdio.is at (rw c.in-Ok-Some.field-0-is at c.in-Ok-Some.ensures.read)) words in
+    rw (sym same.1, sym (c.as_str.ensures.value ∙ same.0)) c.run_stdio.ensures.served
+
+pub returns-in-Stdio-clause-complete : goal.returns-in-Stdio-clause-complete
+returns-in-Stdio-clause-complete g c folder uid bytes words whole told steady input output =
+    let same = one_stdio c.args.words.now c.in-Stdio.folder folder c.in-Stdio.uid uid (rw c.in-Stdio.is at (rw c.in-Ok-Some.field-0-is at c.in-Ok-Some.ensures.read)) words in
+    c.run_stdio.ensures.complete bytes (rw same.1 whole) told steady input output
+
+pub returns-in-Stdio-clause-stdio_status : goal.returns-in-Stdio-clause-stdio_status
+returns-in-Stdio-clause-stdio_status g c folder uid words =
+    (c.run_stdio.ensures.status, c.run_stdio.ensures.doors, λ had. (c.run_stdio.ensures.had_folder had).1)
+
+pub returns-in-Stdio-clause-listen_fault : goal.returns-in-Stdio-clause-listen_fault
+returns-in-Stdio-clause-listen_fault g c same = absurd (subst IsStdioStatus same c.run_stdio.ensures.status)
+
+pub returns-in-Stdio-clause-serve_status : goal.returns-in-Stdio-clause-serve_status
+returns-in-Stdio-clause-serve_status g c folder socket uid most words =
+    absurd (serve_or_stdio c.args.words.now folder c.in-Stdio.folder socket uid c.in-Stdio.uid most words (rw c.in-Stdio.is at (rw c.in-Ok-Some.field-0-is at c.in-Ok-Some.ensures.read)))
+
+pub returns-in-Stdio-clause-serve_done : goal.returns-in-Stdio-clause-serve_done
+returns-in-Stdio-clause-serve_done g c folder socket uid most words =
+    absurd (serve_or_stdio c.args.words.now folder c.in-Stdio.folder socket uid c.in-Stdio.uid most words (rw c.in-Stdio.is at (rw c.in-Ok-Some.field-0-is at c.in-Ok-Some.ensures.read)))
+
+pub returns-in-Stdio-clause-serve_opened : goal.returns-in-Stdio-clause-serve_opened
+returns-in-Stdio-clause-serve_opened g c folder socket uid most images words =
+    absurd (serve_or_stdio c.args.words.now folder c.in-Stdio.folder socket uid c.in-Stdio.uid most words (rw c.in-Stdio.is at (rw c.in-Ok-Some.field-0-is at c.in-Ok-Some.ensures.read)))
+
+pub returns-in-Stdio-clause-serve_complete : goal.returns-in-Stdio-clause-serve_complete
+returns-in-Stdio-clause-serve_complete g c folder socket uid most words =
+    absurd (serve_or_stdio c.args.words.now folder c.in-Stdio.folder socket uid c.in-Stdio.uid most words (rw c.in-Stdio.is at (rw c.in-Ok-Some.field-0-is at c.in-Ok-Some.ensures.read)))
+
+-- the arguments are those of `serve`
+pub returns-in-Serve-clause-usage : goal.returns-in-Serve-clause-usage
+returns-in-Serve-clause-usage g c = (
+  λ same. absurd (subst IsServeStatus same c.run_serve.ensures.status),
+  λ none. absurd (none (Serve c.in-Serve.folder c.in-Serve.socket c.in-Serve.uid c.in-Serve.connections) (rw c.in-Serve.is at (rw c.in-Ok-Some.field-0-is at c.in-Ok-Some.ensures.read))),
+)
+
+pub returns-in-Serve-clause-not_built : goal.returns-in-Serve-clause-not_built
+returns-in-Serve-clause-not_built g c same = absurd (subst IsServeStatus same c.run_serve.ensures.status)
+
+pub returns-in-Serve-clause-unbuilt : goal.returns-in-Serve-clause-unbuilt
+returns-in-Serve-clause-unbuilt g c un =
+    absurd (is_built c.args.words.now (Serve c.in-Serve.folder c.in-Serve.socket c.in-Serve.uid c.in-Serve.connections) (rw c.in-Serve.is at (rw c.in-Ok-Some.field-0-is at c.in-Ok-Some.ensures.read)) (λ none. none) un)
+
+pub returns-in-Serve-clause-untouched : goal.returns-in-Serve-clause-untouched
+returns-in-Serve-clause-untouched g c (inl same) = absurd (subst IsServeStatus same c.run_serve.ensures.status)
+returns-in-Serve-clause-untouched g c (inr same) = absurd (subst IsServeStatus same c.run_serve.ensures.status)
+
+pub returns-in-Serve-clause-opened : goal.returns-in-Serve-clause-opened
+returns-in-Serve-clause-opened g c folder uid images words =
+    absurd (serve_or_stdio c.args.words.now c.in-Serve.folder folder c.in-Serve.socket c.in-Serve.uid uid c.in-Serve.connections (rw c.in-Serve.is at (rw c.in-Ok-Some.field-0-is at c.in-Ok-Some.ensures.read)) words)
+
+pub returns-in-Serve-clause-served : goal.returns-in-Serve-clause-served
+returns-in-Serve-clause-served g c folder uid words =
+    absurd (serve_or_stdio c.args.words.now c.in-Serve.folder folder c.in-Serve.socket c.in-Serve.uid uid c.in-Serve.connections (rw c.in-Serve.is at (rw c.in-Ok-Some.field-0-is at c.in-Ok-Some.ensures.read)) words)
+
+pub returns-in-Serve-clause-complete : goal.returns-in-Serve-clause-complete
+returns-in-Serve-clause-complete g c folder uid bytes words =
+    absurd (serve_or_stdio c.args.words.now c.in-Serve.folder folder c.in-Serve.socket c.in-Serve.uid uid c.in-Serve.connections (rw c.in-Serve.is at (rw c.in-Ok-Some.field-0-is at c.in-Ok-Some.ensures.read)) words)
+
+pub returns-in-Serve-clause-stdio_status : goal.returns-in-Serve-clause-stdio_status
+returns-in-Serve-clause-stdio_status g c folder uid words =
+    absurd (serve_or_stdio c.args.words.now c.in-Serve.folder folder c.in-Serve.socket c.in-Serve.uid uid c.in-Serve.connections (rw c.in-Serve.is at (rw c.in-Ok-Some.field-0-is at c.in-Ok-Some.ensures.read)) words)
+
+pub returns-in-Serve-clause-serve_done : goal.returns-in-Serve-clause-serve_done
+returns-in-Serve-clause-serve_done g c folder socket uid most words done =
+    let same = one_serve c.args.words.now c.in-Serve.folder folder c.in-Serve.socket socket c.in-Serve.uid uid c.in-Serve.connections most (rw c.in-Serve.is at (rw c.in-Ok-Some.field-0-is at c.in-Ok-Some.ensures.read)) words in
+    rw (sym same.1) (c.run_serve.ensures.done done)
+
+pub returns-in-Serve-clause-serve_opened : goal.returns-in-Serve-clause-serve_opened
+returns-in-Serve-clause-serve_opened g c folder socket uid most images words honest told had =
+    let same = one_serve c.args.words.now c.in-Serve.folder folder c.in-Serve.socket socket c.in-Serve.uid uid c.in-Serve.connections most (rw c.in-Serve.is at (rw c.in-Ok-Some.field-0-is at c.in-Ok-Some.ensures.read)) words in
+    c.run_serve.ensures.opened images honest (rw (c.as_str-in-Serve.ensures.value ∙ same.0) told) had
+
+-- the arguments are those of `load`
+pub returns-in-Load-clause-usage : goal.returns-in-Load-clause-usage
+returns-in-Load-clause-usage g c = (
+  λ same. absurd (let never : ⊥ = cc in never),
+  λ none. absurd (none (Load c.in-Load.items c.in-Load.seed) (rw c.in-Load.is at (rw c.in-Ok-Some.field-0-is at c.in-Ok-Some.ensures.read))),
+)
+
+pub returns-in-Load-clause-not_built : goal.returns-in-Load-clause-not_built
+returns-in-Load-clause-not_built g c same = (Load c.in-Load.items c.in-Load.seed, rw c.in-Load.is at (rw c.in-Ok-Some.field-0-is at c.in-Ok-Some.ensures.read), tt)
+
+pub returns-in-Load-clause-opened : goal.returns-in-Load-clause-opened
+returns-in-Load-clause-opened g c folder uid images words =
+    absurd (load_or_stdio c.args.words.now folder c.in-Load.items c.in-Load.seed uid (rw c.in-Load.is at (rw c.in-Ok-Some.field-0-is at c.in-Ok-Some.ensures.read)) words)
+
+pub returns-in-Load-clause-served : goal.returns-in-Load-clause-served
+returns-in-Load-clause-served g c folder uid words =
+    absurd (load_or_stdio c.args.words.now folder c.in-Load.items c.in-Load.seed uid (rw c.in-Load.is at (rw c.in-Ok-Some.field-0-is at c.in-Ok-Some.ensures.read)) words)
+
+pub returns-in-Load-clause-complete : goal.returns-in-Load-clause-complete
+returns-in-Load-clause-complete g c folder uid bytes words =
+    absurd (load_or_stdio c.args.words.now folder c.in-Load.items c.in-Load.seed uid (rw c.in-Load.is at (rw c.in-Ok-Some.field-0-is at c.in-Ok-Some.ensures.read)) words)
+
+pub returns-in-Load-clause-stdio_status : goal.returns-in-Load-clause-stdio_status
+returns-in-Load-clause-stdio_status g c folder uid words =
+    absurd (load_or_stdio c.args.words.now folder c.in-Load.items c.in-Load.seed uid (rw c.in-Load.is at (rw c.in-Ok-Some.field-0-is at c.in-Ok-Some.ensures.read)) words)
+
+pub returns-in-Load-clause-serve_status : goal.returns-in-Load-clause-serve_status
+returns-in-Load-clause-serve_status g c folder socket uid most words =
+    absurd (load_or_serve c.args.words.now folder socket c.in-Load.items c.in-Load.seed uid most (rw c.in-Load.is at (rw c.in-Ok-Some.field-0-is at c.in-Ok-Some.ensures.read)) words)
+
+pub returns-in-Load-clause-serve_complete : goal.returns-in-Load-clause-serve_complete
+returns-in-Load-clause-serve_complete g c folder socket uid most words =
+    absurd (load_or_serve c.args.words.now folder socket c.in-Load.items c.in-Load.seed uid most (rw c.in-Load.is at (rw c.in-Ok-Some.field-0-is at c.in-Ok-Some.ensures.read)) words)
