@@ -1,18 +1,18 @@
 // Aliases that are read and set, over a folder with two collections.
 ghost use Rattle.std.specs.Prelude.{◌≡◌, [], IfOk};
 
-use crate::checks::{cell, holds, number, same_text};
-use crate::folders::{Machine, Service, machine_over_two, over};
-use crate::login::two_folder;
-use crate::machine::join;
-use crate::members::{arrival, is_answered};
-use kr_base::{Bytes, Text};
+use crate::checks::{holds, same_text};
+use crate::folders::{Service, over, service_over_two};
+use crate::members::arrival;
+use kr_base::{Bytes, ConnId};
 use kr_memory_disk::{MemoryFolder, SlotPlan};
+use secret_calls::Taken;
 use service_machine::Event;
 use service_tables::Fate;
 use std::alloc::Global;
 use std::process::Abort;
 use std::test::Fail;
+use tests_words::{cell, decimal, joined, last_told, numbers, text, two_folder};
 
 // In a row, a connection and what it does: it reads an alias, or sets one to an object, where `-` is `/` and `?` a path
 // that is none of the service; and what it gets. Paths continue `/org/freedesktop/secrets/`.
@@ -41,20 +41,42 @@ const CONVERSATION: &str = "\
 1|read|default|/org/freedesktop/secrets/collection/other
 ";
 
-fn talk(rt: &impl Abort, alloc: Global, machine: &mut Machine, rows: &str) -> Result<(), Fail> {
-    join(machine)?;
+// What the first connection gets.
+fn taken_told(alloc: Global, service: &mut Service) -> Result<String, Fail> {
+    match service.take(ConnId(1)) {
+        Taken::Outs(outs) => last_told(alloc, outs.as_slice()),
+        _ => joined(alloc, &["nothing"]),
+    }
+}
+
+// Asserts what it gets for the call of a row.
+fn is_answered(
+    rt: &impl Abort,
+    alloc: Global,
+    service: &mut Service,
+    row: &str,
+    want: &str,
+) -> Result<(), Fail> {
+    holds(rt, service.arrive(arrival(alloc, row)?).is_ok(), row);
+    let told = taken_told(alloc, service)?;
+    same_text(rt, told.as_str(), want, row);
+    Ok(())
+}
+
+fn talk(rt: &impl Abort, alloc: Global, service: &mut Service, rows: &str) -> Result<(), Fail> {
+    service.join()?;
     for row in rows.lines() {
-        is_answered(rt, alloc, machine, row)?;
+        is_answered(rt, alloc, service, row, cell(row, 3))?;
     }
     Ok(())
 }
 
 #[test]
 fn an_alias_stands_for_what_it_was_set_to(rt: HostRuntime) -> Result<(), Fail> {
-    let machine = machine_over_two(rt.alloc())?;
+    let service = service_over_two(rt.alloc())?;
     over(
-        machine,
-        |machine| talk(&rt, rt.alloc(), machine, CONVERSATION),
+        service,
+        |service| talk(&rt, rt.alloc(), service, CONVERSATION),
     )
 }
 
@@ -79,21 +101,12 @@ const FAULTS: &str = "\
 6 11||IOError,login,IOError,none,other
 ";
 
-/// The numbers between the spaces of a text.
-pub fn numbers(alloc: Global, words: &str) -> Result<Vec<u64>, Fail> {
-    let mut numbers = Vec::new(alloc);
-    for word in words.split_whitespace() {
-        numbers.push(number(word)?)?;
-    }
-    Ok(numbers)
-}
-
 fn failing_folder(alloc: Global, row: &str) -> Result<MemoryFolder, Fail>
     ensures { IfOk result (λ folder. folder.made ≡ []) }
 {
     let mut folder = two_folder(alloc)?;
     let plan = SlotPlan {
-        name: Text::from_str(alloc, "aliases")?.ok_or("a zero byte")?,
+        name: text(alloc, "aliases")?,
         failing: numbers(alloc, cell(row, 0))?,
         done: numbers(alloc, cell(row, 1))?,
     };
@@ -101,42 +114,45 @@ fn failing_folder(alloc: Global, row: &str) -> Result<MemoryFolder, Fail>
     Ok(folder)
 }
 
+fn failing_service(alloc: Global, row: &str) -> Result<Service, Fail> {
+    Ok(Service::open(alloc, failing_folder(alloc, row)?)?)
+}
+
 // The answer to a call, as a cell of the table has it.
-fn answer_in(alloc: Global, answer: &str) -> Result<String, Fail> {
+fn answer_in(answer: &str) -> &str {
     match answer {
-        "login" => Ok(String::from_str(alloc, "/org/freedesktop/secrets/collection/login")?),
-        "other" => Ok(String::from_str(alloc, "/org/freedesktop/secrets/collection/other")?),
-        "none" => Ok(String::from_str(alloc, "/")?),
-        _ => Ok(String::from_str(alloc, answer)?),
+        "login" => "/org/freedesktop/secrets/collection/login",
+        "other" => "/org/freedesktop/secrets/collection/other",
+        "none" => "/",
+        _ => answer,
     }
 }
 
 const CALLS: &str = "\
-alias|default=collection/other
-read|default
-alias|work=collection/login
-read|work
-read|default
+1|alias|default=collection/other
+1|read|default
+1|alias|work=collection/login
+1|read|work
+1|read|default
 ";
 
-fn is_answered_so(
+fn are_answered(
     rt: &impl Abort,
     alloc: Global,
-    machine: &mut Machine,
+    service: &mut Service,
     row: &str,
 ) -> Result<(), Fail> {
-    join(machine)?;
+    service.join()?;
     for (call, answer) in CALLS.lines().zip(cell(row, 2).split(',')) {
-        let want = answer_in(alloc, answer)?;
-        let asked = format!(in alloc; "1|{call}|{want}")?;
-        is_answered(rt, alloc, machine, asked.as_str())?;
+        let at = joined(alloc, &[call, "|", row])?;
+        is_answered(rt, alloc, service, at.as_str(), answer_in(answer))?;
     }
     Ok(())
 }
 
 fn fails(rt: &impl Abort, alloc: Global, row: &str) -> Result<(), Fail> {
-    let machine = Machine::open(alloc, failing_folder(alloc, row)?)?;
-    over(machine, |machine| is_answered_so(rt, alloc, machine, row))
+    let service = failing_service(alloc, row)?;
+    over(service, |service| are_answered(rt, alloc, service, row))
 }
 
 #[test]
@@ -197,7 +213,7 @@ fn fates_told(alloc: Global, fates: &[Fate]) -> Result<String, Fail> {
 fn last_fates(alloc: Global, service: &Service) -> Result<String, Fail> {
     match service.events().last() {
         Some(Event::Arrive(recorded)) => fates_told(alloc, recorded.fates.as_slice()),
-        _ => Ok(String::from_str(alloc, "no request")?),
+        _ => joined(alloc, &["no request"]),
     }
 }
 
@@ -228,7 +244,7 @@ fn are_recorded(
 }
 
 fn records(rt: &impl Abort, alloc: Global, row: &str) -> Result<(), Fail> {
-    let service = Service::open(alloc, failing_folder(alloc, row)?)?;
+    let service = failing_service(alloc, row)?;
     over(service, |service| are_recorded(rt, alloc, service, row))
 }
 
@@ -258,8 +274,9 @@ const FULL: &str = "\
 // The file of those aliases.
 fn full_file(alloc: Global) -> Result<String, Fail> {
     let mut lines = String::new(alloc);
-    for number in 1000..2023u32 {
-        lines.push_str(format!(in alloc; "{number}=login\n")?.as_str())?;
+    for number in 1000..2023u64 {
+        lines.push_str(decimal(alloc, number)?.as_str())?;
+        lines.push_str("=login\n")?;
     }
     lines.push_str("default=login\n")?;
     Ok(lines)
@@ -270,13 +287,16 @@ fn full_folder(alloc: Global) -> Result<MemoryFolder, Fail>
 {
     let mut folder = two_folder(alloc)?;
     let file = Bytes::from_slice(alloc, full_file(alloc)?.as_bytes())?;
-    let name = Text::from_str(alloc, "aliases")?.ok_or("a zero byte")?;
-    folder.set(name, Some(file))?;
+    folder.set(text(alloc, "aliases")?, Some(file))?;
     Ok(folder)
+}
+
+fn full_service(alloc: Global) -> Result<Service, Fail> {
+    Ok(Service::open(alloc, full_folder(alloc)?)?)
 }
 
 #[test]
 fn a_1025th_alias_is_refused(rt: HostRuntime) -> Result<(), Fail> {
-    let machine = Machine::open(rt.alloc(), full_folder(rt.alloc())?)?;
-    over(machine, |machine| talk(&rt, rt.alloc(), machine, FULL))
+    let service = full_service(rt.alloc())?;
+    over(service, |service| talk(&rt, rt.alloc(), service, FULL))
 }

@@ -1,12 +1,12 @@
-use crate::checks::{cell, holds, number, same_number, same_text};
+use crate::checks::{holds, same_number, same_text};
 use crate::folders::{Service, lent, over, service_over_nothing};
-use crate::words::call_of;
 use lone_desk::LoneDesk;
 use secret_calls::{Body, Call, CallFault, Out, Refused, Request, Serial, Taken, Work};
 use service_desk::{Desk, JoinRefused, ReadDesk, WriteDesk};
 use std::alloc::Global;
 use std::process::Abort;
 use std::test::Fail;
+use tests_words::{call_of, cell, number};
 
 // The serial of a row.
 fn serial_of(text: &str) -> Result<Serial, Fail> {
@@ -152,10 +152,11 @@ fn a_desk_is_asked_and_takes_until_it_is_closed(rt: HostRuntime) -> Result<(), F
     over(desk.into_service(), |service| stores_7(&rt, service))
 }
 
-fn joined(rt: &impl Abort, service: Service, number: u64) -> Result<Service, Fail> {
-    let desk = LoneDesk::join(service)?;
-    same_number(rt, desk.conn().0, number, "a desk's number");
-    Ok(desk.into_service())
+fn join_256(service: &mut Service) -> Result<(), Fail> {
+    for _ in 0..256u32 {
+        service.join()?;
+    }
+    Ok(())
 }
 
 fn is_crowded(service: Service) -> bool {
@@ -167,10 +168,8 @@ fn is_crowded(service: Service) -> bool {
 
 #[test]
 fn a_257th_connection_is_refused(rt: HostRuntime) -> Result<(), Fail> {
-    let mut service = service_over_nothing(rt.alloc())?;
-    for number in 1..257u64 {
-        service = joined(&rt, service, number)?;
-    }
+    let service = service_over_nothing(rt.alloc())?;
+    let service = lent(service, |service| join_256(service))?;
     holds(&rt, is_crowded(service), "a 257th");
     Ok(())
 }

@@ -1,14 +1,15 @@
 // The folder of a service: it is loaded when the service opens, and returned with what was loaded.
 ghost use Rattle.std.specs.Prelude.{◌≡◌, [], IfOk};
 
-use crate::checks::{cell, number, same_number, same_text};
+use crate::checks::{same_number, same_text};
 use crate::folders::{Service, lent, over};
-use kr_base::{Bytes, ConnId, Text};
+use kr_base::{Bytes, ConnId};
 use kr_memory_disk::MemoryFolder;
 use service_machine::{Disk, OpenRefused};
 use std::alloc::Global;
 use std::process::Abort;
 use std::test::Fail;
+use tests_words::{cell, number, text};
 
 // A folder whose call with this number fails. Its one file has the name of a keyring file, and isn't
 // one.
@@ -18,8 +19,10 @@ fn folder(alloc: Global, failing: u64) -> Result<MemoryFolder, Fail>
     let mut calls = Vec::new(alloc);
     calls.push(failing)?;
     let mut folder = MemoryFolder::new(alloc, calls);
-    let name = Text::from_str(alloc, "login.keyring")?.ok_or("a zero byte")?;
-    folder.set(name, Some(Bytes::from_slice(alloc, b"no keyring")?))?;
+    folder.set(
+        text(alloc, "login.keyring")?,
+        Some(Bytes::from_slice(alloc, b"no keyring")?),
+    )?;
     Ok(folder)
 }
 
@@ -78,9 +81,13 @@ fn has_loaded(rt: &impl Abort, disk: &Disk<MemoryFolder>) -> Result<(), Fail> {
     Ok(())
 }
 
+fn quiet_service(alloc: Global) -> Result<Service, Fail> {
+    Ok(Service::open(alloc, folder(alloc, 9)?)?)
+}
+
 #[test]
 fn a_service_returns_its_folder_and_what_it_loaded(rt: HostRuntime) -> Result<(), Fail> {
-    let service = Service::open(rt.alloc(), folder(rt.alloc(), 9)?)?;
+    let service = quiet_service(rt.alloc())?;
     let service = lent(service, |service| is_used(service))?;
     over(service.into_disk(), |disk| has_loaded(&rt, disk))
 }

@@ -1,10 +1,10 @@
 // Services over folders in memory, and what lends them to a test.
 ghost use Rattle.std.specs.Prelude.{◌≡◌, []};
 
-use crate::login::{login_folder, two_folder};
 use kr_memory_disk::MemoryFolder;
 use std::alloc::Global;
 use std::test::Fail;
+use tests_words::{login_folder, two_folder};
 
 /// A machine over a folder in memory.
 pub type Machine = service_machine::Machine<MemoryFolder>;

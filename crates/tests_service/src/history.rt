@@ -1,12 +1,12 @@
-use crate::checks::{cell, same_number, same_text};
+use crate::checks::{same_number, same_text};
 use crate::folders::{Service, over, service_over_nothing};
-use crate::words::{call_of, decimal, last_told, session_told};
 use kr_base::ConnId;
 use secret_calls::{Call, CallFault, Request, Serial, Taken};
 use service_machine::{Arrival, Incoming, Output};
 use std::alloc::Global;
 use std::process::Abort;
 use std::test::Fail;
+use tests_words::{call_of, cell, decimal, joined, last_told};
 
 // Lets the first connection join, and returns its number.
 fn join(service: &mut Service) -> Result<u64, Fail> {
@@ -104,7 +104,8 @@ fn answer(alloc: Global, service: &mut Service, row: &str) -> Result<String, Fai
 }
 
 fn opens(rt: &impl Abort, alloc: Global, service: &mut Service, number: u64) -> Result<(), Fail> {
-    let want = session_told(alloc, number)?;
+    let number = decimal(alloc, number)?;
+    let want = joined(alloc, &["session ", number.as_str()])?;
     let found = answer(alloc, service, "1|open|plain")?;
     same_text(rt, found.as_str(), want.as_str(), want.as_str());
     Ok(())

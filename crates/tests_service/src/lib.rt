@@ -6,10 +6,6 @@
 #[cfg(test)]
 mod aliases;
 #[cfg(test)]
-mod answer_faults;
-#[cfg(test)]
-mod answers;
-#[cfg(test)]
 mod checks;
 #[cfg(test)]
 mod desk;
@@ -20,16 +16,8 @@ mod folders;
 #[cfg(test)]
 mod history;
 #[cfg(test)]
-mod login;
-#[cfg(test)]
 mod machine;
 #[cfg(test)]
 mod members;
 #[cfg(test)]
-mod prompt_words;
-#[cfg(test)]
-mod prompts;
-#[cfg(test)]
 mod storing;
-#[cfg(test)]
-mod words;

@@ -1,6 +1,5 @@
-use crate::checks::{cell, holds, number, same_number, same_text};
+use crate::checks::{holds, same_number, same_text};
 use crate::folders::{Machine, machine_over_nothing, over};
-use crate::words::{call_of, last_told};
 use kr_base::ConnId;
 use kr_items::Items;
 use secret_calls::{Call, CallFault, Out, Request, Serial};
@@ -8,6 +7,7 @@ use service_machine::{ApplyRefused, Arrival, Incoming, Output, Rows};
 use std::alloc::Global;
 use std::process::Abort;
 use std::test::Fail;
+use tests_words::{call_of, cell, joined, last_told, number};
 
 // Two connections, 1 and 2; a connection that is gone isn't there. In a row, a connection and what
 // it does: it pings, opens a session with an algorithm, closes one, calls no method or is gone; and
@@ -76,8 +76,8 @@ fn taken(machine: &mut Machine, conn: ConnId) -> Option<Items<Out>> {
     }
 }
 
-/// Does what a row says.
-pub fn does(
+// Does what a row says.
+fn does(
     alloc: Global,
     machine: &mut Machine,
     conn: ConnId,
@@ -89,11 +89,11 @@ pub fn does(
     }
 }
 
-/// Takes everything that waits, and returns the last of it in words.
-pub fn answer(alloc: Global, machine: &mut Machine, conn: ConnId) -> Result<String, Fail> {
+// Takes everything that waits, and returns the last of it in words.
+fn answer(alloc: Global, machine: &mut Machine, conn: ConnId) -> Result<String, Fail> {
     match taken(machine, conn) {
         Some(outs) => last_told(alloc, outs.as_slice()),
-        None => Ok(String::from_str(alloc, "nothing")?),
+        None => joined(alloc, &["nothing"]),
     }
 }
 
@@ -102,7 +102,8 @@ fn is_taken_or_of_none(applied: Result<(), ApplyRefused>) -> bool {
     matches!(applied, Ok(()) | Err(ApplyRefused::NoConnection))
 }
 
-fn is_answered(
+/// Asserts what a connection gets for what it does, as a row says.
+pub fn is_answered(
     rt: &impl Abort,
     alloc: Global,
     machine: &mut Machine,

@@ -1,15 +1,15 @@
 // The members that store nothing, over a folder with one collection, which is locked.
 
-use crate::checks::{cell, holds, number, same_number, same_text};
+use crate::checks::{holds, same_number};
 use crate::folders::{Machine, Service, machine_over_login, over, service_over_login};
-use crate::machine::{answer, does, join};
-use crate::words::call_of;
+use crate::machine::{is_answered, join};
 use kr_base::ConnId;
 use secret_calls::{Request, Serial};
 use service_machine::Arrival;
 use std::alloc::Global;
 use std::process::Abort;
 use std::test::Fail;
+use tests_words::{call_of, cell, number};
 
 // In a row, a connection and what it does: it opens a session, searches all items or those of one
 // object, locks objects, or gets a secret or several for a session; and what it gets. Paths continue
@@ -37,21 +37,6 @@ const CONVERSATION: &str = "\
 1|lock|session/s1|objects
 1|search|service=empty|unlocked, locked collection/login/2
 ";
-
-/// Asserts what a connection gets for what it does, as a row says.
-pub fn is_answered(
-    rt: &impl Abort,
-    alloc: Global,
-    machine: &mut Machine,
-    row: &str,
-) -> Result<(), Fail> {
-    let conn = ConnId(number(cell(row, 0))?);
-    let done = does(alloc, machine, conn, row)?;
-    holds(rt, done.is_ok(), row);
-    let answer = answer(alloc, machine, conn)?;
-    same_text(rt, answer.as_str(), cell(row, 3), row);
-    Ok(())
-}
 
 fn talk(rt: &impl Abort, alloc: Global, machine: &mut Machine) -> Result<(), Fail> {
     same_number(rt, join(machine)?, 1, "the first connection");

@@ -3,8 +3,8 @@
 
 use crate::checks::{holds, same_number};
 use crate::folders::{Machine, Service, lent, machine_over_two, over, service_over_two};
-use crate::machine::join;
-use crate::members::{arrival, is_answered};
+use crate::machine::{is_answered, join};
+use crate::members::arrival;
 use kr_base::Stem;
 use kr_memory_disk::MemoryFolder;
 use kr_outside::DeviceCall;

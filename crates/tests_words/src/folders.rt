@@ -1,7 +1,9 @@
-// Folders with the collection `login`, as GNOME keyring 42.1 wrote it, and the alias `default` for it.
+// Folders with the collection `login`, as GNOME keyring 42.1 wrote it with the password `test password`, and the alias
+// `default` for it.
 ghost use Rattle.std.specs.Prelude.{◌≡◌, [], IfOk};
 
-use kr_base::{Bytes, Text};
+use crate::rows::text;
+use kr_base::Bytes;
 use kr_memory_disk::MemoryFolder;
 use std::alloc::Global;
 use std::test::Fail;
@@ -34,12 +36,18 @@ const OTHER: &str = "\
     00000000000000000003e80102030405060708000000000000000000000000000000000000000100000007000000\
     00000000000000001000000000000000000000000000000000";
 
+// The file of a collection with the password `sesame`, as another program wrote it: its key is hashed 1,000,000 times. Its
+// one item is 1 (service=slow).
+const SLOW: &str = "\
+    476e6f6d654b657972696e670a0d000a0000000000000004536c6f77000000006553f100000000006553f1000000\
+    000000000000000f4240010203040506070800000000000000000000000000000000000000010000000100000000\
+    00000001000000077365727669636500000000000000203466653964666537383461326265323564643861656333\
+    62343033633336353400000060a0d6954a4c239ac1c7e6b83b8bf091e99ed03429ef5f70b1e0c8a7aa776f97b546\
+    8240157396e44e6de64bdbd71c1e9b98d3b2f47044f5aae6bb9bd013b151ab6f9c72f20915ebdeae099d6ce75476\
+    07cbd6dbbba03ceaf794090c7cef1c1266";
+
 fn login(alloc: Global) -> Result<Vec<u8>, Fail> {
     Ok(hex::decode(alloc, LOGIN)?)
-}
-
-fn text(alloc: Global, text: &str) -> Result<Text, Fail> {
-    Ok(Text::from_str(alloc, text)?.ok_or("a zero byte")?)
 }
 
 /// The folder with that collection alone.
@@ -63,5 +71,15 @@ pub fn two_folder(alloc: Global) -> Result<MemoryFolder, Fail>
     folder.set(text(alloc, "other.keyring")?, Some(file))?;
     let aliases = Bytes::from_slice(alloc, b"default=login\nlost=gone\n")?;
     folder.set(text(alloc, "aliases")?, Some(aliases))?;
+    Ok(folder)
+}
+
+/// The folder with a third collection, `slow`, whose key is hashed 1,000,000 times.
+pub fn slow_folder(alloc: Global) -> Result<MemoryFolder, Fail>
+    ensures { IfOk result (λ folder. folder.made ≡ []) }
+{
+    let mut folder = two_folder(alloc)?;
+    let file = Bytes::new(hex::decode(alloc, SLOW)?);
+    folder.set(text(alloc, "slow.keyring")?, Some(file))?;
     Ok(folder)
 }

@@ -1,14 +1,8 @@
 // Histories of answers over slots whose calls fail. They are as those of prompts, and each begins with the file, with the
 // calls of its slot that fail, with those of them that the disk performs nevertheless, and with its name.
 
-use crate::aliases::numbers;
-use crate::checks::cell;
-use crate::folders::{Service, over};
-use crate::login::two_folder;
-use crate::prompt_words::joined;
-use crate::prompts::plays;
-use crate::words::text;
-use kr_memory_disk::SlotPlan;
+use crate::plays::plays;
+use crate::services::{failing_service, over};
 use std::alloc::Global;
 use std::process::Abort;
 use std::test::Fail;
@@ -16,7 +10,7 @@ use std::test::Fail;
 // A collection is made. That calls its slot four times, 0 to 3: put_temp, sync_temp, rename and sync_folder. A storing after
 // it calls it with 4 to 7, and a removal with 4 and 5, remove and sync_folder, up to the one that fails; a resolve then with
 // sync_folder and read.
-const MADE: &str = "\
+pub const MADE: &str = "\
 2|register|||done|
 1|open|plain|session 1||
 1|create|A|made /, prompt 1||
@@ -166,56 +160,35 @@ const CREATES: &str = "\
 1|create|C=work|made collection/B||
 ";
 
-// A service over a folder with a slot that fails as the first line of a history says.
-fn failing_service(alloc: Global, history: &str) -> Result<Service, Fail> {
-    let mut folder = two_folder(alloc)?;
-    let plan = SlotPlan {
-        name: text(alloc, cell(history, 0))?,
-        failing: numbers(alloc, cell(history, 1))?,
-        done: numbers(alloc, cell(history, 2))?,
-    };
-    folder.plan(plan)?;
-    Ok(Service::open(alloc, folder)?)
-}
-
-fn fails(rt: &impl Abort, alloc: Global, history: &str) -> Result<(), Fail> {
+fn fails(rt: &impl Abort, alloc: Global, first: &str, history: &str) -> Result<(), Fail> {
     let service = failing_service(alloc, history)?;
-    over(service, |service| plays(rt, alloc, service, history))
+    over(service, |service| plays(rt, alloc, service, first, history))
 }
 
-// A history that goes on once a collection was made.
-fn resolves(rt: &impl Abort, alloc: Global, history: &str) -> Result<(), Fail> {
-    let (first, rows) = history.split_once('\n').ok_or("rows")?;
-    let history = joined(alloc, &[first, "\n", MADE, rows])?;
-    fails(rt, alloc, history.as_str())
-}
-
-fn all_resolve(rt: &impl Abort, alloc: Global, histories: &str) -> Result<(), Fail> {
+/// Plays each of the histories, after the rows `first`.
+pub fn all_fail(rt: &impl Abort, alloc: Global, first: &str, histories: &str) -> Result<(), Fail> {
     for history in histories.split('#').skip(1) {
-        resolves(rt, alloc, history)?;
+        fails(rt, alloc, first, history)?;
     }
     Ok(())
 }
 
 #[test]
 fn an_answer_finds_a_collection_with_its_new_item_or_without(rt: HostRuntime) -> Result<(), Fail> {
-    all_resolve(&rt, rt.alloc(), FOUND)
+    all_fail(&rt, rt.alloc(), MADE, FOUND)
 }
 
 #[test]
 fn an_answer_is_refused_while_a_file_in_doubt_cannot_be_read(rt: HostRuntime) -> Result<(), Fail> {
-    all_resolve(&rt, rt.alloc(), UNREAD)
+    all_fail(&rt, rt.alloc(), MADE, UNREAD)
 }
 
 #[test]
 fn an_answer_finds_a_collection_that_was_removed_or_was_not(rt: HostRuntime) -> Result<(), Fail> {
-    all_resolve(&rt, rt.alloc(), REMOVED)
+    all_fail(&rt, rt.alloc(), MADE, REMOVED)
 }
 
 #[test]
 fn a_collection_that_is_not_stored_is_not_created(rt: HostRuntime) -> Result<(), Fail> {
-    for history in CREATES.split('#').skip(1) {
-        fails(&rt, rt.alloc(), history)?;
-    }
-    Ok(())
+    all_fail(&rt, rt.alloc(), "", CREATES)
 }
