@@ -18,6 +18,8 @@ pub mod SessionTable
 pub mod PromptState
 pub mod SecretCalls
 pub mod ServiceTables
+pub mod ServiceEvents
+pub mod ServiceCalls
 pub mod ServiceMachine
 pub mod ServiceHistory
 pub mod SharedTurn

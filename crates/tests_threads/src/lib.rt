@@ -8,11 +8,15 @@ mod checks;
 #[cfg(test)]
 mod keys;
 #[cfg(test)]
+mod learning;
+#[cfg(test)]
 mod passes;
 #[cfg(test)]
 mod requests;
 #[cfg(test)]
 mod services;
+#[cfg(test)]
+mod steps;
 #[cfg(test)]
 mod threads;
 #[cfg(test)]

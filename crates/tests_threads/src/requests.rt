@@ -24,11 +24,11 @@ pub fn asks<D: ReadDesk>(desk: &mut D, serial: u32, wants_reply: bool) -> bool {
     }
 }
 
-// A request of this call. A reply isn't wanted.
-fn request(call: Call) -> Request {
+/// A request of this call. A reply may be wanted.
+pub fn request(call: Call, wants_reply: bool) -> Request {
     Request {
         serial: Serial { number: 1 },
-        wants_reply: false,
+        wants_reply,
         length: 128,
         call: Ok(call),
     }
@@ -36,7 +36,7 @@ fn request(call: Call) -> Request {
 
 /// Brings a call, and returns the key that it asks for.
 pub fn brings<D: ReadDesk>(desk: &mut D, call: Call) -> Option<Work> {
-    match desk.arrive(request(call), 0, [0; 8]) {
+    match desk.arrive(request(call, false), 0, [0; 8]) {
         Ok(work) => work,
         Err(_) => None,
     }

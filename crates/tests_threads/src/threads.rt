@@ -1,5 +1,5 @@
-// Many threads bring their requests to one service at once: what each of them recorded is in the history
-// of the service that is given back, in the thread's own order and each once.
+// Many threads call one service at once: the events of the service that is given back are, for each connection,
+// the calls that its thread made, in the thread's own order and each once.
 ghost use Rattle.std.specs.Prelude.{◌≡◌};
 ghost use Rattle.std.specs.Arc.{arc_value};
 
@@ -8,7 +8,8 @@ use crate::requests::asks;
 use crate::services::{Service, over, shared, stores};
 use kr_base::ConnId;
 use kr_memory_disk::MemoryFolder;
-use service_desk::ReadDesk;
+use secret_calls::{Call, Request};
+use service_desk::{ReadDesk, WriteDesk};
 use service_machine::Event;
 use shared_service::{Pass, SharedDesk, SharedService};
 use std::alloc::Global;
@@ -23,39 +24,60 @@ const THREADS: usize = 8;
 
 const REQUESTS: u32 = 2_000;
 
-// Brings all requests, and leaves.
-fn asks_all<D: ReadDesk>(desk: &mut D) {
+// How many events each thread records: its connection joins, brings each request and takes the reply, and leaves.
+const EVENTS: u64 = 2 * REQUESTS as u64 + 2;
+
+// Brings all requests, takes each reply, and leaves.
+fn calls_all<D: ReadDesk + WriteDesk>(desk: &mut D) {
     for serial in 1..REQUESTS + 1 {
-        asks(desk, serial, false);
+        asks(desk, serial, true);
+        desk.take();
     }
     desk.leave();
 }
 
-// The serial of the request, if the event is one of this connection.
-fn serial_of(event: &Event, conn: ConnId) -> Option<u32> {
+// Whether this is the request with that serial.
+fn is_ping(request: &Request, serial: u64) -> bool {
+    request.serial.number as u64 == serial
+        && request.wants_reply
+        && matches!(request.call, Ok(Call::Ping))
+}
+
+// Whether the event is the call that the connection's thread made at this place among its own.
+fn is_call(event: &Event, place: u64) -> bool {
     match event {
-        Event::Arrive(came) if came.arrival.conn == conn => Some(
-            came.arrival.request.serial.number,
-        ),
-        _ => None,
+        Event::Connect(_) => place == 0,
+        Event::Arrive(came) => place % 2 == 1 && is_ping(&came.arrival.request, place / 2 + 1),
+        Event::Take(_) => place % 2 == 0 && place > 0,
+        Event::Leave(_) => place == EVENTS - 1,
+        _ => false,
     }
 }
 
-// How many requests of the connection there are, if their serials are 1, 2 and so on; otherwise 0.
-fn requests_of(events: &[Event], conn: ConnId) -> u32 {
-    let mut last = 0u32;
+// The connection of the event.
+fn conn_of(event: &Event) -> ConnId {
+    match event {
+        Event::Arrive(came) => came.arrival.conn,
+        Event::Derived(came) => came.conn,
+        Event::Connect(conn) | Event::Leave(conn) | Event::Take(conn) | Event::Gone(conn) => *conn,
+    }
+}
+
+// How many calls of the connection the events are, if they are those that its thread made, in order; otherwise 0.
+fn calls_of(events: &[Event], conn: ConnId) -> u64 {
+    let mut place = 0u64;
     for event in events {
-        if let Some(serial) = serial_of(event, conn) {
-            if serial != last.saturating_add(1) {
+        if conn_of(event) == conn {
+            if !is_call(event, place) {
                 return 0;
             }
-            last = serial;
+            place = place.saturating_add(1);
         }
     }
-    last
+    place
 }
 
-// The desk of the reader of one more connection.
+// A desk of one more connection.
 fn reader<R: Wait + Copy>(
     rt: R,
     service: &Arc<SharedService<MemoryFolder>, Global>,
@@ -85,7 +107,7 @@ fn readers<R: Wait + Copy + Drop>(
     Ok(readers)
 }
 
-// The threads bring their requests at once, and the service is given back.
+// The threads call at once, and the service is given back.
 fn served<R: Wait + Threads + Copy + Drop + Send + Sync>(
     rt: R,
     alloc: Global,
@@ -96,22 +118,22 @@ fn served<R: Wait + Threads + Copy + Drop + Send + Sync>(
         &rt,
         readers.as_mut_slice(),
         THREADS,
-        &|_, desk| asks_all(desk),
+        &|_, desk| calls_all(desk),
     );
     Ok(service.close(&rt, pass))
 }
 
-// Asserts that the events are those of all threads.
+// Asserts that the events are the calls of all threads.
 fn stores_all(rt: &impl Abort, service: &Service) -> Result<(), Fail> {
-    stores(rt, service, THREADS as u64 * (REQUESTS as u64 + 2))?;
+    stores(rt, service, THREADS as u64 * EVENTS)?;
     for number in 1..THREADS as u64 + 1 {
-        let found = requests_of(service.events(), ConnId(number)) as u64;
-        same_number(rt, found, REQUESTS as u64, "the requests of a thread");
+        let found = calls_of(service.events(), ConnId(number));
+        same_number(rt, found, EVENTS, "the calls of a thread");
     }
     Ok(())
 }
 
 #[test]
-fn what_eight_threads_recorded_is_in_one_history(rt: HostRuntime) -> Result<(), Fail> {
+fn the_calls_of_eight_threads_are_in_one_history(rt: HostRuntime) -> Result<(), Fail> {
     over(served(rt, rt.alloc())?, |service| stores_all(&rt, service))
 }

@@ -6,7 +6,8 @@ use Rattle.kr_outside.specs.declared.folder.Folder as folder
 use Rattle.kr_outside.specs.declared.slot.Slot as slot
 use Rattle.service_history.specs.contracts.service.Service as Service
 use Rattle.service_history.specs.contracts.window.Window as Window
-use Rattle.tests_threads.proofs.Sends.ServiceMachine.{Event-send, Machine-send}
+use Rattle.tests_threads.proofs.Sends.ServiceEvents.{Event-send}
+use Rattle.tests_threads.proofs.Sends.ServiceMachine.{Machine-send}
 
 module _ (F S : RattleType) (f : folder.Ghosts F.Denot S.Denot) (s : slot.Ghosts S.Denot) where
   Window-send : IsSend (Window.the_row F S f s)
