@@ -104,7 +104,8 @@ a connection that isn't the agent answers|Answer|AccessDenied|4
 there is no such prompt|Register,Answer|registered,NoSuchObject|6
 ";
 
-fn push_all(bytes: &mut Vec<u8>, alloc: Global, words: &str) -> Result<(), Fail> {
+/// Appends the calls or the outputs with these names.
+pub fn push_all(bytes: &mut Vec<u8>, alloc: Global, words: &str) -> Result<(), Fail> {
     for word in words.split(',') {
         push_digits(bytes, alloc, digits_of(word))?;
     }

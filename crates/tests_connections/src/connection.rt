@@ -1,10 +1,11 @@
-ghost use Rattle.std.specs.Prelude.{IsTrue};
+ghost use Rattle.std.specs.Prelude.{IsTrue, IsFalse, IfOk};
 ghost use Rattle.connection_worker.specs.Serving.{HasJoined};
 ghost use Rattle.service_tables.specs.Sound.{IsSound};
 
 use crate::checks::{cell, length, same_bytes, same_number, same_text};
 use connection_worker::{End, Salts, handshake, one_thread};
 use dbus_auth::{Auth, AuthFault};
+use dbus_framing::Violation;
 use kr_base::ConnId;
 use kr_memory::{ListedClock, MemorySink, MemorySource};
 use kr_memory_disk::MemoryFolder;
@@ -81,15 +82,25 @@ fn fault_told(fault: AuthFault) -> &'static str {
     }
 }
 
-// How a connection ended, in a word.
-fn end_told(end: End) -> &'static str {
+fn violation_told(cause: Violation) -> &'static str {
+    match cause {
+        Violation::EndInside => "EndInside",
+        _ => "another violation",
+    }
+}
+
+/// How a connection ended, in a word.
+pub fn end_told(end: End) -> &'static str {
     match end {
         End::Done => "Done",
         End::AuthRefused(fault) => fault_told(fault),
         End::ReadFault => "ReadFault",
         End::WriteFault => "WriteFault",
         End::Memory => "Memory",
-        _ => "another end",
+        End::Violation(cause) => violation_told(cause),
+        End::EventsSpent => "EventsSpent",
+        End::OtherEnded => "OtherEnded",
+        End::Overrun => "Overrun",
     }
 }
 
@@ -102,7 +113,10 @@ fn ended<R: AllocGlobal + Wait, I: Source, O: Sink>(
     rt: &R,
     input: &mut I,
     output: &mut O,
-) -> Result<String, Fail> {
+) -> Result<String, Fail>
+    requires input_open { IsFalse (I.is_closed input.old) }
+    requires output_open { IsFalse (O.is_closed output.old) }
+{
     match handshake(rt, Auth::new(1000, guid()), input, output) {
         Ok(framer) => open_told(rt.alloc(), framer.rest()),
         Err(end) => Ok(String::from_str(rt.alloc(), end_told(end))?),
@@ -119,14 +133,18 @@ fn bytes_alone(alloc: Global, count: usize) -> Result<Vec<usize>, Fail> {
 }
 
 /// A source of these bytes, cut into pieces of one byte if `is_cut`.
-pub fn source_of(alloc: Global, input: Vec<u8>, is_cut: bool) -> Result<MemorySource, Fail> {
+pub fn source_of(alloc: Global, input: Vec<u8>, is_cut: bool) -> Result<MemorySource, Fail>
+    ensures { IfOk result (λ source. IsFalse source.is_closed) }
+{
     let count = if is_cut { input.len() } else { 0 };
     let pieces = bytes_alone(alloc, count)?;
     Ok(MemorySource::new(input, pieces, Vec::new(alloc)))
 }
 
 /// A sink that never fails.
-pub fn plain_sink(alloc: Global) -> MemorySink {
+pub fn plain_sink(alloc: Global) -> MemorySink
+    ensures { IsFalse result.is_closed }
+{
     MemorySink::new(alloc, Vec::new(alloc), Vec::new(alloc))
 }
 
@@ -137,7 +155,9 @@ fn ends_so<R: AllocGlobal + Wait + Abort>(
     words: &str,
     end: &str,
     at: &str,
-) -> Result<(), Fail> {
+) -> Result<(), Fail>
+    requires { IsFalse source.old.is_closed }
+{
     let mut sink = plain_sink(rt.alloc());
     let found = ended(rt, source, &mut sink)?;
     same_text(rt, found.as_str(), end, at);
@@ -208,13 +228,17 @@ fn name(alloc: Global) -> Result<Vec<u8>, Fail> {
 }
 
 // A source of the name alone, whose call number 1 fails.
-fn failing_source(alloc: Global) -> Result<MemorySource, Fail> {
+fn failing_source(alloc: Global) -> Result<MemorySource, Fail>
+    ensures { IfOk result (λ source. IsFalse source.is_closed) }
+{
     let failing = Vec::from_slice(alloc, &[1u64])?;
     Ok(MemorySource::new(name(alloc)?, Vec::new(alloc), failing))
 }
 
-// A sink that takes 3 bytes, and whose call number 1 fails.
-fn failing_sink(alloc: Global) -> Result<MemorySink, Fail> {
+/// A sink that takes 3 bytes, and whose call number 1 fails.
+pub fn failing_sink(alloc: Global) -> Result<MemorySink, Fail>
+    ensures { IfOk result (λ sink. IsFalse sink.is_closed) }
+{
     let pieces = Vec::from_slice(alloc, &[3usize])?;
     let failing = Vec::from_slice(alloc, &[1u64])?;
     Ok(MemorySink::new(alloc, pieces, failing))
@@ -237,7 +261,8 @@ fn a_fault_of_a_stream_is_told(rt: HostRuntime) -> Result<(), Fail> {
     a_write_fails(&rt)
 }
 
-fn salts_of(conn: ConnId) -> Salts {
+/// The salts of a connection under a seed of zeros.
+pub fn salts_of(conn: ConnId) -> Salts {
     Salts::new([0; 32], conn)
 }
 
@@ -316,6 +341,8 @@ fn served<R: AllocGlobal + Wait, I: Source, O: Sink, D: ReadDesk + WriteDesk>(
     requires alone { IsTrue (D.told desk.old).is_alone }
     requires joined { HasJoined (D.told desk.old) }
     requires sound { IsSound (D.told desk.old).state }
+    requires input_open { IsFalse (I.is_closed input.old) }
+    requires output_open { IsFalse (O.is_closed output.old) }
 {
     let mut clock = ListedClock::new(Vec::new(rt.alloc()));
     let mut salts = salts_of(ConnId(1));
@@ -333,7 +360,10 @@ pub fn events_of<R: AllocGlobal + Wait + Abort, I: Source, O: Sink>(
     rt: &R,
     input: &mut I,
     output: &mut O,
-) -> Result<u64, Fail> {
+) -> Result<u64, Fail>
+    requires input_open { IsFalse (I.is_closed input.old) }
+    requires output_open { IsFalse (O.is_closed output.old) }
+{
     let folder = MemoryFolder::new(rt.alloc(), Vec::new(rt.alloc()));
     let mut desk = LoneDesk::join(Service::open(rt.alloc(), folder)?)?;
     let end = served(rt, input, output, &mut desk);

@@ -1,6 +1,6 @@
 //! The tests of a connection, through the public items of `connection_worker`: the handshake, the
-//! salts, and one call and a prompt that is answered on one thread. They are in a crate of their own
-//! so that the crate isn't proved again for its tests.
+//! salts, one call and a prompt that is answered on one thread, and the same by a reader and a writer.
+//! They are in a crate of their own so that the crate isn't proved again for its tests.
 #![tactic(auto)]
 
 #[cfg(test)]
@@ -9,3 +9,5 @@ mod answers;
 mod checks;
 #[cfg(test)]
 mod connection;
+#[cfg(test)]
+mod sides;
