@@ -12,4 +12,14 @@ mod checks;
 #[cfg(test)]
 mod conversations;
 #[cfg(test)]
+mod desktop;
+#[cfg(test)]
+mod ends;
+#[cfg(test)]
+mod locked;
+#[cfg(test)]
+mod parts;
+#[cfg(test)]
 mod runs;
+#[cfg(test)]
+mod serving;
