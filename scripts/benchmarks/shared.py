@@ -1,5 +1,5 @@
 """What the subjects of scripts/bench share: programs that are built, and runs that are measured."""
-import hashlib, os, pathlib, shutil, subprocess, sys
+import hashlib, os, pathlib, resource, shutil, subprocess, sys
 
 ROOT = pathlib.Path(__file__).resolve().parent.parent.parent
 
@@ -17,14 +17,19 @@ def run(words, **more):
     return ran.stdout
 
 
+def processor_time():
+    """The seconds that the processor spent on the programs that were run so far. `os.times` counts in hundredths of a second."""
+    used = resource.getrusage(resource.RUSAGE_CHILDREN)
+    return used.ru_utime + used.ru_stime
+
+
 def best(words, rounds=5):
     """The least seconds that the processor spent on some runs, and what was printed."""
     least, printed = None, None
     for _ in range(rounds):
-        before = os.times()
+        before = processor_time()
         printed = run(words)
-        after = os.times()
-        took = after.children_user + after.children_system - before.children_user - before.children_system
+        took = processor_time() - before
         least = took if least is None else min(least, took)
     return least, printed
 

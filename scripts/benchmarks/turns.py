@@ -1,8 +1,8 @@
 """What a turn costs by itself, against a mutex of the C library and a lock of tickets in C around the same work, without
 and with contention; what the turn of a service that threads share costs against the mutex, and how many requests eight
 threads bring; and whether a thread that waits uses the processor."""
-import resource, time
-from benchmarks.shared import ROOT, best, c_program, lines_of, rattle_program, run
+import time
+from benchmarks.shared import ROOT, best, c_program, lines_of, processor_time, rattle_program, run
 
 TURN_PROGRAM = """//! `turns`: threads that change a number by turns, so often together; prints the fewest changes of a thread, and the most.
 //! `alone`: the same without turns. `waits`: one thread keeps the turn for two seconds, one waits for the turn meanwhile,
@@ -532,7 +532,7 @@ int main(int argc, char **argv) {
 
 # how often the number is changed, by one thread and by all, and the rounds of work for each: few, some that take about 0.2
 # microseconds, and many that take about 2
-CHANGES, SHARED, FEW, SOME, MANY = 10000000, 300000, 10, 100, 1000
+CHANGES, SHARED, FEW, SOME, MANY = 30000000, 300000, 10, 100, 1000
 
 EVENTS = 400000
 
@@ -559,17 +559,16 @@ def quickest(words, rounds=5):
 
 def spent(words):
     """The seconds that the processor spent on a run."""
-    before = resource.getrusage(resource.RUSAGE_CHILDREN)
+    before = processor_time()
     run(words)
-    after = resource.getrusage(resource.RUSAGE_CHILDREN)
-    return after.ru_utime + after.ru_stime - before.ru_utime - before.ru_stime
+    return processor_time() - before
 
 
 def measure_turn(folder):
     """The turn by itself, and the locks in C."""
     turn = rattle_program(folder / "turn", "turn_bench", TURN_PROGRAM, lines_of(["shared_turn"]), " atomic_table", TURN_PROOFS)
     locks = c_program(folder, "locks", LOCKS_C, "-lpthread")
-    cost = lambda program, lock: best([program, lock, 1, CHANGES, FEW], 15)[0] - best([program, "alone", 1, CHANGES, FEW], 15)[0]
+    cost = lambda program, lock: best([program, lock, 1, CHANGES, FEW])[0] - best([program, "alone", 1, CHANGES, FEW])[0]
     ours, mutex = cost(turn, "turns"), cost(locks, "mutex")
     print(f"a turn without contention takes {ours / mutex:.2f} of the time of a mutex")
     for rounds, work in (MANY, "work of about 2 microseconds"), (SOME, "work of about 0.2 microseconds"):
