@@ -8,15 +8,20 @@
 //! status.
 #![tactic(auto)]
 
-ghost use Rattle.std.specs.Prelude.{◌≡◌};
+ghost use Rattle.std.specs.Prelude.{◌≡◌, IsFalse};
 ghost use Rattle.std.specs.Process.{exit_status};
 ghost use Rattle.keyring_program.specs.Status.{number_of};
 
 use daemon::Spawner;
 use keyring_program::{Status, run, words_of};
+use kr_base::Text;
+use kr_outside::{Folder, Host, Listener, Sink, Source};
 use real_edges::{ReaderSource, RealHost, WriterSink};
+use std::alloc::AllocGlobal;
 use std::process::ExitCode;
 use std::random::RandomSource;
+use std::sync::Wait;
+use std::thread::Threads;
 
 /// The exit code of a process that ended with this status. Prints the text of any status except
 /// `Done` on standard error.
@@ -39,6 +44,27 @@ fn without_seed(rt: &HostRuntime) -> ExitCode
     ExitCode::from(1)
 }
 
+/// Runs the command of these arguments, with a thread for each connection. It is generic in the host, since the
+/// prover takes minutes for a spawner of the real host's types.
+fn run_in_threads<
+    R: AllocGlobal + Threads + Wait + Copy + Send + Sync + Drop + 'static,
+    I: Source,
+    O: Sink,
+    H: Host,
+>(rt: &R, words: &[Text], input: &mut I, output: &mut O, host: &mut H, seed: [u8; 32]) -> Status
+where
+    H::Dir: Send + 'static,
+    H::Time: Send + 'static,
+    <H::Dir as Folder>::Cell: Send + 'static,
+    <H::Door as Listener>::In: Send + 'static,
+    <H::Door as Listener>::Out: Send + 'static,
+    requires input_open { IsFalse (I.is_closed input.old) }
+    requires output_open { IsFalse (O.is_closed output.old) }
+{
+    let mut spawner = Spawner::in_threads(rt.alloc());
+    run(rt, words, input, output, host, &mut spawner, seed)
+}
+
 fn main(rt: HostRuntime) -> ExitCode {
     let mut seed = [0; 32];
     if rt.fill_bytes(&mut seed).is_err() {
@@ -47,15 +73,13 @@ fn main(rt: HostRuntime) -> ExitCode {
     let mut input = ReaderSource::new(rt.stdin());
     let mut output = WriterSink::new(rt.stdout());
     let mut host = RealHost::new(rt);
-    let mut spawner = Spawner::in_threads(rt.alloc());
     let status = match words_of(&rt) {
-        Ok(words) => run(
+        Ok(words) => run_in_threads(
             &rt,
             words.as_slice(),
             &mut input,
             &mut output,
             &mut host,
-            &mut spawner,
             seed,
         ),
         Err(status) => status,
