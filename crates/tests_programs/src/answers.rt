@@ -25,7 +25,7 @@ pub fn written_on<
 where
     H::Dir: Send + 'static,
     H::Time: Send + 'static,
-    <H::Dir as Folder>::Cell: Send,
+    <H::Dir as Folder>::Cell: Send + 'static,
     <H::Door as Listener>::In: Send + 'static,
     <H::Door as Listener>::Out: Send + 'static,
 {
@@ -44,7 +44,7 @@ fn is_written_on<
 where
     H::Dir: Send + 'static,
     H::Time: Send + 'static,
-    <H::Dir as Folder>::Cell: Send,
+    <H::Dir as Folder>::Cell: Send + 'static,
     <H::Door as Listener>::In: Send + 'static,
     <H::Door as Listener>::Out: Send + 'static,
 {

@@ -125,7 +125,7 @@ fn is_written<
 where
     H::Dir: Send + 'static,
     H::Time: Send + 'static,
-    <H::Dir as Folder>::Cell: Send,
+    <H::Dir as Folder>::Cell: Send + 'static,
     <H::Door as Listener>::In: Send + 'static,
     <H::Door as Listener>::Out: Send + 'static,
 {
@@ -142,7 +142,7 @@ fn keeps_199<
 where
     H::Dir: Send + 'static,
     H::Time: Send + 'static,
-    <H::Dir as Folder>::Cell: Send,
+    <H::Dir as Folder>::Cell: Send + 'static,
     <H::Door as Listener>::In: Send + 'static,
     <H::Door as Listener>::Out: Send + 'static,
 {
@@ -161,7 +161,7 @@ fn finds_200<
 where
     H::Dir: Send + 'static,
     H::Time: Send + 'static,
-    <H::Dir as Folder>::Cell: Send,
+    <H::Dir as Folder>::Cell: Send + 'static,
     <H::Door as Listener>::In: Send + 'static,
     <H::Door as Listener>::Out: Send + 'static,
 {

@@ -48,7 +48,7 @@ fn ended<R: Abort + AllocGlobal + Threads + Wait + Copy + Send + Sync + Drop + '
 where
     H::Dir: Send + 'static,
     H::Time: Send + 'static,
-    <H::Dir as Folder>::Cell: Send,
+    <H::Dir as Folder>::Cell: Send + 'static,
     <H::Door as Listener>::In: Send + 'static,
     <H::Door as Listener>::Out: Send + 'static,
 {
@@ -107,7 +107,7 @@ fn opens_on<R: Abort + AllocGlobal + Threads + Wait + Copy + Send + Sync + Drop 
 where
     H::Dir: Send + 'static,
     H::Time: Send + 'static,
-    <H::Dir as Folder>::Cell: Send,
+    <H::Dir as Folder>::Cell: Send + 'static,
     <H::Door as Listener>::In: Send + 'static,
     <H::Door as Listener>::Out: Send + 'static,
 {

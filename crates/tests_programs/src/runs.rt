@@ -40,7 +40,7 @@ pub fn run_on<
 where
     H::Dir: Send + 'static,
     H::Time: Send + 'static,
-    <H::Dir as Folder>::Cell: Send,
+    <H::Dir as Folder>::Cell: Send + 'static,
     <H::Door as Listener>::In: Send + 'static,
     <H::Door as Listener>::Out: Send + 'static,
 {

@@ -26,7 +26,7 @@ fn serves<R: Abort + AllocGlobal + Threads + Wait + Copy + Send + Sync + Drop + 
 where
     H::Dir: Send + 'static,
     H::Time: Send + 'static,
-    <H::Dir as Folder>::Cell: Send,
+    <H::Dir as Folder>::Cell: Send + 'static,
     <H::Door as Listener>::In: Send + 'static,
     <H::Door as Listener>::Out: Send + 'static,
 {
