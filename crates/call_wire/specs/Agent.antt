@@ -1,24 +1,16 @@
 -- The interface of the agent, which asks for passwords: docs/SERVICE.md, "Interfaces".
-use Rattle.std.specs.Prelude.{ℕ, List, Option, Result, Ok, codes, ok_or, option_map, option_and_then}
+use Rattle.std.specs.Prelude.{ℕ, List, Option, Result, codes, ok_or, option_map, option_and_then}
 use Rattle.dbus_types.specs.Values.{Val, Vals}
 use Rattle.dbus_framing.specs.Headers.{two_of}
 use Rattle.secret_calls.specs.declared.call.Call.{Call}
 use Rattle.secret_calls.specs.declared.call.Call.TheVariants as call
 use Rattle.secret_calls.specs.declared.call.CallFault.{CallFault}
 use Rattle.secret_calls.specs.declared.call.CallFault.TheVariants as fault
-use Rattle.call_arguments.specs.Arguments.{without_arguments, three_of, long_in, bytes_in, prompt_in}
+use Rattle.call_arguments.specs.Arguments.{three_of, long_in, bytes_in, prompt_in}
 
 -- its name
 abbrev pub interface : List ℕ
 interface = codes "org.keyringd.Agent1"
-
--- Register, which takes no arguments
-abbrev pub register : Vals → Result Call CallFault
-register values = without_arguments (Ok call.Register) values
-
--- Unregister, which takes no arguments
-abbrev pub unregister : Vals → Result Call CallFault
-unregister values = without_arguments (Ok call.Unregister) values
 
 -- Answer with these three arguments: the prompt, the round in which it was asked, and the password
 abbrev pub answered_with : Val × Val × Val → Option Call

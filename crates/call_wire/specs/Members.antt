@@ -1,12 +1,13 @@
 -- The members that are implemented, which objects have them, and how their arguments are read: D-Bus Specification, "Standard
 -- Interfaces"; Secret Service API draft 0.2, the interfaces' methods; for the agent, docs/SERVICE.md, "Interfaces".
-use Rattle.std.specs.Prelude.{ℕ, ◌&&◌, Bool, true, false, List, [], ◌∷◌, Option, Some, None, Result, map, codes}
+use Rattle.std.specs.Prelude.{ℕ, ◌&&◌, Bool, true, false, List, [], ◌∷◌, Option, Some, None, Result, Ok, map, codes}
 use Rattle.std.specs.List.{filter, find}
 use Rattle.std.specs.Str.{bytes_eq}
 use Rattle.dbus_types.specs.Values.{Vals}
 use Rattle.kr_names.specs.declared.object_name.ObjectName.{ObjectName}
 use Rattle.kr_names.specs.declared.object_name.ObjectName.TheVariants as name
 use Rattle.secret_calls.specs.declared.call.Call.{Call}
+use Rattle.secret_calls.specs.declared.call.Call.TheVariants as call
 use Rattle.secret_calls.specs.declared.call.CallFault.{CallFault}
 use Rattle.call_wire.specs.declared.members.Interface.{Interface}
 use Rattle.call_wire.specs.declared.members.Interface.TheVariants as interface
@@ -103,7 +104,8 @@ is_called object interface name member = is_on member.interface object && (means
 abbrev pub member_in : Option ObjectName → Option (List ℕ) → Option (List ℕ) → Option Member
 member_in object interface name = find (is_called object interface name) members
 
--- the call of a method on this object with these values, or the fault that they have
+-- The call of a method on this object with these values, or the fault that they have. Their signature is that of the method's row, so a call
+-- without arguments has no values to be read.
 abbrev pub call_with : Method → Option ObjectName → Vals → Result Call CallFault
 call_with method.OpenSession object values = service.open_session values
 call_with method.CreateCollection object values = service.create_collection values
@@ -122,8 +124,8 @@ call_with method.SetSecret object values = item.set_secret object values
 call_with method.CloseSession object values = session.close object values
 call_with method.Prompt object values = prompt.prompt object values
 call_with method.Dismiss object values = prompt.dismiss object values
-call_with method.Register object values = agent.register values
-call_with method.Unregister object values = agent.unregister values
+call_with method.Register object values = Ok call.Register
+call_with method.Unregister object values = Ok call.Unregister
 call_with method.Answer object values = agent.answer values
 call_with method.Refuse object values = agent.refuse values
-call_with method.Ping object values = peer.ping values
+call_with method.Ping object values = Ok call.Ping

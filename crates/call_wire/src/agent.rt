@@ -1,30 +1,16 @@
 // The interface of the agent, which asks for passwords (docs/SERVICE.md, "Interfaces").
 ghost use Rattle.std.specs.Prelude.{◌≡◌, IfOk};
 ghost use Rattle.dbus_types.specs.ValueViews.{value_of, values_of};
-ghost use Rattle.call_wire.specs.Agent.{register, unregister, answered_with, answer, refused_with, refuse};
+ghost use Rattle.call_wire.specs.Agent.{answered_with, answer, refused_with, refuse};
 
 use crate::OutOfMemory;
-use call_arguments::{bytes_in, long_in, prompt_in, three_in, two_in, without_arguments};
+use call_arguments::{bytes_in, long_in, prompt_in, three_in, two_in};
 use dbus_types::Value;
 use secret_calls::{Call, CallFault};
 use std::alloc::Global;
 
 /// The name of the interface.
 pub const INTERFACE: &str = "org.keyringd.Agent1";
-
-/// Reads a call of Register, which takes no arguments.
-pub fn register(values: &[Value]) -> Result<Call, CallFault>
-    ensures { result ≡ register (values_of values.now) }
-{
-    without_arguments(Ok(Call::Register), values)
-}
-
-/// Reads a call of Unregister, which takes no arguments.
-pub fn unregister(values: &[Value]) -> Result<Call, CallFault>
-    ensures { result ≡ unregister (values_of values.now) }
-{
-    without_arguments(Ok(Call::Unregister), values)
-}
 
 // Answer with these three arguments.
 fn answered_with(

@@ -374,10 +374,10 @@ pub fn call_with(
         Method::CloseSession => Ok(session::close(object, values)),
         Method::Prompt => Ok(prompt::prompt(object, values)),
         Method::Dismiss => Ok(prompt::dismiss(object, values)),
-        Method::Register => Ok(agent::register(values)),
-        Method::Unregister => Ok(agent::unregister(values)),
+        Method::Register => Ok(Ok(Call::Register)),
+        Method::Unregister => Ok(Ok(Call::Unregister)),
         Method::Answer => agent::answer(alloc, values),
         Method::Refuse => agent::refuse(alloc, values),
-        Method::Ping => Ok(peer::ping(values)),
+        Method::Ping => Ok(Ok(Call::Ping)),
     }
 }
