@@ -333,17 +333,7 @@ module _ (caller : ConnId) (brought : Brought) where
   modest : (salt : List ℕ) (call : Result Call CallFault) (fates : List Fate) (state : State) → IsSound state → length state.prompts.rows ≤ 64
       → IsModest (run caller brought (plan_of salt call (asked caller brought state)) fates state)
   modest salt (Err fault) fates state sound few = inl refl
-  modest salt (Ok call.Ping) fates state sound few = inl (plain-none salt call.Ping fates state tt)
-  modest salt (Ok (call.OpenSession algorithm)) fates state sound few = inl (plain-none salt (call.OpenSession algorithm) fates state tt)
-  modest salt (Ok (call.CloseSession session)) fates state sound few = inl (plain-none salt (call.CloseSession session) fates state tt)
-  modest salt (Ok (call.SearchItems wanted)) fates state sound few = inl (plain-none salt (call.SearchItems wanted) fates state tt)
-  modest salt (Ok (call.ReadAlias alias)) fates state sound few = inl (plain-none salt (call.ReadAlias alias) fates state tt)
   modest salt (Ok (call.SetAlias alias object)) fates state sound few = inl (target-none alias fates state (alias_target (asked_collections (contents_of state)) object))
-  modest salt (Ok (call.Lock objects)) fates state sound few = inl (plain-none salt (call.Lock objects) fates state tt)
-  modest salt (Ok (call.GetSecrets items session)) fates state sound few = inl (plain-none salt (call.GetSecrets items session) fates state tt)
-  modest salt (Ok (call.SearchCollection collection wanted)) fates state sound few =
-      inl (plain-none salt (call.SearchCollection collection wanted) fates state tt)
-  modest salt (Ok (call.GetSecret stem item session)) fates state sound few = inl (plain-none salt (call.GetSecret stem item session) fates state tt)
   modest salt (Ok (call.CreateItem collection label attributes secret replace)) fates state sound few =
       inl (made-none (Add_item label attributes secret.content replace) secret.session secret.content fates state (collection_named (asked_collections (contents_of state)) collection))
   modest salt (Ok (call.DeleteCollection collection)) fates state sound few = inl (erased-none fates state (collection_named (asked_collections (contents_of state)) collection))
@@ -375,6 +365,7 @@ module _ (caller : ConnId) (brought : Brought) where
       if-modest (is_agent caller state.prompts) (answered body.Empty (Leave_agent ∷ [])) name.AccessDenied fates state (inl refl)
   modest salt (Ok (call.Answer prompt round password)) fates state sound few = answer-modest prompt round fates state sound
   modest salt (Ok (call.Refuse prompt round)) fates state sound few = round-modest prompt round fates state sound
+  modest salt (Ok call) fates state sound few = inl (plain-none salt call fates state tt)
 
   -- a limit on the reply changes nothing of that
   modest-limited : (plan : Plan) (fates : List Fate) (state : State) → IsModest (run caller brought plan fates state) → IsModest (led caller brought plan fates state)
