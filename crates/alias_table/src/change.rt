@@ -11,7 +11,7 @@ use std::alloc::Global;
 use std::marker::Model;
 
 /// How many aliases there may be.
-const MOST: usize = 1_024;
+const MOST_ALIASES: usize = 1_024;
 
 /// Aliases that can be stored, with their text.
 #[derive(Drop)]
@@ -36,7 +36,7 @@ impl Next {
         requires { AreAliases aliases.items }
         ensures { IfOk result (λ next. next ≡ few aliases.items) }
     {
-        if aliases.len() > MOST {
+        if aliases.len() > MOST_ALIASES {
             return Ok(None);
         }
         // So the text isn't too long, and can be read again.

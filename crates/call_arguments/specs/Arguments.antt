@@ -150,7 +150,7 @@ abbrev pub prompt_in : Val → Option (Option PromptId)
 prompt_in value = option_map prompt_named (path_in value)
 
 -- The name that a value of type `o` is the path of; Some None if it isn't a path of the service. Unlike in a list of objects,
--- `/` and such a path are told apart.
+-- `/` and such a path are distinguished.
 abbrev pub name_in : Val → Option (Option ObjectName)
 name_in value = option_map name_of_path (path_in value)
 

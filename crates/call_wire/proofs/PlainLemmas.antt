@@ -47,7 +47,7 @@ path_plain n fits = numbered (codes "/org/freedesktop/secrets/session/s") n refl
 pub prompt_plain : (n : ℕ) → n < 2 ^ 64 → All IsPlain (prompt_path n)
 prompt_plain n fits = numbered (codes "/org/freedesktop/secrets/prompt/p") n refl fits
 
--- after a digit, an element of a path goes on
+-- after a digit, an element of a path continues
 one_digit : (c : ℕ) (slash rest : Bool) → IsDigit c → rest ≡ true → (cond (c == 47) slash (is_element_code c && rest)) ≡ true
 one_digit c slash rest is so = rw so (grind (arith, nat_tests))
 

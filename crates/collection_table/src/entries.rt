@@ -42,7 +42,7 @@ fn put_loaded<S: Slot>(
     Ok(())
 }
 
-/// The place of a stem. None where it isn't there.
+/// The place of a stem, or None if it isn't there.
 pub fn place_of<S: Slot>(entries: &[(Stem, Collection<S>)], stem: &Stem) -> Option<usize>
     requires { IsInOrder entries.now }
     ensures found { IfSome result (IsPlaceOf stem.now entries.now) }
@@ -54,7 +54,7 @@ pub fn place_of<S: Slot>(entries: &[(Stem, Collection<S>)], stem: &Stem) -> Opti
     }
 }
 
-/// The collection of a stem. None where there is none.
+/// The collection of a stem, or None if there is none.
 pub fn find<'a, S: Slot>(
     entries: &'a [(Stem, Collection<S>)],
     stem: &Stem,

@@ -77,7 +77,7 @@ impl<S: Slot> CollectionTable<S> {
         entries::stems(self.alloc, &self.entries)
     }
 
-    /// The collection of a stem. None where there is none.
+    /// The collection of a stem, or None if there is none.
     pub fn get(&self, stem: &Stem) -> Option<&Collection<S>>
         ensures { option_copied result ≡ value_at stem.now self.now.entries }
     {
@@ -174,7 +174,7 @@ impl<S: Slot> CollectionTable<S> {
     }
 
     /// Locks a collection: its key and its items are dropped (Secret Service API, Service.Lock). All others
-    /// are as before, and where there is none of the stem nothing changes. It needs no memory.
+    /// are as before, and if there is none of the stem nothing changes. It needs no memory.
     pub fn lock(&mut self, stem: &Stem)
         ensures closed { self.new
             ≡ record self.old { entries = changed stem.now closed self.old.entries } }
@@ -196,7 +196,7 @@ impl<S: Slot> CollectionTable<S> {
         &mut entry.1
     }
 
-    /// The collection of a stem, to be changed. None where there is none. All others are as before. It takes
+    /// The collection of a stem, to be changed, or None if there is none. All others are as before. It takes
     /// no memory.
     pub fn get_mut(&mut self, stem: &Stem) -> Option<&mut Collection<S>>
         ensures* writes_back { sem 𝓛 (LendsIf (the_row S.row S.Slot)
@@ -231,7 +231,7 @@ impl<S: Slot> CollectionTable<S> {
         entries::insert(&mut self.entries, stem, collection);
     }
 
-    /// Takes the collection of a stem out. None where there is none, and then nothing changes. It takes no
+    /// Takes the collection of a stem out. None if there is none, and then nothing changes. It takes no
     /// memory.
     pub fn remove(&mut self, stem: &Stem) -> Option<Collection<S>>
         ensures value { result ≡ value_at stem.now self.old.entries }

@@ -75,6 +75,6 @@ pub record IsCommandLine (line : CommandLine) (words : List (List ℕ)) : Type 0
 abbrev pub HasCommandLine : List (List ℕ) → Type 0
 HasCommandLine words = (line : CommandLine) × IsCommandLine line words
 
--- the words are no command line
+-- the words aren't a command line
 abbrev pub IsNoCommandLine : List (List ℕ) → Type 0
 IsNoCommandLine words = (line : CommandLine) → ¬ (IsCommandLine line words)

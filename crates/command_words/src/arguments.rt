@@ -6,7 +6,7 @@ ghost use Rattle.command_words.specs.Found.{listed, HasMore, HasAll, IsFull, Fin
 use crate::beginning::{Beginning, OptionName, beginning_of};
 use kr_base::Text;
 
-/// The operands that were found so far, in order. No command has more than two.
+/// The operands that were found so far, in order. A command has two at most.
 #[derive(Clone, Copy)]
 pub enum Operands<'a> {
     /// No operand.

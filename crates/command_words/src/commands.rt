@@ -137,7 +137,7 @@ fn command_of(name: &str, found: Found<'_>) -> Result<Option<CommandLine>, OutOf
 
 /// The command line that the words are; they follow the program's name.
 ///
-/// None exactly if they are no command line (docs/SERVICE.md, "Command line"). Memory is needed for
+/// None exactly if they aren't a command line (docs/SERVICE.md, "Command line"). Memory is needed for
 /// copies of DIR and SOCKET alone, so `OutOfMemory` comes only if they are one.
 pub fn read_words(words: &[Text]) -> Result<Option<CommandLine>, OutOfMemory>
     ensures read { IfOk result (λ answer. MatchOption answer (IsNoCommandLine words.now)

@@ -145,7 +145,7 @@ impl Sink for SocketSink {
 }
 
 /// A Unix socket that is bound to a path. It counts its connections and the system's errors. It
-/// waits for the next connection for ever: it never ends.
+/// keeps waiting for the next connection: it never ends.
 #[derive(Drop)]
 pub struct UnixDoor {
     listener: UnixListener,

@@ -61,7 +61,7 @@ prompts-begun conns owner kind prompts there full is sound =
 
 -- ---- a change of one prompt
 
--- what holds of the row that is found holds of each row with its number, since no other one has it
+-- what is true of the row that is found is true of each row with its number, since no other one has it
 none-later : (prompt : PromptId) (n : ℕ) (Q : PromptRow → Type 0) (rows : List PromptRow) → nat_eq n prompt.0 ≡ true → AllByRecursion (λ (other : PromptRow). n < other.prompt.0) rows
     → AllByRecursion (λ (row : PromptRow). is_prompt prompt row ≡ true → Q row) rows
 none-later prompt n Q [] is above = tt

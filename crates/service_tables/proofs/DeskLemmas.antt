@@ -1,4 +1,4 @@
--- Entries of a map in order, seen as rows: a look-up, a change of one, one more behind all, one less.
+-- Entries of a map in order, seen as rows: a look-up, a change of one, one more after all, one less.
 use Rattle.std.proofs.Common.{◌≡◌, ℕ, ◌+◌, ◌<◌, ◌≤◌, ◌==◌, nat_le, length, min, Result, Ok, Err, OnOk, Bool, true, false, cond, List, [], ◌∷◌, ◌++◌, map, Some, None, is_some, refl, ap, ◌∙◌, sym, arith, Less, Greater}
 use Rattle.std.specs.Ordering.{nat_cmp}
 use Rattle.std.specs.Option.{option_map}
@@ -89,7 +89,7 @@ changed-none conn change (e ∷ es) none =
     ] in
     step (e.0 == conn) refl
 
--- the rows behind the one that changes stay
+-- the rows after the one that changes stay
 pub changed-later : (conn k : ℕ) (change : ConnRow → ConnRow) (entries : List (ℕ × Desk)) → (k == conn) ≡ true → AllByRecursion (λ later. nat_cmp k later ≡ Less) (keys_of entries)
     → map row_of entries ≡ changed (record { 0 = conn }) change (map row_of entries)
 changed-later conn k change [] is later = refl
@@ -144,7 +144,7 @@ changes_none conn change old none = record {
   counts = λ all. all;
 }
 
--- ---- one more behind all, one less
+-- ---- one more after all, one less
 
 pub insert_entry-behind : (conn : ℕ) (desk : Desk) (entries : List (ℕ × Desk)) → AreGiven conn (keys_of entries) → insert_entry nat_cmp entries conn desk ≡ entries ++ (conn, desk) ∷ []
 insert_entry-behind conn desk [] given = refl
@@ -169,7 +169,7 @@ remove_entry-row conn (e ∷ es) sorted =
     ] in
     step (e.0 == conn) refl
 
--- what holds of each entry holds of those that are left
+-- what is true of each entry is true of those that are left
 pub remove_entry-all : (P : ℕ × Desk → Type 0) (test : ℕ → Bool) (entries : List (ℕ × Desk)) → AllByRecursion P entries → AllByRecursion P (remove_entry test entries)
 remove_entry-all P test [] all = tt
 remove_entry-all P test (e ∷ es) all =

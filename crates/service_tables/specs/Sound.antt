@@ -98,7 +98,7 @@ pub record AreSoundSessions (connections : List ConnRow) (sessions : Sessions) :
   pub owned : AreOwned connections sessions.rows
   pub numbered : sessions.next ≤ last_session
 
--- what an unlocked collection holds of an item has its types
+-- what an unlocked collection keeps of an item has its types
 pub record IsSoundItem (row : Row) : Type 0 where
   pub clear : IsKnownClearItem row.0
   pub full : IsKnownItem row.1

@@ -83,7 +83,7 @@ impl Connections {
         desks::has(&self.desks, conn.0)
     }
 
-    /// What is told of the connection. None where it isn't there.
+    /// The connection's status, or None if it isn't there.
     pub fn desk(&self, conn: ConnId) -> Option<DeskRow>
         ensures { result ≡ desk_of conn self.now.rows }
     {
@@ -128,7 +128,7 @@ impl Connections {
         Ok(())
     }
 
-    /// Puts an output behind those that wait for the connection. It takes no memory.
+    /// Appends an output to those that wait for the connection. It takes no memory.
     pub fn push(&mut self, conn: ConnId, out: Out)
         requires { HasRoom 1 conn self.old.rooms }
         ensures rows { self.new.rows ≡ changed conn (with_out out) self.old.rows }

@@ -165,7 +165,7 @@ fn an_alias_that_could_not_be_stored_is_resolved_before_the_next_one(
     Ok(())
 }
 
-// How the storings and resolves ended that the first and the last call of `SETS` led to, for calls of the slot that fail and
+// How each storing and each resolve ended that the first and the last call of `SETS` led to, for calls of the slot that fail and
 // those of them that the disk performs nevertheless, as in `FAULTS`.
 const FATES: &str = "\
 ||Stored|Stored
