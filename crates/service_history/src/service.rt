@@ -328,6 +328,14 @@ impl<F: Folder> Service<F> {
         self.machine.untouched(stem);
     }
 
+    /// The same of the file of the aliases, unless it was left alone. It does nothing.
+    pub fn untouched_aliases(&self)
+        ensures { IfSome self.now.history.state.aliases (λ rows. LeavesKnown
+            F.Cell.is_honest F.Cell.moment F.Cell.left_since rows.file self.now.disk.aliases) }
+    {
+        self.machine.untouched_aliases();
+    }
+
     /// The events since the last cut, in order.
     pub fn events(&self) -> &[Event]
         ensures value { result.now ≡ self.now.history.window.events }
