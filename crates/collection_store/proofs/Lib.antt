@@ -5,6 +5,7 @@ mod OpenedLemmas
 mod OrderLemmas
 mod PartsLemmas
 mod PreparedLemmas
+mod SameLemmas
 mod SearchLemmas
 mod StateLemmas
 mod StepLemmas

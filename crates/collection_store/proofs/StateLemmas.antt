@@ -1,6 +1,6 @@
 -- The invariant of a collection, for each call.
 use Rattle.std.proofs.Common.{◌≡◌, ℕ, Bool, true, false, cond, nat_eq, List, [], ◌∷◌, length, map, Option, Some, None, Result, Ok, Err, refl, sym, ap, subst, ◌∙◌, arith}
-use Rattle.std.specs.Prelude.{max, IfSome, IsSome, OnErr, OnOk}
+use Rattle.std.specs.Prelude.{max, IfNone, IfSome, IsSome, OnErr, OnOk}
 use Rattle.std.specs.List.{AllByRecursion}
 use Rattle.std.specs.Map.{keys_of}
 use Rattle.std.specs.Option.{is_some, option_map}
@@ -141,32 +141,50 @@ none_held : (told : ClearPart) (parts : Option Parts) → held_of told parts ≡
 none_held told None e = refl
 none_held told (Some parts) e = absurd cc
 
--- a locked collection is unlocked
-pub kept_unlocked : Spelled → (file : File) (told : ClearPart) (newer : Option ClearPart) (parts : Option Parts) (bytes key vector : List ℕ) (content : Content) (made : ClearPart) (items : Rows) (written : ClearPart)
-    → IsKept file told newer parts → held_of told parts ≡ None → HasFile file → Some bytes ≡ old_image file → opened bytes key vector ≡ Ok content → rows_with made items ≡ arranged_rows content → ids_of made.items ≡ keys_of items
-    → AllByRecursion (λ (row : Row). row.0.hashed ≡ hashes row.1.attributes) (rows_with made items) → without_hashes made ≡ without_hashes (by_id content.clear) → written ≡ told
-    → IsKept file made newer (Some (key, vector, items, Some written))
-kept_unlocked spelled file told newer parts bytes key vector content made items written kept locked there is opens rows ids hashed same was =
+-- the clear part of the file is shown, whether it is kept apart or has the same items as the one with the items' own hashes
+pub shown_opened : (key vector : List ℕ) (items : Rows) (made written : ClearPart) (kept : Option ClearPart) → without_hashes made ≡ without_hashes written → IfSome kept (λ part. part ≡ written) → IfNone kept (made.items ≡ written.items)
+    → shown_of made (Some (key, vector, items, kept)) ≡ written
+shown_opened key vector items made written None alike apart same = λ i. record (alike i) { items = same i }
+shown_opened key vector items made written (Some part) alike apart same = apart
+
+-- what opening a locked collection's file gives is what is shown, except for the hashes
+alike_shown : Spelled → (file : File) (told : ClearPart) (newer : Option ClearPart) (parts : Option Parts) (bytes key vector : List ℕ) (content : Content) (made : ClearPart)
+    → IsKept file told newer parts → held_of told parts ≡ None → HasFile file → Some bytes ≡ old_image file → opened bytes key vector ≡ Ok content → without_hashes made ≡ without_hashes (by_id content.clear) → without_hashes made ≡ without_hashes told
+alike_shown spelled file told newer parts bytes key vector content made kept locked there is opens same =
     let before : Shows (shown_image file) told = subst (λ t. Shows (shown_image file) t) (none_held told parts locked) kept.shows in
     let part = shown_part file told bytes there is before in
     let own : content.clear ≡ part.0 = opened_clear spelled bytes key vector part.0 content part.1 opens in
-    let shown : by_id content.clear ≡ written = ap (λ (t : ClearPart). by_id t) own ∙ sym part.2 ∙ sym was in
+    let shown : by_id content.clear ≡ told = ap (λ (t : ClearPart). by_id t) own ∙ sym part.2 in
+    same ∙ ap (λ (t : ClearPart). without_hashes t) shown
+
+-- a locked collection is unlocked
+pub kept_unlocked : Spelled → (file : File) (told : ClearPart) (newer : Option ClearPart) (parts : Option Parts) (bytes key vector : List ℕ) (content : Content) (made : ClearPart) (items : Rows) (written : Option ClearPart)
+    → IsKept file told newer parts → held_of told parts ≡ None → HasFile file → Some bytes ≡ old_image file → opened bytes key vector ≡ Ok content → rows_with made items ≡ arranged_rows content → ids_of made.items ≡ keys_of items
+    → AllByRecursion (λ (row : Row). row.0.hashed ≡ hashes row.1.attributes) (rows_with made items) → without_hashes made ≡ without_hashes (by_id content.clear) → IfSome written (λ part. part ≡ told) → IfNone written (made.items ≡ told.items)
+    → IsKept file made newer (Some (key, vector, items, written))
+kept_unlocked spelled file told newer parts bytes key vector content made items written kept locked there is opens rows ids hashed same apart alike =
+    let before : Shows (shown_image file) told = subst (λ t. Shows (shown_image file) t) (none_held told parts locked) kept.shows in
+    let unhashed : without_hashes made ≡ without_hashes told = alike_shown spelled file told newer parts bytes key vector content made kept locked there is opens same in
+    let shown : shown_of made (Some (key, vector, items, written)) ≡ told = shown_opened key vector items made told written unhashed apart alike in
     record {
-      shows = subst (λ t. Shows (shown_image file) t) (sym was) before;
+      shows = subst (λ t. Shows (shown_image file) t) (sym shown) before;
       shown_next = kept.shown_next;
-      opens = known_so (λ b. IsOpened b made key vector items written) file bytes there is (record {
+      opens = known_so (λ b. IsOpened b made key vector items (shown_of made (Some (key, vector, items, written)))) file bytes there is (record {
         opens = record { content = content; opens = opens; arranged = rows };
         ids = ids;
         hashed = hashed;
-        same = same ∙ ap (λ (t : ClearPart). without_hashes t) shown;
+        same = unhashed ∙ ap (λ (t : ClearPart). without_hashes t) (sym shown);
       });
     }
 
 -- its state is the old one with what is kept
-pub state_unlocked : {S : Type 0} (slot : S) (file : File) (told : ClearPart) (newer : Option ClearPart) (parts : Option Parts) (key vector : List ℕ) (content : Content) (made : ClearPart) (items : Rows) (written : ClearPart) → held_of told parts ≡ None → rows_with made items ≡ arranged_rows content → written ≡ told
-    → ◌≡◌ {A = CollectionState S} (record { slot = slot; file = file; clear = written; other = newer; held = Some (record { key = key; vector = vector; rows = rows_with made items }) }) (record { slot = slot; file = file; clear = shown_of told parts; other = newer; held = Some (record { key = key; vector = vector; rows = arranged_rows content }) })
-state_unlocked slot file told newer parts key vector content made items written locked rows was =
-    let clear : written ≡ shown_of told parts = was ∙ sym (none_held told parts locked) in
+pub state_unlocked : {S : Type 0} → Spelled → (slot : S) (file : File) (told : ClearPart) (newer : Option ClearPart) (parts : Option Parts) (bytes key vector : List ℕ) (content : Content) (made : ClearPart) (items : Rows) (written : Option ClearPart)
+    → IsKept file told newer parts → held_of told parts ≡ None → HasFile file → Some bytes ≡ old_image file → opened bytes key vector ≡ Ok content → rows_with made items ≡ arranged_rows content
+    → without_hashes made ≡ without_hashes (by_id content.clear) → IfSome written (λ part. part ≡ told) → IfNone written (made.items ≡ told.items)
+    → ◌≡◌ {A = CollectionState S} (record { slot = slot; file = file; clear = shown_of made (Some (key, vector, items, written)); other = newer; held = Some (record { key = key; vector = vector; rows = rows_with made items }) }) (record { slot = slot; file = file; clear = shown_of told parts; other = newer; held = Some (record { key = key; vector = vector; rows = arranged_rows content }) })
+state_unlocked spelled slot file told newer parts bytes key vector content made items written kept locked there is opens rows same apart alike =
+    let unhashed : without_hashes made ≡ without_hashes told = alike_shown spelled file told newer parts bytes key vector content made kept locked there is opens same in
+    let clear : shown_of made (Some (key, vector, items, written)) ≡ shown_of told parts = shown_opened key vector items made told written unhashed apart alike ∙ sym (none_held told parts locked) in
     λ i. record { slot = slot; file = file; clear = clear i; other = newer; held = Some (record { key = key; vector = vector; rows = rows i }) }
 
 -- what the file opens to

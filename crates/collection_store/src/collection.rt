@@ -18,7 +18,9 @@ ghost use Rattle.collection_store.specs.Storable.{EndsAs, answer_of, storable};
 
 use crate::answering::answer_in;
 use crate::candidate::Frame;
-use crate::holding::{Open, answered, frame_of, prepare_in, prepare_key, show_again, store};
+use crate::holding::{
+    Open, answered, frame_of, prepare_in, prepare_key, show_again, store, take_own,
+};
 use crate::opening::{arranged_parts, content_of};
 use crate::sealing::image_of;
 use crate::told::Told;
@@ -34,7 +36,6 @@ use kr_outside::{DeviceCall, Slot};
 use replace_slot::{FaultRead, FileCell, Found, Image, RemoveFault, ReplaceFault};
 use std::alloc::Global;
 use std::marker::Model;
-use std::mem;
 
 /// A collection: its file, the clear part that is shown, and while it is unlocked its key and its items.
 /// The file of an unlocked collection is known, and decrypts under the key to the items.
@@ -240,12 +241,12 @@ impl<S: Slot> Collection<S> {
             Ok(parts) => parts,
             Err(_) => return Err(UnlockRefused::OutOfMemory),
         };
-        let written = mem::replace(&mut self.told, told);
+        let written = take_own(&mut self.told, told);
         self.held = Some(Open {
             key: key.key(),
             vector: key.vector(),
             items,
-            written: Some(written),
+            written,
         });
         Ok(())
     }

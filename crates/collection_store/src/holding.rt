@@ -1,6 +1,6 @@
 // What an unlocked collection keeps in memory, and how a prepared change is stored.
 
-ghost use Rattle.std.specs.Prelude.{◌≡◌, ◌≢◌, ◌+◌, ◌≤◌, ◌<◌, ◌⊎◌, IsTrue, IsSome, IfSome, IfOk, IfErr, OnOk, OnErr, IsErrOf, Ok, Some, None, length};
+ghost use Rattle.std.specs.Prelude.{◌≡◌, ◌≢◌, ◌+◌, ◌≤◌, ◌<◌, ◌⊎◌, IsTrue, IsSome, IfSome, IfNone, IfOk, IfErr, OnOk, OnErr, IsErrOf, Ok, Some, None, length};
 ghost use Rattle.std.specs.Option.{option_map};
 ghost use Rattle.kr_outside.specs.Moments.{LeavesOnly};
 ghost use Rattle.kr_outside.specs.Slot.{KeepsNature};
@@ -16,12 +16,14 @@ ghost use Rattle.collection_store.specs.Storing.{AreBefore, AreStored, AreUnsure
 use crate::candidate::Frame;
 use crate::preparing::{Prepared, prepare, prepare_front};
 use crate::rest::Rest;
+use crate::same::are_same;
 use crate::told::Told;
 use crate::{Change, ChangeRefused, Changed};
 use item_store::ItemStore;
 use kr_outside::{DeviceCall, Slot};
 use replace_slot::{FileCell, ReplaceFault};
 use std::alloc::Global;
+use std::mem;
 
 /// What an unlocked collection keeps in addition to its file and the clear part.
 #[derive(Drop)]
@@ -29,9 +31,23 @@ pub struct Open {
     pub key: [u8; 16],
     pub vector: [u8; 16],
     pub items: ItemStore,
-    // The clear part as it is in the file, whose hashes may not be those of the items' own attributes. It is
+    // The clear part as it is in the file, if its hashes aren't those of the items' own attributes. It is
     // shown until the first change is stored, even after the collection is locked again.
     pub written: Option<Told>,
+}
+
+/// Puts the clear part with the hashes of the items' own attributes in place of the one in the file, and
+/// returns the latter, unless they have the same items.
+pub fn take_own(told: &mut Told, own: Told) -> Option<Told>
+    ensures told { told.new ≡ own }
+    ensures apart { IfSome result (λ written. written ≡ told.old) }
+    ensures same { IfNone result (own.items ≡ told.old.items) }
+{
+    let written = mem::replace(told, own);
+    if are_same(&told.clear().items, &written.clear().items) {
+        return None;
+    }
+    Some(written)
 }
 
 /// Drops the key and the items. The clear part is then the one in the file again.

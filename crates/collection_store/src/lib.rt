@@ -16,6 +16,7 @@ mod order;
 mod preparing;
 mod refused;
 mod rest;
+mod same;
 mod sealing;
 mod told;
 

@@ -18,14 +18,15 @@ invariant_of-self g c =
     let there : HasFile c.self.inside.cell.file = rw (← c.self.view_is) at c.requires.there in
     let locked = rw (← c.self.view_is) at c.requires.locked in
     let opens = rw (c.bytes.ensures, ← c.key-2.ensures, ← c.vector.ensures) at c.in_ok-content.ensures.opened in
-    rw c.replace-written.ensures.after (kept_unlocked c.a_file_that_is_spelled_so_is_read.ensures c.self.inside.cell.file c.self.inside.told c.self.inside.newer _ c.in-Some.image.now c.key-2.result c.vector.result c.in_ok-content.content c.in-Ok.parts.0 c.in-Ok.parts.1 c.replace-written.result c.self.invariant locked there c.in-Some.ensures opens c.in-Ok.ensures.rows c.in-Ok.ensures.ids c.in-Ok.ensures.hashed c.in-Ok.ensures.same c.replace-written.ensures.value)
+    rw c.take_own-written.ensures.told (kept_unlocked c.a_file_that_is_spelled_so_is_read.ensures c.self.inside.cell.file c.self.inside.told c.self.inside.newer _ c.in-Some.image.now c.key-2.result c.vector.result c.in_ok-content.content c.in-Ok.parts.0 c.in-Ok.parts.1 c.take_own-written.result c.self.invariant locked there c.in-Some.ensures opens c.in-Ok.ensures.rows c.in-Ok.ensures.ids c.in-Ok.ensures.hashed c.in-Ok.ensures.same c.take_own-written.ensures.apart c.take_own-written.ensures.same)
 
 pub returns-clause-unlocked : goal.returns-clause-unlocked
 returns-clause-unlocked g c =
     let there : HasFile c.self.inside.cell.file = rw (← c.self.view_is) at c.requires.there in
     let locked = rw (← c.self.view_is) at c.requires.locked in
     let opens = rw c.bytes.ensures at c.in_ok-content.ensures.opened in
-    rw (← c.self.view_is) (known_so _ c.self.inside.cell.file c.in-Some.image.now there c.in-Some.ensures (opens_so _ c.in-Some.image.now (key_of c.args.key) (vector_of c.args.key) c.in_ok-content.content opens (rw (c.key-2.ensures, c.vector.ensures, c.replace-written.ensures.after) (state_unlocked c.self.inside.cell.slot c.self.inside.cell.file c.self.inside.told c.self.inside.newer _ (key_of c.args.key) (vector_of c.args.key) c.in_ok-content.content c.in-Ok.parts.0 c.in-Ok.parts.1 c.replace-written.result locked c.in-Ok.ensures.rows c.replace-written.ensures.value))))
+    let told = c.take_own-written.ensures.told in
+    rw (← c.self.view_is) (known_so _ c.self.inside.cell.file c.in-Some.image.now there c.in-Some.ensures (opens_so _ c.in-Some.image.now (key_of c.args.key) (vector_of c.args.key) c.in_ok-content.content opens (rw (c.key-2.ensures, c.vector.ensures) (state_unlocked c.a_file_that_is_spelled_so_is_read.ensures c.self.inside.cell.slot c.self.inside.cell.file c.self.inside.told c.self.inside.newer _ c.in-Some.image.now (key_of c.args.key) (vector_of c.args.key) c.in_ok-content.content c.take_own-written.new.told c.in-Ok.parts.1 c.take_own-written.result c.self.invariant locked there c.in-Some.ensures opens (rw told c.in-Ok.ensures.rows) (rw told c.in-Ok.ensures.same) c.take_own-written.ensures.apart (rw told c.take_own-written.ensures.same)))))
 
 pub returns-clause-refused : goal.returns-clause-refused
 returns-clause-refused g c = λ refused is. absurd cc
