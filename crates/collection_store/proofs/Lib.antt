@@ -1,6 +1,7 @@
 mod AnswerLemmas
 mod ChangeLemmas
 mod KeyLemmas
+mod LentLemmas
 mod OpenedLemmas
 mod OrderLemmas
 mod PartsLemmas

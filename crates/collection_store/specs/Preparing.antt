@@ -1,5 +1,5 @@
 -- A prepared change: everything that takes memory is made, and no call of the device has been made.
-use Rattle.std.specs.Prelude.{◌≡◌, ℕ, ◌+◌, ◌<◌, ◌≤◌, min, List, [], ◌∷◌, ◌++◌, length, Option, None, Some, Result, Ok, Err}
+use Rattle.std.specs.Prelude.{◌≡◌, ℕ, ◌+◌, ◌<◌, ◌≤◌, min, nat_eq, if◌then◌else◌, List, [], ◌∷◌, ◌++◌, length, Option, None, Some, Result, Ok, Err}
 use Rattle.std.specs.List.{AllByRecursion}
 use Rattle.std.specs.Map.{keys_of}
 use Rattle.std.specs.Option.{option_map}
@@ -31,6 +31,16 @@ with_item item (Some full) = (item, full) ∷ []
 abbrev pub looked : List ClearItem → Rows → List Row
 looked [] items = []
 looked (item ∷ more) items = with_item item (option_map (λ (row : StoreRow). row.item) (row_at item.id.0 items)) ++ looked more items
+
+-- the first of these items of the clear part with the full item, if that is the one with its id
+abbrev pub lent_at : List ClearItem → ℕ → FullItem → List Row
+lent_at [] id full = []
+lent_at (item ∷ more) id full = if nat_eq item.id.0 id then (item, full) ∷ [] else []
+
+-- the items of the clear part that are left after it
+abbrev pub left_after : List ClearItem → ℕ → List ClearItem
+left_after [] id = []
+left_after (item ∷ more) id = if nat_eq item.id.0 id then more else item ∷ more
 
 -- in each row the hashes are those of the item's attributes
 abbrev pub AreHashed : List Row → Type 0

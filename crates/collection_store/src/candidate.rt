@@ -1,7 +1,6 @@
 // The clear part that a change stores, built beside the one that is shown until then.
 
-ghost use Rattle.std.specs.Prelude.{◌≡◌, ◌++◌, ◌≤◌, ◌<◌, ◌+◌, IfOk, OnOk, IsErrOf, Ok, min, length, map};
-ghost use Rattle.std.specs.Option.{option_copied, option_map};
+ghost use Rattle.std.specs.Prelude.{◌≡◌, ◌++◌, ◌≤◌, ◌<◌, ◌+◌, IfOk, IsErrOf, Ok, min, length, map};
 ghost use Rattle.std.specs.List.{AllByRecursion, list_all};
 ghost use Rattle.std.specs.List.Sorted.{IsStrictlyIncreasing};
 ghost use Rattle.attribute_hash.specs.Hash.{hashes};
@@ -11,8 +10,8 @@ ghost use Rattle.keyring_file.specs.ClearText.{HasClear, most_iterations};
 ghost use Rattle.keyring_seal.specs.Arranged.{of_rows};
 ghost use Rattle.keyring_seal.specs.Whole.{most_bytes, opened, sealed};
 ghost use Rattle.collection_store.specs.Changes.{minor_made};
-ghost use Rattle.item_store.specs.Rows.{row_at};
-ghost use Rattle.collection_store.specs.Preparing.{looked, with_item};
+ghost use Rattle.item_store.specs.Rows.{IsRising};
+ghost use Rattle.collection_store.specs.Preparing.{left_after, lent_at, looked};
 ghost use Rattle.collection_store.specs.State.{ids_of};
 
 use crate::sealing::image_of;
@@ -20,11 +19,12 @@ use crate::told::Told;
 use item_store::Row;
 use keyring_file::{Clear, ClearItem, FullItem};
 use keyring_seal::SealRefused;
-use kr_base::{ItemId, OutOfMemory, Text};
+use kr_base::{OutOfMemory, Text};
 use kr_items::Items;
 use replace_slot::Image;
 use std::alloc::Global;
 use std::collections::BTreeMap;
+use std::collections::btree_map::Iter;
 
 /// What a change is stored with: the time, how long the file may become, and the key.
 #[derive(Clone, Copy)]
@@ -100,45 +100,53 @@ pub fn next_told(
     })
 }
 
-/// The item with an id. None if there is no such item.
-fn item_of(rows: &BTreeMap<u32, Row>, id: ItemId) -> Option<&FullItem>
-    ensures { option_copied result ≡ option_map (λ row. row.item) (row_at id.0 rows.now.entries) }
+/// The rows in order of their numbers.
+fn in_order<'a>(rows: &'a BTreeMap<u32, Row>) -> Iter<'a, u32, Row>
+    ensures rows { result ≡ rows.now.entries }
+    ensures rising { IsRising rows.now.entries }
 {
-    match rows.get(&id.0) {
-        Some(row) => Some(&row.item),
-        None => None,
-    }
+    rows.iter()
 }
 
-/// Appends an item of the clear part together with the full item, if there is one.
+/// Appends the first of these items of the clear part together with the full item, if they have the same
+/// id, and returns the items that are left.
 fn put_lent<'a>(
     lent: &mut Vec<(&'a ClearItem, &'a FullItem)>,
-    clear_item: &'a ClearItem,
-    item: Option<&'a FullItem>,
-) -> Result<(), OutOfMemory>
-    ensures { OnOk result (map (λ row. (row.0.now, row.1.now)) lent.new.items
-        ≡ map (λ row. (row.0.now, row.1.now)) lent.old.items
-        ++ with_item clear_item.now (option_copied item.entry)) }
+    left: &'a [ClearItem],
+    id: u32,
+    item: &'a FullItem,
+) -> Result<&'a [ClearItem], OutOfMemory>
+    ensures put { IfOk result (λ more. map (λ row. (row.0.now, row.1.now)) lent.new.items
+        ≡ map (λ row. (row.0.now, row.1.now)) lent.old.items ++ lent_at left.now id item.now) }
+    ensures left { IfOk result (λ more. more.now ≡ left_after left.now id) }
 {
-    if let Some(item) = item {
-        lent.push((clear_item, item))?;
+    let (first, more) = match left.split_first() {
+        Some((first, more)) => (first, more),
+        None => return Ok(left),
+    };
+    if first.id.0 != id {
+        return Ok(left);
     }
-    Ok(())
+    lent.push((first, item))?;
+    Ok(more)
 }
 
-/// The items of the clear part, each with the full item that has its id. An item without one is left
-/// out.
+/// The items of the clear part, each with the full item that has its id. Both are in order of their ids, so
+/// that one walk over them finds all.
 fn lent_rows<'a>(
     alloc: Global,
     items: &'a [ClearItem],
     rows: &'a BTreeMap<u32, Row>,
 ) -> Result<Vec<(&'a ClearItem, &'a FullItem)>, OutOfMemory>
+    requires rising { IsStrictlyIncreasing (ids_of items.now) }
+    requires there { map (λ row. row.0) (looked items.now rows.now.entries) ≡ items.now }
     ensures { IfOk result (λ lent. map (λ row. (row.0.now, row.1.now)) lent.items
         ≡ looked items.now rows.now.entries) }
 {
     let mut lent = Vec::with_capacity(alloc, items.len())?;
-    for place in 0..items.len() {
-        put_lent(&mut lent, &items[place], item_of(rows, items[place].id))?;
+    let mut left = items;
+    for (number, row) in in_order(rows) {
+        left = put_lent(&mut lent, left, *number, &row.item)?;
     }
     Ok(lent)
 }
