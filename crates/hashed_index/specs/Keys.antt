@@ -1,19 +1,11 @@
 -- The key of a hashed attribute: 64 bits of its name and of the hash of its value. It narrows a search down to few items, whose hashes
 -- are then compared.
-use Rattle.std.specs.Prelude.{◌≡◌, ℕ, ◌+◌, ◌*◌, ◌%◌, List, [], ◌∷◌, Option, Some}
+use Rattle.std.specs.Prelude.{◌≡◌, ℕ, List, Option, Some}
 use Rattle.kr_base.specs.declared.hashed.HashedValue.{HashedValue}
 use Rattle.kr_base.specs.declared.hashed.HashedValue.TheVariants as hash
 use Rattle.attribute_hash.specs.Hash.{number_hash}
+use Rattle.attribute_match.specs.Keys.{mixed, mixed_in}
 use Rattle.attribute_match.specs.Match.{number_of}
-
--- a key with a number mixed in
-unfoldable pub mixed_in : ℕ → ℕ → ℕ
-mixed_in key number = (key * 1099511628211 + number) % 18446744073709551616
-
--- a key with bytes mixed in, one after another
-abbrev pub mixed : ℕ → List ℕ → ℕ
-mixed key [] = key
-mixed key (byte ∷ bytes) = mixed (mixed_in key byte) bytes
 
 -- the key of a name and the hash of a text
 abbrev pub text_key_of : List ℕ → List ℕ → ℕ

@@ -4,9 +4,10 @@
 ghost use Rattle.std.specs.Prelude.{◌≡◌};
 ghost use Rattle.attribute_hash.specs.Hash.{text_hash as text_hash_of};
 ghost use Rattle.attribute_match.specs.Match.{text_of};
-ghost use Rattle.hashed_index.specs.Keys.{IsNumberKey, key_of, mixed, mixed_in, number_key_of, text_key_of};
+ghost use Rattle.hashed_index.specs.Keys.{IsNumberKey, key_of, number_key_of, text_key_of};
 
 use attribute_hash::{number_hash, text_hash};
+use attribute_match::{mix, mix_bytes};
 use itoa::Buffer;
 use kr_base::{AttrValue, HashedPair, HashedValue, Text};
 
@@ -16,25 +17,6 @@ use kr_base::{AttrValue, HashedPair, HashedValue, Text};
 pub struct Keys {
     pub text: u64,
     pub number: Option<u64>,
-}
-
-/// Mixes a number into a key.
-#[tactic(auto, unfolding(crate::specs::Keys::mixed_in))]
-fn mix(key: u64, number: u64) -> u64
-    ensures { result ≡ mixed_in key number }
-{
-    key.wrapping_mul(0x100_0000_01b3).wrapping_add(number)
-}
-
-/// Mixes bytes into a key.
-fn mix_bytes(key: u64, bytes: &[u8]) -> u64
-    ensures { result ≡ mixed key bytes.now }
-{
-    let mut mixed = key;
-    for place in 0..bytes.len() {
-        mixed = mix(mixed, u64::from(bytes[place]));
-    }
-    mixed
 }
 
 /// The key of a name and the hash of a text.

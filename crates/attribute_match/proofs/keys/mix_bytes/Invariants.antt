@@ -1,6 +1,6 @@
 use Rattle.std.proofs.Common.{◌≡◌, drop}
-use Rattle.hashed_index.specs.Keys.{mixed}
-use Rattle.hashed_index.proofs.keys.mix_bytes.Given as goal
+use Rattle.attribute_match.specs.Keys.{mixed}
+use Rattle.attribute_match.proofs.keys.mix_bytes.Given as goal
 
 -- the bytes that are left lead to the same key
 abbrev pub invariant-loop-place : goal.invariant-loop-place
