@@ -1,6 +1,6 @@
 -- Entries before and after one of them: what a look-up and a change find there if the keys are in order.
 use Rattle.std.proofs.Common.{◌≡◌, ℕ, ◌<◌, Bool, true, false, cond, List, [], ◌∷◌, ◌++◌, Some, length, length-append, arith, refl, sym, ap, subst, ◌∙◌, ⊎_elim}
-use Rattle.std.specs.Cmp.{IsTotalOrder}
+use Rattle.std.specs.Cmp.{IsTotalOrder, nat_cmp_total}
 use Rattle.std.specs.Cmp.Lexicographic.{nat_list_cmp_total}
 use Rattle.std.specs.List.{AllByRecursion}
 use Rattle.std.specs.List.Sorted.{IsStrictlySortedBy}
@@ -12,7 +12,7 @@ use Rattle.std.proofs.lemmas.Bool.{cases_Bool}
 use Rattle.std.proofs.lemmas.Cmp.{on_total, then_total}
 use Rattle.std.proofs.lemmas.Map.{NonePasses, lookup-none}
 use Rattle.attribute_index.specs.Around.{Around, between, with_own}
-use Rattle.attribute_index.specs.Index.{IsSorted, Names, is_pair, pair_cmp}
+use Rattle.attribute_index.specs.Index.{IsSorted, Names, is_pair, pair_cmp, pair_key}
 
 -- ---- two lists of entries, one after the other
 
@@ -60,7 +60,7 @@ module _ {K X : Type 0} (test : K → Bool) where
 -- ---- pairs in order
 
 pub pair_total : IsTotalOrder pair_cmp
-pair_total = then_total (on_total (λ (p : List ℕ × List ℕ). p.0) nat_list_cmp_total) (on_total (λ (p : List ℕ × List ℕ). p.1) nat_list_cmp_total)
+pair_total = then_total (on_total pair_key nat_cmp_total) (then_total (on_total (λ (p : List ℕ × List ℕ). p.0) nat_list_cmp_total) (on_total (λ (p : List ℕ × List ℕ). p.1) nat_list_cmp_total))
 
 abbrev pub AllBelow : Names → List ℕ × List ℕ → Type 0
 AllBelow es k = AllByRecursion (λ (e : (List ℕ × List ℕ) × List ℕ). pair_cmp e.0 k ≡ Less) es

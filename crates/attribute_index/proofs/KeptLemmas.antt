@@ -6,7 +6,7 @@ use Rattle.std.specs.Cmp.{IsEquivalence}
 use Rattle.std.specs.Cmp.Lexicographic.{slice_cmp}
 use Rattle.std.specs.List.Sorted.{IsStrictlySortedBy}
 use Rattle.std.specs.Map.{keys_of, lookup, remove_entry, set_value}
-use Rattle.std.specs.Ordering.{is_eq, is_lt, nat_cmp, ordering_reverse}
+use Rattle.std.specs.Ordering.{is_eq, is_lt, nat_cmp, ordering_reverse, ordering_then}
 use Rattle.std.specs.declared.cmp.Ordering.{Ordering}
 use Rattle.std.specs.declared.cmp.Ordering.TheVariants.{Less, Equal, Greater}
 use Rattle.std.proofs.lemmas.Bool.{cases_Bool}
@@ -17,7 +17,7 @@ use Rattle.std.proofs.lemmas.Map.Lookups.{exact_bytes, exact_pairs}
 use Rattle.std.specs.Cmp.{tied_then}
 use Rattle.kr_base.specs.IdLists.{with_id, without_id}
 use Rattle.attribute_index.specs.Around.{Around, with_own}
-use Rattle.attribute_index.specs.Index.{IsLean, IsPut, IsPutThere, IsSame, IsSorted, IsTaken, IsTakenThere, Names, ids_in_names, is_none_left, is_pair, is_this, or_none, pair_cmp}
+use Rattle.attribute_index.specs.Index.{IsLean, IsPut, IsPutThere, IsSame, IsSorted, IsTaken, IsTakenThere, Names, ids_in_names, is_none_left, is_pair, is_this, or_none, pair_cmp, pair_key, text_cmp}
 use Rattle.attribute_index.proofs.EntryLemmas.{Equal-is}
 use Rattle.attribute_index.proofs.BranchLemmas.{AllAbove, less-above, pair_total, set-none, sorted-cons, sorted-head, sorted-tail}
 
@@ -26,14 +26,35 @@ use Rattle.attribute_index.proofs.BranchLemmas.{AllAbove, less-above, pair_total
 pair_equiv : IsEquivalence is_pair
 pair_equiv = eq_by_cmp_equiv pair_total
 
+then-Equal : (one other : Ordering) → ordering_then one other ≡ Equal → other ≡ Equal
+then-Equal Less other e = absurd cc
+then-Equal Equal other e = e
+then-Equal Greater other e = absurd cc
+
+same_texts : (k q : List ℕ × List ℕ) → text_cmp k q ≡ Equal → k ≡ q
+same_texts k q e = exact_pairs (slice_cmp nat_cmp) (slice_cmp nat_cmp) exact_bytes exact_bytes k q e
+
 same_pair : (k q : List ℕ × List ℕ) → is_pair k q ≡ true → k ≡ q
-same_pair k q e = exact_pairs (slice_cmp nat_cmp) (slice_cmp nat_cmp) exact_bytes exact_bytes k q (Equal-is (pair_cmp k q) e)
+same_pair k q e = same_texts k q (then-Equal (nat_cmp (pair_key k) (pair_key q)) (text_cmp k q) (Equal-is (pair_cmp k q) e))
 
 one_pair : (k x y : List ℕ × List ℕ) → is_pair k x ≡ true → is_pair k y ≡ is_pair x y
 one_pair k x y is = ap (λ q. is_pair q y) (same_pair k x is)
 
+then-apart : (one other : Ordering) → is_eq other ≡ false → is_eq (ordering_then one other) ≡ false
+then-apart Less other off = refl
+then-apart Equal other off = off
+then-apart Greater other off = refl
+
+-- pairs with the same texts have the same key
+by_texts : (k q : List ℕ × List ℕ) → is_pair k q ≡ is_eq (text_cmp k q)
+by_texts k q =
+    ⊎_elim
+    (λ is. subst (λ p. is_pair k p ≡ true) (same_texts k q (Equal-is (text_cmp k q) is)) (ap is_eq (tied_itself pair_total k)) ∙ sym is)
+    (λ off. then-apart (nat_cmp (pair_key k) (pair_key q)) (text_cmp k q) off ∙ sym off)
+    (cases_Bool (is_eq (text_cmp k q)))
+
 this_pair : (name text n t : List ℕ) → is_this name text n t ≡ is_pair (name, text) (n, t)
-this_pair name text n t = tied_then (slice_cmp nat_cmp name n) (slice_cmp nat_cmp text t)
+this_pair name text n t = tied_then (slice_cmp nat_cmp name n) (slice_cmp nat_cmp text t) ∙ sym (by_texts (name, text) (n, t))
 
 module _ (k : List ℕ × List ℕ) where
   -- ---- what a look-up finds after a change

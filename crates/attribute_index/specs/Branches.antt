@@ -11,17 +11,17 @@ use Rattle.attribute_index.specs.declared.branch.Sides.TheVariants.{Neither, Bef
 
 -- the pairs before
 abbrev pub pairs_before : Sides → Names
-pairs_before Neither = []
-pairs_before (Before b) = all_of b.value
-pairs_before (After b) = []
-pairs_before (Both h b c) = all_of b.value
+pairs_before (Neither k) = []
+pairs_before (Before k b) = all_of b.value
+pairs_before (After k b) = []
+pairs_before (Both h k b c) = all_of b.value
 
 -- the pairs after
 abbrev pub pairs_after : Sides → Names
-pairs_after Neither = []
-pairs_after (Before b) = []
-pairs_after (After b) = all_of b.value
-pairs_after (Both h b c) = all_of c.value
+pairs_after (Neither k) = []
+pairs_after (Before k b) = []
+pairs_after (After k b) = all_of b.value
+pairs_after (Both h k b c) = all_of c.value
 
 -- the pairs of a branch, if there is one
 abbrev pub pairs_of : Option (Box Branch Global) → Names
@@ -30,17 +30,17 @@ pairs_of (Some b) = all_of b.value
 
 -- the height of the pairs before
 abbrev pub height_before : Sides → ℕ
-height_before Neither = 0
-height_before (Before b) = height b.value
-height_before (After b) = 0
-height_before (Both h b c) = height b.value
+height_before (Neither k) = 0
+height_before (Before k b) = height b.value
+height_before (After k b) = 0
+height_before (Both h k b c) = height b.value
 
 -- the height of the pairs after
 abbrev pub height_after : Sides → ℕ
-height_after Neither = 0
-height_after (Before b) = 0
-height_after (After b) = height b.value
-height_after (Both h b c) = height c.value
+height_after (Neither k) = 0
+height_after (Before k b) = 0
+height_after (After k b) = height b.value
+height_after (Both h k b c) = height c.value
 
 -- the height of a branch, if there is one
 abbrev pub height_of : Option (Box Branch Global) → ℕ
@@ -51,12 +51,19 @@ height_of (Some b) = height b.value
 abbrev pub higher : Sides → ℕ
 higher sides = max (height_before sides) (height_after sides)
 
+-- the key that is kept beside the sides
+abbrev pub key_beside : Sides → ℕ
+key_beside (Neither k) = k
+key_beside (Before k b) = k
+key_beside (After k b) = k
+key_beside (Both h k b c) = k
+
 -- the height that a pair with two sides keeps is its own
 abbrev pub IsHeightKept : Sides → Type 0
-IsHeightKept Neither = Unit {0}
-IsHeightKept (Before b) = Unit {0}
-IsHeightKept (After b) = Unit {0}
-IsHeightKept (Both h b c) = h ≡ higher (Both h b c) + 1
+IsHeightKept (Neither k) = Unit {0}
+IsHeightKept (Before k b) = Unit {0}
+IsHeightKept (After k b) = Unit {0}
+IsHeightKept (Both h k b c) = h ≡ higher (Both h k b c) + 1
 
 -- the heights of the two sides differ by at most one, the height that is kept is right and fits, and there are as many pairs as a tree of
 -- that height has at least

@@ -1,6 +1,6 @@
 -- Which items have which attributes (Secret Service API, "Lookup Attributes"): for each pair of a name and a text the ids of the items
 -- that have it, in rising order.
-use Rattle.std.specs.Prelude.{◌≡◌, ℕ, ◌&&◌, Bool, if◌then◌else◌, List, [], ◌∷◌, Option, Some, None, Result, OnOk, OnErr, true, false, map, not}
+use Rattle.std.specs.Prelude.{◌≡◌, ℕ, ◌%◌, ◌&&◌, Bool, if◌then◌else◌, List, [], ◌∷◌, Option, Some, None, Result, OnOk, OnErr, true, false, map, not}
 use Rattle.std.specs.List.{list_all}
 use Rattle.std.specs.List.Sorted.{IsStrictlySortedBy}
 use Rattle.std.specs.Cmp.Lexicographic.{slice_cmp}
@@ -10,6 +10,7 @@ use Rattle.std.specs.declared.cmp.Ordering.{Ordering}
 use Rattle.kr_base.specs.Attributes.{is_name}
 use Rattle.kr_base.specs.IdLists.{IsIdList, has_id, with_id, without_id}
 use Rattle.kr_base.specs.declared.attributes.AttrValue.{AttrValue}
+use Rattle.attribute_match.specs.Keys.{mixed}
 use Rattle.attribute_match.specs.Match.{has_pair, text_of}
 
 -- the list that was found, or the empty one
@@ -17,9 +18,17 @@ abbrev pub or_none : {X : Type 0} → Option (List X) → List X
 or_none None = []
 or_none (Some xs) = xs
 
+-- the key of a pair of a name and a text: 32 bits, so that few pairs have the same key by chance
+unfoldable pub pair_key : List ℕ × List ℕ → ℕ
+pair_key pair = mixed (mixed 1 pair.0) pair.1 % 4294967296
+
 -- which pair of a name and a text comes first: by the name, and by the text if the names are the same
+abbrev pub text_cmp : List ℕ × List ℕ → List ℕ × List ℕ → Ordering
+text_cmp one other = ordering_then (slice_cmp nat_cmp one.0 other.0) (slice_cmp nat_cmp one.1 other.1)
+
+-- which pair comes first: by the key, whose comparison takes one step, and by the texts if the keys are the same
 abbrev pub pair_cmp : List ℕ × List ℕ → List ℕ × List ℕ → Ordering
-pair_cmp one other = ordering_then (slice_cmp nat_cmp one.0 other.0) (slice_cmp nat_cmp one.1 other.1)
+pair_cmp one other = ordering_then (nat_cmp (pair_key one) (pair_key other)) (text_cmp one other)
 
 -- a list is there, and it has no id
 abbrev pub is_none_left : Option (List ℕ) → Bool

@@ -14,14 +14,16 @@ pub struct Branch {
 }
 
 /// The pairs before and after a pair. The heights of the two sides differ by at most one (an AVL tree), so a
-/// side without another has height 1, and only a pair with two sides has to keep its height.
+/// side without another has height 1, and only a pair with two sides has to keep its height. Each variant has
+/// the key of the pair, which is compared first: it takes no memory beside the byte that tells the variants
+/// apart.
 #[cycle(branches)]
 #[derive(Drop)]
 pub enum Sides {
-    Neither,
-    Before(Box<Branch>),
-    After(Box<Branch>),
-    Both(u8, Box<Branch>, Box<Branch>),
+    Neither(u32),
+    Before(u32, Box<Branch>),
+    After(u32, Box<Branch>),
+    Both(u8, u32, Box<Branch>, Box<Branch>),
 }
 
 impl Model for Branch {
@@ -29,7 +31,7 @@ impl Model for Branch {
 
     ghost Value = { Around };
 
-    ghost use Rattle.attribute_index.specs.Branches.{IsBalanced, higher, pairs_before, pairs_after};
+    ghost use Rattle.attribute_index.specs.Branches.{IsBalanced, higher, key_beside, pairs_before, pairs_after};
 
     ghost view = { λ b. record {
       before = pairs_before b.sides;
@@ -40,7 +42,10 @@ impl Model for Branch {
       under = higher b.sides;
     } };
 
-    ghost invariant = { λ b. IsBalanced b.sides };
+    ghost use Rattle.std.specs.Prelude.{◌≡◌};
+    ghost use Rattle.attribute_index.specs.Index.{pair_key};
+
+    ghost invariant = { λ b. IsBalanced b.sides × (key_beside b.sides ≡ pair_key (b.name, b.text)) };
 
     ghost use Rattle.std.specs.Prelude.{length};
     ghost use Rattle.attribute_index.specs.Around.{all_of};

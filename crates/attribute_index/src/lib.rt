@@ -8,6 +8,7 @@
 mod branch;
 mod finding;
 mod index;
+mod keys;
 mod laws;
 mod names;
 mod pairs;

@@ -3,11 +3,12 @@ ghost use Rattle.std.specs.Map.{lookup, remove_entry};
 ghost use Rattle.std.specs.Option.{option_copied};
 ghost use Rattle.std.specs.Ordering.{is_lt};
 ghost use Rattle.attribute_index.specs.Around.{all_of, between, height as height_in, with_own};
-ghost use Rattle.attribute_index.specs.Branches.{IsBalanced, height_after, height_before, height_of as height_in_side, pairs_after, pairs_before, pairs_of};
+ghost use Rattle.attribute_index.specs.Branches.{IsBalanced, height_after, height_before, height_of as height_in_side, key_beside, pairs_after, pairs_before, pairs_of};
 ghost use Rattle.attribute_index.specs.Heights.{DifferByAtMost, IsGrown, fewest, greatest_height};
-ghost use Rattle.attribute_index.specs.Index.{IsLean, IsPut, IsPutThere, IsSame, IsSorted, IsTaken, IsTakenThere, is_pair, is_this, pair_cmp};
+ghost use Rattle.attribute_index.specs.Index.{IsLean, IsPut, IsPutThere, IsSame, IsSorted, IsTaken, IsTakenThere, is_pair, is_this, pair_cmp, pair_key, text_cmp};
 
 use crate::branch::{Branch, Sides};
+use crate::keys::key_of_pair;
 use kr_base::{IdList, ItemId, OutOfMemory, Text};
 use std::alloc::{AllocError, Global};
 use std::cmp::Ordering;
@@ -16,11 +17,36 @@ use std::mem;
 
 /// How a name and a text compare to those of a branch: by the name, and by the text if the names are the
 /// same.
-fn order(name: &Text, text: &Text, branch: &Branch) -> Ordering
-    ensures { result ≡ pair_cmp (name.now, text.now) (branch.now.name, branch.now.text) }
+fn order_of_texts(name: &Text, text: &Text, branch: &Branch) -> Ordering
+    ensures { result ≡ text_cmp (name.now, text.now) (branch.now.name, branch.now.text) }
 {
     match name.cmp(&branch.name) {
         Ordering::Equal => text.cmp(&branch.text),
+        Ordering::Less => Ordering::Less,
+        Ordering::Greater => Ordering::Greater,
+    }
+}
+
+/// The key of a branch's pair.
+fn key_of(branch: &Branch) -> u32
+    ensures { result ≡ pair_key (branch.now.name, branch.now.text) }
+{
+    match &branch.sides {
+        Sides::Neither(key) => *key,
+        Sides::Before(key, _) => *key,
+        Sides::After(key, _) => *key,
+        Sides::Both(_, key, _, _) => *key,
+    }
+}
+
+/// How a name and a text compare to those of a branch: by their keys, and by the name and the text if the
+/// keys are the same.
+fn order(key: u32, name: &Text, text: &Text, branch: &Branch) -> Ordering
+    requires { key ≡ pair_key (name.now, text.now) }
+    ensures { result ≡ pair_cmp (name.now, text.now) (branch.now.name, branch.now.text) }
+{
+    match key.cmp(&key_of(branch)) {
+        Ordering::Equal => order_of_texts(name, text, branch),
         Ordering::Less => Ordering::Less,
         Ordering::Greater => Ordering::Greater,
     }
@@ -31,7 +57,7 @@ fn is_before(one: &Branch, other: &Branch) -> bool
     ensures { result
         ≡ is_lt (pair_cmp (one.now.name, one.now.text) (other.now.name, other.now.text)) }
 {
-    order(&one.name, &one.text, other).is_lt()
+    order(key_of(one), &one.name, &one.text, other).is_lt()
 }
 
 /// The height of a branch: how many pairs there are on the longest way down, with its own.
@@ -40,10 +66,10 @@ fn height(branch: &Branch) -> u8
     ensures many { fewest (height_in branch.now) ≤ length (all_of branch.now) }
 {
     match &branch.sides {
-        Sides::Neither => 1,
-        Sides::Before(_) => 2,
-        Sides::After(_) => 2,
-        Sides::Both(height, _, _) => *height,
+        Sides::Neither(_) => 1,
+        Sides::Before(_, _) => 2,
+        Sides::After(_, _) => 2,
+        Sides::Both(height, _, _, _) => *height,
     }
 }
 
@@ -57,10 +83,11 @@ fn height_of(side: &Option<Box<Branch>>) -> u8
     }
 }
 
-/// These two sides in as little memory as they need.
-fn joined_sides(before: Option<Box<Branch>>, after: Option<Box<Branch>>) -> Sides
+/// These two sides in as little memory as they need, with the key of the pair between them.
+fn joined_sides(key: u32, before: Option<Box<Branch>>, after: Option<Box<Branch>>) -> Sides
     requires alike { DifferByAtMost 1 (height_in_side before) (height_in_side after) }
     requires fits { max (height_in_side before) (height_in_side after) < greatest_height }
+    ensures key { key_beside result ≡ key }
     ensures before { pairs_before result ≡ pairs_of before }
     ensures after { pairs_after result ≡ pairs_of after }
     ensures height_before { height_before result ≡ height_in_side before }
@@ -69,14 +96,14 @@ fn joined_sides(before: Option<Box<Branch>>, after: Option<Box<Branch>>) -> Side
 {
     match before {
         None => match after {
-            None => Sides::Neither,
-            Some(after) => Sides::After(after),
+            None => Sides::Neither(key),
+            Some(after) => Sides::After(key, after),
         },
         Some(before) => match after {
-            None => Sides::Before(before),
+            None => Sides::Before(key, before),
             Some(after) => {
                 let height = height(&before).max(height(&after)) + 1;
-                Sides::Both(height, before, after)
+                Sides::Both(height, key, before, after)
             }
         },
     }
@@ -94,11 +121,12 @@ fn take_sides(branch: &mut Branch) -> (Option<Box<Branch>>, Option<Box<Branch>>)
     ensures alike { DifferByAtMost 1 (height_in_side result.0) (height_in_side result.1) }
     ensures fits { branch.old.under < greatest_height }
 {
-    match mem::replace(&mut branch.sides, Sides::Neither) {
-        Sides::Neither => (None, None),
-        Sides::Before(before) => (Some(before), None),
-        Sides::After(after) => (None, Some(after)),
-        Sides::Both(_, before, after) => (Some(before), Some(after)),
+    let key = key_of(branch);
+    match mem::replace(&mut branch.sides, Sides::Neither(key)) {
+        Sides::Neither(_) => (None, None),
+        Sides::Before(_, before) => (Some(before), None),
+        Sides::After(_, after) => (None, Some(after)),
+        Sides::Both(_, _, before, after) => (Some(before), Some(after)),
     }
 }
 
@@ -116,6 +144,17 @@ fn parted(branch: Box<Branch>) -> (Option<Box<Branch>>, Box<Branch>, Option<Box<
     (before, branch, after)
 }
 
+/// Puts these sides in place of a branch's own.
+fn put_sides(branch: &mut Branch, before: Option<Box<Branch>>, after: Option<Box<Branch>>)
+    requires alike { DifferByAtMost 1 (height_in_side before) (height_in_side after) }
+    requires fits { max (height_in_side before) (height_in_side after) < greatest_height }
+    ensures pairs { all_of branch.new ≡ between (pairs_of before) branch.old (pairs_of after) }
+    ensures under { branch.new.under ≡ max (height_in_side before) (height_in_side after) }
+{
+    let key = key_of(branch);
+    branch.sides = joined_sides(key, before, after);
+}
+
 /// A branch with these sides in place of its own.
 fn with_sides(
     branch: Box<Branch>,
@@ -130,7 +169,7 @@ fn with_sides(
         ≡ max (height_in_side before) (height_in_side after) }
 {
     let mut branch = branch;
-    branch.sides = joined_sides(before, after);
+    put_sides(&mut branch, before, after);
     branch
 }
 
@@ -270,8 +309,14 @@ fn joined(before: Option<Box<Branch>>, after: Option<Box<Branch>>) -> Option<Box
 }
 
 /// The pairs without this one.
-fn without_pair(pairs: Option<Box<Branch>>, name: &Text, text: &Text) -> Option<Box<Branch>>
-    requires { IsSorted (pairs_of pairs) }
+fn without_pair(
+    pairs: Option<Box<Branch>>,
+    key: u32,
+    name: &Text,
+    text: &Text,
+) -> Option<Box<Branch>>
+    requires sorted { IsSorted (pairs_of pairs) }
+    requires key { key ≡ pair_key (name.now, text.now) }
     ensures pairs { pairs_of result
         ≡ remove_entry (is_pair (name.now, text.now)) (pairs_of pairs) }
     ensures height { IsGrown (height_in_side result) (height_in_side pairs) }
@@ -281,14 +326,14 @@ fn without_pair(pairs: Option<Box<Branch>>, name: &Text, text: &Text) -> Option<
         None => return None,
     };
     let (before, branch, after) = parted(branch);
-    match order(name, text, &branch) {
+    match order(key, name, text, &branch) {
         Ordering::Equal => joined(before, after),
         Ordering::Less => {
-            let before = without_pair(before, name, text);
+            let before = without_pair(before, key, name, text);
             Some(balanced(branch, before, after))
         }
         Ordering::Greater => {
-            let after = without_pair(after, name, text);
+            let after = without_pair(after, key, name, text);
             Some(balanced(branch, before, after))
         }
     }
@@ -296,23 +341,24 @@ fn without_pair(pairs: Option<Box<Branch>>, name: &Text, text: &Text) -> Option<
 
 impl Branch {
     /// The ids at a pair; None if the pair isn't there.
-    fn get(&self, name: &Text, text: &Text) -> Option<&IdList>
-        requires { IsSorted (all_of self.now) }
+    fn get(&self, key: u32, name: &Text, text: &Text) -> Option<&IdList>
+        requires sorted { IsSorted (all_of self.now) }
+        requires key { key ≡ pair_key (name.now, text.now) }
         ensures { option_copied result ≡ lookup (is_pair (name.now, text.now)) (all_of self.now) }
     {
-        match order(name, text, self) {
+        match order(key, name, text, self) {
             Ordering::Equal => Some(&self.ids),
             Ordering::Less => match &self.sides {
-                Sides::Before(before) => before.get(name, text),
-                Sides::Both(_, before, _) => before.get(name, text),
-                Sides::After(_) => None,
-                Sides::Neither => None,
+                Sides::Before(_, before) => before.get(key, name, text),
+                Sides::Both(_, _, before, _) => before.get(key, name, text),
+                Sides::After(_, _) => None,
+                Sides::Neither(_) => None,
             },
             Ordering::Greater => match &self.sides {
-                Sides::After(after) => after.get(name, text),
-                Sides::Both(_, _, after) => after.get(name, text),
-                Sides::Before(_) => None,
-                Sides::Neither => None,
+                Sides::After(_, after) => after.get(key, name, text),
+                Sides::Both(_, _, _, after) => after.get(key, name, text),
+                Sides::Before(_, _) => None,
+                Sides::Neither(_) => None,
             },
         }
     }
@@ -321,57 +367,60 @@ impl Branch {
     fn put(
         &mut self,
         alloc: Global,
+        key: u32,
         name: &Text,
         text: &Text,
         id: ItemId,
     ) -> Option<Result<(), OutOfMemory>>
-        requires { IsSorted (all_of self.old) }
+        requires sorted { IsSorted (all_of self.old) }
+        requires key { key ≡ pair_key (name.now, text.now) }
         ensures put { IsPutThere result (name.now, text.now) id.0
             (all_of self.old) (all_of self.new) }
         ensures under { self.new.under ≡ self.old.under }
         ensures count { length (all_of self.new) ≡ length (all_of self.old) }
     {
-        match order(name, text, self) {
+        match order(key, name, text, self) {
             Ordering::Equal => Some(self.ids.insert(alloc, id)),
             Ordering::Less => match &mut self.sides {
-                Sides::Before(before) => before.put(alloc, name, text, id),
-                Sides::Both(_, before, _) => before.put(alloc, name, text, id),
-                Sides::After(_) => None,
-                Sides::Neither => None,
+                Sides::Before(_, before) => before.put(alloc, key, name, text, id),
+                Sides::Both(_, _, before, _) => before.put(alloc, key, name, text, id),
+                Sides::After(_, _) => None,
+                Sides::Neither(_) => None,
             },
             Ordering::Greater => match &mut self.sides {
-                Sides::After(after) => after.put(alloc, name, text, id),
-                Sides::Both(_, _, after) => after.put(alloc, name, text, id),
-                Sides::Before(_) => None,
-                Sides::Neither => None,
+                Sides::After(_, after) => after.put(alloc, key, name, text, id),
+                Sides::Both(_, _, _, after) => after.put(alloc, key, name, text, id),
+                Sides::Before(_, _) => None,
+                Sides::Neither(_) => None,
             },
         }
     }
 
     /// Takes an id out of a pair, and returns whether the pair is there and has none left.
-    fn take(&mut self, alloc: Global, name: &Text, text: &Text, id: ItemId) -> bool
-        requires { IsSorted (all_of self.old) }
+    fn take(&mut self, alloc: Global, key: u32, name: &Text, text: &Text, id: ItemId) -> bool
+        requires sorted { IsSorted (all_of self.old) }
+        requires key { key ≡ pair_key (name.now, text.now) }
         ensures taken { IsTakenThere result (name.now, text.now) id.0
             (all_of self.old) (all_of self.new) }
         ensures under { self.new.under ≡ self.old.under }
         ensures count { length (all_of self.new) ≡ length (all_of self.old) }
     {
-        match order(name, text, self) {
+        match order(key, name, text, self) {
             Ordering::Equal => {
                 self.ids.remove(alloc, id);
                 self.ids.len() == 0
             }
             Ordering::Less => match &mut self.sides {
-                Sides::Before(before) => before.take(alloc, name, text, id),
-                Sides::Both(_, before, _) => before.take(alloc, name, text, id),
-                Sides::After(_) => false,
-                Sides::Neither => false,
+                Sides::Before(_, before) => before.take(alloc, key, name, text, id),
+                Sides::Both(_, _, before, _) => before.take(alloc, key, name, text, id),
+                Sides::After(_, _) => false,
+                Sides::Neither(_) => false,
             },
             Ordering::Greater => match &mut self.sides {
-                Sides::After(after) => after.take(alloc, name, text, id),
-                Sides::Both(_, _, after) => after.take(alloc, name, text, id),
-                Sides::Before(_) => false,
-                Sides::Neither => false,
+                Sides::After(_, after) => after.take(alloc, key, name, text, id),
+                Sides::Both(_, _, _, after) => after.take(alloc, key, name, text, id),
+                Sides::Before(_, _) => false,
+                Sides::Neither(_) => false,
             },
         }
     }
@@ -380,10 +429,12 @@ impl Branch {
 /// A branch of one pair with one id.
 fn branch_of_one(
     alloc: Global,
+    key: u32,
     name: &Text,
     text: &Text,
     id: ItemId,
 ) -> Result<Box<Branch>, OutOfMemory>
+    requires { key ≡ pair_key (name.now, text.now) }
     ensures name { IfOk result (λ made. made.value.name ≡ name.now) }
     ensures text { IfOk result (λ made. made.value.text ≡ text.now) }
     ensures ids { IfOk result (λ made. made.value.ids ≡ id.0 ∷ []) }
@@ -392,7 +443,7 @@ fn branch_of_one(
         name: name.copy()?,
         text: text.copy()?,
         ids: IdList::of_one(id),
-        sides: Sides::Neither,
+        sides: Sides::Neither(key),
     };
     match Box::new(alloc, branch) {
         Ok(branch) => Ok(branch),
@@ -423,15 +474,17 @@ impl Model for Pairs {
 fn put_there(
     alloc: Global,
     root: &mut Option<Box<Branch>>,
+    key: u32,
     name: &Text,
     text: &Text,
     id: ItemId,
 ) -> Option<Result<(), OutOfMemory>>
-    requires { IsSorted (pairs_of root.old) }
+    requires sorted { IsSorted (pairs_of root.old) }
+    requires key { key ≡ pair_key (name.now, text.now) }
     ensures { IsPutThere result (name.now, text.now) id.0 (pairs_of root.old) (pairs_of root.new) }
 {
     match root {
-        Some(branch) => branch.put(alloc, name, text, id),
+        Some(branch) => branch.put(alloc, key, name, text, id),
         None => None,
     }
 }
@@ -450,11 +503,13 @@ fn is_full(root: &Option<Box<Branch>>) -> bool
 fn put_new(
     alloc: Global,
     root: &mut Option<Box<Branch>>,
+    key: u32,
     name: &Text,
     text: &Text,
     id: ItemId,
 ) -> Result<(), OutOfMemory>
     requires sorted { IsSorted (pairs_of root.old) }
+    requires key { key ≡ pair_key (name.now, text.now) }
     requires absent { lookup (is_pair (name.now, text.now)) (pairs_of root.old) ≡ None }
     ensures sorted { IsSorted (pairs_of root.new) }
     ensures put { OnOk result (IsPut (is_this name.now text.now) id.0
@@ -465,7 +520,7 @@ fn put_new(
     if is_full(root) {
         return Err(AllocError);
     }
-    match branch_of_one(alloc, name, text, id) {
+    match branch_of_one(alloc, key, name, text, id) {
         Ok(own) => {
             let pairs = with_branch(root.take(), own);
             *root = Some(pairs);
@@ -490,9 +545,10 @@ fn put(
     ensures unchanged { OnErr result (IsSame (pairs_of root.old) (pairs_of root.new)) }
     ensures lean { IsLean (pairs_of root.old) → IsLean (pairs_of root.new) }
 {
-    match put_there(alloc, root, name, text, id) {
+    let key = key_of_pair(name, text);
+    match put_there(alloc, root, key, name, text, id) {
         Some(answer) => answer,
-        None => put_new(alloc, root, name, text, id),
+        None => put_new(alloc, root, key, name, text, id),
     }
 }
 
@@ -500,16 +556,18 @@ fn put(
 fn take_there(
     alloc: Global,
     root: &mut Option<Box<Branch>>,
+    key: u32,
     name: &Text,
     text: &Text,
     id: ItemId,
 ) -> bool
-    requires { IsSorted (pairs_of root.old) }
+    requires sorted { IsSorted (pairs_of root.old) }
+    requires key { key ≡ pair_key (name.now, text.now) }
     ensures { IsTakenThere result (name.now, text.now) id.0
         (pairs_of root.old) (pairs_of root.new) }
 {
     match root {
-        Some(branch) => branch.take(alloc, name, text, id),
+        Some(branch) => branch.take(alloc, key, name, text, id),
         None => false,
     }
 }
@@ -522,8 +580,9 @@ fn take(alloc: Global, root: &mut Option<Box<Branch>>, name: &Text, text: &Text,
         (pairs_of root.old) (pairs_of root.new) }
     ensures lean { IsLean (pairs_of root.old) → IsLean (pairs_of root.new) }
 {
-    if take_there(alloc, root, name, text, id) {
-        let pairs = without_pair(root.take(), name, text);
+    let key = key_of_pair(name, text);
+    if take_there(alloc, root, key, name, text, id) {
+        let pairs = without_pair(root.take(), key, name, text);
         *root = pairs;
     }
 }
@@ -541,7 +600,7 @@ impl Pairs {
         ensures { option_copied result ≡ lookup (is_pair (name.now, text.now)) self.now }
     {
         match &self.root {
-            Some(branch) => branch.get(name, text),
+            Some(branch) => branch.get(key_of_pair(name, text), name, text),
             None => None,
         }
     }

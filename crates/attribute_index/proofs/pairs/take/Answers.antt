@@ -8,7 +8,10 @@ use Rattle.attribute_index.proofs.pairs.take.Goals as goal
 pub without_pair-pairs-requires : goal.without_pair-pairs-requires
 without_pair-pairs-requires c =
     let there = there-sorted (c.args.name.now, c.args.text.now) c.args.id.0 c.take_there.result _ _ c.requires c.take_there.ensures in
-    subst (λ o. IsSorted (pairs_of o)) (sym c.take.ensures.value) there
+    record {
+      sorted = subst (λ o. IsSorted (pairs_of o)) (sym c.take.ensures.value) there;
+      key = c.key_of_pair-key.ensures;
+    }
 
 pub returns-then-take_there : goal.returns-then-take_there
 returns-then-take_there c =

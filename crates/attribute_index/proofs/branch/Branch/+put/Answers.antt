@@ -11,49 +11,49 @@ pub put-requires : goal.put-requires
 put-requires t c =
     let own = c.args.self.now in
     let side = sym (ap (λ (a : Around). a.before) c.self.view_is) ∙ ap pairs_before c.in-Before.is in
-    let s = subst IsSorted side (are-before own (all_of own) own.before own.after refl c.requires) in
-    rw c.deref_mut.ensures.value (omega (arith, c.decreases, ap (λ l. length l) side, fewer-before own (all_of own) own.before own.after refl), s)
+    let s = subst IsSorted side (are-before own (all_of own) own.before own.after refl c.requires.sorted) in
+    rw c.deref_mut.ensures.value (omega (arith, c.decreases, ap (λ l. length l) side, fewer-before own (all_of own) own.before own.after refl), (s, c.requires.key))
 
 pub put-requires-in-Both : goal.put-requires-in-Both
 put-requires-in-Both t c =
     let own = c.args.self.now in
     let side = sym (ap (λ (a : Around). a.before) c.self.view_is) ∙ ap pairs_before c.in-Both.is in
-    let s = subst IsSorted side (are-before own (all_of own) own.before own.after refl c.requires) in
-    rw c.deref_mut-in-Both.ensures.value (omega (arith, c.decreases, ap (λ l. length l) side, fewer-before own (all_of own) own.before own.after refl), s)
+    let s = subst IsSorted side (are-before own (all_of own) own.before own.after refl c.requires.sorted) in
+    rw c.deref_mut-in-Both.ensures.value (omega (arith, c.decreases, ap (λ l. length l) side, fewer-before own (all_of own) own.before own.after refl), (s, c.requires.key))
 
 pub put-requires-in-After-sides : goal.put-requires-in-After-sides
 put-requires-in-After-sides t c =
     let own = c.args.self.now in
     let side = sym (ap (λ (a : Around). a.after) c.self.view_is) ∙ ap pairs_after c.in-After-sides.is in
-    let s = subst IsSorted side (are-after own (all_of own) own.before own.after refl c.requires) in
-    rw c.deref_mut-in-After-sides.ensures.value (omega (arith, c.decreases, ap (λ l. length l) side, fewer-after own (all_of own) own.before own.after refl), s)
+    let s = subst IsSorted side (are-after own (all_of own) own.before own.after refl c.requires.sorted) in
+    rw c.deref_mut-in-After-sides.ensures.value (omega (arith, c.decreases, ap (λ l. length l) side, fewer-after own (all_of own) own.before own.after refl), (s, c.requires.key))
 
 pub put-requires-in-Both-sides : goal.put-requires-in-Both-sides
 put-requires-in-Both-sides t c =
     let own = c.args.self.now in
     let side = sym (ap (λ (a : Around). a.after) c.self.view_is) ∙ ap pairs_after c.in-Both-sides.is in
-    let s = subst IsSorted side (are-after own (all_of own) own.before own.after refl c.requires) in
-    rw c.deref_mut-in-Both-sides.ensures.value (omega (arith, c.decreases, ap (λ l. length l) side, fewer-after own (all_of own) own.before own.after refl), s)
+    let s = subst IsSorted side (are-after own (all_of own) own.before own.after refl c.requires.sorted) in
+    rw c.deref_mut-in-Both-sides.ensures.value (omega (arith, c.decreases, ap (λ l. length l) side, fewer-after own (all_of own) own.before own.after refl), (s, c.requires.key))
 
 pub returns-in-Equal-clause-put : goal.returns-in-Equal-clause-put
-returns-in-Equal-clause-put t c = put-same _ c.args.self.now c.self.view_is c.requires (c.args.name.now, c.args.text.now) c.args.id.0 _ _ _ c.in-Equal.ensures c.insert.ensures.put c.insert.ensures.unchanged refl
+returns-in-Equal-clause-put t c = put-same _ c.args.self.now c.self.view_is c.requires.sorted (c.args.name.now, c.args.text.now) c.args.id.0 _ _ _ c.in-Equal.ensures c.insert.ensures.put c.insert.ensures.unchanged refl
 
 pub returns-after-self-clause-put : goal.returns-after-self-clause-put
 returns-after-self-clause-put t c =
     elim c.match-self.branch [
-      | in-Before w ↦ rw (w.self-inside-is, w.result-is) (put-before _ c.args.self.now c.self.view_is c.requires (c.args.name.now, c.args.text.now) c.args.id.0 _ _ _ _ (ap pairs_before w.in-Before.is) c.in-Less.ensures (rw w.deref_mut.ensures.value at w.put.ensures.put) _ (ap pairs_after w.in-Before.is) refl)
-      | in-Both w ↦ rw (w.self-inside-is, w.result-is) (put-before _ c.args.self.now c.self.view_is c.requires (c.args.name.now, c.args.text.now) c.args.id.0 _ _ _ _ (ap pairs_before w.in-Both.is) c.in-Less.ensures (rw w.deref_mut-in-Both.ensures.value at w.put-in-Both.ensures.put) _ (ap pairs_after w.in-Both.is) refl)
-      | in-After w ↦ rw (w.self-inside-is, w.result-is) (put-none-before _ c.args.self.now c.self.view_is c.requires (c.args.name.now, c.args.text.now) _ (ap pairs_before w.in-After.is) c.in-Less.ensures refl)
-      | in-Neither w ↦ rw (w.self-inside-is, w.result-is) (put-none-before _ c.args.self.now c.self.view_is c.requires (c.args.name.now, c.args.text.now) _ (ap pairs_before w.in-Neither.is) c.in-Less.ensures refl)
+      | in-Before w ↦ rw (w.self-inside-is, w.result-is) (put-before _ c.args.self.now c.self.view_is c.requires.sorted (c.args.name.now, c.args.text.now) c.args.id.0 _ _ _ _ (ap pairs_before w.in-Before.is) c.in-Less.ensures (rw w.deref_mut.ensures.value at w.put.ensures.put) _ (ap pairs_after w.in-Before.is) refl)
+      | in-Both w ↦ rw (w.self-inside-is, w.result-is) (put-before _ c.args.self.now c.self.view_is c.requires.sorted (c.args.name.now, c.args.text.now) c.args.id.0 _ _ _ _ (ap pairs_before w.in-Both.is) c.in-Less.ensures (rw w.deref_mut-in-Both.ensures.value at w.put-in-Both.ensures.put) _ (ap pairs_after w.in-Both.is) refl)
+      | in-After w ↦ rw (w.self-inside-is, w.result-is) (put-none-before _ c.args.self.now c.self.view_is c.requires.sorted (c.args.name.now, c.args.text.now) _ (ap pairs_before w.in-After.is) c.in-Less.ensures refl)
+      | in-Neither w ↦ rw (w.self-inside-is, w.result-is) (put-none-before _ c.args.self.now c.self.view_is c.requires.sorted (c.args.name.now, c.args.text.now) _ (ap pairs_before w.in-Neither.is) c.in-Less.ensures refl)
     ]
 
 pub returns-after-self-2-clause-put : goal.returns-after-self-2-clause-put
 returns-after-self-2-clause-put t c =
     elim c.match-self-2.branch [
-      | in-After-sides w ↦ rw (w.self-inside-is, w.result-is) (put-after _ c.args.self.now c.self.view_is c.requires (c.args.name.now, c.args.text.now) c.args.id.0 _ _ _ _ (ap pairs_after w.in-After-sides.is) c.in-Greater.ensures (rw w.deref_mut-in-After-sides.ensures.value at w.put-in-After-sides.ensures.put) _ (ap pairs_before w.in-After-sides.is) refl)
-      | in-Both-sides w ↦ rw (w.self-inside-is, w.result-is) (put-after _ c.args.self.now c.self.view_is c.requires (c.args.name.now, c.args.text.now) c.args.id.0 _ _ _ _ (ap pairs_after w.in-Both-sides.is) c.in-Greater.ensures (rw w.deref_mut-in-Both-sides.ensures.value at w.put-in-Both-sides.ensures.put) _ (ap pairs_before w.in-Both-sides.is) refl)
-      | in-Before-sides w ↦ rw (w.self-inside-is, w.result-is) (put-none-after _ c.args.self.now c.self.view_is c.requires (c.args.name.now, c.args.text.now) _ (ap pairs_after w.in-Before-sides.is) c.in-Greater.ensures refl)
-      | in-Neither-sides w ↦ rw (w.self-inside-is, w.result-is) (put-none-after _ c.args.self.now c.self.view_is c.requires (c.args.name.now, c.args.text.now) _ (ap pairs_after w.in-Neither-sides.is) c.in-Greater.ensures refl)
+      | in-After-sides w ↦ rw (w.self-inside-is, w.result-is) (put-after _ c.args.self.now c.self.view_is c.requires.sorted (c.args.name.now, c.args.text.now) c.args.id.0 _ _ _ _ (ap pairs_after w.in-After-sides.is) c.in-Greater.ensures (rw w.deref_mut-in-After-sides.ensures.value at w.put-in-After-sides.ensures.put) _ (ap pairs_before w.in-After-sides.is) refl)
+      | in-Both-sides w ↦ rw (w.self-inside-is, w.result-is) (put-after _ c.args.self.now c.self.view_is c.requires.sorted (c.args.name.now, c.args.text.now) c.args.id.0 _ _ _ _ (ap pairs_after w.in-Both-sides.is) c.in-Greater.ensures (rw w.deref_mut-in-Both-sides.ensures.value at w.put-in-Both-sides.ensures.put) _ (ap pairs_before w.in-Both-sides.is) refl)
+      | in-Before-sides w ↦ rw (w.self-inside-is, w.result-is) (put-none-after _ c.args.self.now c.self.view_is c.requires.sorted (c.args.name.now, c.args.text.now) _ (ap pairs_after w.in-Before-sides.is) c.in-Greater.ensures refl)
+      | in-Neither-sides w ↦ rw (w.self-inside-is, w.result-is) (put-none-after _ c.args.self.now c.self.view_is c.requires.sorted (c.args.name.now, c.args.text.now) _ (ap pairs_after w.in-Neither-sides.is) c.in-Greater.ensures refl)
     ]
 
 -- as many pairs as before

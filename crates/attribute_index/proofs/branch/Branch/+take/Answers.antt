@@ -11,49 +11,49 @@ pub take-requires : goal.take-requires
 take-requires t c =
     let own = c.args.self.now in
     let side = sym (ap (λ (a : Around). a.before) c.self.view_is) ∙ ap pairs_before c.in-Before.is in
-    let s = subst IsSorted side (are-before own (all_of own) own.before own.after refl c.requires) in
-    rw c.deref_mut.ensures.value (omega (arith, c.decreases, ap (λ l. length l) side, fewer-before own (all_of own) own.before own.after refl), s)
+    let s = subst IsSorted side (are-before own (all_of own) own.before own.after refl c.requires.sorted) in
+    rw c.deref_mut.ensures.value (omega (arith, c.decreases, ap (λ l. length l) side, fewer-before own (all_of own) own.before own.after refl), (s, c.requires.key))
 
 pub take-requires-in-Both : goal.take-requires-in-Both
 take-requires-in-Both t c =
     let own = c.args.self.now in
     let side = sym (ap (λ (a : Around). a.before) c.self.view_is) ∙ ap pairs_before c.in-Both.is in
-    let s = subst IsSorted side (are-before own (all_of own) own.before own.after refl c.requires) in
-    rw c.deref_mut-in-Both.ensures.value (omega (arith, c.decreases, ap (λ l. length l) side, fewer-before own (all_of own) own.before own.after refl), s)
+    let s = subst IsSorted side (are-before own (all_of own) own.before own.after refl c.requires.sorted) in
+    rw c.deref_mut-in-Both.ensures.value (omega (arith, c.decreases, ap (λ l. length l) side, fewer-before own (all_of own) own.before own.after refl), (s, c.requires.key))
 
 pub take-requires-in-After-sides : goal.take-requires-in-After-sides
 take-requires-in-After-sides t c =
     let own = c.args.self.now in
     let side = sym (ap (λ (a : Around). a.after) c.self.view_is) ∙ ap pairs_after c.in-After-sides.is in
-    let s = subst IsSorted side (are-after own (all_of own) own.before own.after refl c.requires) in
-    rw c.deref_mut-in-After-sides.ensures.value (omega (arith, c.decreases, ap (λ l. length l) side, fewer-after own (all_of own) own.before own.after refl), s)
+    let s = subst IsSorted side (are-after own (all_of own) own.before own.after refl c.requires.sorted) in
+    rw c.deref_mut-in-After-sides.ensures.value (omega (arith, c.decreases, ap (λ l. length l) side, fewer-after own (all_of own) own.before own.after refl), (s, c.requires.key))
 
 pub take-requires-in-Both-sides : goal.take-requires-in-Both-sides
 take-requires-in-Both-sides t c =
     let own = c.args.self.now in
     let side = sym (ap (λ (a : Around). a.after) c.self.view_is) ∙ ap pairs_after c.in-Both-sides.is in
-    let s = subst IsSorted side (are-after own (all_of own) own.before own.after refl c.requires) in
-    rw c.deref_mut-in-Both-sides.ensures.value (omega (arith, c.decreases, ap (λ l. length l) side, fewer-after own (all_of own) own.before own.after refl), s)
+    let s = subst IsSorted side (are-after own (all_of own) own.before own.after refl c.requires.sorted) in
+    rw c.deref_mut-in-Both-sides.ensures.value (omega (arith, c.decreases, ap (λ l. length l) side, fewer-after own (all_of own) own.before own.after refl), (s, c.requires.key))
 
 pub returns-in-Equal-clause-taken : goal.returns-in-Equal-clause-taken
-returns-in-Equal-clause-taken t c = take-same _ c.args.self.now c.self.view_is c.requires (c.args.name.now, c.args.text.now) c.args.id.0 _ _ _ c.in-Equal.ensures c.remove.ensures c.len.ensures.value refl
+returns-in-Equal-clause-taken t c = take-same _ c.args.self.now c.self.view_is c.requires.sorted (c.args.name.now, c.args.text.now) c.args.id.0 _ _ _ c.in-Equal.ensures c.remove.ensures c.len.ensures.value refl
 
 pub returns-after-self-clause-taken : goal.returns-after-self-clause-taken
 returns-after-self-clause-taken t c =
     elim c.match-self.branch [
-      | in-Before w ↦ rw (w.self-inside-is, w.result-is) (take-before _ c.args.self.now c.self.view_is c.requires (c.args.name.now, c.args.text.now) c.args.id.0 _ _ _ _ (ap pairs_before w.in-Before.is) c.in-Less.ensures (rw w.deref_mut.ensures.value at w.take.ensures.taken) _ (ap pairs_after w.in-Before.is) refl)
-      | in-Both w ↦ rw (w.self-inside-is, w.result-is) (take-before _ c.args.self.now c.self.view_is c.requires (c.args.name.now, c.args.text.now) c.args.id.0 _ _ _ _ (ap pairs_before w.in-Both.is) c.in-Less.ensures (rw w.deref_mut-in-Both.ensures.value at w.take-in-Both.ensures.taken) _ (ap pairs_after w.in-Both.is) refl)
-      | in-After w ↦ rw (w.self-inside-is, w.result-is) (take-none-before _ c.args.self.now c.self.view_is c.requires (c.args.name.now, c.args.text.now) c.args.id.0 _ (ap pairs_before w.in-After.is) c.in-Less.ensures refl)
-      | in-Neither w ↦ rw (w.self-inside-is, w.result-is) (take-none-before _ c.args.self.now c.self.view_is c.requires (c.args.name.now, c.args.text.now) c.args.id.0 _ (ap pairs_before w.in-Neither.is) c.in-Less.ensures refl)
+      | in-Before w ↦ rw (w.self-inside-is, w.result-is) (take-before _ c.args.self.now c.self.view_is c.requires.sorted (c.args.name.now, c.args.text.now) c.args.id.0 _ _ _ _ (ap pairs_before w.in-Before.is) c.in-Less.ensures (rw w.deref_mut.ensures.value at w.take.ensures.taken) _ (ap pairs_after w.in-Before.is) refl)
+      | in-Both w ↦ rw (w.self-inside-is, w.result-is) (take-before _ c.args.self.now c.self.view_is c.requires.sorted (c.args.name.now, c.args.text.now) c.args.id.0 _ _ _ _ (ap pairs_before w.in-Both.is) c.in-Less.ensures (rw w.deref_mut-in-Both.ensures.value at w.take-in-Both.ensures.taken) _ (ap pairs_after w.in-Both.is) refl)
+      | in-After w ↦ rw (w.self-inside-is, w.result-is) (take-none-before _ c.args.self.now c.self.view_is c.requires.sorted (c.args.name.now, c.args.text.now) c.args.id.0 _ (ap pairs_before w.in-After.is) c.in-Less.ensures refl)
+      | in-Neither w ↦ rw (w.self-inside-is, w.result-is) (take-none-before _ c.args.self.now c.self.view_is c.requires.sorted (c.args.name.now, c.args.text.now) c.args.id.0 _ (ap pairs_before w.in-Neither.is) c.in-Less.ensures refl)
     ]
 
 pub returns-after-self-2-clause-taken : goal.returns-after-self-2-clause-taken
 returns-after-self-2-clause-taken t c =
     elim c.match-self-2.branch [
-      | in-After-sides w ↦ rw (w.self-inside-is, w.result-is) (take-after _ c.args.self.now c.self.view_is c.requires (c.args.name.now, c.args.text.now) c.args.id.0 _ _ _ _ (ap pairs_after w.in-After-sides.is) c.in-Greater.ensures (rw w.deref_mut-in-After-sides.ensures.value at w.take-in-After-sides.ensures.taken) _ (ap pairs_before w.in-After-sides.is) refl)
-      | in-Both-sides w ↦ rw (w.self-inside-is, w.result-is) (take-after _ c.args.self.now c.self.view_is c.requires (c.args.name.now, c.args.text.now) c.args.id.0 _ _ _ _ (ap pairs_after w.in-Both-sides.is) c.in-Greater.ensures (rw w.deref_mut-in-Both-sides.ensures.value at w.take-in-Both-sides.ensures.taken) _ (ap pairs_before w.in-Both-sides.is) refl)
-      | in-Before-sides w ↦ rw (w.self-inside-is, w.result-is) (take-none-after _ c.args.self.now c.self.view_is c.requires (c.args.name.now, c.args.text.now) c.args.id.0 _ (ap pairs_after w.in-Before-sides.is) c.in-Greater.ensures refl)
-      | in-Neither-sides w ↦ rw (w.self-inside-is, w.result-is) (take-none-after _ c.args.self.now c.self.view_is c.requires (c.args.name.now, c.args.text.now) c.args.id.0 _ (ap pairs_after w.in-Neither-sides.is) c.in-Greater.ensures refl)
+      | in-After-sides w ↦ rw (w.self-inside-is, w.result-is) (take-after _ c.args.self.now c.self.view_is c.requires.sorted (c.args.name.now, c.args.text.now) c.args.id.0 _ _ _ _ (ap pairs_after w.in-After-sides.is) c.in-Greater.ensures (rw w.deref_mut-in-After-sides.ensures.value at w.take-in-After-sides.ensures.taken) _ (ap pairs_before w.in-After-sides.is) refl)
+      | in-Both-sides w ↦ rw (w.self-inside-is, w.result-is) (take-after _ c.args.self.now c.self.view_is c.requires.sorted (c.args.name.now, c.args.text.now) c.args.id.0 _ _ _ _ (ap pairs_after w.in-Both-sides.is) c.in-Greater.ensures (rw w.deref_mut-in-Both-sides.ensures.value at w.take-in-Both-sides.ensures.taken) _ (ap pairs_before w.in-Both-sides.is) refl)
+      | in-Before-sides w ↦ rw (w.self-inside-is, w.result-is) (take-none-after _ c.args.self.now c.self.view_is c.requires.sorted (c.args.name.now, c.args.text.now) c.args.id.0 _ (ap pairs_after w.in-Before-sides.is) c.in-Greater.ensures refl)
+      | in-Neither-sides w ↦ rw (w.self-inside-is, w.result-is) (take-none-after _ c.args.self.now c.self.view_is c.requires.sorted (c.args.name.now, c.args.text.now) c.args.id.0 _ (ap pairs_after w.in-Neither-sides.is) c.in-Greater.ensures refl)
     ]
 
 -- as many pairs as before
