@@ -232,14 +232,10 @@ kept-added rows new index after n row kept below is put all =
     let here : IsPut (λ name text. has_pair name text (attributes_of row)) n index.names after.names = subst (λ o. IfSome o (λ r. IsPut (λ name text. has_pair name text (attributes_of r)) n index.names after.names)) at put in
     subst (λ rs. IsKept rs after) (sym is) (record { rising = rising-added rows n row below kept.rising; indexed = indexed-added rows index after n row kept.rising kept.indexed below here all })
 
-pub put-there : (rows new : Rows) (n : ℕ) (row : Row) → ((x : ℕ) → row_at x new ≡ cond (x == n) (Some row) (row_at x rows)) → row_at n new ≡ Some row
-put-there rows new n row at = at n ∙ ap (λ b. cond b (Some row) (row_at n rows)) (same-number n)
-
 pub kept-put : (rows new : Rows) (index after : Index) (n : ℕ) (row : Row) → IsKept rows index → IsRising new → row_at n rows ≡ None → ((x : ℕ) → row_at x new ≡ cond (x == n) (Some row) (row_at x rows))
-    → IfSome (row_at n new) (λ r. IsPut (λ name text. has_pair name text (attributes_of r)) n index.names after.names) → after.all ≡ with_id n index.all → IsKept new after
+    → IsPut (λ name text. has_pair name text (attributes_of row)) n index.names after.names → after.all ≡ with_id n index.all → IsKept new after
 kept-put rows new index after n row kept now none at put all =
-    let here : IsPut (λ name text. has_pair name text (attributes_of row)) n index.names after.names = subst (λ o. IfSome o (λ r. IsPut (λ name text. has_pair name text (attributes_of r)) n index.names after.names)) (put-there rows new n row at) put in
-    record { rising = now; indexed = indexed-put rows new index after n row kept.rising now kept.indexed none at here all }
+    record { rising = now; indexed = indexed-put rows new index after n row kept.rising now kept.indexed none at put all }
 
 pub kept-same : (rows new : Rows) (index after : Index) → IsKept rows index → new ≡ rows → IsSame index.names after.names → after.all ≡ index.all → IsKept new after
 kept-same rows new index after kept is same all = subst (λ rs. IsKept rs after) (sym is) (record { rising = kept.rising; indexed = indexed-same rows index after kept.indexed same all })

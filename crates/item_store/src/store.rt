@@ -357,7 +357,8 @@ fn add_row(
     Ok(())
 }
 
-/// Puts a row at a number that has no row yet, and its id into the index.
+/// Puts a row at a number that has no row yet, and its id into the index. After a refusal the index may have
+/// the id of no row.
 fn put_row(
     rows: &mut BTreeMap<u32, Row>,
     index: &mut AttributeIndex,
@@ -370,10 +371,8 @@ fn put_row(
     ensures put { OnOk result ((id : ℕ) → row_at id rows.new.entries
         ≡ (if nat_eq id number then Some row else row_at id rows.old.entries)) }
 {
+    index.add(ItemId(number), &row.item.attributes)?;
     rows::put(rows, number, row)?;
-    if let Err(_) = add_id(rows, index, number) {
-        return Err(AllocError);
-    }
     Ok(())
 }
 
