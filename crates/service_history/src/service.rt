@@ -1,5 +1,6 @@
 ghost use Rattle.std.specs.Prelude.{◌≡◌, ◌≢◌, ◌<◌, ◌≤◌, [], IsTrue, IfOk, IfSome, OnOk, OnErr, IsErrOf, Err};
 ghost use Rattle.kr_base.specs.Attributes.{value_at};
+ghost use Rattle.service_tables.specs.Aliases.{rows_in};
 ghost use Rattle.service_tables.specs.Slots.{LeavesKnown, file_at};
 ghost use Rattle.folder_store.specs.Ring.{IsAsFound};
 ghost use Rattle.collection_table.specs.Entries.{rows_of as collections_of};
@@ -95,6 +96,7 @@ impl<F: Folder> Service<F> {
         ensures disk { disk_state result ≡ self.disk }
         ensures collections { collections_of result.collections.entries
             ≡ self.history.state.collections }
+        ensures aliases { rows_in result.aliases ≡ self.history.state.aliases }
     {
         self.machine.into_disk()
     }

@@ -1,6 +1,7 @@
 ghost use Rattle.std.specs.Prelude.{◌≡◌, ℕ, List, ◌<◌, ◌≤◌, ◌^◌, ◌++◌, [], Ok, true, false, IsTrue, IfOk, IfSome, OnOk, OnErr, IsErrOf, ◌+◌, vec_capacity, vec_len};
 ghost use Rattle.kr_base.specs.Attributes.{value_at};
 ghost use Rattle.collection_table.specs.Entries.{rows_of as collections_of};
+ghost use Rattle.service_tables.specs.Aliases.{rows_in};
 ghost use Rattle.service_tables.specs.Slots.{LeavesKnown, file_at};
 ghost use Rattle.folder_store.specs.Ring.{IsAsFound};
 ghost use Rattle.service_tables.specs.Connections.{HasRoom, has, waiting_for, desk_of};
@@ -92,6 +93,7 @@ impl<F: Folder> Machine<F> {
         ensures disk { disk_state result ≡ disk_of self }
         ensures collections { collections_of result.collections.entries
             ≡ (rows_of self).collections }
+        ensures aliases { rows_in result.aliases ≡ (rows_of self).aliases }
     {
         self.tables.disk
     }
