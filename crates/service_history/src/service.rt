@@ -13,7 +13,7 @@ ghost use Rattle.service_machine.specs.Rows.{rows_of};
 ghost use Rattle.service_events.specs.Stored.{KeepsDisk, KeepsSlotOrAll};
 ghost use Rattle.service_history.specs.Inside.{IsReady};
 ghost use Rattle.service_events.specs.Incoming.{IsOfNone, IsConnect};
-ghost use Rattle.service_events.specs.Step.{IsMissing, IsCrowded};
+ghost use Rattle.service_events.specs.Step.{CanJoin, IsMissing, IsCrowded};
 ghost use Rattle.service_history.specs.Windows.{total};
 ghost use Rattle.service_history.specs.History.{opened_history, IsHistory, Stores, StoresKey, StoresOn, StoresRequest, RecordsOn, IsAsked, given_for, taken_by, left_by, gone_by, told};
 
@@ -105,7 +105,7 @@ impl<F: Folder> Service<F> {
     /// first: the state becomes the base, and the stored events are dropped.
     ///
     /// Refused with `EventsSpent` if all events that can be counted are recorded, then with
-    /// `TooManyConnections` if 256 connections are there or no number is left.
+    /// `TooManyConnections` if 256 connections are there or no number is left, then with `OutOfMemory`.
     pub fn join(&mut self) -> Result<ConnId, JoinRefused>
         ensures stores { IfOk result (λ conn.
             Stores self.old.history (Event.Connect conn) self.new.history) }
@@ -119,6 +119,8 @@ impl<F: Folder> Service<F> {
             → ¬ IsSpent (total self.old.history.window) }
         ensures crowded { IsErrOf result JoinRefused.TooManyConnections
             → IsCrowded self.old.history.state }
+        ensures memory { IsErrOf result JoinRefused.OutOfMemory
+            → CanJoin self.old.history.state }
         ensures unchanged { OnErr result (self.new.history ≡ self.old.history) }
     {
         if self.window.total() >= LIMIT {
@@ -138,7 +140,7 @@ impl<F: Folder> Service<F> {
     /// an answer that was taken.
     ///
     /// Refused with `EventsSpent` if all events that can be counted are recorded, then with `Gone` if
-    /// the connection isn't there.
+    /// the connection isn't there, then with `OutOfMemory`.
     pub fn arrive(&mut self, arrival: Arrival) -> Result<Option<Work>, Refused>
         ensures stores { IfOk result (λ work. StoresRequest
             (is_steady F.is_steady F.Cell.is_steady self.old.disk)
@@ -157,6 +159,8 @@ impl<F: Folder> Service<F> {
         ensures not_spent { result ≢ Err Refused.EventsSpent
             → ¬ IsSpent (total self.old.history.window) }
         ensures gone { IsErrOf result Refused.Gone → IsMissing arrival.conn self.old.history.state }
+        ensures memory { IsErrOf result Refused.OutOfMemory
+            → ¬ (IsMissing arrival.conn self.old.history.state) }
         ensures unchanged { OnErr result (self.new.history ≡ self.old.history) }
         ensures disk { OnErr result (self.new.disk ≡ self.old.disk) }
     {
@@ -176,7 +180,7 @@ impl<F: Folder> Service<F> {
     /// is due is made first, as in `join`.
     ///
     /// Refused with `EventsSpent` if all events that can be counted are recorded, then with `Gone` if the
-    /// connection isn't there.
+    /// connection isn't there, then with `OutOfMemory`.
     pub fn derived(&mut self, brought: BroughtKey) -> Result<(), Refused>
         ensures stores { OnOk result (StoresKey
             (is_steady F.is_steady F.Cell.is_steady self.old.disk)
@@ -189,12 +193,14 @@ impl<F: Folder> Service<F> {
             ≡ is_steady F.is_steady F.Cell.is_steady self.old.disk }
 
         // Each refusal has its cause, and the first in order is returned; nothing has changed then, but a slot
-        // that was made for a collection is kept.
+        // that was made for a collection by the time that memory ran out is kept.
         ensures spent { IsErrOf result Refused.EventsSpent
             → IsSpent (total self.old.history.window) }
         ensures not_spent { result ≢ Err Refused.EventsSpent
             → ¬ IsSpent (total self.old.history.window) }
         ensures gone { IsErrOf result Refused.Gone → IsMissing brought.conn self.old.history.state }
+        ensures memory { IsErrOf result Refused.OutOfMemory
+            → ¬ (IsMissing brought.conn self.old.history.state) }
         ensures unchanged { OnErr result (self.new.history ≡ self.old.history) }
         ensures kept { OnErr result (KeepsSlotOrAll F.is_honest F.is_steady F.faults F.images
             F.may_leave F.made F.Cell.is_honest F.Cell.is_steady F.Cell.faults
@@ -214,7 +220,7 @@ impl<F: Folder> Service<F> {
     ///
     /// Refused with `EventsSpent` if all events that can be counted are recorded, then with
     /// `NoConnection` if the connection isn't there, and `TooManyConnections` if 256 are there or no
-    /// number is left.
+    /// number is left, then with `OutOfMemory`.
     pub fn event(&mut self, event: Incoming) -> Result<Output, EventRefused>
         requires { IsAsked event }
 
@@ -229,7 +235,8 @@ impl<F: Folder> Service<F> {
         ensures steady { is_steady F.is_steady F.Cell.is_steady self.new.disk
             ≡ is_steady F.is_steady F.Cell.is_steady self.old.disk }
 
-        // Each refusal has its cause, and the first in order is returned; nothing has changed then.
+        // Each refusal has its cause, and the first in order is returned; nothing has changed then, but a slot
+        // may be kept as by `derived`.
         ensures spent { IsErrOf result EventRefused.EventsSpent
             → IsSpent (total self.old.history.window) }
         ensures not_spent { result ≢ Err EventRefused.EventsSpent
@@ -239,6 +246,10 @@ impl<F: Folder> Service<F> {
         ensures connects { IsErrOf result EventRefused.TooManyConnections → IsConnect event }
         ensures crowded { IsErrOf result EventRefused.TooManyConnections
             → IsCrowded self.old.history.state }
+        ensures memory { IsErrOf result EventRefused.OutOfMemory
+            → ¬ (IsOfNone self.old.history.state event) }
+        ensures room { IsErrOf result EventRefused.OutOfMemory → IsConnect event
+            → CanJoin self.old.history.state }
         ensures unchanged { OnErr result (self.new.history ≡ self.old.history) }
         ensures kept { OnErr result (KeepsDisk F.is_honest F.is_steady F.faults F.images
             F.may_leave F.made F.Cell.is_honest F.Cell.is_steady F.Cell.faults event
@@ -369,6 +380,9 @@ fn admitted<F: Folder>(
     ensures spent { IsErrOf result Refused.EventsSpent → IsSpent (total window.old.window) }
     ensures not_spent { result ≢ Err Refused.EventsSpent → ¬ IsSpent (total window.old.window) }
     ensures gone { IsErrOf result Refused.Gone → IsMissing conn (rows_of machine.now) }
+    ensures there { OnOk result (¬ (IsMissing conn (rows_of machine.now))) }
+    ensures memory { IsErrOf result Refused.OutOfMemory
+        → ¬ (IsMissing conn (rows_of machine.now)) }
 {
     if window.total() >= LIMIT {
         return Err(Refused::EventsSpent);

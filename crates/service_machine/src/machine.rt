@@ -101,8 +101,9 @@ impl<F: Folder> Machine<F> {
     /// Performs one event, and returns its answer and the event as it is to be recorded. The rows
     /// afterwards are those of the step from the rows before.
     ///
-    /// Refused with `NoConnection` if the connection isn't there, and with `TooManyConnections` if 256
-    /// are there or no number is left. Leaving, taking and going take no memory.
+    /// Refused with `NoConnection` if the connection isn't there, with `TooManyConnections` if 256 are
+    /// there or no number is left, and otherwise perhaps with `OutOfMemory`. Leaving, taking and going take
+    /// no memory.
     pub fn apply(&mut self, event: Incoming) -> Result<(Output, Event), ApplyRefused>
         requires due { IsDue (rows_of self.old) event }
         requires sound { IsSoundFor event (rows_of self.old) }
@@ -124,13 +125,19 @@ impl<F: Folder> Machine<F> {
         ensures steady { is_steady F.is_steady F.Cell.is_steady (disk_of self.new)
             ≡ is_steady F.is_steady F.Cell.is_steady (disk_of self.old) }
 
-        // Each refusal has its cause, and changes nothing.
+        // Each refusal has its cause, and memory doesn't run out in place of another one.
         ensures no_connection { IsErrOf result ApplyRefused.NoConnection
             → IsOfNone (rows_of self.old) event }
         ensures crowded { IsErrOf result ApplyRefused.TooManyConnections → IsConnect event }
         ensures full { IsErrOf result ApplyRefused.TooManyConnections
             → IsCrowded (rows_of self.old) }
         ensures memory { IsErrOf result ApplyRefused.OutOfMemory → TakesMemory event }
+        ensures there { IsErrOf result ApplyRefused.OutOfMemory
+            → ¬ (IsOfNone (rows_of self.old) event) }
+        ensures room { IsErrOf result ApplyRefused.OutOfMemory → IsConnect event
+            → CanJoin (rows_of self.old) }
+
+        // After a refusal nothing has changed, but for a slot that was made by the time that memory ran out.
         ensures unchanged { OnErr result (rows_of self.new ≡ rows_of self.old) }
         ensures kept { OnErr result (KeepsDisk F.is_honest F.is_steady F.faults F.images
             F.may_leave F.made F.Cell.is_honest F.Cell.is_steady F.Cell.faults event
