@@ -205,6 +205,8 @@ impl<F: Folder> Service<F> {
         ensures kept { OnErr result (KeepsSlotOrAll F.is_honest F.is_steady F.faults F.images
             F.may_leave F.made F.Cell.is_honest F.Cell.is_steady F.Cell.faults
             self.old.disk self.new.disk) }
+        ensures idle { result ≢ Err Refused.OutOfMemory
+            → OnErr result (self.new.disk ≡ self.old.disk) }
     {
         let next = admitted(&self.machine, &mut self.window, brought.conn)?;
         let Ok(answer) = self.machine.apply(Incoming::Derived(brought)) else {
@@ -254,6 +256,8 @@ impl<F: Folder> Service<F> {
         ensures kept { OnErr result (KeepsDisk F.is_honest F.is_steady F.faults F.images
             F.may_leave F.made F.Cell.is_honest F.Cell.is_steady F.Cell.faults event
             self.old.disk self.new.disk) }
+        ensures idle { result ≢ Err EventRefused.OutOfMemory
+            → OnErr result (self.new.disk ≡ self.old.disk) }
     {
         match event {
             Incoming::Connect => Ok(Output::Joined(self.join()?)),

@@ -1,4 +1,4 @@
-ghost use Rattle.std.specs.Prelude.{◌≡◌, ℕ, List, ◌<◌, ◌≤◌, ◌^◌, ◌++◌, [], Ok, true, false, IsTrue, IfOk, IfSome, OnOk, OnErr, IsErrOf, ◌+◌, vec_capacity, vec_len};
+ghost use Rattle.std.specs.Prelude.{◌≡◌, ◌≢◌, ℕ, List, ◌<◌, ◌≤◌, ◌^◌, ◌++◌, [], Ok, Err, true, false, IsTrue, IfOk, IfSome, OnOk, OnErr, IsErrOf, ◌+◌, vec_capacity, vec_len};
 ghost use Rattle.kr_base.specs.Attributes.{value_at};
 ghost use Rattle.collection_table.specs.Entries.{rows_of as collections_of};
 ghost use Rattle.service_tables.specs.Aliases.{rows_in};
@@ -139,6 +139,8 @@ impl<F: Folder> Machine<F> {
 
         // After a refusal nothing has changed, but for a slot that was made by the time that memory ran out.
         ensures unchanged { OnErr result (rows_of self.new ≡ rows_of self.old) }
+        ensures idle { result ≢ Err ApplyRefused.OutOfMemory
+            → OnErr result (disk_of self.new ≡ disk_of self.old) }
         ensures kept { OnErr result (KeepsDisk F.is_honest F.is_steady F.faults F.images
             F.may_leave F.made F.Cell.is_honest F.Cell.is_steady F.Cell.faults event
             (disk_of self.old) (disk_of self.new)) }
