@@ -45,7 +45,8 @@ impl Model for Branch {
     ghost use Rattle.std.specs.Prelude.{◌≡◌};
     ghost use Rattle.attribute_index.specs.Index.{pair_key};
 
-    ghost invariant = { λ b. IsBalanced b.sides × (key_beside b.sides ≡ pair_key (b.name, b.text)) };
+    ghost invariant = { λ b.
+        IsBalanced b.sides × (key_beside b.sides ≡ pair_key (b.name, b.text)) };
 
     ghost use Rattle.std.specs.Prelude.{length};
     ghost use Rattle.attribute_index.specs.Around.{all_of};
