@@ -1,5 +1,6 @@
 use crate::checks::same_text;
-use crate::words::{add, attributes_of, having, ids_told, remove, rests, searched};
+use crate::words::{add, attributes_of, decimal, equal, having, ids_told, remove, rests, searched};
+use attribute_match::is_equal;
 use item_store::ItemStore;
 use kr_base::{Attributes, ItemId};
 use std::alloc::{AllocGlobal, Global};
@@ -49,6 +50,49 @@ fn a_search_is_a_filter_of_the_rows(rt: HostRuntime) -> Result<(), Fail> {
     for number in 0..35u32 {
         let words = rests(rt.alloc(), "a=5 b=7", number)?;
         is_filter(&rt, &items, words.as_str())?;
+    }
+    Ok(())
+}
+
+// The least id of an item with exactly the attributes of the words, read from the rows.
+fn first_equal(alloc: Global, items: &ItemStore, words: &str) -> Result<String, Fail> {
+    let wanted = attributes_of(alloc, words)?;
+    for (number, row) in items.rows().iter() {
+        if is_equal(&wanted, &row.item.attributes) {
+            return decimal(alloc, *number);
+        }
+    }
+    Ok(String::from_str(alloc, "none")?)
+}
+
+fn is_first(rt: &(impl AllocGlobal + Abort), items: &ItemStore, words: &str) -> Result<(), Fail> {
+    let found = equal(rt.alloc(), items, words)?;
+    let want = first_equal(rt.alloc(), items, words)?;
+    same_text(rt, found.as_str(), want.as_str(), words);
+    Ok(())
+}
+
+// Moduli of which each item's attributes are the rests: of an item as it was added, of one that was changed,
+// and of no item.
+const EQUALS: &str = "\
+a=3 b=7 c=11
+a=5 d=2
+a=5
+";
+
+fn are_first(rt: &(impl AllocGlobal + Abort), items: &ItemStore, row: &str) -> Result<(), Fail> {
+    for number in 0..300u32 {
+        let words = rests(rt.alloc(), row, number)?;
+        is_first(rt, items, words.as_str())?;
+    }
+    Ok(())
+}
+
+#[test]
+fn an_equal_item_is_the_first_of_the_equal_rows(rt: HostRuntime) -> Result<(), Fail> {
+    let items = some_hundred(rt.alloc())?;
+    for row in EQUALS.lines() {
+        are_first(&rt, &items, row)?;
     }
     Ok(())
 }

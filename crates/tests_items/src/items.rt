@@ -1,7 +1,7 @@
 ghost use Rattle.std.specs.Prelude.{◌≡◌, ◌∷◌, [], IfOk, map};
 
 use crate::checks::{cell, number, same_text};
-use crate::words::{attributes_of, decimal, item_of, joined, searched, text_of};
+use crate::words::{attributes_of, decimal, equal, item_of, joined, searched, text_of};
 use item_store::{ItemFault, ItemStore};
 use keyring_file::FullItem;
 use kr_base::{Bytes, ItemId};
@@ -80,14 +80,6 @@ fn added_told(alloc: Global, added: Result<ItemId, ItemFault>) -> Result<String,
     }
 }
 
-fn equal_told(alloc: Global, items: &ItemStore, words: &str) -> Result<String, Fail> {
-    let wanted = attributes_of(alloc, words)?;
-    match items.by_equal(&wanted) {
-        Some(id) => decimal(alloc, id.0),
-        None => Ok(String::from_str(alloc, "none")?),
-    }
-}
-
 fn remove(items: &mut ItemStore, id: ItemId) -> Result<(), ItemFault> {
     let _ = items.remove(id)?;
     Ok(())
@@ -140,7 +132,7 @@ fn answer(alloc: Global, items: &mut ItemStore, row: &str) -> Result<String, Fai
         "add" => added(alloc, items, cell(row, 2)),
         "rows" => rows_told(alloc, items),
         "search" => searched(alloc, items, cell(row, 2)),
-        "equal" => equal_told(alloc, items, cell(row, 2)),
+        "equal" => equal(alloc, items, cell(row, 2)),
         _ => changed(alloc, items, row),
     }
 }

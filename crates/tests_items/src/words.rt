@@ -132,6 +132,15 @@ pub fn searched(alloc: Global, items: &ItemStore, words: &str) -> Result<String,
     ids_told(alloc, items.search(&wanted)?.as_slice())
 }
 
+/// The least id of an item with exactly the attributes of the words, or `none`.
+pub fn equal(alloc: Global, items: &ItemStore, words: &str) -> Result<String, Fail> {
+    let wanted = attributes_of(alloc, words)?;
+    match items.by_equal(&wanted) {
+        Some(id) => decimal(alloc, id.0),
+        None => Ok(String::from_str(alloc, "none")?),
+    }
+}
+
 /// The ids of the items whose attributes match the words, read from the rows.
 pub fn having(alloc: Global, items: &ItemStore, words: &str) -> Result<Vec<ItemId>, Fail> {
     let wanted = attributes_of(alloc, words)?;
