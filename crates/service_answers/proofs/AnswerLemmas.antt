@@ -49,11 +49,12 @@ use Rattle.service_tables.specs.declared.rows.Sent.{Sent}
 use Rattle.service_tables.proofs.DiskLemmas.{without-apart, without-here}
 use Rattle.service_events.specs.AliasCalls.{once_read}
 use Rattle.service_events.specs.AnswerCalls.{creates, creates_row, deriving_key, going_on, kind_answered, left_answered, row_answered, target_answered, target_settled}
+use Rattle.service_events.specs.Fates.{fates_of}
 use Rattle.service_events.specs.Plan.{Plan, Questions, After, Asks, End_prompt, Go_on, Read_collection, answered, refused}
 use Rattle.service_events.specs.PromptCalls.{advance_sent, completes, go_on_sent, is_over, passed, passed_kind}
 use Rattle.service_events.specs.Run.{AreFates, asked, demanded, led, run, sent_by}
 use Rattle.service_events.specs.Stored.{StoresOf}
-use Rattle.service_calls.specs.Done.{HasRoomToReply, Leads, fates_in, fates_of}
+use Rattle.service_calls.specs.Done.{HasRoomToReply, Leads, fates_in}
 use Rattle.service_calls.specs.declared.storing.Done.{Done}
 use Rattle.service_calls.proofs.LeadsLemmas.{room-silent}
 

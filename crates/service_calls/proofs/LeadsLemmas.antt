@@ -36,10 +36,10 @@ use Rattle.service_events.specs.Plan.{Change, Plan, Questions, After, Asks, Dema
 use Rattle.service_events.specs.Run.{AreFates, AreNone, IsFateOf, Ran, asked, demanded, led, limited, performed_all, ran, run, sent_all}
 use Rattle.service_events.specs.PromptCalls.{are_none}
 use Rattle.service_events.specs.ServiceCalls.{is_small, unlocking, with_new_prompt}
-use Rattle.service_events.specs.Fates.{with_fates}
+use Rattle.service_events.specs.Fates.{with_fates, fates_of}
 use Rattle.service_events.specs.Step.{Fits, HasTypes, IsSalt, brought_by, output_of, plan_of, replies, row_of, step, with_delivered, work_of}
 use Rattle.service_events.specs.Stored.{IsPlain, StoresDemand, StoresEvent, StoresOf}
-use Rattle.service_calls.specs.Done.{HasRoomToReply, Leads, answer_by, fates_in, fates_of}
+use Rattle.service_calls.specs.Done.{HasRoomToReply, Leads, answer_by, fates_in}
 use Rattle.service_events.proofs.RunLemmas.{ends-silently, no-fates, no-storing, plain-row, silent-led}
 
 -- a return that is small enough is answered, whatever changes

@@ -19,6 +19,7 @@ use Rattle.service_calls.specs.declared.storing.Done.{Done}
 use Rattle.service_calls.specs.declared.storing.Returned.{Returned}
 use Rattle.service_calls.specs.declared.storing.Returned.TheVariants as returned
 use Rattle.service_events.specs.CollectionCalls.{made, no_prompt}
+use Rattle.service_events.specs.Fates.{fates_of}
 use Rattle.service_events.specs.Plan.{Plan}
 use Rattle.service_events.specs.Run.{AreFates, led}
 use Rattle.service_events.specs.Stored.{StoresOf}
@@ -26,11 +27,6 @@ use Rattle.service_events.specs.Stored.{StoresOf}
 -- there is room for a reply to the caller, and for what is sent after it
 abbrev pub HasRoomToReply : ConnId → List Sent → Rooms → Type 0
 HasRoomToReply caller sends rooms = (reply : Out) → HasRoomFor (record { to = caller; out = reply } ∷ sends) rooms
-
--- how something ended that was perhaps asked for
-abbrev pub fates_of : Option Fate → List Fate
-fates_of None = []
-fates_of (Some fate) = fate ∷ []
 
 -- how what a call asked for ended: a resolve first, and then a storing
 abbrev pub fates_in : Done → List Fate

@@ -1,5 +1,5 @@
 -- How the storings and the resolves of an event ended, and what is true of them if no device fails.
-use Rattle.std.specs.Prelude.{◌≡◌, Bool, false, ◌&&◌, List}
+use Rattle.std.specs.Prelude.{◌≡◌, Bool, false, ◌&&◌, List, [], ◌∷◌, Option, None, Some}
 use Rattle.std.specs.List.{AllByRecursion, list_all}
 use Rattle.service_tables.specs.Aliases.{are_doubtful}
 use Rattle.service_tables.specs.Disk.{DiskState}
@@ -10,6 +10,11 @@ use Rattle.service_events.specs.declared.event.Arrival.{Arrival}
 use Rattle.service_events.specs.declared.event.Event.{Event}
 use Rattle.service_events.specs.declared.event.Event.TheVariants as event
 use Rattle.service_tables.specs.declared.fate.Fate.{Fate}
+
+-- how something ended that was perhaps asked for
+abbrev pub fates_of : Option Fate → List Fate
+fates_of None = []
+fates_of (Some fate) = fate ∷ []
 
 -- the event of a request whose storings ended so
 abbrev pub with_fates : Arrival → List Fate → Event

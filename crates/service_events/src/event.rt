@@ -2,10 +2,11 @@ ghost use Rattle.std.specs.Prelude.{◌≡◌};
 ghost use Rattle.service_events.specs.declared.event.ApplyRefused.TheVariants as ApplyRefused;
 ghost use Rattle.service_events.specs.declared.event.JoinRefused.TheVariants as JoinRefused;
 
+use crate::boxed::Boxed;
+use crate::fates::Fates;
 use kr_base::{Bytes, ConnId, PromptId};
 use kr_items::Items;
 use secret_calls::{Finished, Out, Request, Work};
-use service_tables::Fate;
 use std::alloc::AllocError;
 use thiserror::Error;
 
@@ -28,7 +29,7 @@ pub struct Recorded {
     /// The request.
     pub arrival: Arrival,
     /// How each storing, removal or resolve of a file ended that the request led to, in order.
-    pub fates: Items<Fate>,
+    pub fates: Fates,
 }
 
 /// A key that was derived for a prompt, as the reader of a connection brings it.
@@ -60,7 +61,7 @@ pub struct Derivation {
     /// The moment, in seconds since 1970.
     pub now: u64,
     /// How each storing and each resolve of a file ended that the key led to, in order.
-    pub fates: Items<Fate>,
+    pub fates: Fates,
 }
 
 /// What may happen to the service.
@@ -80,21 +81,44 @@ pub enum Incoming {
     Gone(ConnId),
 }
 
-/// What happened to the service: all that a step of it depends on.
+/// What happened to the service: all that a step of it depends on. What is large is in a box, so that the
+/// many events that are stored are small.
 #[derive(Drop)]
 pub enum Event {
     /// A connection joined, and got this number.
     Connect(ConnId),
     /// A connection asked for something.
-    Arrive(Recorded),
+    Arrive(Boxed<Recorded>),
     /// A key was derived.
-    Derived(Derivation),
+    Derived(Boxed<Derivation>),
     /// A connection asked no more.
     Leave(ConnId),
     /// A connection took what waited for it.
     Take(ConnId),
     /// A connection went.
     Gone(ConnId),
+}
+
+impl Recorded {
+    /// The recorded request with these fates. It takes no memory.
+    pub fn ended(came: Boxed<Recorded>, fates: Fates) -> Boxed<Recorded>
+        ensures { result ≡ record came { fates = fates } }
+    {
+        let mut came = came;
+        came.inner.fates = fates;
+        came
+    }
+}
+
+impl Derivation {
+    /// The recorded key with these fates. It takes no memory.
+    pub fn ended(came: Boxed<Derivation>, fates: Fates) -> Boxed<Derivation>
+        ensures { result ≡ record came { fates = fates } }
+    {
+        let mut came = came;
+        came.inner.fates = fates;
+        came
+    }
 }
 
 /// What a connection that asked is answered at once. Its reply waits for it.

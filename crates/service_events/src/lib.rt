@@ -6,13 +6,17 @@
 //! alike lead to one state if what they asked of the disk ended alike. The code here is the types alone.
 #![tactic(auto)]
 
+mod boxed;
 mod event;
+mod fates;
 mod laws;
 
+pub use boxed::Boxed;
 pub use event::{
     ApplyRefused, Arrival, Arrived, BroughtKey, Derivation, Event, Incoming, JoinRefused, Output,
     Recorded,
 };
+pub use fates::Fates;
 pub use laws::{
     alike_requests_lead_to_one_state, lists_of_events_go_on, outputs_can_wait,
     steps_keep_the_rows_sound,

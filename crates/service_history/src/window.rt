@@ -57,8 +57,8 @@ fn cost_of(event: &Event) -> u64
     ensures { result ≡ cost_of event.now }
 {
     match event {
-        Event::Arrive(came) => EVENT_COST + came.arrival.request.length as u64,
-        Event::Derived(came) => EVENT_COST + came.password.as_slice().len() as u64,
+        Event::Arrive(came) => EVENT_COST + came.get().arrival.request.length as u64,
+        Event::Derived(came) => EVENT_COST + came.get().password.as_slice().len() as u64,
         _ => EVENT_COST,
     }
 }
@@ -69,6 +69,7 @@ fn may_hide(event: &Event) -> bool
 {
     match event {
         Event::Arrive(came) => {
+            let came = came.get();
             let hides = match &came.arrival.request.call {
                 Ok(Call::Lock { .. }) => true,
                 Ok(Call::Answer { .. }) => true,

@@ -1,7 +1,6 @@
 // The event that a derived key was brought, which is recorded by what the key was derived from.
-ghost use Rattle.std.specs.Prelude.{Ok, ◌≡◌, ◌+◌, ◌^◌, ◌++◌, ◌<◌, ◌≤◌, Some, true, IsTrue, IfOk, OnErr, vec_capacity, vec_len};
+ghost use Rattle.std.specs.Prelude.{Ok, ◌≡◌, ◌^◌, ◌<◌, true, IsTrue, IfOk, OnErr};
 ghost use Rattle.service_disk.specs.Making.{AreFree};
-ghost use Rattle.service_tables.specs.declared.fate.Fate.TheVariants as Fate;
 ghost use Rattle.service_events.specs.Derivation.{derived};
 ghost use Rattle.service_events.specs.Fates.{AreFaultless, is_steady};
 ghost use Rattle.service_events.specs.declared.event.Event.TheVariants as Event;
@@ -9,21 +8,18 @@ ghost use Rattle.service_events.specs.Incoming.{IsBroughtBy};
 ghost use Rattle.service_machine.specs.Rows.{disk_of, rows_of};
 ghost use Rattle.service_events.specs.Step.{Fits, IsSalt, step};
 ghost use Rattle.service_events.specs.Stored.{KeepsSlotOrAll, StoresEvent};
-ghost use Rattle.service_calls.specs.Done.{fates_of};
 ghost use Rattle.keyring_text.specs.Fields.{IsBytes};
 ghost use Rattle.service_tables.specs.Connections.{has};
 ghost use Rattle.service_tables.specs.Sound.{IsSound};
 
 use crate::known::known_files;
-use crate::machine::{known_salt, with_fates};
-use crate::{BroughtKey, Derivation, Machine};
+use crate::machine::known_salt;
+use crate::{Boxed, BroughtKey, Derivation, Fates, Machine};
 use keyring_text::known_bytes;
 use kr_base::OutOfMemory;
-use kr_items::Items;
 use kr_outside::Folder;
 use secret_calls::Finished;
 use service_answers::{Settled, settle};
-use service_tables::Fate;
 
 // What the types of a derived key guarantee that is recorded. It does nothing.
 fn known_derivation(came: &Derivation)
@@ -40,19 +36,6 @@ fn known_derivation(came: &Derivation)
     let _iterations = came.iterations;
 }
 
-// A list of fates with one more, if there is one. It takes no memory.
-fn with_fate(fates: Vec<Fate>, fate: Option<Fate>) -> Vec<Fate>
-    requires { vec_len fates + 3 ≤ vec_capacity fates }
-    ensures items { result.items ≡ fates.items ++ fates_of fate }
-    ensures room { vec_len result + 2 ≤ vec_capacity result }
-{
-    let mut fates = fates;
-    if let Some(fate) = fate {
-        fates.push(fate).unwrap();
-    }
-    fates
-}
-
 impl<F: Folder> Machine<F> {
     /// Takes a key that was derived for a prompt, as a connection that is there brought it, and returns it as it is
     /// to be recorded: its prompt goes on if it still waits for the key, and otherwise nothing happens. What that
@@ -60,7 +43,7 @@ impl<F: Folder> Machine<F> {
     ///
     /// Refused with `OutOfMemory` alone; a slot that was made for a new collection by then is kept for the next one
     /// under its stem.
-    pub fn derived(&mut self, brought: BroughtKey) -> Result<Derivation, OutOfMemory>
+    pub fn derived(&mut self, brought: BroughtKey) -> Result<Boxed<Derivation>, OutOfMemory>
         requires there { has brought.conn (rows_of self.old).connections.rows ≡ true }
         requires sound { IsSound (rows_of self.old) }
         requires free { AreFree F.is_honest F.images F.may_leave F.made F.Cell.is_honest
@@ -87,13 +70,9 @@ impl<F: Folder> Machine<F> {
         known_files(&self.tables.disk);
         let BroughtKey { conn, done, now } = brought;
         let Finished { prompt, round, key } = done;
-        let fates = Vec::with_capacity(self.tables.alloc, 3)?;
         let password = key.password().copy()?;
         let salt = key.salt();
         let iterations = key.iterations();
-        let Settled { made, done } = settle(&mut self.tables, conn, prompt, round, key, now)?;
-        let (_, sends, read, fate) = done.into_parts();
-        self.tables.connections.deliver(sends.into_vec());
         let came = Derivation {
             conn,
             prompt,
@@ -102,9 +81,13 @@ impl<F: Folder> Machine<F> {
             salt,
             iterations,
             now,
-            fates: Items::new(with_fates(with_fate(fates, made), read, fate)),
+            fates: Fates::none(),
         };
         known_derivation(&came);
-        Ok(came)
+        let came = Boxed::new(self.tables.alloc, came)?;
+        let Settled { made, done } = settle(&mut self.tables, conn, prompt, round, key, now)?;
+        let (_, sends, read, fate) = done.into_parts();
+        self.tables.connections.deliver(sends.into_vec());
+        Ok(Derivation::ended(came, Fates::of(made, read, fate)))
     }
 }

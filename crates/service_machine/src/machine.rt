@@ -1,4 +1,4 @@
-ghost use Rattle.std.specs.Prelude.{◌≡◌, ◌≢◌, ℕ, List, ◌<◌, ◌≤◌, ◌^◌, ◌++◌, [], Ok, Err, true, false, IsTrue, IfOk, IfSome, OnOk, OnErr, IsErrOf, ◌+◌, vec_capacity, vec_len};
+ghost use Rattle.std.specs.Prelude.{◌≡◌, ◌≢◌, ℕ, List, ◌<◌, ◌^◌, ◌++◌, [], Ok, Err, true, false, IsTrue, IfOk, IfSome, OnOk, OnErr, IsErrOf, ◌+◌};
 ghost use Rattle.kr_base.specs.Attributes.{value_at};
 ghost use Rattle.collection_table.specs.Entries.{rows_of as collections_of};
 ghost use Rattle.service_tables.specs.Aliases.{rows_in};
@@ -12,13 +12,14 @@ ghost use Rattle.service_tables.specs.Opened.{IsOpened, contents_of};
 ghost use Rattle.service_tables.specs.Storing.{Brought};
 ghost use Rattle.service_events.specs.Run.{asked, ran};
 ghost use Rattle.service_disk.specs.Making.{AreFree};
+ghost use Rattle.service_events.specs.declared.event.Event.TheVariants as Event;
 ghost use Rattle.service_events.specs.declared.event.Output.TheVariants as Output;
 ghost use Rattle.service_tables.specs.Sound.{AreSoundContents, IsSound};
 ghost use Rattle.service_events.specs.Step.{step, output_of, brought_by, brought_with, plan_of, row_of, message_of, replies, with_delivered, IsMissing, IsCrowded, CanJoin, HasTypes, IsSalt, IsTypedName, Fits};
 ghost use Rattle.service_events.specs.Stored.{IsPlain, KeepsDisk, SendsNothing, StoresEvent};
-ghost use Rattle.service_calls.specs.Done.{HasRoomToReply, Leads, fates_of};
+ghost use Rattle.service_calls.specs.Done.{HasRoomToReply, Leads};
 
-use crate::{ApplyRefused, Arrival, Arrived, Event, Incoming, Output, Recorded};
+use crate::{ApplyRefused, Arrival, Arrived, Boxed, Event, Fates, Incoming, Output, Recorded};
 use keyring_text::known_bytes;
 use kr_base::{ConnId, OutOfMemory, Stem};
 use kr_items::Items;
@@ -28,8 +29,8 @@ use secret_calls::{AliasName, Body, Call, CallFault, Out, Request, Serial, Work}
 use service_answers::{answer_prompt, password_in, work_of};
 use service_calls::{Answer, Done, Tables, bounded, refused, unstored};
 use service_tables::{
-    Connections, DeskRow, Disk, Fate, OpenRefused, Rows, Sent, known_alias, known_item,
-    known_secret, known_text,
+    Connections, DeskRow, Disk, OpenRefused, Rows, Sent, known_alias, known_item, known_secret,
+    known_text,
 };
 use session_table::SessionTable;
 use std::alloc::Global;
@@ -157,11 +158,8 @@ impl<F: Folder> Machine<F> {
             }
             Incoming::Arrive(arrival) => {
                 self.there(arrival.conn)?;
-                let (work, fates) = self.arrive(&arrival)?;
-                Ok((
-                    Output::Arrived(Arrived { work }),
-                    Event::Arrive(Recorded { arrival, fates }),
-                ))
+                let (work, came) = self.recorded(arrival)?;
+                Ok((Output::Arrived(Arrived { work }), Event::Arrive(came)))
             }
             Incoming::Derived(brought) => {
                 self.there(brought.conn)?;
@@ -225,11 +223,38 @@ impl<F: Folder> Machine<F> {
         self.tables.connections.join()
     }
 
+    // Answers the request of a connection that is there, as `arrive` does, and returns with the key that is to be
+    // derived the request as it is to be recorded. The memory for that is taken before the first call of a device.
+    fn recorded(&mut self, arrival: Arrival) -> Result<(Option<Work>, Boxed<Recorded>), OutOfMemory>
+        requires { has arrival.conn (rows_of self.old).connections.rows ≡ true }
+        ensures recorded { IfOk result (λ done. done.1.arrival ≡ arrival) }
+        ensures fits { IfOk result (λ done. Fits (rows_of self.old) (Event.Arrive done.1)) }
+        ensures stepped { IfOk result (λ done.
+            rows_of self.new ≡ step (rows_of self.old) (Event.Arrive done.1)) }
+        ensures work { IfOk result (λ done. Output.Arrived (record { work = done.0 })
+            ≡ output_of (rows_of self.old) (Event.Arrive done.1)) }
+        ensures disk { IfOk result (λ done. StoresEvent F.is_honest F.is_steady F.faults F.images
+            F.may_leave F.made F.Cell.is_honest F.Cell.is_steady
+            F.Cell.faults F.Cell.moment F.Cell.left_since F.Cell.may_leave
+            (Event.Arrive done.1) (rows_of self.old) (disk_of self.old) (disk_of self.new)) }
+        ensures faultless { IsTrue (is_steady F.is_steady F.Cell.is_steady (disk_of self.old))
+            → IfOk result (λ done. AreFaultless done.1.fates) }
+        ensures steady { is_steady F.is_steady F.Cell.is_steady (disk_of self.new)
+            ≡ is_steady F.is_steady F.Cell.is_steady (disk_of self.old) }
+        ensures unchanged { OnErr result ((rows_of self.new ≡ rows_of self.old)
+            × (disk_of self.new ≡ disk_of self.old)) }
+    {
+        let fates = Fates::none();
+        let came = Boxed::new(self.tables.alloc, Recorded { arrival, fates })?;
+        let (work, fates) = self.arrive(&came.get().arrival)?;
+        Ok((work, Recorded::ended(came, fates)))
+    }
+
     /// Answers the request of a connection that is there; the reply waits for it, and then the signals that the
     /// request sends wait for their connections. It returns the key that is to be derived, if the request is an
     /// answer that was taken, and how each storing and each resolve of a file ended that the request asked for.
     /// All memory is taken before the first call of a device, and before anything changes.
-    pub fn arrive(&mut self, arrival: &Arrival) -> Result<(Option<Work>, Items<Fate>), OutOfMemory>
+    pub fn arrive(&mut self, arrival: &Arrival) -> Result<(Option<Work>, Fates), OutOfMemory>
         requires { has arrival.now.conn (rows_of self.old).connections.rows ≡ true }
         ensures fits { IfOk result (λ done.
             Fits (rows_of self.old) (with_fates arrival.entry.now done.1)) }
@@ -251,12 +276,11 @@ impl<F: Folder> Machine<F> {
     {
         known_request(arrival);
         self.tables.connections.reserve(arrival.conn, 1)?;
-        let fates = Vec::with_capacity(self.tables.alloc, 2)?;
         let password = password_in(&arrival.request)?;
         let (answer, sends, read, fate) = self.call(arrival)?.into_parts();
         let work = work_of(&self.tables, &arrival.request, &answer, password);
         self.reply(arrival.conn, &arrival.request, answer, sends);
-        Ok((work, Items::new(with_fates(fates, read, fate))))
+        Ok((work, Fates::of(None, read, fate)))
     }
 
     // The reply to a request waits for its connection, if it is wanted, and what is sent after it waits. It
@@ -484,21 +508,6 @@ impl<F: Folder> Machine<F> {
             prompts: self.tables.prompts.rows()?,
         })
     }
-}
-
-/// How a resolve and a storing ended, as far as they were asked for, after those in a list. It takes no memory.
-pub fn with_fates(fates: Vec<Fate>, read: Option<Fate>, fate: Option<Fate>) -> Vec<Fate>
-    requires room { vec_len fates + 2 ≤ vec_capacity fates }
-    ensures { result.items ≡ fates.items ++ (fates_of read ++ fates_of fate) }
-{
-    let mut fates = fates;
-    if let Some(read) = read {
-        fates.push(read).unwrap();
-    }
-    if let Some(fate) = fate {
-        fates.push(fate).unwrap();
-    }
-    fates
 }
 
 // What the types of a request's moment, of its salt and of its call's arguments guarantee. It does nothing.

@@ -7,7 +7,7 @@ use crate::members::arrival;
 use kr_base::{Bytes, ConnId};
 use kr_memory_disk::{MemoryFolder, SlotPlan};
 use secret_calls::Taken;
-use service_machine::Event;
+use service_machine::{Event, Fates};
 use service_tables::Fate;
 use std::alloc::Global;
 use std::process::Abort;
@@ -198,13 +198,16 @@ fn fate_told(fate: Fate) -> &'static str {
 }
 
 // The fates of a recorded request, one after the other.
-fn fates_told(alloc: Global, fates: &[Fate]) -> Result<String, Fail> {
+fn fates_told(alloc: Global, fates: &Fates) -> Result<String, Fail> {
+    let (made, read, stored) = fates.parts();
     let mut told = String::new(alloc);
-    for fate in fates {
-        if !told.is_empty() {
-            told.push_str(" ")?;
+    for fate in [made, read, stored] {
+        if let Some(fate) = fate {
+            if !told.is_empty() {
+                told.push_str(" ")?;
+            }
+            told.push_str(fate_told(fate))?;
         }
-        told.push_str(fate_told(*fate))?;
     }
     Ok(told)
 }
@@ -212,7 +215,7 @@ fn fates_told(alloc: Global, fates: &[Fate]) -> Result<String, Fail> {
 // The fates of the last event that a service recorded.
 fn last_fates(alloc: Global, service: &Service) -> Result<String, Fail> {
     match service.events().last() {
-        Some(Event::Arrive(recorded)) => fates_told(alloc, recorded.fates.as_slice()),
+        Some(Event::Arrive(recorded)) => fates_told(alloc, &recorded.get().fates),
         _ => joined(alloc, &["no request"]),
     }
 }

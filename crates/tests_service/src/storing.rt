@@ -123,7 +123,7 @@ const ASKED: &str = "\
 // Whether an event stored nothing.
 fn stored_nothing(event: &Event) -> bool {
     match event {
-        Event::Arrive(recorded) => recorded.fates.is_empty(),
+        Event::Arrive(recorded) => recorded.get().fates.len() == 0,
         _ => true,
     }
 }

@@ -47,7 +47,7 @@ fn is_ping(request: &Request, serial: u64) -> bool {
 fn is_call(event: &Event, place: u64) -> bool {
     match event {
         Event::Connect(_) => place == 0,
-        Event::Arrive(came) => place % 2 == 1 && is_ping(&came.arrival.request, place / 2 + 1),
+        Event::Arrive(came) => place % 2 == 1 && is_ping(&came.get().arrival.request, place / 2 + 1),
         Event::Take(_) => place % 2 == 0 && place > 0,
         Event::Leave(_) => place == EVENTS - 1,
         _ => false,
@@ -57,8 +57,8 @@ fn is_call(event: &Event, place: u64) -> bool {
 // The connection of the event.
 fn conn_of(event: &Event) -> ConnId {
     match event {
-        Event::Arrive(came) => came.arrival.conn,
-        Event::Derived(came) => came.conn,
+        Event::Arrive(came) => came.get().arrival.conn,
+        Event::Derived(came) => came.get().conn,
         Event::Connect(conn) | Event::Leave(conn) | Event::Take(conn) | Event::Gone(conn) => *conn,
     }
 }
