@@ -1,4 +1,4 @@
-use Rattle.std.proofs.Common.{◌≡◌, ◌++◌, ◌∷◌, ◌∙◌, ap, map, refl, subst, sym, append_assoc}
+use Rattle.std.proofs.Common.{◌++◌, ◌∙◌, ap, map, refl, subst, sym, append_assoc}
 use Rattle.std.proofs.lemmas.List.{append-nil}
 use Rattle.std.proofs.lemmas.Map.Keys.{sorted_from_strictly_increasing}
 use Rattle.collection_store.specs.Preparing.{looked, lent_at}
