@@ -21,7 +21,9 @@ use Rattle.service_events.specs.Fates.{IsCertain}
 use Rattle.service_events.specs.Run.{Ran, ran}
 use Rattle.service_events.specs.Step.{step, AreAlike, Fits, brought_with, plan_of, served, work_of}
 use Rattle.service_events.specs.Replay.{replay, Legal}
-use Rattle.service_events.proofs.EventLemmas.{fates_alike, key_fates, moment-alike, step_alike, step_certain}
+use Rattle.service_events.proofs.AlikeLemmas.{moment-alike, step_alike}
+use Rattle.service_events.proofs.CertainLemmas.{step_certain}
+use Rattle.service_events.proofs.FateLemmas.{fates_alike, key_fates}
 use Rattle.service_events.proofs.ReplayLemmas.{replay-append}
 use Rattle.connection_worker.specs.Arrivals.{calls_in, AreRequests}
 use Rattle.connection_worker.specs.Handshakes.{most_bytes}

@@ -1,8 +1,11 @@
 pub mod AdvanceLemmas
+pub mod AlikeLemmas
 pub mod AllowedLemmas
 pub mod AloneLemmas
+pub mod CertainLemmas
 pub mod DerivedMayLemmas
 pub mod EventLemmas
+pub mod FateLemmas
 pub mod GoneOnLemmas
 pub mod MadeLemmas
 pub mod OpenedLemmas

@@ -161,6 +161,11 @@ fates-none caller brought (After changes next) fates state quiet are = absurd qu
 fates-none caller brought (Asks demand next) fates state quiet are = absurd quiet
 fates-none caller brought (Opens stem terms next) fates state quiet are = absurd quiet
 
+-- no fates are the empty list
+pub none-is : (fates : List Fate) → AreNone fates → fates ≡ []
+none-is [] none = refl
+none-is (fate ∷ fates) none = absurd none
+
 -- it leads to the same whatever the request brings
 pub ended-alike : (caller : ConnId) (one other : Brought) (plan : Plan) (fates : List Fate) (state : State) → EndsAtOnce plan → led caller one plan fates state ≡ led caller other plan fates state
 ended-alike caller one other (Ends answer []) fates state quiet = refl

@@ -35,7 +35,7 @@ pub fn outputs_can_wait()
 
 /// Two requests that are alike lead from one state to one state if their storings ended alike; and these
 /// do if no device failed and no file is in doubt, which then stays so. The same holds of a derived key.
-#[tactic(auto, using(crate::proofs::EventLemmas::step_alike, crate::proofs::EventLemmas::fates_alike, crate::proofs::EventLemmas::key_fates, crate::proofs::EventLemmas::step_certain))]
+#[tactic(auto, using(crate::proofs::AlikeLemmas::step_alike, crate::proofs::FateLemmas::fates_alike, crate::proofs::FateLemmas::key_fates, crate::proofs::CertainLemmas::step_certain))]
 pub fn alike_requests_lead_to_one_state()
     ensures step { (state : State) (one other : Recorded) → AreAlike one.arrival other.arrival
         → one.fates ≡ other.fates
