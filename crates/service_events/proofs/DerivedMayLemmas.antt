@@ -1,5 +1,5 @@
 -- The plan of a derived key may be run in a sound state.
-use Rattle.std.proofs.Common.{◌≡◌, ℕ, ◌+◌, ◌<◌, ◌≤◌, ◌⊎◌, Bool, true, false, cond, nat_le, List, [], ◌∷◌, ◌++◌, Option, Some, None, refl, sym, ap, subst, ◌∙◌, arith, inl, inr}
+use Rattle.std.proofs.Common.{◌≡◌, ℕ, ◌+◌, ◌≤◌, ◌⊎◌, Bool, true, false, cond, nat_le, List, [], ◌∷◌, ◌++◌, Option, Some, None, refl, sym, ap, subst, ◌∙◌, arith, inl, inr}
 use Rattle.std.specs.Option.{option_map}
 use Rattle.std.proofs.lemmas.Bool.{eqb-true}
 use Rattle.kr_base.specs.declared.ids.ConnId.{ConnId}
@@ -7,6 +7,7 @@ use Rattle.kr_base.specs.declared.ids.PromptId.{PromptId}
 use Rattle.kr_base.specs.Stem.{IsStem}
 use Rattle.kr_names.specs.Path.{IsAliasName}
 use Rattle.stem_choice.specs.Choice.{chosen}
+use Rattle.stem_choice.proofs.ChoiceLemmas.{IsStem-chosen}
 use Rattle.prompt_state.specs.Prompts.{IsStage, changed, is_deriving_in, is_made, last_round, next_round, one_more, round_of, row_at}
 use Rattle.prompt_state.specs.declared.row.PromptKind.{PromptKind}
 use Rattle.prompt_state.specs.declared.row.PromptKind.TheVariants as kind
@@ -33,7 +34,6 @@ use Rattle.service_events.specs.Step.{AreByteFiles}
 use Rattle.service_events.proofs.AdvanceLemmas.{KeepsPrompt, row-changed}
 use Rattle.service_events.proofs.AllowedLemmas.{AreAllowed, HasMore, IsAllowed, MayRun, some-same}
 use Rattle.service_events.proofs.RowsMayLemmas.{settled-may}
-use Rattle.service_events.proofs.StemLemmas.{chosen-stem}
 
 -- ---- changes after a plan
 
@@ -142,7 +142,7 @@ module _ (caller : ConnId) (brought : Brought) (prompt : PromptId) where
   made-may label alias salt terms fates state text typed =
       let stem = chosen label state.used in
       let pass : (b : Bool) → MayRun caller brought (cond b (Asks (Make stem label terms) (making_ended prompt alias stem)) (dismissing prompt)) fates state =
-      elim [ true ↦ asks-made label alias stem terms fates state text typed (chosen-stem label state.used) | false ↦ ((tt, tt), tt) ] in
+      elim [ true ↦ asks-made label alias stem terms fates state text typed (IsStem-chosen label state.used) | false ↦ ((tt, tt), tt) ] in
       pass (can_make label salt terms (asked caller brought state))
 
   -- ---- either

@@ -1,31 +1,22 @@
--- The stem that a new collection gets is one, and what becomes of the collections leaves their stems among those that are used.
-use Rattle.std.proofs.Common.{◌≡◌, ℕ, zero, suc, ◌+◌, ◌/◌, ◌%◌, ◌<◌, ◌≤◌, ◌==◌, ◌||◌, nat_lt, ⊎_elim, Bool, true, false, cond, IsTrue, List, [], ◌∷◌, ◌++◌, filter, length, get_or, map, take, decimal, refl, ap, ◌∙◌, arith, length-append, length-take}
-use Rattle.std.specs.Char.{is_ascii_alphanumeric}
+-- What becomes of the collections leaves their stems among those that are used.
+use Rattle.std.proofs.Common.{◌≡◌, ℕ, ◌||◌, ⊎_elim, Bool, true, false, cond, IsTrue, List, [], ◌∷◌, ◌++◌, filter, refl, ap, ◌∙◌}
 use Rattle.std.specs.Cmp.Lexicographic.{slice_cmp, nat_list_cmp_total}
-use Rattle.std.specs.Fmt.{digits, digits_onto, digit_glyph}
-use Rattle.std.specs.List.{AllByRecursion, All}
+use Rattle.std.specs.List.{AllByRecursion}
 use Rattle.std.specs.declared.cmp.Ordering.{Ordering}
 use Rattle.std.specs.declared.cmp.Ordering.TheVariants.{Less, Equal, Greater}
 use Rattle.std.specs.List.Sorted.{IsStrictlySortedBy}
 use Rattle.std.specs.Ordering.{is_eq, is_lt, nat_cmp, ordering_reverse}
 use Rattle.std.proofs.lemmas.Bool.{cases_Bool}
-use Rattle.std.proofs.lemmas.Bool.Decides.{nat_tests}
 use Rattle.std.proofs.lemmas.Cmp.{tied_itself}
 use Rattle.std.proofs.lemmas.List.Folds.{list_any-append}
 use Rattle.std.proofs.lemmas.List.Kept.{IsStrictlySortedBy-filter}
 use Rattle.std.proofs.lemmas.Map.Lookups.{exact_bytes}
-use Rattle.std.proofs.lemmas.List.Elements.{All-contains, All-from_recursion}
-use Rattle.std.proofs.lemmas.Str.{IsUtf8-from_ascii}
-use Rattle.std.proofs.lemmas.Str.Ascii.{IsAscii-from_all}
 use Rattle.kr_base.specs.Attributes.{is_name}
-use Rattle.kr_base.specs.Stem.{IsStem}
-use Rattle.kr_base.specs.Text.{IsText}
 use Rattle.kr_base.proofs.OrderedLemmas.{is_less}
 use Rattle.collection_table.specs.Entries.{changed, inserted, without}
 use Rattle.collection_table.specs.Rows.{CollectionRow, Rows, perhaps_removed}
 use Rattle.replace_slot.specs.declared.images.Found.{Found}
 use Rattle.replace_slot.specs.declared.images.Found.TheVariants as image
-use Rattle.stem_choice.specs.Choice.{base_of, chosen, free_from, label_limit, numbered, or_keyring, stem_byte}
 use Rattle.stem_choice.specs.UsedStems.{AreInOrder, is_used, with_stem}
 use Rattle.service_disk.specs.Making.{Plan, perhaps_made, rows_made}
 use Rattle.service_disk.specs.Resolving.{is_file, row_found, rows_found, rows_resolved}
@@ -35,130 +26,6 @@ use Rattle.service_tables.specs.Storing.{rows_erased}
 use Rattle.service_tables.specs.declared.fate.Fate.{Fate}
 use Rattle.service_tables.specs.declared.fate.Fate.TheVariants as fate
 use Rattle.service_tables.proofs.EachLemmas.{each-append, each-filter, each-weaker}
-
--- ---- a candidate is made of letters, digits and `_`, whatever its number is
-
-abbrev IsNameByte : ℕ → Type 0
-IsNameByte byte = (is_ascii_alphanumeric byte || (byte == 95)) ≡ true
-
-abbrev AreNameBytes : List ℕ → Type 0
-AreNameBytes bytes = AllByRecursion IsNameByte bytes
-
-stem_byte-is : (byte : ℕ) → IsNameByte (stem_byte byte)
-stem_byte-is byte = ⊎_elim
-    (λ plain. rw plain (rw plain refl))
-    (λ other. rw other refl)
-    (cases_Bool (is_ascii_alphanumeric byte))
-
-mapped : (label : List ℕ) → AreNameBytes (map stem_byte label)
-mapped [] = tt
-mapped (byte ∷ label) = (stem_byte-is byte, mapped label)
-
-taken : (n : ℕ) (bytes : List ℕ) → AreNameBytes bytes → AreNameBytes (take n bytes)
-taken zero bytes all = tt
-taken (suc n) [] all = tt
-taken (suc n) (byte ∷ bytes) (is, all) = (is, taken n bytes all)
-
-or_keyring-are : (bytes : List ℕ) → AreNameBytes bytes → AreNameBytes (or_keyring bytes)
-or_keyring-are [] all = (refl, (refl, (refl, (refl, (refl, (refl, (refl, tt)))))))
-or_keyring-are (byte ∷ bytes) all = all
-
-base-are : (label : List ℕ) → AreNameBytes (base_of label)
-base-are label = or_keyring-are (take label_limit (map stem_byte label)) (taken label_limit (map stem_byte label) (mapped label))
-
-digit_is : (n : ℕ) → n < 10 → IsNameByte (48 + n)
-digit_is n small = grind (arith, nat_tests)
-
-glyph-is : (n : ℕ) → n < 10 → IsNameByte (digit_glyph false n)
-glyph-is n small =
-    let test : nat_lt n 10 ≡ true = grind (arith, nat_tests) in
-    rw test (digit_is n small)
-
-onto-are : (k n : ℕ) (bytes : List ℕ) → AreNameBytes bytes → AreNameBytes (digits_onto k 10 false n bytes)
-onto-are zero n bytes all = all
-onto-are (suc k) n bytes all =
-    let byte = digit_glyph false (n % 10) in
-    let here : AreNameBytes (byte ∷ bytes) = (glyph-is (n % 10) (omega arith), all) in
-    let pass : (b : Bool) → AreNameBytes (cond b (byte ∷ bytes) (digits_onto k 10 false (n / 10) (byte ∷ bytes))) =
-    elim [ true ↦ here | false ↦ onto-are k (n / 10) (byte ∷ bytes) here ] in
-    pass (n / 10 == 0)
-
-onto-short : (k n : ℕ) (bytes : List ℕ) → length (digits_onto k 10 false n bytes) ≤ k + length bytes
-onto-short zero n bytes = omega arith
-onto-short (suc k) n bytes =
-    let byte = digit_glyph false (n % 10) in
-    let pass : (b : Bool) → length (cond b (byte ∷ bytes) (digits_onto k 10 false (n / 10) (byte ∷ bytes))) ≤ suc k + length bytes =
-    elim [ true ↦ omega arith | false ↦ omega (arith, onto-short k (n / 10) (byte ∷ bytes)) ] in
-    pass (n / 10 == 0)
-
-digits-are : (n : ℕ) → AreNameBytes (digits 10 false n)
-unfolding digits
-digits-are n = onto-are 64 n [] tt
-
-digits-short : (n : ℕ) → length (digits 10 false n) ≤ 64
-unfolding digits
-digits-short n = omega (arith, onto-short 64 n [])
-
-numbered-are : (base : List ℕ) (number : ℕ) → AreNameBytes base → AreNameBytes (numbered base number)
-numbered-are base number all =
-    let pass : (b : Bool) → AreNameBytes (cond b base (base ++ 95 ∷ decimal number)) =
-    elim [ true ↦ all | false ↦ each-append IsNameByte base (95 ∷ decimal number) all (refl, digits-are number) ] in
-    pass (number == 1)
-
--- ---- so it is a stem
-
-small : (byte : ℕ) → IsNameByte byte → byte < 128
-small byte is = grind (arith, nat_tests)
-
-text_of_name_bytes : (bytes : List ℕ) → All IsNameByte bytes → IsText bytes
-text_of_name_bytes bytes all = record {
-  utf8 = IsUtf8-from_ascii bytes (IsAscii-from_all bytes (λ k d lt. small (get_or bytes k d) (all k d lt)));
-  no_zero = λ zero. (let test : false ≡ true = All-contains IsNameByte bytes 0 all zero in cc);
-}
-
-base-some : (bytes : List ℕ) → 0 < length (or_keyring bytes)
-base-some [] = omega arith
-base-some (byte ∷ bytes) = omega arith
-
-base-short : (bytes : List ℕ) → length bytes ≤ 64 → length (or_keyring bytes) ≤ 64
-base-short [] short = omega arith
-base-short (byte ∷ bytes) short = short
-
-numbered-some : (base : List ℕ) (number : ℕ) → 0 < length base → 0 < length (numbered base number)
-numbered-some base number some =
-    let pass : (b : Bool) → 0 < length (cond b base (base ++ 95 ∷ decimal number)) =
-    elim [ true ↦ some | false ↦ omega (arith, length-append base (95 ∷ decimal number)) ] in
-    pass (number == 1)
-
-numbered-short : (base : List ℕ) (number : ℕ) → length base ≤ 64 → length (numbered base number) ≤ 243
-numbered-short base number short =
-    let pass : (b : Bool) → length (cond b base (base ++ 95 ∷ decimal number)) ≤ 243 =
-    elim [ true ↦ omega arith | false ↦ omega (arith, length-append base (95 ∷ decimal number), digits-short number) ] in
-    pass (number == 1)
-
-IsStem-candidate : (label : List ℕ) (number : ℕ) → IsStem (numbered (base_of label) number)
-IsStem-candidate label number =
-    let cut = take label_limit (map stem_byte label) in
-    let are : AreNameBytes (numbered (base_of label) number) = numbered-are (base_of label) number (base-are label) in
-    let all : All IsNameByte (numbered (base_of label) number) = All-from_recursion IsNameByte (numbered (base_of label) number) are in
-    record {
-      text = text_of_name_bytes (numbered (base_of label) number) all;
-      some = numbered-some (base_of label) number (base-some cut);
-      fits = numbered-short (base_of label) number (base-short cut (omega (arith, length-take 64 (map stem_byte label))));
-      no_slash = λ slash. (let test : false ≡ true = All-contains IsNameByte (numbered (base_of label) number) 47 all slash in cc);
-    }
-
-free_from-is : (label : List ℕ) (used : List (List ℕ)) (number more : ℕ) → IsStem (free_from (base_of label) used number more)
-free_from-is label used number zero = IsStem-candidate label number
-free_from-is label used number (suc more) =
-    let pass : (b : Bool) → IsStem (cond b (free_from (base_of label) used (number + 1) more) (numbered (base_of label) number)) =
-    elim [ true ↦ free_from-is label used (number + 1) more | false ↦ IsStem-candidate label number ] in
-    pass (is_used (numbered (base_of label) number) used)
-
--- the stem that a new collection gets, whatever stems are used
-pub chosen-stem : (label : List ℕ) (used : List (List ℕ)) → IsStem (chosen label used)
-unfolding chosen
-chosen-stem label used = free_from-is label used 1 (length used)
 
 -- ---- the stems of the collections are used
 
