@@ -1,5 +1,5 @@
 -- The collections stay sound once the file of one of them was read again, and once one was made.
-use Rattle.std.proofs.Common.{◌≡◌, ℕ, Bool, true, false, cond, IfSome, List, [], ◌∷◌, ◌++◌, filter, Option, Some, None}
+use Rattle.std.proofs.Common.{ℕ, Bool, true, false, cond, IfSome, List, [], ◌∷◌, filter, Option, Some, None}
 use Rattle.std.specs.Cmp.Lexicographic.{slice_cmp}
 use Rattle.std.specs.List.{AllByRecursion}
 use Rattle.std.specs.Ordering.{is_lt, nat_cmp}

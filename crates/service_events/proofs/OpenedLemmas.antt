@@ -1,5 +1,5 @@
 -- What a file opens to has its types, if the file consists of bytes. So the collections stay sound once one of them is unlocked.
-use Rattle.std.proofs.Common.{◌≡◌, ℕ, zero, suc, ◌<◌, ◌/◌, ◌%◌, Bool, true, false, codes, cond, IfSome, List, [], ◌∷◌, ◌++◌, drop, length, take, Option, Some, None, Result, Ok, Err, refl, sym, ap, subst, ◌∙◌, arith, w32}
+use Rattle.std.proofs.Common.{◌≡◌, ℕ, zero, suc, ◌<◌, ◌/◌, Bool, true, false, codes, cond, IfSome, List, [], ◌∷◌, ◌++◌, drop, length, take, Option, Some, None, Result, Ok, Err, refl, sym, ap, subst, ◌∙◌, arith, w32}
 use Rattle.std.specs.Int.{to_be_bytes}
 use Rattle.std.specs.List.{AllByRecursion, slice_get, zip}
 use Rattle.std.specs.Option.{option_or}

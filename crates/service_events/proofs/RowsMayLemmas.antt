@@ -53,7 +53,7 @@ use Rattle.service_events.specs.PromptCalls.{advance, first_advance, target_chan
 use Rattle.service_events.specs.Run.{asked, demanded, performed, secret_returned}
 use Rattle.service_events.specs.ServiceCalls.{answered_if_small, creating, is_plain, is_small, lock, locks, get_secrets, next_prompt, no_collection, there_already, unlocking, with_new_prompt}
 use Rattle.service_events.specs.SessionCalls.{with_session}
-use Rattle.service_events.specs.Step.{HasTypes, IsSalt, IsTypedName, plan_of, value_in, finished}
+use Rattle.service_events.specs.Step.{HasTypes, IsSalt, IsTypedName, plan_of, value_in}
 use Rattle.service_tables.specs.Storing.{AreEditTypes, Brought, Edit, Add_item, Set_secret, Remove_item, storable_edit}
 use Rattle.service_tables.specs.declared.fate.Fate.{Fate}
 use Rattle.service_tables.specs.declared.fate.Fate.TheVariants as fate

@@ -1,5 +1,5 @@
 -- Each event keeps a sound state sound.
-use Rattle.std.proofs.Common.{◌≡◌, ◌+◌, ◌^◌, ◌<◌, ◌≤◌, ◌⊎◌, ◌==◌, Bool, true, false, ◌&&◌, cond, List, Result, Ok, Err, [], ◌∷◌, ◌++◌, refl, ◌∙◌, arith}
+use Rattle.std.proofs.Common.{◌≡◌, Bool, true, false, cond, List, Result, Ok, Err, [], ◌∷◌, refl, ◌∙◌, arith}
 use Rattle.std.specs.List.{AllByRecursion}
 use Rattle.kr_base.specs.declared.ids.ConnId.{ConnId}
 use Rattle.secret_calls.specs.declared.call.Request.{Request}
@@ -14,9 +14,8 @@ use Rattle.service_events.specs.declared.event.Event.TheVariants as event
 use Rattle.service_tables.specs.Connections.{new_row, joined, has, changed, left, emptied, size_of, with_out}
 use Rattle.service_tables.specs.declared.rows.Sent.{Sent}
 use Rattle.service_events.specs.declared.event.Recorded.{Recorded}
-use Rattle.service_tables.specs.Objects.{once}
 use Rattle.service_tables.specs.Opened.{Contents, opened_state}
-use Rattle.service_events.specs.Run.{asked, run, limited}
+use Rattle.service_events.specs.Run.{asked, run}
 use Rattle.service_events.specs.Step.{replies, with_rows, with_delivered, brought_by, message_of, served, put_out, puts_out, step, Fits, FitsRequest, finished}
 use Rattle.service_events.specs.Replay.{replay, Legal}
 use Rattle.service_tables.specs.Sound.{CanWait, WaitsWell, AreSoundContents, IsSound}

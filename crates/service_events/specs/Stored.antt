@@ -7,7 +7,6 @@ use Rattle.secret_calls.specs.declared.call.Call.TheVariants as call
 use Rattle.secret_calls.specs.declared.call.CallFault.{CallFault}
 use Rattle.service_disk.specs.Making.{KeepsSlot, MakesAt}
 use Rattle.service_tables.specs.declared.fate.Fate.{Fate}
-use Rattle.service_tables.specs.declared.fate.Fate.TheVariants as fate
 use Rattle.service_tables.specs.Disk.{DiskState}
 use Rattle.service_tables.specs.Opened.{Contents, contents_of}
 use Rattle.service_tables.specs.Slots.{StoresAliases, StoresAt}
