@@ -313,7 +313,7 @@ module _ {F S : Type 0} (folder_honest folder_steady : F → Bool) (folder_fault
     only : fates_in done ≡ fates_of done.fate
     only = ap (λ r. fates_of r ++ fates_of done.fate) none
 
-    -- if what was found goes on so
+    -- if what was found continues so
     goes-on : once_read next read ≡ After [] next → IsResolve read → To (Asks (Read_collection stem) (once_read next)) before after old new (record { answer = done.answer; sends = done.sends; read = Some read; fate = done.fate })
     goes-on goes kind = record {
       answer = leads.answer ∙ ap (λ f. (led caller brought (after-it read) f (reread read)).answer) only ∙ ap (λ (r : _). r.answer) (whole (fates_of done.fate))

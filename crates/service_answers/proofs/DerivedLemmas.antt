@@ -113,7 +113,7 @@ module _ (key : Inputs) where
 
 -- ---- a prompt whose wrong answers are counted
 
--- a row that changes but for its stage
+-- a row that changes except for its stage
 module _ (prompt : PromptId) (f : PromptRow → PromptRow) (state : Prompts) (keeps : KeepsPrompt f) where
   pub there-changed : is_some (row_at prompt state) ≡ true → is_some (row_at prompt (prompts.changed prompt f state)) ≡ true
   there-changed there =
@@ -347,7 +347,7 @@ module _ {F S : Type 0} (folder_honest folder_steady : F → Bool) (folder_fault
   pub settles-as : (plan other : Plan) (settled : Settled) → plan ≡ other → Settles-in other settled → Settles-in plan settled
   settles-as plan other settled same its = subst (λ p. Settles-in p settled) (sym same) its
 
-  -- one that makes a collection goes on by how that ended
+  -- one that makes a collection continues by how that ended
   module _ (prompt : PromptId) (alias stem label : List ℕ) (terms : KeyTerms) (middle : State) (mid : DiskState F S) where
     abbrev Made-plan : Plan
     Made-plan = Asks (Make stem label terms) (making_ended prompt alias stem)

@@ -145,7 +145,7 @@ given-none caller brought prompt alias stem state why =
 
 module _ {F S : Type 0} (folder_honest folder_steady : F → Bool) (folder_faults : F → ℕ) (images : F → List ℕ → Image) (folder_leaves : F → List ℕ → Image → Type 0) (names_made : F → List (List ℕ)) (is_honest is_steady : S → Bool) (faults moment : S → ℕ) (left_since : S → ℕ → Image → Type 0) (may_leave : S → Image → Type 0) (caller : ConnId) (brought : Brought)
     (prompt : PromptId) (alias stem : List ℕ) (before after : State) (sends : List Sent) where
-  -- what this led to of which no one is told an answer
+  -- what this led to, of which no one gets an answer
   abbrev Quietly-in : DiskState F S → DiskState F S → Plan → Option Fate → Option Fate → Type 0
   Quietly-in old new plan read some =
       Settles folder_honest folder_steady folder_faults images folder_leaves names_made is_honest is_steady faults moment left_since may_leave caller brought plan before after old new

@@ -21,7 +21,7 @@ settled_fates settled = fates_of settled.made ++ fates_in settled.done
 module _ {F S : Type 0} (folder_honest folder_steady : F → Bool) (folder_faults : F → ℕ) (images : F → List ℕ → Image)
     (folder_leaves : F → List ℕ → Image → Type 0) (names_made : F → List (List ℕ)) (is_honest is_steady : S → Bool) (faults moment : S → ℕ)
     (left_since : S → ℕ → Image → Type 0) (may_leave : S → Image → Type 0) where
-  -- What a derived key leads to, of which the caller is told nothing: its plan ends with an empty return, which no one is sent.
+  -- What a derived key leads to, of which the caller gets no answer: its plan ends with an empty return, which no one is sent.
   pub record Settles (caller : ConnId) (brought : Brought) (plan : Plan) (before after : State) (old new : DiskState F S) (settled : Settled) : Type 0 where
     pub state : after ≡ (led caller brought plan (settled_fates settled) before).state
     pub sends : settled.done.sends ≡ (led caller brought plan (settled_fates settled) before).sends

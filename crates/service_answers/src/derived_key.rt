@@ -124,7 +124,7 @@ fn are_terms(salt: &[u8; 8], key: &Derived) -> bool
     key.salt() == *salt && key.iterations() == NEW_ITERATIONS
 }
 
-/// Performs what a derived key leads to: its prompt goes on if it still waits for the key, and otherwise nothing happens.
+/// Performs what a derived key leads to: its prompt continues if it still waits for the key, and otherwise nothing happens.
 /// Room is made for what is sent. All memory is taken before the first call of a device.
 ///
 /// Refused with `OutOfMemory` alone; a slot that was made for a new collection by then is kept for the next one under

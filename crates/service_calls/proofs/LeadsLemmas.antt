@@ -1,4 +1,4 @@
--- What a call leads to, by how its plan goes on.
+-- What a call leads to, by how its plan continues.
 use Rattle.std.proofs.Common.{◌≡◌, ℕ, ◌^◌, ◌<◌, ◌≤◌, ◌==◌, ◌⊎◌, Bool, true, false, cond, nat_le, IfOk, List, [], ◌∷◌, ◌++◌, length, Option, Some, None, Result, Ok, Err, refl, sym, ap, subst, ◌∙◌, arith, inl, inr}
 use Rattle.std.proofs.lemmas.Bool.{le-leb, leb-true}
 use Rattle.kr_base.specs.declared.ids.ConnId.{ConnId}
@@ -137,7 +137,7 @@ module _ {F S : Type 0} (folder_honest folder_steady : F → Bool) (folder_fault
     only : fates_in done ≡ fates_of done.fate
     only = ap (λ r. fates_of r ++ fates_of done.fate) none
 
-    -- if what was found goes on so
+    -- if what was found continues so
     found-leads : once_read (alias_stored alias stem) read ≡ After [] (alias_stored alias stem) → IsResolve read
         → Leads folder_honest folder_steady folder_faults images folder_leaves names_made is_honest is_steady faults moment left_since may_leave caller brought (Asks Read_aliases (once_read (alias_stored alias stem))) before after old new
         (record { answer = done.answer; sends = done.sends; read = Some read; fate = done.fate })

@@ -1,4 +1,4 @@
--- How the storings and the resolves of an event end is one thing if no device fails: unless a file is in doubt, nothing asks for a
+-- How each storing and each resolve of an event ends is one thing if no device fails: unless a file is in doubt, nothing asks for a
 -- resolve, and each storing is done.
 use Rattle.std.proofs.Common.{◌≡◌, ℕ, ◌+◌, nat_eq, nat_le, Bool, true, false, cond, List, [], ◌∷◌, length, Option, Some, None, Result, Ok, refl, sym, subst, ◌∙◌}
 use Rattle.kr_base.specs.Attributes.{value_at}

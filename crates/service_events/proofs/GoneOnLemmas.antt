@@ -1,4 +1,4 @@
--- A prompt that goes on: what becomes of the prompts is sound, and what is sent can wait.
+-- A prompt that continues: what becomes of the prompts is sound, and what is sent can wait.
 use Rattle.std.proofs.Common.{◌≡◌, ◌+◌, ◌≤◌, Bool, true, false, cond, not, IsSome, List, [], ◌∷◌, ◌++◌, filter, map, Option, Some, None, refl, sym, ap, subst, ◌∙◌, arith}
 use Rattle.std.specs.List.{AllByRecursion}
 use Rattle.std.specs.Option.{option_map}

@@ -25,7 +25,7 @@ most_wrong_answers = 3
 abbrev pub new_iterations : ℕ
 new_iterations = 10000
 
--- these changes, of which the caller is told nothing
+-- these changes, of which the caller gets no answer
 abbrev pub quietly : List Change → Plan
 quietly changes = answered body.Empty changes
 

@@ -1,4 +1,4 @@
--- How the storings and the resolves of an event ended, and what is true of them if no device fails.
+-- How each storing and each resolve of an event ended, and what is true of them if no device fails.
 use Rattle.std.specs.Prelude.{◌≡◌, Bool, false, ◌&&◌, List, [], ◌∷◌, Option, None, Some}
 use Rattle.std.specs.List.{AllByRecursion, list_all}
 use Rattle.service_tables.specs.Aliases.{are_doubtful}
@@ -16,7 +16,7 @@ abbrev pub fates_of : Option Fate → List Fate
 fates_of None = []
 fates_of (Some fate) = fate ∷ []
 
--- the event of a request whose storings ended so
+-- the event of a request each storing of which ended so
 abbrev pub with_fates : Arrival → List Fate → Event
 with_fates arrival fates = event.Arrive (record { arrival = arrival; fates = fates })
 

@@ -1,6 +1,6 @@
 -- A row of the table of calls is a plan: what it may ask of the state, what it answers, and what it may change. A
--- row sees nothing but its questions, and changes nothing but by these changes, so what holds of every question and
--- of every kind of change holds of all rows. No question shows the value of a secret, a password or a key: a plan says whose secret is
+-- row sees only the answers to its questions, and changes something only by these changes, so what is true of every question and
+-- of every kind of change is true of all rows. No question shows the value of a secret, a password or a key: a plan says whose secret is
 -- given, and the password that an event brings is used where a collection is opened or made, and nowhere else.
 use Rattle.std.specs.Prelude.{ℕ, Bool, List, [], ◌++◌, Option}
 use Rattle.kr_base.specs.declared.ids.ItemId.{ItemId}
@@ -114,9 +114,9 @@ pub data Answer : Type 0 where
   -- an error
   Refuses : (name : ErrorName) → Answer
 
--- A plan answers and changes something; or it changes something, and goes on by what it asks of the state in between; or it asks
--- something of the disk, and goes on by how that ended; or it unlocks the collection of a stem with the key of these terms and of the
--- password that the event brings, if that opens it, and goes on.
+-- A plan answers and changes something; or it changes something, and continues by what it asks of the state in between; or it asks
+-- something of the disk, and continues by how that ended; or it unlocks the collection of a stem with the key of these terms and of the
+-- password that the event brings, if that opens it, and continues.
 pub data Plan : Type 0 where
   Ends : (answer : Answer) → (changes : List Change) → Plan
   After : (changes : List Change) → (next : Questions → Plan) → Plan

@@ -1,4 +1,4 @@
--- One event of the service, as a step from rows to rows. What an event puts out stands beside what becomes of it,
+-- One event of the service, as a step from rows to rows. What an event puts out is defined apart from what becomes of it,
 -- so that laws can speak of the outputs before the limit on what waits.
 use Rattle.std.specs.Prelude.{◌≡◌, ℕ, ◌^◌, ◌<◌, ◌≤◌, ◌⊎◌, true, false, if◌then◌else◌, IsTrue, IfSome, IsSomeAnd, List, [], ◌∷◌, ◌++◌, length, Option, Some, None, Result, Ok, Err}
 use Rattle.std.specs.List.{AllByRecursion}
@@ -297,7 +297,7 @@ abbrev pub TakesSalt : Result Call CallFault → Type 0
 TakesSalt (Ok (call.CreateCollection label alias)) = Unit {0}
 TakesSalt _ = ⊥
 
--- Two requests that differ in nothing on which their steps depend, except in how their storings end.
+-- Two requests that differ in nothing on which their steps depend, except in how each storing ends.
 pub record AreAlike (one other : Arrival) : Type 0 where
   pub conn : one.conn ≡ other.conn
   pub call : one.request.call ≡ other.request.call

@@ -1,4 +1,4 @@
--- What the storings that a plan asks for do to the disk, one after the other, and which calls ask for one, send something, or change a prompt.
+-- What each storing that a plan asks for does to the disk, one after the other, and which calls ask for one, send something, or change a prompt.
 use Rattle.std.specs.Prelude.{◌≡◌, ℕ, ◌⊎◌, Bool, List, [], ◌∷◌, Result, Ok}
 use Rattle.kr_base.specs.declared.ids.ConnId.{ConnId}
 use Rattle.kr_outside.specs.RenameDisk.{Image}
@@ -59,7 +59,7 @@ IsPlain _ = Unit {0}
 
 module _ {F S : Type 0} (folder_honest folder_steady : F → Bool) (folder_faults : F → ℕ) (images : F → List ℕ → Image)
     (folder_leaves : F → List ℕ → Image → Type 0) (names_made : F → List (List ℕ)) (is_honest is_steady : S → Bool) (faults : S → ℕ) where
-  -- after a refusal the disk is as before, but for a slot that was made for a collection, which is kept for the next one under its stem
+  -- after a refusal the disk is as before, except for a slot that was made for a collection, which is kept for the next one under its stem
   abbrev pub KeepsSlotOrAll : DiskState F S → DiskState F S → Type 0
   KeepsSlotOrAll old new =
       (new ≡ old) ⊎ ((stem : List ℕ) × KeepsSlot folder_honest folder_steady folder_faults images folder_leaves names_made is_honest is_steady faults stem old new)

@@ -4,7 +4,7 @@ ghost use Rattle.service_events.specs.Fates.{fates_of};
 use service_tables::Fate;
 use std::marker::Model;
 
-/// How the storings, the removals and the resolves of files ended that an event led to, in order: at most the
+/// How each storing, removal and resolve of a file ended that an event led to, in order: at most the
 /// making of a collection, then a resolve, then a storing or a removal. A contract sees the list of them. It
 /// takes no memory of its own.
 #[derive(Drop)]

@@ -33,8 +33,8 @@ pub fn outputs_can_wait()
         → AllByRecursion CanWait (puts_out state event) }
 {}
 
-/// Two requests that are alike lead from one state to one state if their storings ended alike; and these
-/// do if no device failed and no file is in doubt, which then stays so. The same holds of a derived key.
+/// Two requests that are alike lead from one state to one state if each storing ended alike; and these
+/// do if no device failed and no file is in doubt, which then stays so. The same is true of a derived key.
 #[tactic(auto, using(crate::proofs::AlikeLemmas::step_alike, crate::proofs::FateLemmas::fates_alike, crate::proofs::FateLemmas::key_fates, crate::proofs::CertainLemmas::step_certain))]
 pub fn alike_requests_lead_to_one_state()
     ensures step { (state : State) (one other : Recorded) → AreAlike one.arrival other.arrival
@@ -52,7 +52,7 @@ pub fn alike_requests_lead_to_one_state()
         → IsCertain (step state event) }
 {}
 
-/// One list behind another leads on from where the first one led, is legal where both are, and answers
+/// One list after another continues from where the first one led, is legal where both are, and answers
 /// what both answer.
 pub fn lists_of_events_go_on()
     ensures replay { (state : State) (events more : List Event)

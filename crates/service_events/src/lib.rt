@@ -2,7 +2,7 @@
 //! of calls (`specs/Plan.antt` and the files of its interfaces), what a row of it leads to
 //! (`specs/Run.antt`), the step of an event (`specs/Step.antt`), lists of events (`specs/Replay.antt`), and
 //! what an event asks of the disk (`specs/Stored.antt`). Callers may rely on these laws: a sound state
-//! stays sound, what is sent has a spelling and can wait, lists of events go on, and requests that are
+//! stays sound, what is sent has a spelling and can wait, lists of events continue one another, and requests that are
 //! alike lead to one state if what they asked of the disk ended alike. The code here is the types alone.
 #![tactic(auto)]
 

@@ -74,8 +74,8 @@ pub record StoresOn {F S : Type 0} (folder_honest folder_steady : F → Bool) (f
     (left_since : S → ℕ → Image → Type 0) (may_leave : S → Image → Type 0) (old new : ServiceState F S) (event : Event) : Type 0 where
   pub did : StoresEvent folder_honest folder_steady folder_faults images folder_leaves names_made is_honest is_steady faults moment left_since may_leave event old.history.state old.disk new.disk
 
--- This request is recorded, after a cut if one is due, with how its storings ended, of which none is a fault if the disk is steady; it
--- gives this work; and this is what its storings did to the disk.
+-- This request is recorded, after a cut if one is due, with how each storing ended, of which none is a fault if the disk is steady; it
+-- gives this work; and this is what they did to the disk.
 pub record StoresRequest (steady : Bool) (stored : Event → Type 0) (old : History) (arrival : Arrival) (work : Option Work) (new : History) : Type 0 where
   pub fates : List Fate
   pub stores : Stores old (with_fates arrival fates) new

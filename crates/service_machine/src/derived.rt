@@ -38,7 +38,7 @@ fn known_derivation(came: &Derivation)
 
 impl<F: Folder> Machine<F> {
     /// Takes a key that was derived for a prompt, as a connection that is there brought it, and returns it as it is
-    /// to be recorded: its prompt goes on if it still waits for the key, and otherwise nothing happens. What that
+    /// to be recorded: its prompt continues if it still waits for the key, and otherwise nothing happens. What that
     /// sends waits for its connections. All memory is taken before the first call of a device.
     ///
     /// Refused with `OutOfMemory` alone; a slot that was made for a new collection by then is kept for the next one

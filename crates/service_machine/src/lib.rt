@@ -1,8 +1,7 @@
 //! The service as a machine, which performs one event at a time: the step of a definition over plain
 //! rows. An event is that a connection joins, asks, brings a derived key, leaves, takes what waits for it,
-//! or is gone. The
-//! machine owns the folder of the service and what was loaded from it when it opened. Callers may rely
-//! on these: an event that is answered is the incoming one, fits the rows before it, and gives the
+//! or is gone. The machine owns the folder of the service and what was loaded from it when it opened.
+//! Callers may rely on these: an event that is answered is the incoming one, fits the rows before it, and gives the
 //! step's rows and output; an event that is refused changes nothing, and each refusal has its cause;
 //! leaving, taking and going take no memory; a request and a derived key use the slots of the files that
 //! their rows store, remove or resolve, and no other event touches the folder or a slot that was made of

@@ -138,7 +138,7 @@ impl<F: Folder> Machine<F> {
         ensures room { IsErrOf result ApplyRefused.OutOfMemory → IsConnect event
             → CanJoin (rows_of self.old) }
 
-        // After a refusal nothing has changed, but for a slot that was made by the time that memory ran out.
+        // After a refusal nothing has changed, except for a slot that was made by the time that memory ran out.
         ensures unchanged { OnErr result (rows_of self.new ≡ rows_of self.old) }
         ensures idle { result ≢ Err ApplyRefused.OutOfMemory
             → OnErr result (disk_of self.new ≡ disk_of self.old) }

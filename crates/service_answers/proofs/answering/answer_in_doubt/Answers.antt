@@ -91,7 +91,7 @@ returns-in-ReadFailed-clause-room g c =
     let rooms = c.reserve_for.new.self.rooms in
     subst (λ sends. HasRoomToReply conn sends rooms) (sym (ap (λ (done : Done). done.sends) c.unread.ensures)) (room-alone conn c.deref.result.now rooms c.in_ok-reserve_for.ensures.room)
 
--- it was read, and what was found goes on
+-- it was read, and what was found continues
 pub returns-in_default-clause-leads : goal.returns-in_default-clause-leads
 returns-in_default-clause-leads g c = λ brought.
     let folder = g.F.Folder in
