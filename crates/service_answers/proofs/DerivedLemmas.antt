@@ -49,6 +49,7 @@ use Rattle.service_calls.specs.declared.storing.Done.{Done}
 use Rattle.service_events.specs.Plan.{Ask_prompt, Asks, Change, Clear_wrong, Count_wrong, Go_on, KeyTerms, Make, Opens, Plan, Questions, answered}
 use Rattle.service_events.specs.PromptCalls.{advance_sent, asks_for, go_on_sent, passed_kind}
 use Rattle.service_events.specs.Run.{demanded, sent_all, unlocked_with}
+use Rattle.service_events.specs.Stored.{KeepsSlotOrAll}
 use Rattle.service_calls.specs.Done.{Leads}
 use Rattle.service_answers.specs.Settled.{Settles}
 use Rattle.service_events.proofs.AdvanceLemmas.{KeepsPrompt, row-changed}
@@ -320,6 +321,22 @@ module _ (prompt : PromptId) (round : ℕ) (terms : KeyTerms) (asks : Questions)
       → by-row row ≡ collection_made prompt label alias salt terms asks
   create-plan label alias salt None on is = absurd is
   create-plan label alias salt (Some row) on is = row-plan row on ∙ create-kind row.wrong label alias salt row.kind is
+
+-- ---- what a refusal leaves
+
+-- what is true of each refusal
+pub map-err : {A E : Type 0} (result : Result A E) (P Q : Type 0) → (P → Q) → OnErr result P → OnErr result Q
+map-err (Ok x) P Q weaker is = tt
+map-err (Err e) P Q weaker is = weaker is
+
+-- a plan said otherwise makes the same slot
+pub keeps-as : {F S : Type 0} (folder_honest folder_steady : F → Bool) (folder_faults : F → ℕ) (images : F → List ℕ → Image)
+    (folder_leaves : F → List ℕ → Image → Type 0) (names_made : F → List (List ℕ)) (is_honest is_steady : S → Bool) (faults : S → ℕ)
+    (old new : DiskState F S) (plan other : Plan) → plan ≡ other
+    → KeepsSlotOrAll folder_honest folder_steady folder_faults images folder_leaves names_made is_honest is_steady faults other old new
+    → KeepsSlotOrAll folder_honest folder_steady folder_faults images folder_leaves names_made is_honest is_steady faults plan old new
+keeps-as folder_honest folder_steady folder_faults images folder_leaves names_made is_honest is_steady faults old new plan other same its =
+    subst (λ p. KeepsSlotOrAll folder_honest folder_steady folder_faults images folder_leaves names_made is_honest is_steady faults p old new) (sym same) its
 
 -- ---- what a derived key leads to
 

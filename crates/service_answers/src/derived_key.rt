@@ -127,8 +127,8 @@ fn are_terms(salt: &[u8; 8], key: &Derived) -> bool
 /// Performs what a derived key leads to: its prompt continues if it still waits for the key, and otherwise nothing happens.
 /// Room is made for what is sent. All memory is taken before the first call of a device.
 ///
-/// Refused with `OutOfMemory` alone; a slot that was made for a new collection by then is kept for the next one under
-/// its stem.
+/// Refused with `OutOfMemory` alone; if the prompt creates a collection, a slot that was made for it by then is kept for
+/// the next one under its stem.
 pub fn settle<F: Folder>(
     tables: &mut Tables<F>,
     conn: ConnId,
@@ -154,6 +154,8 @@ pub fn settle<F: Folder>(
     ensures unchanged { OnErr result (rows_of tables.new ≡ rows_of tables.old) }
     ensures kept { OnErr result (KeepsSlotOrAll F.is_honest F.is_steady F.faults F.images
         F.may_leave F.made F.Cell.is_honest F.Cell.is_steady F.Cell.faults
+        (derived prompt round (record { salt = key.salt; iterations = key.iterations })
+        (asked conn (record { now = now; value = key.password }) (rows_of tables.old)))
         (disk_of tables.old) (disk_of tables.new)) }
 {
     if !tables.prompts.derived(prompt, round) {
@@ -496,6 +498,9 @@ fn create<F: Folder>(
     ensures unchanged { OnErr result (rows_of tables.new ≡ rows_of tables.old) }
     ensures kept { OnErr result (KeepsSlotOrAll F.is_honest F.is_steady F.faults F.images
         F.may_leave F.made F.Cell.is_honest F.Cell.is_steady F.Cell.faults
+        (collection_made prompt label alias salt
+        (record { salt = key.salt; iterations = key.iterations })
+        (asked conn (record { now = now; value = key.password }) (rows_of tables.old)))
         (disk_of tables.old) (disk_of tables.new)) }
 {
     if !can_make(tables, &label, &salt, &key) {
@@ -537,6 +542,9 @@ fn make_new<F: Folder>(
     ensures unchanged { OnErr result (rows_of tables.new ≡ rows_of tables.old) }
     ensures kept { OnErr result (KeepsSlotOrAll F.is_honest F.is_steady F.faults F.images
         F.may_leave F.made F.Cell.is_honest F.Cell.is_steady F.Cell.faults
+        (Asks (Make (chosen label (rows_of tables.old).used) label
+        (record { salt = key.salt; iterations = key.iterations }))
+        (making_ended prompt alias (chosen label (rows_of tables.old).used)))
         (disk_of tables.old) (disk_of tables.new)) }
 {
     let Prepared {

@@ -12,6 +12,7 @@ use Rattle.service_tables.specs.Opened.{Contents, contents_of}
 use Rattle.service_tables.specs.Slots.{StoresAliases, StoresAt}
 use Rattle.service_tables.specs.State.{State}
 use Rattle.service_tables.specs.Storing.{Brought}
+use Rattle.service_events.specs.declared.event.BroughtKey.{BroughtKey}
 use Rattle.service_events.specs.declared.event.Event.{Event}
 use Rattle.service_events.specs.declared.event.Event.TheVariants as event
 use Rattle.service_events.specs.declared.event.Incoming.{Incoming}
@@ -57,17 +58,33 @@ IsPlain (call.Answer prompt round password) = ⊥
 IsPlain (call.Refuse prompt round) = ⊥
 IsPlain _ = Unit {0}
 
+-- what a key that is brought leads to in a state
+abbrev pub plan_brought : BroughtKey → State → Plan
+plan_brought brought state =
+    let key = brought.done.key in
+    derived brought.done.prompt brought.done.round (record { salt = key.salt; iterations = key.iterations })
+    (asked brought.conn (record { now = brought.now; value = key.password }) state)
+
 module _ {F S : Type 0} (folder_honest folder_steady : F → Bool) (folder_faults : F → ℕ) (images : F → List ℕ → Image)
     (folder_leaves : F → List ℕ → Image → Type 0) (names_made : F → List (List ℕ)) (is_honest is_steady : S → Bool) (faults : S → ℕ) where
-  -- after a refusal the disk is as before, except for a slot that was made for a collection, which is kept for the next one under its stem
-  abbrev pub KeepsSlotOrAll : DiskState F S → DiskState F S → Type 0
-  KeepsSlotOrAll old new =
-      (new ≡ old) ⊎ ((stem : List ℕ) × KeepsSlot folder_honest folder_steady folder_faults images folder_leaves names_made is_honest is_steady faults stem old new)
+  -- a slot was made at most for the collection that a plan makes, if it makes one, and is kept for the next one under its stem
+  abbrev pub KeepsSlotOf : Plan → DiskState F S → DiskState F S → Type 0
+  KeepsSlotOf (Asks (Make stem label terms) next) old new =
+      KeepsSlot folder_honest folder_steady folder_faults images folder_leaves names_made is_honest is_steady faults stem old new
+  KeepsSlotOf _ old new = ⊥
+
+  -- after a refusal of what a plan asks for the disk is as before, except for a slot that was made for its collection
+  abbrev pub KeepsSlotOrAll : Plan → DiskState F S → DiskState F S → Type 0
+  KeepsSlotOrAll plan old new = (new ≡ old) ⊎ KeepsSlotOf plan old new
+
+  -- the same of what a key leads to that is brought: a slot is made only for a prompt that waits for the key and creates a collection
+  abbrev pub KeepsMaking : BroughtKey → State → DiskState F S → DiskState F S → Type 0
+  KeepsMaking brought state old new = KeepsSlotOrAll (plan_brought brought state) old new
 
   -- the same by what came: only a derived key makes a slot
-  abbrev pub KeepsDisk : Incoming → DiskState F S → DiskState F S → Type 0
-  KeepsDisk (incoming.Derived brought) old new = KeepsSlotOrAll old new
-  KeepsDisk _ old new = new ≡ old
+  abbrev pub KeepsDisk : Incoming → State → DiskState F S → DiskState F S → Type 0
+  KeepsDisk (incoming.Derived brought) state old new = KeepsMaking brought state old new
+  KeepsDisk _ state old new = new ≡ old
 
 module _ {F S : Type 0} (folder_honest folder_steady : F → Bool) (folder_faults : F → ℕ) (images : F → List ℕ → Image)
     (folder_leaves : F → List ℕ → Image → Type 0) (names_made : F → List (List ℕ)) (is_honest is_steady : S → Bool) (faults moment : S → ℕ)

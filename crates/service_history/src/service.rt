@@ -10,7 +10,7 @@ ghost use Rattle.service_tables.specs.Sound.{AreSoundContents};
 ghost use Rattle.service_tables.specs.Limits.{IsSpent, most_events};
 ghost use Rattle.service_events.specs.Fates.{is_steady};
 ghost use Rattle.service_machine.specs.Rows.{rows_of};
-ghost use Rattle.service_events.specs.Stored.{KeepsDisk, KeepsSlotOrAll};
+ghost use Rattle.service_events.specs.Stored.{KeepsDisk, KeepsMaking};
 ghost use Rattle.service_history.specs.Inside.{IsReady};
 ghost use Rattle.service_events.specs.Incoming.{IsOfNone, IsConnect};
 ghost use Rattle.service_events.specs.Step.{CanJoin, IsMissing, IsCrowded};
@@ -202,9 +202,9 @@ impl<F: Folder> Service<F> {
         ensures memory { IsErrOf result Refused.OutOfMemory
             → ¬ (IsMissing brought.conn self.old.history.state) }
         ensures unchanged { OnErr result (self.new.history ≡ self.old.history) }
-        ensures kept { OnErr result (KeepsSlotOrAll F.is_honest F.is_steady F.faults F.images
-            F.may_leave F.made F.Cell.is_honest F.Cell.is_steady F.Cell.faults
-            self.old.disk self.new.disk) }
+        ensures kept { OnErr result (KeepsMaking F.is_honest F.is_steady F.faults F.images
+            F.may_leave F.made F.Cell.is_honest F.Cell.is_steady F.Cell.faults brought
+            self.old.history.state self.old.disk self.new.disk) }
         ensures idle { result ≢ Err Refused.OutOfMemory
             → OnErr result (self.new.disk ≡ self.old.disk) }
     {
@@ -255,7 +255,7 @@ impl<F: Folder> Service<F> {
         ensures unchanged { OnErr result (self.new.history ≡ self.old.history) }
         ensures kept { OnErr result (KeepsDisk F.is_honest F.is_steady F.faults F.images
             F.may_leave F.made F.Cell.is_honest F.Cell.is_steady F.Cell.faults event
-            self.old.disk self.new.disk) }
+            self.old.history.state self.old.disk self.new.disk) }
         ensures idle { result ≢ Err EventRefused.OutOfMemory
             → OnErr result (self.new.disk ≡ self.old.disk) }
     {

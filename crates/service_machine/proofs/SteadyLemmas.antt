@@ -27,7 +27,7 @@ use Rattle.service_tables.specs.Storing.{Brought}
 use Rattle.service_events.specs.Fates.{AreFaultless, is_steady}
 use Rattle.service_events.specs.Plan.{Demand, Store, Erase, Set_alias, Read_aliases, Read_collection, Make, Plan, Ends, After, Asks, Opens}
 use Rattle.service_events.specs.Run.{AreFates, AreNone, asked, demanded, performed_all, unlocked_with}
-use Rattle.service_events.specs.Stored.{StoresDemand, StoresOf}
+use Rattle.service_events.specs.Stored.{KeepsSlotOf, KeepsSlotOrAll, StoresDemand, StoresOf}
 
 and-both : (a b : Bool) → (a && b) ≡ true → (a ≡ true) × (b ≡ true)
 and-both true b is = (refl, is)
@@ -197,6 +197,28 @@ module _ {F S : Type 0} (folder_honest folder_steady : F → Bool) (folder_fault
 
   abbrev Of : ConnId → Brought → Plan → List Fate → State → DiskState F S → DiskState F S → Type 0
   Of caller brought plan fates state old new = StoresOf folder_honest folder_steady folder_faults images folder_leaves names_made is_honest slot_steady faults moment left_since may_leave caller brought plan fates state old new
+
+  -- what a refusal leaves is as steady as before
+  left-steady : (plan : Plan) (old new : DiskState F S) → KeepsSlotOf folder_honest folder_steady folder_faults images folder_leaves names_made is_honest slot_steady faults plan old new → whole new ≡ whole old
+  left-steady (Ends answer changes) old new is = absurd is
+  left-steady (After changes next) old new is = absurd is
+  left-steady (Asks (Store stem edit) next) old new is = absurd is
+  left-steady (Asks (Erase stem) next) old new is = absurd is
+  left-steady (Asks (Set_alias alias stem) next) old new is = absurd is
+  left-steady (Asks Read_aliases next) old new is = absurd is
+  left-steady (Asks (Read_collection stem) next) old new is = absurd is
+  left-steady (Asks (Make stem label terms) next) old new is =
+      let mid : DiskState F S = record old { folder = new.folder; spare = new.spare } in
+      let files = list_all (λ (file : LeftAlone S). slot_steady file.slot) old.left_alone && slot_steady old.aliases in
+      ap whole is.rest
+      ∙ and-and (folder_steady mid.folder) (are_steady slot_steady mid) files
+      ∙ ap (λ b. b && files) (sym (ap (λ (d : DiskState F S). folder_steady d.folder && are_steady slot_steady d) is.rest) ∙ is.all_steady)
+      ∙ sym (and-and (folder_steady old.folder) (are_steady slot_steady old) files)
+  left-steady (Opens stem terms next) old new is = absurd is
+
+  pub kept-steady : (plan : Plan) (old new : DiskState F S) → KeepsSlotOrAll folder_honest folder_steady folder_faults images folder_leaves names_made is_honest slot_steady faults plan old new → whole new ≡ whole old
+  kept-steady plan old new (inl same) = ap whole same
+  kept-steady plan old new (inr is) = left-steady plan old new is
 
   pub stores-steady : (caller : ConnId) (brought : Brought) (plan : Plan) (fates : List Fate) (state : State) (old new : DiskState F S) → Of caller brought plan fates state old new → whole new ≡ whole old
   stores-steady caller brought (Ends answer changes) fates state old new stores = ap whole stores

@@ -7,7 +7,7 @@ ghost use Rattle.service_events.specs.declared.event.Event.TheVariants as Event;
 ghost use Rattle.service_events.specs.Incoming.{IsBroughtBy};
 ghost use Rattle.service_machine.specs.Rows.{disk_of, rows_of};
 ghost use Rattle.service_events.specs.Step.{Fits, IsSalt, step};
-ghost use Rattle.service_events.specs.Stored.{KeepsSlotOrAll, StoresEvent};
+ghost use Rattle.service_events.specs.Stored.{KeepsMaking, StoresEvent};
 ghost use Rattle.keyring_text.specs.Fields.{IsBytes};
 ghost use Rattle.service_tables.specs.Connections.{has};
 ghost use Rattle.service_tables.specs.Sound.{IsSound};
@@ -41,8 +41,8 @@ impl<F: Folder> Machine<F> {
     /// to be recorded: its prompt continues if it still waits for the key, and otherwise nothing happens. What that
     /// sends waits for its connections. All memory is taken before the first call of a device.
     ///
-    /// Refused with `OutOfMemory` alone; a slot that was made for a new collection by then is kept for the next one
-    /// under its stem.
+    /// Refused with `OutOfMemory` alone; if its prompt creates a collection, a slot that was made for it by then is
+    /// kept for the next one under its stem.
     pub fn derived(&mut self, brought: BroughtKey) -> Result<Boxed<Derivation>, OutOfMemory>
         requires there { has brought.conn (rows_of self.old).connections.rows ≡ true }
         requires sound { IsSound (rows_of self.old) }
@@ -63,9 +63,9 @@ impl<F: Folder> Machine<F> {
         ensures free { AreFree F.is_honest F.images F.may_leave F.made F.Cell.is_honest
             F.Cell.may_leave (disk_of self.new) }
         ensures unchanged { OnErr result (rows_of self.new ≡ rows_of self.old) }
-        ensures kept { OnErr result (KeepsSlotOrAll F.is_honest F.is_steady F.faults F.images
-            F.may_leave F.made F.Cell.is_honest F.Cell.is_steady F.Cell.faults
-            (disk_of self.old) (disk_of self.new)) }
+        ensures kept { OnErr result (KeepsMaking F.is_honest F.is_steady F.faults F.images
+            F.may_leave F.made F.Cell.is_honest F.Cell.is_steady F.Cell.faults brought
+            (rows_of self.old) (disk_of self.old) (disk_of self.new)) }
     {
         known_files(&self.tables.disk);
         let BroughtKey { conn, done, now } = brought;

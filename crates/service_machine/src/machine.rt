@@ -144,7 +144,7 @@ impl<F: Folder> Machine<F> {
             → OnErr result (disk_of self.new ≡ disk_of self.old) }
         ensures kept { OnErr result (KeepsDisk F.is_honest F.is_steady F.faults F.images
             F.may_leave F.made F.Cell.is_honest F.Cell.is_steady F.Cell.faults event
-            (disk_of self.old) (disk_of self.new)) }
+            (rows_of self.old) (disk_of self.old) (disk_of self.new)) }
         ensures free { AreFreeFor F.is_honest F.images F.may_leave F.made F.Cell.is_honest
             F.Cell.may_leave event (disk_of self.new) }
     {

@@ -7,7 +7,7 @@ use Rattle.service_calls.specs.Rows.{disk_of, rows_of}
 use Rattle.service_events.specs.Run.{asked}
 use Rattle.service_calls.specs.Done.{HasRoomToReply}
 use Rattle.service_answers.specs.declared.derived_key.Settled.{Settled}
-use Rattle.service_answers.proofs.DerivedLemmas.{settles-as, settles-unmade}
+use Rattle.service_answers.proofs.DerivedLemmas.{keeps-as, map-err, settles-as, settles-unmade}
 use Rattle.service_calls.proofs.LeadsLemmas.{leads-as, map-ok}
 use Rattle.service_answers.proofs.NewLemmas.{can-parts, can-plan, cannot-plan}
 use Rattle.service_answers.proofs.derived_key.create.Goals as goal
@@ -109,3 +109,21 @@ returns-clause-settles g c =
     map-ok c.make_new.result _ _
     (λ settled its. settles-as folder.is_honest folder.is_steady folder.faults folder.images folder.may_leave folder.made slot.is_honest slot.is_steady slot.faults slot.moment slot.left_since slot.may_leave conn brought old (rows_of c.make_new.new.tables) disk (disk_of c.make_new.new.tables) _ _ settled (can-plan label salt terms asks prompt alias on) its)
     c.make_new.ensures.settles
+
+pub returns-clause-kept : goal.returns-clause-kept
+returns-clause-kept g c =
+    let folder = g.F.Folder in
+    let slot = g.F.Cell.Slot in
+    let conn = c.args.conn in
+    let prompt = c.args.prompt in
+    let alias = c.args.alias in
+    let label = c.args.label in
+    let salt = c.args.salt in
+    let key = c.args.key in
+    let brought : Brought = record { now = c.args.now; value = key.password } in
+    let terms : KeyTerms = record { salt = key.salt; iterations = key.iterations } in
+    let asks = asked conn brought (rows_of c.args.tables.now) in
+    let on : can_make label salt terms asks ≡ true = sym (c.can_make.ensures conn c.args.now) ∙ c.if-not-can_make.false in
+    map-err c.make_new.result _ _
+    (keeps-as folder.is_honest folder.is_steady folder.faults folder.images folder.may_leave folder.made slot.is_honest slot.is_steady slot.faults (disk_of c.args.tables.now) (disk_of c.make_new.new.tables) _ _ (can-plan label salt terms asks prompt alias on))
+    c.make_new.ensures.kept

@@ -16,7 +16,7 @@ use Rattle.service_events.specs.Plan.{KeyTerms}
 use Rattle.service_answers.specs.Purposes.{IsPurposeOf}
 use Rattle.service_calls.specs.Rows.{disk_of, rows_of}
 use Rattle.service_events.specs.Run.{asked}
-use Rattle.service_answers.proofs.DerivedLemmas.{create-alias, create-plan, deriving-round, deriving-there, each-at, late-plan, settles-as, settles-late}
+use Rattle.service_answers.proofs.DerivedLemmas.{create-alias, create-plan, deriving-round, deriving-there, each-at, keeps-as, late-plan, map-err, settles-as, settles-late}
 use Rattle.service_calls.proofs.LeadsLemmas.{map-ok, room-after}
 use Rattle.service_answers.proofs.derived_key.settle.Goals as goal
 
@@ -130,3 +130,23 @@ returns-in-Create-clause-room g c =
     let rooms = c.create.new.tables.connections.rooms in
     let reply : Out = out.Signal (signal.Completed c.args.prompt true (completion.Object [])) in
     map-ok c.create.result _ _ (λ settled room. room-after c.args.conn reply settled.done.sends rooms room) c.create.ensures.room
+
+pub returns-in-Create-clause-kept : goal.returns-in-Create-clause-kept
+returns-in-Create-clause-kept g c =
+    let folder = g.F.Folder in
+    let slot = g.F.Cell.Slot in
+    let prompt = c.args.prompt in
+    let round = c.args.round in
+    let key = c.args.key in
+    let brought : Brought = record { now = c.args.now; value = key.password } in
+    let terms : KeyTerms = record { salt = key.salt; iterations = key.iterations } in
+    let old = rows_of c.args.tables.now in
+    let row = row_at prompt old.prompts in
+    let asks = asked c.args.conn brought old in
+    let on : derives_in round row ≡ true = sym c.derived.ensures ∙ c.if-not-derived.false in
+    let is = subst (λ p. IsPurposeOf p row) c.in-Create.is c.in_ok-stem.ensures in
+    map-err c.create.result _ _
+    (keeps-as folder.is_honest folder.is_steady folder.faults folder.images folder.may_leave folder.made slot.is_honest slot.is_steady slot.faults (disk_of c.args.tables.now) (disk_of c.create.new.tables)
+    (derived prompt round terms asks) (collection_made prompt c.in-Create.label c.in-Create.alias c.in-Create.salt terms asks)
+    (create-plan prompt round terms asks c.in-Create.label c.in-Create.alias c.in-Create.salt row on is))
+    c.create.ensures.kept

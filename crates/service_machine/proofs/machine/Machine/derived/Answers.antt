@@ -5,11 +5,12 @@ use Rattle.service_events.specs.declared.event.Event.TheVariants as event
 use Rattle.service_events.specs.declared.event.Derivation.{Derivation}
 use Rattle.service_events.specs.Fates.{AreFaultless, fates_of}
 use Rattle.service_events.specs.Step.{Fits, IsSalt, step}
-use Rattle.service_events.specs.Stored.{StoresEvent}
+use Rattle.service_events.specs.Stored.{StoresEvent, plan_brought}
 use Rattle.service_calls.specs.Rows.{disk_of as disk_with, rows_of as rows_in}
 use Rattle.service_machine.specs.Rows.{disk_of, rows_of}
 use Rattle.service_answers.specs.Settled.{settled_fates}
 use Rattle.service_machine.proofs.RecordedLemmas.{came-is, came_of, key-faultless, key-fits, key-steady, key-stepped, key-stores}
+use Rattle.service_machine.proofs.SteadyLemmas.{kept-steady}
 use Rattle.service_machine.proofs.machine.Machine.derived.Goals as goal
 
 -- there is room for what is sent
@@ -101,3 +102,10 @@ returns-clause-steady g c =
     let folder = g.F.Folder in
     let slot = g.F.Cell.Slot in
     key-steady folder.is_honest folder.is_steady folder.faults folder.images folder.may_leave folder.made slot.is_honest slot.is_steady slot.faults slot.moment slot.left_since slot.may_leave c.args.brought c.in_ok-made.field-0 (rows_of c.args.self.now) (rows_in c.settle.new.tables) (disk_of c.args.self.now) (disk_with c.settle.new.tables) c.in_ok-made.ensures.settles
+
+-- after a refusal the disk is as steady as before
+pub returns-in_err-made-clause-steady : goal.returns-in_err-made-clause-steady
+returns-in_err-made-clause-steady g c =
+    let folder = g.F.Folder in
+    let slot = g.F.Cell.Slot in
+    kept-steady folder.is_honest folder.is_steady folder.faults folder.images folder.may_leave folder.made slot.is_honest slot.is_steady slot.faults slot.moment slot.left_since slot.may_leave (plan_brought c.args.brought (rows_of c.args.self.now)) (disk_of c.args.self.now) (disk_with c.settle.new.tables) c.in_err-made.ensures.kept
