@@ -47,7 +47,7 @@ idle-taken mid owes =
       answered = own-answered mid.state takes (taking-legal mid (owed mid) owes);
       state = ap (replay mid.state) (sym (own-events mid.state takes));
       count = omega (arith, own-length mid.state takes);
-      same = record { conn = refl; alone = refl; steady = refl; waiting = refl };
+      same = record { conn = refl; home = refl; alone = refl; steady = refl; waiting = refl };
       views = λ view seen. tt;
     } in
     let behind = given-idle before after owes gives in

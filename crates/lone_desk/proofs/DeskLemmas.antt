@@ -27,7 +27,7 @@ use Rattle.service_desk.proofs.ViewLemmas.{view-others, view-own}
 -- where the desk of a connection is over a service with this history, whose disk is steady or not
 abbrev pub spot : ConnId → Bool → History → Place
 spot conn steady history = record {
-  told = record { conn = conn; state = history.state; count = total history.window; is_alone = true; is_steady = steady; is_waiting = false };
+  told = record { conn = conn; home = None; state = history.state; count = total history.window; is_alone = true; is_steady = steady; is_waiting = false };
   has_seen = λ view. IsView history.state (total history.window) view;
 }
 
@@ -45,7 +45,7 @@ looks conn steady old = record {
   legal = tt;
   state = refl;
   count = omega arith;
-  same = record { conn = refl; alone = refl; steady = refl; waiting = refl };
+  same = record { conn = refl; home = refl; alone = refl; steady = refl; waiting = refl };
   views = λ view is. seen-none old view is;
 }
 
@@ -63,7 +63,7 @@ extends conn steady old new event answer fits faultless answers state counted = 
   answers = answers;
   state = state;
   count = omega (arith, counted);
-  same = record { conn = refl; alone = refl; steady = refl; waiting = refl };
+  same = record { conn = refl; home = refl; alone = refl; steady = refl; waiting = refl };
   views = λ view is.
       let own = view-own old.state (total old.window) (with_others [] view) event (seen-none old view is) fits in
       subst (λ s. IsView s (total new.window) (with_own event (with_others [] view))) (sym state)

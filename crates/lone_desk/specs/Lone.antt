@@ -1,5 +1,5 @@
 -- The desk over a service of one thread, as contracts see it.
-use Rattle.std.specs.Prelude.{Bool, true, false}
+use Rattle.std.specs.Prelude.{Bool, true, false, None}
 use Rattle.service_events.specs.Fates.{is_steady}
 use Rattle.service_history.specs.Windows.{total}
 use Rattle.service_desk.specs.Places.{Told}
@@ -11,6 +11,7 @@ use Rattle.lone_desk.specs.declared.lone.LoneDesk.{LoneDesk}
 abbrev pub told : {F S : Type 0} → (F → Bool) → (S → Bool) → LoneDesk F S → Told
 told folder_steady slot_steady desk = record {
   conn = desk.conn;
+  home = None;
   state = desk.service.history.state;
   count = total desk.service.history.window;
   is_alone = true;

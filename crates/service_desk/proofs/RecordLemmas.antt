@@ -63,10 +63,10 @@ own-length state (event ∷ events) = omega (arith, own-length (step state event
 -- ---- calls
 
 pub same-place : (told : Told) → IsSame told told
-same-place told = record { conn = refl; alone = refl; steady = refl; waiting = refl }
+same-place told = record { conn = refl; home = refl; alone = refl; steady = refl; waiting = refl }
 
 pub same-on : (a b c : Told) → IsSame a b → IsSame b c → IsSame a c
-same-on a b c p q = record { conn = q.conn ∙ p.conn; alone = q.alone ∙ p.alone; steady = q.steady ∙ p.steady; waiting = q.waiting ∙ p.waiting }
+same-on a b c p q = record { conn = q.conn ∙ p.conn; home = q.home ∙ p.home; alone = q.alone ∙ p.alone; steady = q.steady ∙ p.steady; waiting = q.waiting ∙ p.waiting }
 
 -- no call
 pub records-none : (place : Place) → Records place place []

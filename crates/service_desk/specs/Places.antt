@@ -1,5 +1,6 @@
 -- Where a desk is in the service's history, and how one of its calls continues from there.
-use Rattle.std.specs.Prelude.{◌≡◌, ℕ, ◌+◌, Bool, IsTrue, List, [], length}
+use Rattle.std.specs.Prelude.{◌≡◌, ℕ, ◌+◌, Bool, IsTrue, List, [], length, Option}
+use Rattle.atomic_table.specs.Seated.{TableId}
 use Rattle.kr_base.specs.declared.ids.ConnId.{ConnId}
 use Rattle.service_tables.specs.State.{State}
 use Rattle.service_events.specs.declared.event.Event.{Event}
@@ -13,6 +14,8 @@ use Rattle.service_desk.specs.Views.{View, with_others, with_own}
 pub record Told : Type 0 where
   -- the connection that the desk belongs to
   pub conn : ConnId
+  -- the service that threads share and the desk belongs to; None for a service of one thread
+  pub home : Option TableId
   -- the service's state
   pub state : State
   -- the number of events of the run up to that state
@@ -33,9 +36,10 @@ pub record Place : Type 1 where
 abbrev pub place : {D : Type 0} → (D → Told) → (D → View → Type 0) → D → Place
 place told has_seen desk = record { told = told desk; has_seen = has_seen desk }
 
--- the desk is the same one, and behaves as before
+-- the desk is the same one, of the same service, and behaves as before
 pub record IsSame (old new : Told) : Type 0 where
   pub conn : new.conn ≡ old.conn
+  pub home : new.home ≡ old.home
   pub alone : new.is_alone ≡ old.is_alone
   pub steady : new.is_steady ≡ old.is_steady
   pub waiting : new.is_waiting ≡ old.is_waiting

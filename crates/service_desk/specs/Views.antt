@@ -1,8 +1,12 @@
 -- What a desk has seen of the service's history: from a start, the events since then, and which of them are its own.
 use Rattle.std.specs.Prelude.{◌≡◌, ℕ, ◌+◌, ◌≤◌, List, [], ◌∷◌, ◌++◌, length}
+use Rattle.service_tables.specs.Limits.{IsSpent}
 use Rattle.service_tables.specs.State.{State}
 use Rattle.service_events.specs.declared.event.Event.{Event}
+use Rattle.service_events.specs.declared.event.JoinRefused.{JoinRefused}
+use Rattle.service_events.specs.declared.event.JoinRefused.TheVariants as join
 use Rattle.service_events.specs.Replay.{replay, Legal}
+use Rattle.service_events.specs.Step.{IsCrowded}
 
 -- a start, the number of events of the run before it, the events seen since then, and the places of the desk's own
 -- among them
@@ -25,6 +29,20 @@ pub record IsView (state : State) (count : ℕ) (view : View) : Type 0 where
   pub leads : state ≡ replay view.start view.seen
   pub counted : count ≡ view.before + length view.seen
   pub places : ArePlaces 0 (length view.seen) view.own
+
+-- the state that the history leads to, as far as the view has seen it
+abbrev pub state_of : View → State
+state_of view = replay view.start view.seen
+
+-- the number of events of the run up to there
+abbrev pub count_of : View → ℕ
+count_of view = view.before + length view.seen
+
+-- why a connection couldn't join, by what the view has seen then
+abbrev pub HasCause : JoinRefused → View → Type 0
+HasCause join.EventsSpent view = IsSpent (count_of view)
+HasCause join.TooManyConnections view = IsCrowded (state_of view)
+HasCause join.OutOfMemory view = Unit {0}
 
 -- the view after events of others
 abbrev pub with_others : List Event → View → View

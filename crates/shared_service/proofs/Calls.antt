@@ -1,6 +1,7 @@
 -- What a call recorded with the turn, as the view of its pass shows it.
 use Rattle.std.proofs.Common.{◌≡◌, ℕ, ◌<◌, Bool, true, false, List, [], ◌∷◌, ◌++◌, Option, Some, None, Result, Ok, Err, IsTrue, IfOk, IfErr, OnOk, OnErr, IsErrOf, ◌≢◌, refl, sym, ap, ◌∙◌, subst, arith, inl, inr, length-append, append-nil}
 use Rattle.std.proofs.lemmas.List.{length_push, append_assoc}
+use Rattle.atomic_table.specs.Seated.{TableId}
 use Rattle.kr_base.specs.declared.ids.ConnId.{ConnId}
 use Rattle.secret_calls.specs.declared.taken.Taken.{Taken}
 use Rattle.service_tables.specs.State.{State}
@@ -17,7 +18,7 @@ use Rattle.service_history.specs.History.{History, Stores, StoresKey, StoresRequ
 use Rattle.service_history.specs.History as history
 use Rattle.service_history.specs.Windows.{total}
 use Rattle.service_desk.specs.Places.{Looks, Extends}
-use Rattle.service_desk.specs.Views.{View, with_others, with_own}
+use Rattle.service_desk.specs.Views.{View, with_others, with_own, state_of, count_of, HasCause}
 use Rattle.service_desk.specs.Calls.{Arrives, Finishes, IsRefusal, Leaves, Goes, Takes}
 use Rattle.service_tables.specs.Limits.{most_events, IsSpent}
 use Rattle.secret_calls.specs.declared.work.Work.{Work}
@@ -29,7 +30,7 @@ use Rattle.service_events.specs.declared.event.JoinRefused.{JoinRefused}
 use Rattle.service_events.specs.declared.event.JoinRefused.TheVariants as join
 use Rattle.secret_calls.specs.declared.taken.Refused.{Refused}
 use Rattle.secret_calls.specs.declared.taken.Refused.TheVariants as refused
-use Rattle.shared_service.specs.Passes.{spot, told, state_of, count_of, HasCause, IsRefused}
+use Rattle.shared_service.specs.Passes.{spot, told, IsRefused}
 use Rattle.shared_service.specs.Standing.{Stands}
 use Rattle.shared_service.specs.Tries.{Tries, after_take}
 use Rattle.shared_service.proofs.Ends.{viewed, left_event, gone_event, event_if, fates_if, key_if}
@@ -48,7 +49,7 @@ err-of {T} {F} one other e = ap fault e
     fault (Ok value) = one
     fault (Err f) = f
 
-module _ (conn : ConnId) (steady : Bool) (view : View) (between : List Event) (service : History) (stands : Stands service view.start view.before (view.seen ++ between)) where
+module _ (conn : ConnId) (table : TableId) (steady : Bool) (view : View) (between : List Event) (service : History) (stands : Stands service view.start view.before (view.seen ++ between)) where
   abbrev met : View
   met = with_others between view
 
@@ -60,19 +61,19 @@ module _ (conn : ConnId) (steady : Bool) (view : View) (between : List Event) (s
   legal-met = Legal-behind view.start view.seen between stands.legal
 
   -- nothing was recorded
-  pub looks : Looks (spot conn steady view) (spot conn steady met)
+  pub looks : Looks (spot conn table steady view) (spot conn table steady met)
   looks = record {
     between = between;
     alone = λ is. absurd (off is);
     legal = legal-met;
     state = replay-append view.start view.seen between;
     count = let long = length-append view.seen between in omega (arith, long);
-    same = record { conn = refl; alone = refl; steady = refl; waiting = refl };
+    same = record { conn = refl; home = refl; alone = refl; steady = refl; waiting = refl };
     views = λ other is. ap (with_others between) is;
   }
 
   -- one event was recorded
-  pub extends : (event : Event) → Fits service.state event → (IsTrue steady → IsFaultless event) → Extends (spot conn steady view) (spot conn steady (with_own event met)) event (output_of service.state event)
+  pub extends : (event : Event) → Fits service.state event → (IsTrue steady → IsFaultless event) → Extends (spot conn table steady view) (spot conn table steady (with_own event met)) event (output_of service.state event)
   extends event fits faultless = record {
     between = between;
     alone = λ is. absurd (off is);
@@ -84,7 +85,7 @@ module _ (conn : ConnId) (steady : Bool) (view : View) (between : List Event) (s
     answers = refl;
     state = replay-append view.start (view.seen ++ between) (event ∷ []) ∙ ap (λ (s : State). step s event) (replay-append view.start view.seen between ∙ sym state-met);
     count = let long = length-append view.seen between in let push = length_push (view.seen ++ between) event in omega (arith, long, push);
-    same = record { conn = refl; alone = refl; steady = refl; waiting = refl };
+    same = record { conn = refl; home = refl; alone = refl; steady = refl; waiting = refl };
     views = λ other is. ap (λ (v : View). with_own event (with_others between v)) is;
   }
 
@@ -97,7 +98,7 @@ module _ (conn : ConnId) (steady : Bool) (view : View) (between : List Event) (s
 
   takes-some : (waits overrun leaving : Bool) → Some (record { waits = waits; overrun = overrun; leaving = leaving }) ≡ desk_of conn service.state.connections.rows
       → (given : Taken) → given ≡ given_for conn service.state (Some (record { waits = waits; overrun = overrun; leaving = leaving })) → (given ≡ Rattle.secret_calls.specs.declared.taken.Taken.TheVariants.Empty → ⊥)
-      → Takes (spot conn steady view) (spot conn steady (after_take conn given met)) given
+      → Takes (spot conn table steady view) (spot conn table steady (after_take conn given met)) given
   unfolding extends
   takes-some true overrun leaving told given is some = rw is (extends (event.Take conn) (rw (← told) refl) (λ _. tt))
   takes-some false true true told given is some = rw is (looks, (true, told-met (λ s. desk_of conn s.connections.rows ≡ Some (record { waits = false; overrun = true; leaving = true })) (sym told)))
@@ -107,22 +108,22 @@ module _ (conn : ConnId) (steady : Bool) (view : View) (between : List Event) (s
 
   -- the call returned something other than Empty
   pub takes : (desk : Option DeskRow) → desk ≡ desk_of conn service.state.connections.rows → (given : Taken) → given ≡ given_for conn service.state desk
-      → (given ≡ Rattle.secret_calls.specs.declared.taken.Taken.TheVariants.Empty → ⊥) → Takes (spot conn steady view) (spot conn steady (after_take conn given met)) given
+      → (given ≡ Rattle.secret_calls.specs.declared.taken.Taken.TheVariants.Empty → ⊥) → Takes (spot conn table steady view) (spot conn table steady (after_take conn given met)) given
   takes None told given is some = rw is (looks, told-met (λ s. has conn s.connections.rows ≡ false) (has-none conn service.state.connections.rows told))
   takes (Some desk) told given is some = takes-some desk.waits desk.overrun desk.leaving told given is some
 
   leaves-some : (waits overrun leaving : Bool) → Some (record { waits = waits; overrun = overrun; leaving = leaving }) ≡ desk_of conn service.state.connections.rows
-      → Leaves (spot conn steady view) (spot conn steady (viewed (left_event conn (Some (record { waits = waits; overrun = overrun; leaving = leaving }))) met))
+      → Leaves (spot conn table steady view) (spot conn table steady (viewed (left_event conn (Some (record { waits = waits; overrun = overrun; leaving = leaving }))) met))
   leaves-some waits overrun true told = inr (looks, inr (waits, overrun, told-met (λ s. desk_of conn s.connections.rows ≡ Some (record { waits = waits; overrun = overrun; leaving = true })) (sym told)))
   leaves-some waits overrun false told = inl (extends (event.Leave conn) (rw (← told) refl) (λ _. tt))
 
   -- the connection left, or was leaving
-  pub leaves : (desk : Option DeskRow) → desk ≡ desk_of conn service.state.connections.rows → Leaves (spot conn steady view) (spot conn steady (viewed (left_event conn desk) met))
+  pub leaves : (desk : Option DeskRow) → desk ≡ desk_of conn service.state.connections.rows → Leaves (spot conn table steady view) (spot conn table steady (viewed (left_event conn desk) met))
   leaves None told = inr (looks, inl (told-met (λ s. has conn s.connections.rows ≡ false) (has-none conn service.state.connections.rows told)))
   leaves (Some desk) told = leaves-some desk.waits desk.overrun desk.leaving told
 
   -- the connection is gone
-  pub goes : (desk : Option DeskRow) → desk ≡ desk_of conn service.state.connections.rows → Goes (spot conn steady view) (spot conn steady (viewed (gone_event conn desk) met))
+  pub goes : (desk : Option DeskRow) → desk ≡ desk_of conn service.state.connections.rows → Goes (spot conn table steady view) (spot conn table steady (viewed (gone_event conn desk) met))
   goes None told = inr (looks, told-met (λ s. has conn s.connections.rows ≡ false) (has-none conn service.state.connections.rows told))
   goes (Some desk) told = inl (extends (event.Gone conn) (has-told conn service.state.connections.rows desk told) (λ _. tt))
 
@@ -134,27 +135,27 @@ pub none-more : (view : View) → view ≡ with_others [] view
 none-more view = λ i. record view { seen = sym (append-nil view.seen) i }
 
 -- the call returned something other than Empty, after events of others
-pub takes-after : (conn : ConnId) (steady : Bool) (view loop last : View) (before : List Event) (given : Taken) → loop ≡ with_others before view → Tries conn loop given last
-    → (given ≡ Rattle.secret_calls.specs.declared.taken.Taken.TheVariants.Empty → ⊥) → Takes (spot conn steady view) (spot conn steady last) given
-takes-after conn steady view loop last before given is tried some =
+pub takes-after : (conn : ConnId) (table : TableId) (steady : Bool) (view loop last : View) (before : List Event) (given : Taken) → loop ≡ with_others before view → Tries conn loop given last
+    → (given ≡ Rattle.secret_calls.specs.declared.taken.Taken.TheVariants.Empty → ⊥) → Takes (spot conn table steady view) (spot conn table steady last) given
+takes-after conn table steady view loop last before given is tried some =
     let all : with_others tried.between loop ≡ with_others (before ++ tried.between) view = ap (with_others tried.between) is ∙ more-others view before tried.between in
     let stands : Stands tried.service view.start view.before (view.seen ++ (before ++ tried.between)) =
     subst (λ (v : View). Stands tried.service v.start v.before v.seen) all tried.stands in
-    subst (λ (v : View). Takes (spot conn steady view) (spot conn steady v) given) (sym (tried.is ∙ ap (after_take conn given) all))
-    (takes conn steady view (before ++ tried.between) tried.service stands (history.told conn tried.service) refl given tried.given_is some)
+    subst (λ (v : View). Takes (spot conn table steady view) (spot conn table steady v) given) (sym (tried.is ∙ ap (after_take conn given) all))
+    (takes conn table steady view (before ++ tried.between) tried.service stands (history.told conn tried.service) refl given tried.given_is some)
 
-module _ (conn : ConnId) (steady : Bool) (view last : View) (between : List Event) (service : History) (stands : Stands service view.start view.before (view.seen ++ between)) where
+module _ (conn : ConnId) (table : TableId) (steady : Bool) (view last : View) (between : List Event) (service : History) (stands : Stands service view.start view.before (view.seen ++ between)) where
   -- the request was recorded
   pub arrives-if : (stored : Event → Type 0) (arrival : Arrival) (new : History) (result : Result (Option Work) Refused) → (stores : IfOk result (λ work. StoresRequest steady stored service arrival work new))
       → (result ≢ Err refused.EventsSpent → IsSpent (total service.window) → ⊥)
       → last ≡ viewed (event_if (λ _. with_fates arrival (fates_if steady stored service arrival new result stores)) result) (with_others between view)
-      → IfOk result (Arrives (spot conn steady view) (spot conn steady last) arrival)
-  arrives-if stored arrival new (Ok work) stores left is = subst (λ (v : View). Arrives (spot conn steady view) (spot conn steady v) arrival work) (sym is) record {
+      → IfOk result (Arrives (spot conn table steady view) (spot conn table steady last) arrival)
+  arrives-if stored arrival new (Ok work) stores left is = subst (λ (v : View). Arrives (spot conn table steady view) (spot conn table steady v) arrival work) (sym is) record {
     fates = stores.fates;
-    recorded = subst (λ (o : Output). Extends (spot conn steady view) (spot conn steady (viewed (Some (with_fates arrival stores.fates)) (with_others between view))) (with_fates arrival stores.fates) o)
-        (sym stores.gives) (extends conn steady view between service stands (with_fates arrival stores.fates) stores.stores.fits stores.faultless);
+    recorded = subst (λ (o : Output). Extends (spot conn table steady view) (spot conn table steady (viewed (Some (with_fates arrival stores.fates)) (with_others between view))) (with_fates arrival stores.fates) o)
+        (sym stores.gives) (extends conn table steady view between service stands (with_fates arrival stores.fates) stores.stores.fits stores.faultless);
     counted =
-        let all = count-met conn steady view between service stands in
+        let all = count-met conn table steady view between service stands in
         let push = length_push (view.seen ++ between) (with_fates arrival stores.fates) in
         let few : total service.window < most_events = not-spent (total service.window) (left (λ e. cc)) in omega (arith, all, push, few);
   }
@@ -164,52 +165,52 @@ module _ (conn : ConnId) (steady : Bool) (view last : View) (between : List Even
   pub finishes-if : (stored : Event → Type 0) (brought : BroughtKey) (new : History) (result : Result (Unit {0}) Refused) → (stores : OnOk result (StoresKey steady stored service brought new))
       → (result ≢ Err refused.EventsSpent → IsSpent (total service.window) → ⊥)
       → last ≡ viewed (event_if (λ _. key_if steady stored service brought new result stores) result) (with_others between view)
-      → OnOk result (Finishes (spot conn steady view) (spot conn steady last) brought)
-  finishes-if stored brought new (Ok done) stores left is = subst (λ (v : View). Finishes (spot conn steady view) (spot conn steady v) brought) (sym is) record {
+      → OnOk result (Finishes (spot conn table steady view) (spot conn table steady last) brought)
+  finishes-if stored brought new (Ok done) stores left is = subst (λ (v : View). Finishes (spot conn table steady view) (spot conn table steady v) brought) (sym is) record {
     came = stores.came;
     is = stores.is;
-    recorded = extends conn steady view between service stands (event.Derived stores.came) stores.stores.fits stores.faultless;
+    recorded = extends conn table steady view between service stands (event.Derived stores.came) stores.stores.fits stores.faultless;
     counted =
-        let all = count-met conn steady view between service stands in
+        let all = count-met conn table steady view between service stands in
         let push = length_push (view.seen ++ between) (event.Derived stores.came) in
         let few : total service.window < most_events = not-spent (total service.window) (left (λ e. cc)) in omega (arith, all, push, few);
   }
   finishes-if stored brought new (Err fault) stores left is = tt
 
   -- it was refused, and nothing recorded
-  pub looks-if : {T : Type 0} (event : T → Event) (result : Result T Refused) → last ≡ viewed (event_if event result) (with_others between view) → OnErr result (Looks (spot conn steady view) (spot conn steady last))
+  pub looks-if : {T : Type 0} (event : T → Event) (result : Result T Refused) → last ≡ viewed (event_if event result) (with_others between view) → OnErr result (Looks (spot conn table steady view) (spot conn table steady last))
   looks-if event (Ok done) is = tt
-  looks-if event (Err fault) is = subst (λ (v : View). Looks (spot conn steady view) (spot conn steady v)) (sym is) (looks conn steady view between service stands)
+  looks-if event (Err fault) is = subst (λ (v : View). Looks (spot conn table steady view) (spot conn table steady v)) (sym is) (looks conn table steady view between service stands)
 
   refused-by : (fault : Refused) → (fault ≡ refused.EventsSpent → IsSpent (total service.window)) → (fault ≢ refused.EventsSpent → IsSpent (total service.window) → ⊥) → (fault ≡ refused.Gone → IsMissing conn service.state)
-      → IsRefusal fault (told conn steady (with_others between view))
-  refused-by refused.EventsSpent spent left gone = let all = count-met conn steady view between service stands in let most = spent refl in omega (arith, all, most)
+      → IsRefusal fault (told conn table steady (with_others between view))
+  refused-by refused.EventsSpent spent left gone = let all = count-met conn table steady view between service stands in let most = spent refl in omega (arith, all, most)
   refused-by refused.Gone spent left gone = (
-    (let all = count-met conn steady view between service stands in let few : total service.window < most_events = not-spent (total service.window) (left (λ e. cc)) in omega (arith, all, few)),
-    told-met conn steady view between service stands (IsMissing conn) (gone refl),
+    (let all = count-met conn table steady view between service stands in let few : total service.window < most_events = not-spent (total service.window) (left (λ e. cc)) in omega (arith, all, few)),
+    told-met conn table steady view between service stands (IsMissing conn) (gone refl),
   )
   refused-by refused.OutOfMemory spent left gone = tt
 
   -- for a cause in the state
   pub refused-if : {T : Type 0} (event : T → Event) (result : Result T Refused) → (IsErrOf result refused.EventsSpent → IsSpent (total service.window)) → (result ≢ Err refused.EventsSpent → IsSpent (total service.window) → ⊥)
-      → (IsErrOf result refused.Gone → IsMissing conn service.state) → last ≡ viewed (event_if event result) (with_others between view) → IfErr result (λ fault. IsRefusal fault (told conn steady last))
+      → (IsErrOf result refused.Gone → IsMissing conn service.state) → last ≡ viewed (event_if event result) (with_others between view) → IfErr result (λ fault. IsRefusal fault (told conn table steady last))
   refused-if event (Ok done) spent left gone is = tt
-  refused-if event (Err fault) spent left gone is = subst (λ (v : View). IsRefusal fault (told conn steady v)) (sym is) (refused-by fault (λ e. spent (ap (λ (f : Refused). Err f) e)) (λ other. left (λ e. other (err-of fault refused.EventsSpent e))) (λ e. gone (ap (λ (f : Refused). Err f) e)))
+  refused-if event (Err fault) spent left gone is = subst (λ (v : View). IsRefusal fault (told conn table steady v)) (sym is) (refused-by fault (λ e. spent (ap (λ (f : Refused). Err f) e)) (λ other. left (λ e. other (err-of fault refused.EventsSpent e))) (λ e. gone (ap (λ (f : Refused). Err f) e)))
 
-module _ (steady : Bool) (view last : View) (between : List Event) (service : History) (stands : Stands service view.start view.before (view.seen ++ between)) where
+module _ (table : TableId) (steady : Bool) (view last : View) (between : List Event) (service : History) (stands : Stands service view.start view.before (view.seen ++ between)) where
   -- the connection joined
   pub joins-if : (new : History) (result : Result ConnId JoinRefused) → IfOk result (λ conn. Stores service (event.Connect conn) new)
-      → last ≡ viewed (event_if (λ conn. event.Connect conn) result) (with_others between view) → IfOk result (λ conn. Extends (spot conn steady view) (spot conn steady last) (event.Connect conn) (output.Joined conn))
-  joins-if new (Ok conn) stores is = subst (λ (v : View). Extends (spot conn steady view) (spot conn steady v) (event.Connect conn) (output.Joined conn)) (sym is) (extends conn steady view between service stands (event.Connect conn) stores.fits (λ _. tt))
+      → last ≡ viewed (event_if (λ conn. event.Connect conn) result) (with_others between view) → IfOk result (λ conn. Extends (spot conn table steady view) (spot conn table steady last) (event.Connect conn) (output.Joined conn))
+  joins-if new (Ok conn) stores is = subst (λ (v : View). Extends (spot conn table steady view) (spot conn table steady v) (event.Connect conn) (output.Joined conn)) (sym is) (extends conn table steady view between service stands (event.Connect conn) stores.fits (λ _. tt))
   joins-if new (Err fault) stores is = tt
 
   cause-of : (fault : JoinRefused) → (fault ≡ join.EventsSpent → IsSpent (total service.window)) → (fault ≡ join.TooManyConnections → IsCrowded service.state) → HasCause fault (with_others between view)
-  cause-of join.EventsSpent spent crowded = let all = count-met (record { 0 = 0 }) steady view between service stands in let most = spent refl in omega (arith, all, most)
-  cause-of join.TooManyConnections spent crowded = told-met (record { 0 = 0 }) steady view between service stands IsCrowded (crowded refl)
+  cause-of join.EventsSpent spent crowded = let all = count-met (record { 0 = 0 }) table steady view between service stands in let most = spent refl in omega (arith, all, most)
+  cause-of join.TooManyConnections spent crowded = told-met (record { 0 = 0 }) table steady view between service stands IsCrowded (crowded refl)
   cause-of join.OutOfMemory spent crowded = tt
 
   -- it couldn't join, for a cause in the state
   pub crowded-if : (result : Result ConnId JoinRefused) → (IsErrOf result join.EventsSpent → IsSpent (total service.window)) → (IsErrOf result join.TooManyConnections → IsCrowded service.state)
-      → last ≡ viewed (event_if (λ conn. event.Connect conn) result) (with_others between view) → IfErr result (λ fault. IsRefused steady fault view last)
+      → last ≡ viewed (event_if (λ conn. event.Connect conn) result) (with_others between view) → IfErr result (λ fault. IsRefused table steady fault view last)
   crowded-if (Ok conn) spent crowded is = tt
-  crowded-if (Err fault) spent crowded is = subst (λ (v : View). IsRefused steady fault view v) (sym is) ((λ conn. looks conn steady view between service stands), cause-of fault (λ e. spent (ap (λ (f : JoinRefused). Err f) e)) (λ e. crowded (ap (λ (f : JoinRefused). Err f) e)))
+  crowded-if (Err fault) spent crowded is = subst (λ (v : View). IsRefused table steady fault view v) (sym is) ((λ conn. looks conn table steady view between service stands), cause-of fault (λ e. spent (ap (λ (f : JoinRefused). Err f) e)) (λ e. crowded (ap (λ (f : JoinRefused). Err f) e)))

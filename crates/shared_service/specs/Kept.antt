@@ -8,8 +8,7 @@ use Rattle.service_events.specs.declared.event.Event.{Event}
 use Rattle.service_events.specs.Step.{step}
 use Rattle.service_events.proofs.EventLemmas.{fits-prop}
 use Rattle.service_events.specs.Replay.{Legal}
-use Rattle.service_desk.specs.Views.{View, ArePlaces, IsView}
-use Rattle.shared_service.specs.Passes.{state_of, count_of}
+use Rattle.service_desk.specs.Views.{View, ArePlaces, IsView, state_of, count_of}
 
 events-prop : (state : State) (events : List Event) → IsProp (Legal state events)
 events-prop state [] = Unit-prop

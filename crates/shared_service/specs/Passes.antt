@@ -1,18 +1,15 @@
 -- What a pass is: the service that it belongs to, and its view of that service's history.
-use Rattle.std.specs.Prelude.{◌≡◌, ℕ, ◌+◌, Bool, true, false, [], length, Option, Some, None}
+use Rattle.std.specs.Prelude.{◌≡◌, Bool, true, false, [], length, Option, Some, None}
 use Rattle.atomic_table.specs.Seated.{TableId}
 use Rattle.kr_base.specs.declared.ids.ConnId.{ConnId}
 use Rattle.service_tables.specs.State.{State}
 use Rattle.service_events.specs.declared.event.Event.{Event}
-use Rattle.service_events.specs.Step.{IsCrowded}
 use Rattle.service_tables.specs.Opened.{opened_state}
-use Rattle.service_events.specs.Replay.{replay, Legal}
+use Rattle.service_events.specs.Replay.{Legal}
 use Rattle.service_history.specs.Windows.{Window}
-use Rattle.service_desk.specs.Views.{View, ArePlaces}
+use Rattle.service_desk.specs.Views.{View, ArePlaces, state_of, count_of, HasCause}
 use Rattle.service_desk.specs.Places.{Told, Place, Looks}
-use Rattle.service_tables.specs.Limits.{IsSpent}
 use Rattle.service_events.specs.declared.event.JoinRefused.{JoinRefused}
-use Rattle.service_events.specs.declared.event.JoinRefused.TheVariants as join
 use Rattle.shared_turn.specs.Passes as turn
 use Rattle.shared_turn.specs.Places.{StartsWith, longer, merged}
 use Rattle.shared_service.specs.Standing.{Start}
@@ -57,32 +54,18 @@ opened table steady window = record { table = table; steady = steady; view = rec
 abbrev pub noted : Seen → Seen
 noted pass = record pass { view = record pass.view { own = [] } }
 
--- the state that the history leads to, as far as the view has seen it
-abbrev pub state_of : View → State
-state_of view = replay view.start view.seen
-
--- the number of events of the run up to there
-abbrev pub count_of : View → ℕ
-count_of view = view.before + length view.seen
-
--- What is known of a desk on a shared service, given whether the disk of that is steady, and its view: others record events too, and a
+-- What is known of a desk on this shared service, given whether the disk of that is steady, and its view: others record events too, and a
 -- call of `take` waits.
-abbrev pub told : ConnId → Bool → View → Told
-told conn steady view = record { conn = conn; state = state_of view; count = count_of view; is_alone = false; is_steady = steady; is_waiting = true }
+abbrev pub told : ConnId → TableId → Bool → View → Told
+told conn table steady view = record { conn = conn; home = Some table; state = state_of view; count = count_of view; is_alone = false; is_steady = steady; is_waiting = true }
 
 -- where such a desk is; what it has seen is exactly its view
-abbrev pub spot : ConnId → Bool → View → Place
-spot conn steady view = record { told = told conn steady view; has_seen = λ other. other ≡ view }
-
--- the refusal's cause, in what the pass has seen
-abbrev pub HasCause : JoinRefused → View → Type 0
-HasCause join.EventsSpent view = IsSpent (count_of view)
-HasCause join.TooManyConnections view = IsCrowded (state_of view)
-HasCause join.OutOfMemory view = Unit {0}
+abbrev pub spot : ConnId → TableId → Bool → View → Place
+spot conn table steady view = record { told = told conn table steady view; has_seen = λ other. other ≡ view }
 
 -- Why no connection could join, according to the state that the pass has seen by then; nothing was recorded.
-abbrev pub IsRefused : Bool → JoinRefused → View → View → Type 0
-IsRefused steady refused old new = ((conn : ConnId) → Looks (spot conn steady old) (spot conn steady new)) × HasCause refused new
+abbrev pub IsRefused : TableId → Bool → JoinRefused → View → View → Type 0
+IsRefused table steady refused old new = ((conn : ConnId) → Looks (spot conn table steady old) (spot conn table steady new)) × HasCause refused new
 
 -- Both belong to one run. The pass also knows what the other one did: it has seen the longer of the two histories, of which each had seen a
 -- beginning, and the places of both are its own, each once.

@@ -59,7 +59,7 @@ impl<R: Wait, F: Folder> Desk for SharedDesk<R, F> {
     ghost use Rattle.shared_service.specs.Passes.{told};
     ghost use Rattle.shared_service.specs.Kept.{leads};
 
-    ghost told = { λ desk. told desk.conn desk.pass.steady desk.pass.view };
+    ghost told = { λ desk. told desk.conn desk.pass.table desk.pass.steady desk.pass.view };
 
     ghost has_seen = { λ desk view. view ≡ desk.pass.view };
 

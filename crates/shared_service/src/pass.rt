@@ -1,5 +1,4 @@
-ghost use Rattle.service_desk.specs.Views.{IsView};
-ghost use Rattle.shared_service.specs.Passes.{state_of, count_of};
+ghost use Rattle.service_desk.specs.Views.{IsView, state_of, count_of};
 
 use crate::kept::Kept;
 use kr_outside::Folder;

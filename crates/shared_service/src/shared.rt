@@ -109,8 +109,8 @@ impl<F: Folder> SharedService<F> {
         requires table { pass.old.table ≡ self.now }
         ensures same { pass.new.table ≡ pass.old.table }
         ensures steady { pass.new.steady ≡ pass.old.steady }
-        ensures left { Leaves (spot conn pass.old.steady pass.old.view)
-            (spot conn pass.old.steady pass.new.view) }
+        ensures left { Leaves (spot conn pass.old.table pass.old.steady pass.old.view)
+            (spot conn pass.old.table pass.old.steady pass.new.view) }
     {
         let mut kept = self.turn.enter(rt, &mut pass.inner);
         let count = total(&kept);
@@ -123,8 +123,8 @@ impl<F: Folder> SharedService<F> {
         requires table { pass.old.table ≡ self.now }
         ensures same { pass.new.table ≡ pass.old.table }
         ensures steady { pass.new.steady ≡ pass.old.steady }
-        ensures gone { Goes (spot conn pass.old.steady pass.old.view)
-            (spot conn pass.old.steady pass.new.view) }
+        ensures gone { Goes (spot conn pass.old.table pass.old.steady pass.old.view)
+            (spot conn pass.old.table pass.old.steady pass.new.view) }
     {
         let mut kept = self.turn.enter(rt, &mut pass.inner);
         let count = total(&kept);
@@ -153,8 +153,8 @@ impl<F: Folder> SharedService<F> {
         requires table { pass.old.table ≡ self.now }
         ensures same { pass.new.table ≡ pass.old.table }
         ensures steady { pass.new.steady ≡ pass.old.steady }
-        ensures taken { Takes (spot conn pass.old.steady pass.old.view)
-            (spot conn pass.old.steady pass.new.view) result }
+        ensures taken { Takes (spot conn pass.old.table pass.old.steady pass.old.view)
+            (spot conn pass.old.table pass.old.steady pass.new.view) result }
     {
         for _ in rt.forever() {
             let (taken, count) = self.try_take(rt, pass, conn);
@@ -185,12 +185,14 @@ impl<F: Folder> SharedService<F> {
         ensures same { pass.new.table ≡ pass.old.table }
         ensures steady { pass.new.steady ≡ pass.old.steady }
         ensures recorded { IfOk result (Arrives
-            (spot conn pass.old.steady pass.old.view) (spot conn pass.old.steady pass.new.view)
+            (spot conn pass.old.table pass.old.steady pass.old.view)
+            (spot conn pass.old.table pass.old.steady pass.new.view)
             (record { conn = conn; request = request; now = now; salt = salt })) }
         ensures looked { OnErr result (Looks
-            (spot conn pass.old.steady pass.old.view) (spot conn pass.old.steady pass.new.view)) }
+            (spot conn pass.old.table pass.old.steady pass.old.view)
+            (spot conn pass.old.table pass.old.steady pass.new.view)) }
         ensures cause { IfErr result (λ refused.
-            IsRefusal refused (told conn pass.old.steady pass.new.view)) }
+            IsRefusal refused (told conn pass.old.table pass.old.steady pass.new.view)) }
     {
         let arrival = Arrival {
             conn,
@@ -219,12 +221,14 @@ impl<F: Folder> SharedService<F> {
         ensures same { pass.new.table ≡ pass.old.table }
         ensures steady { pass.new.steady ≡ pass.old.steady }
         ensures recorded { OnOk result (Finishes
-            (spot conn pass.old.steady pass.old.view) (spot conn pass.old.steady pass.new.view)
+            (spot conn pass.old.table pass.old.steady pass.old.view)
+            (spot conn pass.old.table pass.old.steady pass.new.view)
             (record { conn = conn; done = done; now = now })) }
         ensures looked { OnErr result (Looks
-            (spot conn pass.old.steady pass.old.view) (spot conn pass.old.steady pass.new.view)) }
+            (spot conn pass.old.table pass.old.steady pass.old.view)
+            (spot conn pass.old.table pass.old.steady pass.new.view)) }
         ensures cause { IfErr result (λ refused.
-            IsRefusal refused (told conn pass.old.steady pass.new.view)) }
+            IsRefusal refused (told conn pass.old.table pass.old.steady pass.new.view)) }
     {
         let brought = BroughtKey { conn, done, now };
         let mut kept = self.turn.enter(rt, &mut pass.inner);
@@ -240,10 +244,11 @@ impl<F: Folder> SharedService<F> {
         ensures same { pass.new.table ≡ pass.old.table }
         ensures steady { pass.new.steady ≡ pass.old.steady }
         ensures joined { IfOk result (λ conn. Extends
-            (spot conn pass.old.steady pass.old.view) (spot conn pass.old.steady pass.new.view)
+            (spot conn pass.old.table pass.old.steady pass.old.view)
+            (spot conn pass.old.table pass.old.steady pass.new.view)
             (event.Connect conn) (output.Joined conn)) }
         ensures refused { IfErr result (λ refused.
-            IsRefused pass.old.steady refused pass.old.view pass.new.view) }
+            IsRefused pass.old.table pass.old.steady refused pass.old.view pass.new.view) }
     {
         let mut kept = self.turn.enter(rt, &mut pass.inner);
         let count = total(&kept);
@@ -267,13 +272,13 @@ impl<F: Folder> SharedService<F> {
         ensures same { pass.new.table ≡ pass.old.table }
         ensures steady { pass.new.steady ≡ pass.old.steady }
         ensures joined { IfOk result (λ joined. Extends
-            (spot joined.0 pass.old.steady pass.old.view)
-            (spot joined.0 pass.old.steady pass.new.view)
+            (spot joined.0 pass.old.table pass.old.steady pass.old.view)
+            (spot joined.0 pass.old.table pass.old.steady pass.new.view)
             (event.Connect joined.0) (output.Joined joined.0)) }
         ensures passes { IfOk result (λ joined.
             (joined.1 ≡ noted pass.new) × (joined.2 ≡ noted pass.new)) }
         ensures refused { IfErr result (λ refused.
-            IsRefused pass.old.steady refused pass.old.view pass.new.view) }
+            IsRefused pass.old.table pass.old.steady refused pass.old.view pass.new.view) }
     {
         let conn = self.connect(rt, pass)?;
         let reader = self.note(pass);

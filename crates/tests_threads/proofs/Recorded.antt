@@ -1,6 +1,7 @@
 -- What the clauses of a shared service's calls say of what a pass owns.
 use Rattle.std.proofs.Common.{◌≡◌, ℕ, ◌+◌, List, [], ◌∷◌, ◌++◌, length, Option, Result, Ok, Err, IfOk, IfErr, OnErr, Some, None, nat_le, if◌then◌else◌, Bool, true, false, refl, sym, ap, ◌∙◌, subst, arith, append-nil}
 use Rattle.std.proofs.lemmas.List.{length_push, append_assoc}
+use Rattle.atomic_table.specs.Seated.{TableId}
 use Rattle.kr_base.specs.declared.ids.ConnId.{ConnId}
 use Rattle.service_events.specs.declared.event.Event.{Event}
 use Rattle.service_events.specs.declared.event.Output.{Output}
@@ -21,19 +22,19 @@ use Rattle.tests_threads.specs.Recorded.{Owns}
 pub starts-through : (last log seen : List Event) → StartsWith last log → StartsWith log seen → StartsWith last seen
 starts-through last log seen more starts = (starts.0 ++ more.0, more.1 ∙ (ap (λ l. l ++ more.0) starts.1 ∙ append_assoc seen starts.0 more.0))
 
-module _ (conn other : ConnId) (steady : Bool) (old new : View) where
-  extends-starts : (event : Event) (answer : Output) → Extends (spot conn steady old) (spot other steady new) event answer → StartsWith new.seen old.seen
+module _ (conn other : ConnId) (table : TableId) (steady : Bool) (old new : View) where
+  extends-starts : (event : Event) (answer : Output) → Extends (spot conn table steady old) (spot other table steady new) event answer → StartsWith new.seen old.seen
   extends-starts event answer extends = (
     extends.between ++ event ∷ [],
     sym (ap (λ (v : View). v.seen) (extends.views old refl)) ∙ append_assoc old.seen extends.between (event ∷ []),
   )
 
-  looks-starts : Looks (spot conn steady old) (spot other steady new) → StartsWith new.seen old.seen
+  looks-starts : Looks (spot conn table steady old) (spot other table steady new) → StartsWith new.seen old.seen
   looks-starts looks = (looks.between, sym (ap (λ (v : View). v.seen) (looks.views old refl)))
 
   -- what was seen begins with what was seen before, whether the request was recorded or not
-  pub arrives-starts : (arrival : Arrival) (result : Result (Option Work) Refused) → IfOk result (Arrives (spot conn steady old) (spot other steady new) arrival)
-      → OnErr result (Looks (spot conn steady old) (spot other steady new)) → StartsWith new.seen old.seen
+  pub arrives-starts : (arrival : Arrival) (result : Result (Option Work) Refused) → IfOk result (Arrives (spot conn table steady old) (spot other table steady new) arrival)
+      → OnErr result (Looks (spot conn table steady old) (spot other table steady new)) → StartsWith new.seen old.seen
   arrives-starts arrival (Ok work) arrives looks = extends-starts _ _ arrives.recorded
   arrives-starts arrival (Err refused) arrives looks = looks-starts looks
 
@@ -50,45 +51,45 @@ recorded_by taken.Missing = 0
 
 module _ (steady : Bool) (old new : Seen) (table : new.table ≡ old.table) where
   -- an event was recorded
-  pub extends-owns : (conn other : ConnId) (event : Event) (answer : Output) → Extends (spot conn steady old.view) (spot other steady new.view) event answer → Owns 1 old new
+  pub extends-owns : (conn other : ConnId) (event : Event) (answer : Output) → Extends (spot conn old.table steady old.view) (spot other old.table steady new.view) event answer → Owns 1 old new
   extends-owns conn other event answer extends = record {
     table = table;
-    seen = extends-starts conn other steady old.view new.view event answer extends;
+    seen = extends-starts conn other old.table steady old.view new.view event answer extends;
     own = sym (ap (λ (v : View). length v.own) (extends.views old.view refl)) ∙ length_push old.view.own (length (old.view.seen ++ extends.between));
   }
 
   -- nothing was recorded
-  pub looks-owns : (conn : ConnId) → Looks (spot conn steady old.view) (spot conn steady new.view) → Owns 0 old new
+  pub looks-owns : (conn : ConnId) → Looks (spot conn old.table steady old.view) (spot conn old.table steady new.view) → Owns 0 old new
   looks-owns conn looks =
       let same = ap (λ (v : View). length v.own) (looks.views old.view refl) in record {
         table = table;
-        seen = looks-starts conn conn steady old.view new.view looks;
+        seen = looks-starts conn conn old.table steady old.view new.view looks;
         own = omega (arith, same);
       }
 
   -- a request was recorded
   pub arrives-owns : (conn : ConnId) (arrival : Arrival) (result : Result (Option Work) Refused) (work : Option Work) → result ≡ Ok work
-      → IfOk result (Arrives (spot conn steady old.view) (spot conn steady new.view) arrival) → Owns 1 old new
+      → IfOk result (Arrives (spot conn old.table steady old.view) (spot conn old.table steady new.view) arrival) → Owns 1 old new
   arrives-owns conn arrival result work is arrives =
-      let came : Arrives (spot conn steady old.view) (spot conn steady new.view) arrival work =
-      subst (λ (r : Result (Option Work) Refused). IfOk r (Arrives (spot conn steady old.view) (spot conn steady new.view) arrival)) is arrives in
+      let came : Arrives (spot conn old.table steady old.view) (spot conn old.table steady new.view) arrival work =
+      subst (λ (r : Result (Option Work) Refused). IfOk r (Arrives (spot conn old.table steady old.view) (spot conn old.table steady new.view) arrival)) is arrives in
       extends-owns conn conn _ _ came.recorded
 
   -- a request was refused
   pub refuses-owns : (conn : ConnId) (result : Result (Option Work) Refused) (refused : Refused) → result ≡ Err refused
-      → OnErr result (Looks (spot conn steady old.view) (spot conn steady new.view)) → Owns 0 old new
+      → OnErr result (Looks (spot conn old.table steady old.view) (spot conn old.table steady new.view)) → Owns 0 old new
   refuses-owns conn result refused is looks =
-      looks-owns conn (subst (λ (r : Result (Option Work) Refused). OnErr r (Looks (spot conn steady old.view) (spot conn steady new.view))) is looks)
+      looks-owns conn (subst (λ (r : Result (Option Work) Refused). OnErr r (Looks (spot conn old.table steady old.view) (spot conn old.table steady new.view))) is looks)
 
   -- no connection joined
   pub crowded-owns : {T : Type 0} (result : Result T JoinRefused) (refused : JoinRefused) → result ≡ Err refused
-      → IfErr result (λ refused. IsRefused steady refused old.view new.view) → Owns 0 old new
+      → IfErr result (λ refused. IsRefused old.table steady refused old.view new.view) → Owns 0 old new
   crowded-owns {T} result refused is cause =
-      let looks = subst (λ (r : Result T JoinRefused). IfErr r (λ refused. IsRefused steady refused old.view new.view)) is cause in
+      let looks = subst (λ (r : Result T JoinRefused). IfErr r (λ refused. IsRefused old.table steady refused old.view new.view)) is cause in
       looks-owns (record { 0 = 1 }) (looks.0 (record { 0 = 1 }))
 
   -- what `take` returned shows what it recorded
-  pub takes-owns : (conn : ConnId) (given : Taken) → Takes (spot conn steady old.view) (spot conn steady new.view) given → Owns (recorded_by given) old new
+  pub takes-owns : (conn : ConnId) (given : Taken) → Takes (spot conn old.table steady old.view) (spot conn old.table steady new.view) given → Owns (recorded_by given) old new
   takes-owns conn (taken.Outs outs) takes = extends-owns conn conn _ _ takes
   takes-owns conn taken.Empty takes = looks-owns conn takes.0
   takes-owns conn taken.Overrun takes = looks-owns conn takes.0

@@ -1,4 +1,4 @@
-use Rattle.std.proofs.Common.{◌++◌, true, refl, ap, false}
+use Rattle.std.proofs.Common.{◌++◌, true, refl, ap, false, None}
 use Rattle.std.specs.List.{concat}
 use Rattle.service_events.specs.declared.event.Event.TheVariants as event
 use Rattle.service_tables.specs.Opened.{Contents, opened_state}
@@ -10,7 +10,7 @@ use Rattle.keyring_program.proofs.laws.each_request_has_its_reply.Goals as goal
 
 -- the service after the joining, as a desk sees it
 told : Contents → Told
-told contents = record { conn = the_connection; state = joined contents; count = 1; is_alone = true; is_steady = true; is_waiting = false }
+told contents = record { conn = the_connection; home = None; state = joined contents; count = 1; is_alone = true; is_steady = true; is_waiting = false }
 
 pub returns-clause-outputs : goal.returns-clause-outputs
 unfolding told

@@ -1,3 +1,7 @@
+use Rattle.std.proofs.Common.{Bool, sym, subst}
+use Rattle.atomic_table.specs.Seated.{TableId}
+use Rattle.service_desk.specs.Calls.{Takes}
+use Rattle.shared_service.specs.Passes.{spot}
 use Rattle.shared_service.proofs.desk.SharedDeskWriteDesk.take.Goals as goal
 
 pub invariant_of-self-clause-legal : goal.invariant_of-self-clause-legal
@@ -6,6 +10,11 @@ invariant_of-self-clause-legal g c = c.has_seen_a_history.ensures.legal
 pub invariant_of-self-clause-places : goal.invariant_of-self-clause-places
 invariant_of-self-clause-places g c = c.has_seen_a_history.ensures.places
 
--- the pass is as steady as before
+-- the pass is of the same service, which is as steady as before
 pub returns : goal.returns
-returns g c = rw c.take-taken.ensures.steady c.take-taken.ensures.taken
+returns g c =
+    let conn = c.args.self.now.conn in
+    let old = c.args.self.now.pass in
+    let new = c.take-taken.new.pass in
+    subst (λ (table : TableId). Takes (spot conn old.table old.steady old.view) (spot conn table new.steady new.view) c.take-taken.result) (sym c.take-taken.ensures.same)
+    (subst (λ (steady : Bool). Takes (spot conn old.table old.steady old.view) (spot conn old.table steady new.view) c.take-taken.result) (sym c.take-taken.ensures.steady) c.take-taken.ensures.taken)

@@ -1,6 +1,6 @@
 use Rattle.std.proofs.Common.{refl, subst}
-use Rattle.service_desk.specs.Views.{IsView}
-use Rattle.shared_service.specs.Passes.{Seen, state_of, count_of}
+use Rattle.service_desk.specs.Views.{IsView, state_of, count_of}
+use Rattle.shared_service.specs.Passes.{Seen}
 use Rattle.shared_service.proofs.pass.Pass.has_seen_a_history.Goals as goal
 
 pub returns : goal.returns

@@ -136,8 +136,8 @@ returns-clause-recorded g c =
     c.total-count.ensures.count c.end.ensures.same c.end.ensures.recorded in
     let view : View = view_of old in
     let stood = stands-view old c.enter-kept.new.pass e.between e.is c.pass.invariant service stands in
-    subst (λ (s : Seen). IfOk result (Arrives (spot c.args.conn s.steady s.view) (spot c.args.conn s.steady (view_of c.end.new.inner)) arrival)) c.pass.view_is
-    (arrives-if c.args.conn steady view (view_of c.end.new.inner) e.between service stood stored arrival new result stores (rw c.deref_mut.ensures.value at c.arrive-arrived.ensures.not_spent) end.2)
+    subst (λ (s : Seen). IfOk result (Arrives (spot c.args.conn s.table s.steady s.view) (spot c.args.conn s.table s.steady (view_of c.end.new.inner)) arrival)) c.pass.view_is
+    (arrives-if c.args.conn old.table steady view (view_of c.end.new.inner) e.between service stood stored arrival new result stores (rw c.deref_mut.ensures.value at c.arrive-arrived.ensures.not_spent) end.2)
 
 pub returns-clause-looked : goal.returns-clause-looked
 returns-clause-looked g c =
@@ -163,8 +163,8 @@ returns-clause-looked g c =
     c.total-count.ensures.count c.end.ensures.same c.end.ensures.recorded in
     let view : View = view_of old in
     let stood = stands-view old c.enter-kept.new.pass e.between e.is c.pass.invariant service stands in
-    subst (λ (s : Seen). OnErr result (Looks (spot c.args.conn s.steady s.view) (spot c.args.conn s.steady (view_of c.end.new.inner)))) c.pass.view_is
-    (looks-if c.args.conn steady view (view_of c.end.new.inner) e.between service stood event result end.2)
+    subst (λ (s : Seen). OnErr result (Looks (spot c.args.conn s.table s.steady s.view) (spot c.args.conn s.table s.steady (view_of c.end.new.inner)))) c.pass.view_is
+    (looks-if c.args.conn old.table steady view (view_of c.end.new.inner) e.between service stood event result end.2)
 
 pub returns-clause-cause : goal.returns-clause-cause
 returns-clause-cause g c =
@@ -190,5 +190,5 @@ returns-clause-cause g c =
     c.total-count.ensures.count c.end.ensures.same c.end.ensures.recorded in
     let view : View = view_of old in
     let stood = stands-view old c.enter-kept.new.pass e.between e.is c.pass.invariant service stands in
-    subst (λ (s : Seen). IfErr result (λ refused. IsRefusal refused (told c.args.conn s.steady (view_of c.end.new.inner)))) c.pass.view_is
-    (refused-if c.args.conn steady view (view_of c.end.new.inner) e.between service stood event result (rw c.deref_mut.ensures.value at c.arrive-arrived.ensures.spent) (rw c.deref_mut.ensures.value at c.arrive-arrived.ensures.not_spent) (rw c.deref_mut.ensures.value at c.arrive-arrived.ensures.gone) end.2)
+    subst (λ (s : Seen). IfErr result (λ refused. IsRefusal refused (told c.args.conn s.table s.steady (view_of c.end.new.inner)))) c.pass.view_is
+    (refused-if c.args.conn old.table steady view (view_of c.end.new.inner) e.between service stood event result (rw c.deref_mut.ensures.value at c.arrive-arrived.ensures.spent) (rw c.deref_mut.ensures.value at c.arrive-arrived.ensures.not_spent) (rw c.deref_mut.ensures.value at c.arrive-arrived.ensures.gone) end.2)

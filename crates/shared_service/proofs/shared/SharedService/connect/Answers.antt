@@ -41,8 +41,8 @@ returns-clause-joined g c =
     let view : View = view_of c.pass.inside.inner in
     let steady = steady_or c.pass.inside.inner.start in
     let stands = stands-view c.pass.inside.inner c.enter-kept.new.pass e.between e.is c.pass.invariant service (λ start at. (e.stands start at).history) in
-    subst (λ (s : Seen). IfOk c.join-joined.result (λ conn. Extends (spot conn s.steady s.view) (spot conn s.steady (view_of c.end.new.inner)) (event.Connect conn) (output.Joined conn))) c.pass.view_is
-    (joins-if steady view (view_of c.end.new.inner) e.between service stands c.join-joined.new.self.history c.join-joined.result (rw c.deref_mut.ensures.value at c.join-joined.ensures.stores) last)
+    subst (λ (s : Seen). IfOk c.join-joined.result (λ conn. Extends (spot conn s.table s.steady s.view) (spot conn s.table s.steady (view_of c.end.new.inner)) (event.Connect conn) (output.Joined conn))) c.pass.view_is
+    (joins-if c.pass.inside.inner.table steady view (view_of c.end.new.inner) e.between service stands c.join-joined.new.self.history c.join-joined.result (rw c.deref_mut.ensures.value at c.join-joined.ensures.stores) last)
 
 pub returns-clause-refused : goal.returns-clause-refused
 returns-clause-refused g c =
@@ -51,5 +51,5 @@ returns-clause-refused g c =
     let view : View = view_of c.pass.inside.inner in
     let steady = steady_or c.pass.inside.inner.start in
     let stands = stands-view c.pass.inside.inner c.enter-kept.new.pass e.between e.is c.pass.invariant service (λ start at. (e.stands start at).history) in
-    subst (λ (s : Seen). IfErr c.join-joined.result (λ refused. IsRefused s.steady refused s.view (view_of c.end.new.inner))) c.pass.view_is
-    (crowded-if steady view (view_of c.end.new.inner) e.between service stands c.join-joined.result (rw c.deref_mut.ensures.value at c.join-joined.ensures.spent) (rw c.deref_mut.ensures.value at c.join-joined.ensures.crowded) last)
+    subst (λ (s : Seen). IfErr c.join-joined.result (λ refused. IsRefused s.table s.steady refused s.view (view_of c.end.new.inner))) c.pass.view_is
+    (crowded-if c.pass.inside.inner.table steady view (view_of c.end.new.inner) e.between service stands c.join-joined.result (rw c.deref_mut.ensures.value at c.join-joined.ensures.spent) (rw c.deref_mut.ensures.value at c.join-joined.ensures.crowded) last)

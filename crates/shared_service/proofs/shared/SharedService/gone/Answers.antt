@@ -39,6 +39,6 @@ returns-clause-gone g c =
     let last = (done c.pass.inside.inner c.enter-kept.new.pass e.between e.is c.pass.invariant service (λ start at. (e.stands start at).history) (gone_event c.args.conn (told c.args.conn service)) c.gone.new.self.history c.total-count.result c.end.new.inner (gone-fits c.args.conn service (told c.args.conn service) refl) (went-with service c.gone.new.self.history (gone_event c.args.conn (told c.args.conn service)) (gone-fits c.args.conn service (told c.args.conn service) refl) ((rw c.deref_mut.ensures.value at c.gone.ensures.recorded) ∙ gone-some c.args.conn service (told c.args.conn service)) c.gone.ensures.history) c.total-count.ensures.count c.end.ensures.same c.end.ensures.recorded).2 in
     let view : View = view_of c.pass.inside.inner in
     let steady = steady_or c.pass.inside.inner.start in
-    let here = goes c.args.conn steady view e.between service (stands-view c.pass.inside.inner c.enter-kept.new.pass e.between e.is c.pass.invariant service (λ start at. (e.stands start at).history)) (told c.args.conn service) refl in
-    subst (λ (s : Seen). Goes (spot c.args.conn s.steady s.view) (spot c.args.conn s.steady (view_of c.end.new.inner))) c.pass.view_is
-    (subst (λ (v : View). Goes (spot c.args.conn steady view) (spot c.args.conn steady v)) (sym last) here)
+    let here = goes c.args.conn c.pass.inside.inner.table steady view e.between service (stands-view c.pass.inside.inner c.enter-kept.new.pass e.between e.is c.pass.invariant service (λ start at. (e.stands start at).history)) (told c.args.conn service) refl in
+    subst (λ (s : Seen). Goes (spot c.args.conn s.table s.steady s.view) (spot c.args.conn s.table s.steady (view_of c.end.new.inner))) c.pass.view_is
+    (subst (λ (v : View). Goes (spot c.args.conn c.pass.inside.inner.table steady view) (spot c.args.conn c.pass.inside.inner.table steady v)) (sym last) here)

@@ -39,6 +39,6 @@ returns-clause-left g c =
     let last = (done c.pass.inside.inner c.enter-kept.new.pass e.between e.is c.pass.invariant service (λ start at. (e.stands start at).history) (left_event c.args.conn (told c.args.conn service)) c.leave.new.self.history c.total-count.result c.end.new.inner (left-fits c.args.conn service (told c.args.conn service) refl) (went-with service c.leave.new.self.history (left_event c.args.conn (told c.args.conn service)) (left-fits c.args.conn service (told c.args.conn service) refl) ((rw c.deref_mut.ensures.value at c.leave.ensures.recorded) ∙ left-some c.args.conn service (told c.args.conn service)) c.leave.ensures.history) c.total-count.ensures.count c.end.ensures.same c.end.ensures.recorded).2 in
     let view : View = view_of c.pass.inside.inner in
     let steady = steady_or c.pass.inside.inner.start in
-    let here = leaves c.args.conn steady view e.between service (stands-view c.pass.inside.inner c.enter-kept.new.pass e.between e.is c.pass.invariant service (λ start at. (e.stands start at).history)) (told c.args.conn service) refl in
-    subst (λ (s : Seen). Leaves (spot c.args.conn s.steady s.view) (spot c.args.conn s.steady (view_of c.end.new.inner))) c.pass.view_is
-    (subst (λ (v : View). Leaves (spot c.args.conn steady view) (spot c.args.conn steady v)) (sym last) here)
+    let here = leaves c.args.conn c.pass.inside.inner.table steady view e.between service (stands-view c.pass.inside.inner c.enter-kept.new.pass e.between e.is c.pass.invariant service (λ start at. (e.stands start at).history)) (told c.args.conn service) refl in
+    subst (λ (s : Seen). Leaves (spot c.args.conn s.table s.steady s.view) (spot c.args.conn s.table s.steady (view_of c.end.new.inner))) c.pass.view_is
+    (subst (λ (v : View). Leaves (spot c.args.conn c.pass.inside.inner.table steady view) (spot c.args.conn c.pass.inside.inner.table steady v)) (sym last) here)

@@ -30,5 +30,5 @@ pub returns-in_default : goal.returns-in_default
 returns-in_default g c = record {
   same = c.try_take-taken.ensures.same ∙ c.loop.invariant.2;
   steady = c.try_take-taken.ensures.steady ∙ c.loop.invariant.3;
-  taken = takes-after c.args.conn c.args.pass.now.steady c.args.pass.now.view c.loop.pass.view c.try_take-taken.new.pass.view c.loop.invariant.4.0 c.try_take-taken.result.0 c.loop.invariant.4.1 c.try_take-taken.ensures.tried (λ empty. c.in_default.not-Empty empty);
+  taken = takes-after c.args.conn c.args.pass.now.table c.args.pass.now.steady c.args.pass.now.view c.loop.pass.view c.try_take-taken.new.pass.view c.loop.invariant.4.0 c.try_take-taken.result.0 c.loop.invariant.4.1 c.try_take-taken.ensures.tried (λ empty. c.in_default.not-Empty empty);
 }
