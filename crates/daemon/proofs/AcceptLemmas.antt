@@ -3,16 +3,16 @@ use Rattle.std.specs.Prelude.{◌≡◌, ℕ, ◌+◌, ◌≤◌, min, Bool, IfS
 use Rattle.std.specs.List.{AllZip, FoldsTo}
 use Rattle.std.specs.Option.{option_map}
 use Rattle.std.proofs.Common.{refl, ap, sym, subst, ◌∙◌, arith, length-append}
+use Rattle.atomic_table.specs.Seated.{TableId}
 use Rattle.kr_base.specs.declared.ids.ConnId.{ConnId}
 use Rattle.dbus_auth.specs.Exchange.{Exchange}
 use Rattle.dbus_auth.specs.Table.{fresh}
 use Rattle.service_desk.specs.Places.{Told}
 use Rattle.service_desk.specs.Views.{View}
 use Rattle.connection_worker.specs.Salts.{Salting}
-use Rattle.kr_outside.specs.Host.{GivesOne}
 use Rattle.daemon.specs.declared.job.Served.{Served}
 use Rattle.daemon.specs.declared.accepting.LoopEnd.{LoopEnd}
-use Rattle.daemon.specs.Accepts.{Round, Unjoined, Unstarted, Started, Standing, World, Listening, IsJobOf, IsAdmitted, IsRound, Rounds, AcceptsLinks, Accepts, FinishesAll, total_by, unjoined_by, unstarted_by}
+use Rattle.daemon.specs.Accepts.{Round, Unjoined, Unstarted, Started, World, Listening, IsJobOf, IsRound, Rounds, AcceptsLinks, Accepts, FinishesAll, total_by, unjoined_by, unstarted_by}
 use Rattle.daemon.specs.Jobs.{Job}
 use Rattle.daemon.specs.Spawners.{Spawning}
 use Rattle.daemon.specs.Hubs.{Joins, IsDeskOf, salts_of}
@@ -83,18 +83,18 @@ none-given (Some (report ∷ rest)) new is = let wrong : None ≡ Some report = 
 
 -- A job over what a hub returned is one of a new connection.
 pub is-job : {A B C I O : Type 0} (read_told : A → Told) (read_seen : A → View → Type 0) (write_told : B → Told) (write_seen : B → View → Type 0) (uid then_uid : ℕ)
-    (guid then_guid seed then_seed : List ℕ) (conn : ConnId) (auth : Exchange) (salting : Salting) (clock : C) (reader : A) (writer : B) (input : I) (output : O)
-    (old mid new : View) → Joins old conn mid → IsDeskOf (read_told reader) (read_seen reader) conn mid → IsDeskOf (write_told writer) (write_seen writer) conn mid
-    → auth ≡ fresh then_uid then_guid → salting ≡ salts_of then_seed conn → then_uid ≡ uid → then_guid ≡ guid → then_seed ≡ seed → new ≡ mid
-    → IsJobOf read_told read_seen write_told write_seen uid guid seed
+    (guid then_guid seed then_seed : List ℕ) (home then_home : Option TableId) (conn : ConnId) (auth : Exchange) (salting : Salting) (clock : C) (reader : A) (writer : B) (input : I) (output : O)
+    (old mid new : View) → Joins old conn mid → IsDeskOf (read_told reader) (read_seen reader) then_home conn mid → IsDeskOf (write_told writer) (write_seen writer) then_home conn mid
+    → auth ≡ fresh then_uid then_guid → salting ≡ salts_of then_seed conn → then_uid ≡ uid → then_guid ≡ guid → then_seed ≡ seed → then_home ≡ home → new ≡ mid
+    → IsJobOf read_told read_seen write_told write_seen uid guid seed home
     (record { conn = conn; auth = auth; salting = salting; clock = clock; reader = reader; writer = writer; input = input; output = output }) old new
-is-job read_told read_seen write_told write_seen uid then_uid guid then_guid seed then_seed conn auth salting clock reader writer input output old mid new joins reads writes auth_is
-    salts_are same_uid same_guid same_seed seen = record {
+is-job read_told read_seen write_told write_seen uid then_uid guid then_guid seed then_seed home then_home conn auth salting clock reader writer input output old mid new joins reads writes auth_is
+    salts_are same_uid same_guid same_seed same_home seen = record {
       joined = rw seen joins;
       auth = auth_is ∙ (ap (λ (u : ℕ). fresh u then_guid) same_uid ∙ ap (λ (g : List ℕ). fresh uid g) same_guid);
       salting = salts_are ∙ ap (λ (s : List ℕ). salts_of s conn) same_seed;
-      reader = rw seen reads;
-      writer = rw seen writes;
+      reader = rw (seen, sym same_home) reads;
+      writer = rw (seen, sym same_home) writes;
     }
 
 -- a link's number is 1
@@ -119,9 +119,9 @@ pub world-finished : {J : Type 0} (view : View) (unjoined : ℕ) (listening : Li
     (record { standing = record { view = view; unjoined = unjoined; started = []; unstarted = old.unstarted }; listening = listening })
 world-finished view unjoined listening old new is = rw is refl
 
-module _ {A B C I O : Type 0} (read_told : A → Told) (read_seen : A → View → Type 0) (write_told : B → Told) (write_seen : B → View → Type 0) (left : I → Option (List ℕ)) (in_faults : I → ℕ) (in_steady in_closed : I → Bool) (written : O → Option (List ℕ)) (out_faults : O → ℕ) (out_steady out_closed : O → Bool) (uid : ℕ) (guid seed : List ℕ) where
+module _ {A B C I O : Type 0} (read_told : A → Told) (read_seen : A → View → Type 0) (write_told : B → Told) (write_seen : B → View → Type 0) (left : I → Option (List ℕ)) (in_faults : I → ℕ) (in_steady in_closed : I → Bool) (written : O → Option (List ℕ)) (out_faults : O → ℕ) (out_steady out_closed : O → Bool) (uid : ℕ) (guid seed : List ℕ) (home : Option TableId) where
   abbrev Step : World (Job A B C I O) → Round A B C I O → World (Job A B C I O) → Type 0
-  Step old round new = IsRound read_told read_seen write_told write_seen left in_faults in_steady in_closed written out_faults out_steady out_closed uid guid seed old round new
+  Step old round new = IsRound read_told read_seen write_told write_seen left in_faults in_steady in_closed written out_faults out_steady out_closed uid guid seed home old round new
 
   -- with each link, one job more was started, or the link was dropped
   one-more : (old new : World (Job A B C I O)) (round : Round A B C I O) → Step old round new
@@ -162,10 +162,10 @@ module _ {A B C I O : Type 0} (read_told : A → Told) (read_seen : A → View �
   -- What was accepted, and then finished, is what the loop returns.
   pub accepts : (Serves : Job A B C I O → Served A B I O → Type 0) (most : Option ℕ) (old last new : World (Job A B C I O)) (was is : ℕ) (ended : Bool) (how : LoopEnd)
       (done_old done_mid done_new : List (Served A B I O)) (then now : Spawning (Job A B C I O))
-      → AcceptsLinks read_told read_seen write_told write_seen left in_faults in_steady in_closed written out_faults out_steady out_closed uid guid seed most old last was is ended how
+      → AcceptsLinks read_told read_seen write_told write_seen left in_faults in_steady in_closed written out_faults out_steady out_closed uid guid seed home most old last was is ended how
       → old.standing.started ≡ [] → done_mid ≡ done_old → FinishesAll Serves then now done_mid done_new → then.started ≡ last.standing.started
       → new ≡ record last { standing = record last.standing { started = [] } }
-      → Accepts (Rounds read_told read_seen write_told write_seen left in_faults in_steady in_closed written out_faults out_steady out_closed uid guid seed) Serves most old new was is
+      → Accepts (Rounds read_told read_seen write_told write_seen left in_faults in_steady in_closed written out_faults out_steady out_closed uid guid seed home) Serves most old new was is
       ended done_old done_new how
   accepts Serves most old last new was is ended how done_old done_mid done_new then now links idle same finishes jobs_are new_is =
       let served = subst (λ (js : List (Job A B C I O)). AllZip Serves js finishes.results) jobs_are finishes.served in

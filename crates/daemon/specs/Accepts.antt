@@ -1,7 +1,7 @@
 -- Accepting links, and serving each by a job: what became of each link, and what the loop returns.
 use Rattle.std.specs.Prelude.{◌≡◌, ℕ, ◌+◌, ◌≤◌, min, Bool, ◌&&◌, IsTrue, IfSome, List, [], ◌∷◌, ◌++◌, length, Option, Some}
 use Rattle.std.specs.List.{AllZip, FoldsTo}
-use Rattle.kr_base.specs.declared.ids.ConnId.{ConnId}
+use Rattle.atomic_table.specs.Seated.{TableId}
 use Rattle.kr_outside.specs.Faults.{last_count, Rose}
 use Rattle.kr_outside.specs.Host.{GivesOne}
 use Rattle.kr_outside.specs.Listener.{LinkReport, GivesNext, IsNewEnd}
@@ -82,15 +82,15 @@ pub record Listening : Type 0 where
 abbrev pub listening : {L : Type 0} → (L → Option (List LinkReport)) → (L → ℕ) → L → Listening
 listening coming given listener = record { coming = coming listener; given = given listener }
 
--- A new connection's job: its desks are those of this connection, it has the hub's handshake and the connection's salts.
-pub record IsJobOf {A B C I O : Type 0} (read_told : A → Told) (read_seen : A → View → Type 0) (write_told : B → Told) (write_seen : B → View → Type 0) (uid : ℕ) (guid seed : List ℕ) (job : Job A B C I O) (old new : View) : Type 0 where
+-- A new connection's job: its desks are those of this connection of the hub's service, it has the hub's handshake and the connection's salts.
+pub record IsJobOf {A B C I O : Type 0} (read_told : A → Told) (read_seen : A → View → Type 0) (write_told : B → Told) (write_seen : B → View → Type 0) (uid : ℕ) (guid seed : List ℕ) (home : Option TableId) (job : Job A B C I O) (old new : View) : Type 0 where
   pub joined : Joins old job.conn new
   pub auth : job.auth ≡ fresh uid guid
   pub salting : job.salting ≡ salts_of seed job.conn
-  pub reader : IsDeskOf (read_told job.reader) (read_seen job.reader) job.conn new
-  pub writer : IsDeskOf (write_told job.writer) (write_seen job.writer) job.conn new
+  pub reader : IsDeskOf (read_told job.reader) (read_seen job.reader) home job.conn new
+  pub writer : IsDeskOf (write_told job.writer) (write_seen job.writer) home job.conn new
 
-module _ {A B C I O : Type 0} (read_told : A → Told) (read_seen : A → View → Type 0) (write_told : B → Told) (write_seen : B → View → Type 0) (uid : ℕ) (guid seed : List ℕ) where
+module _ {A B C I O : Type 0} (read_told : A → Told) (read_seen : A → View → Type 0) (write_told : B → Told) (write_seen : B → View → Type 0) (uid : ℕ) (guid seed : List ℕ) (home : Option TableId) where
   -- no connection could join, and this was counted
   pub record IsUnjoined (why : JoinRefused) (old new : Standing (Job A B C I O)) : Type 0 where
     pub refused : IsNotJoined why old.view new.view
@@ -100,7 +100,7 @@ module _ {A B C I O : Type 0} (read_told : A → Told) (read_seen : A → View �
 
   -- a connection joined, its job couldn't be started, which was counted, and it is gone
   pub record IsUnstarted (job : Job A B C I O) (gone : B) (old new : Standing (Job A B C I O)) : Type 0 where
-    pub made : IsJobOf read_told read_seen write_told write_seen uid guid seed job old.view new.view
+    pub made : IsJobOf read_told read_seen write_told write_seen uid guid seed home job old.view new.view
     pub goes : Goes (place write_told write_seen job.writer) (place write_told write_seen gone)
     pub unjoined : new.unjoined ≡ old.unjoined
     pub started : new.started ≡ old.started
@@ -108,7 +108,7 @@ module _ {A B C I O : Type 0} (read_told : A → Told) (read_seen : A → View �
 
   -- a connection joined, and its job was started
   pub record IsStarted (job : Job A B C I O) (old new : Standing (Job A B C I O)) : Type 0 where
-    pub made : IsJobOf read_told read_seen write_told write_seen uid guid seed job old.view new.view
+    pub made : IsJobOf read_told read_seen write_told write_seen uid guid seed home job old.view new.view
     pub unjoined : new.unjoined ≡ old.unjoined
     pub started : new.started ≡ old.started ++ job ∷ []
     pub unstarted : new.unstarted ≡ old.unstarted
@@ -146,11 +146,11 @@ EndsFor loop.Reached most links was is ended = (most ≡ Some links) × (is ≡ 
 EndsFor loop.ListenFault most links was is ended = Rose was is
 EndsFor loop.Memory most links was is ended = is ≡ was
 
-module _ {A B C I O : Type 0} (read_told : A → Told) (read_seen : A → View → Type 0) (write_told : B → Told) (write_seen : B → View → Type 0) (left : I → Option (List ℕ)) (in_faults : I → ℕ) (in_steady in_closed : I → Bool) (written : O → Option (List ℕ)) (out_faults : O → ℕ) (out_steady out_closed : O → Bool) (uid : ℕ) (guid seed : List ℕ) where
+module _ {A B C I O : Type 0} (read_told : A → Told) (read_seen : A → View → Type 0) (write_told : B → Told) (write_seen : B → View → Type 0) (left : I → Option (List ℕ)) (in_faults : I → ℕ) (in_steady in_closed : I → Bool) (written : O → Option (List ℕ)) (out_faults : O → ℕ) (out_steady out_closed : O → Bool) (uid : ℕ) (guid seed : List ℕ) (home : Option TableId) where
   -- one link was accepted, and this became of it
   pub record IsRound (old : World (Job A B C I O)) (round : Round A B C I O) (new : World (Job A B C I O)) : Type 0 where
     pub gives : Gives left in_faults in_steady in_closed written out_faults out_steady out_closed old.listening (input_in round) (output_in round) new.listening
-    pub admitted : IsAdmitted read_told read_seen write_told write_seen uid guid seed old.standing round new.standing
+    pub admitted : IsAdmitted read_told read_seen write_told write_seen uid guid seed home old.standing round new.standing
 
   -- These links were accepted, one after the other.
   abbrev pub Rounds : World (Job A B C I O) → List (Round A B C I O) → World (Job A B C I O) → Type 0

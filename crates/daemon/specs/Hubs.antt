@@ -1,28 +1,18 @@
 -- How a link becomes a connection of the service: what is recorded, and why it isn't.
-use Rattle.std.specs.Prelude.{◌≡◌, ℕ, ◌+◌, List, [], length, Result, Ok, Err}
+use Rattle.std.specs.Prelude.{◌≡◌, ℕ, List, [], Option, Result, Ok, Err}
+use Rattle.atomic_table.specs.Seated.{TableId}
 use Rattle.rand_chacha.specs.ChaCha.{key_of}
 use Rattle.kr_base.specs.declared.ids.ConnId.{ConnId}
 use Rattle.kr_outside.specs.Host.{GivesOne}
-use Rattle.service_tables.specs.State.{State}
-use Rattle.service_tables.specs.Limits.{IsSpent}
 use Rattle.service_events.specs.declared.event.Event.{Event}
 use Rattle.service_events.specs.declared.event.Event.TheVariants as event
 use Rattle.service_events.specs.declared.event.JoinRefused.{JoinRefused}
-use Rattle.service_events.specs.declared.event.JoinRefused.TheVariants as join
 use Rattle.service_events.specs.declared.event.Output.TheVariants as output
 use Rattle.service_events.specs.Replay.{replay, Legal}
-use Rattle.service_events.specs.Step.{Fits, IsCrowded, output_of}
+use Rattle.service_events.specs.Step.{Fits, output_of}
 use Rattle.service_desk.specs.Places.{Told}
-use Rattle.service_desk.specs.Views.{View, with_others, with_own}
+use Rattle.service_desk.specs.Views.{View, state_of, HasCause, with_others, with_own}
 use Rattle.connection_worker.specs.Salts.{Salting}
-
--- the state that the history leads to, as far as the view has seen it
-abbrev pub state_of : View → State
-state_of view = replay view.start view.seen
-
--- the number of events of the run up to there
-abbrev pub count_of : View → ℕ
-count_of view = view.before + length view.seen
 
 -- The hub saw events of others, and after them recorded that this connection joined, which is what the step at that place answers.
 pub record Joins (old : View) (conn : ConnId) (new : View) : Type 0 where
@@ -32,16 +22,11 @@ pub record Joins (old : View) (conn : ConnId) (new : View) : Type 0 where
   pub answers : output.Joined conn ≡ output_of (replay (state_of old) between) (event.Connect conn)
   pub is : new ≡ with_own (event.Connect conn) (with_others between old)
 
--- a desk of this connection, which has seen what the hub has seen, and has recorded nothing
-pub record IsDeskOf (told : Told) (has_seen : View → Type 0) (conn : ConnId) (seen : View) : Type 0 where
+-- a desk of this service and this connection, which has seen what the hub has seen, and has recorded nothing
+pub record IsDeskOf (told : Told) (has_seen : View → Type 0) (home : Option TableId) (conn : ConnId) (seen : View) : Type 0 where
+  pub home_is : told.home ≡ home
   pub conn_is : told.conn ≡ conn
   pub view_is : (view : View) → has_seen view → view ≡ record seen { own = [] }
-
--- why a connection couldn't join, by what the hub has seen then
-abbrev pub HasCause : JoinRefused → View → Type 0
-HasCause join.EventsSpent view = IsSpent (count_of view)
-HasCause join.TooManyConnections view = IsCrowded (state_of view)
-HasCause join.OutOfMemory view = Unit {0}
 
 -- The hub saw events of others, and recorded nothing; the refusal has its cause.
 pub record IsNotJoined (refused : JoinRefused) (old new : View) : Type 0 where
@@ -59,8 +44,9 @@ CountsRefused old new (Err refused) = GivesOne old new
 abbrev pub salts_of : List ℕ → ConnId → Salting
 salts_of seed conn = record { key = key_of seed; stream = conn.0; place = 0 }
 
--- the user id, the GUID and the seed of a hub are as before
-pub record IsSameHub {U : Type 0} (uid : U → ℕ) (guid seed : U → List ℕ) (old new : U) : Type 0 where
+-- the user id, the GUID, the seed and the service of a hub are as before
+pub record IsSameHub {U : Type 0} (uid : U → ℕ) (guid seed : U → List ℕ) (home : U → Option TableId) (old new : U) : Type 0 where
   pub same_uid : uid new ≡ uid old
   pub same_guid : guid new ≡ guid old
   pub same_seed : seed new ≡ seed old
+  pub same_home : home new ≡ home old

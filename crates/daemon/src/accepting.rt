@@ -72,10 +72,10 @@ where
     requires input_open { IsFalse (L.In.is_closed link.input) }
     requires output_open { IsFalse (L.Out.is_closed link.output) }
     ensures admits { Admits U.Reader.told U.Reader.has_seen U.Writer.told U.Writer.has_seen
-        (U.uid hub.old) (U.guid hub.old) (U.seed hub.old) link.input link.output
+        (U.uid hub.old) (U.guid hub.old) (U.seed hub.old) (U.home hub.old) link.input link.output
         (standing U.view U.refused hub.old spawner.old)
         (standing U.view U.refused hub.new spawner.new) }
-    ensures hub { IsSameHub U.uid U.guid U.seed hub.old hub.new }
+    ensures hub { IsSameHub U.uid U.guid U.seed U.home hub.old hub.new }
 {
     let Link { input, output } = link;
     let Ok((conn, reader, writer)) = hub.join() else {
@@ -112,7 +112,7 @@ where
     ensures accepts { AcceptsOne U.Reader.told U.Reader.has_seen U.Writer.told U.Writer.has_seen
         L.In.left L.In.faults L.In.is_steady L.In.is_closed
         L.Out.written L.Out.faults L.Out.is_steady L.Out.is_closed
-        (U.uid hub.old) (U.guid hub.old) (U.seed hub.old)
+        (U.uid hub.old) (U.guid hub.old) (U.seed hub.old) (U.home hub.old)
         (record {
           standing = standing U.view U.refused hub.old spawner.old;
           listening = listening L.coming L.given listener.old;
@@ -122,7 +122,7 @@ where
           listening = listening L.coming L.given listener.new;
         })
         (L.faults listener.old) (L.faults listener.new) (L.has_ended listener.new) result }
-    ensures hub { IsSameHub U.uid U.guid U.seed hub.old hub.new }
+    ensures hub { IsSameHub U.uid U.guid U.seed U.home hub.old hub.new }
     ensures steady { KeepsSteady (L.is_steady listener.old) (L.is_steady listener.new)
         (L.faults listener.old) (L.faults listener.new) }
 {
@@ -169,7 +169,7 @@ where
     ensures accepts { AcceptsLinks U.Reader.told U.Reader.has_seen U.Writer.told U.Writer.has_seen
         L.In.left L.In.faults L.In.is_steady L.In.is_closed
         L.Out.written L.Out.faults L.Out.is_steady L.Out.is_closed
-        (U.uid hub.old) (U.guid hub.old) (U.seed hub.old) most
+        (U.uid hub.old) (U.guid hub.old) (U.seed hub.old) (U.home hub.old) most
         (record {
           standing = standing U.view U.refused hub.old spawner.old;
           listening = listening L.coming L.given listener.old;
@@ -179,7 +179,7 @@ where
           listening = listening L.coming L.given listener.new;
         })
         (L.faults listener.old) (L.faults listener.new) (L.has_ended listener.new) result }
-    ensures hub { IsSameHub U.uid U.guid U.seed hub.old hub.new }
+    ensures hub { IsSameHub U.uid U.guid U.seed U.home hub.old hub.new }
     ensures steady { KeepsSteady (L.is_steady listener.old) (L.is_steady listener.new)
         (L.faults listener.old) (L.faults listener.new) }
     ensures done { done.new.items ≡ done.old.items }
@@ -253,7 +253,7 @@ where
         (Rounds U.Reader.told U.Reader.has_seen U.Writer.told U.Writer.has_seen
         L.In.left L.In.faults L.In.is_steady L.In.is_closed
         L.Out.written L.Out.faults L.Out.is_steady L.Out.is_closed
-        (U.uid hub.old) (U.guid hub.old) (U.seed hub.old))
+        (U.uid hub.old) (U.guid hub.old) (U.seed hub.old) (U.home hub.old))
         (Serves U.Reader.told U.Reader.has_seen U.Writer.told U.Writer.has_seen U.Time.coming
         L.In.left L.In.faults L.In.is_steady L.In.is_closed
         L.Out.written L.Out.faults L.Out.is_steady L.Out.is_closed) most
@@ -267,7 +267,7 @@ where
         })
         (L.faults listener.old) (L.faults listener.new) (L.has_ended listener.new)
         done.old.items done.new.items result }
-    ensures hub { IsSameHub U.uid U.guid U.seed hub.old hub.new }
+    ensures hub { IsSameHub U.uid U.guid U.seed U.home hub.old hub.new }
     ensures steady { KeepsSteady (L.is_steady listener.old) (L.is_steady listener.new)
         (L.faults listener.old) (L.faults listener.new) }
 {

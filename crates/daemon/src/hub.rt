@@ -1,4 +1,5 @@
-ghost use Rattle.std.specs.Prelude.{◌≡◌, ℕ, List, IsTrue, IfOk, IfErr};
+ghost use Rattle.std.specs.Prelude.{◌≡◌, ℕ, List, Option, IsTrue, IfOk, IfErr};
+ghost use Rattle.atomic_table.specs.Seated.{TableId};
 ghost use Rattle.dbus_auth.specs.Table.{fresh};
 ghost use Rattle.service_desk.specs.Views.{View};
 ghost use Rattle.daemon.specs.Hubs.{Joins, IsDeskOf, IsNotJoined, CountsRefused, salts_of};
@@ -29,6 +30,9 @@ pub trait Hub {
     /// The seed of all salts. No call changes it.
     ghost seed: { Self → List ℕ };
 
+    /// The service whose connections the links become, if threads share it. No call changes it.
+    ghost home: { Self → Option TableId };
+
     /// What the hub has seen of the service's history. Its own events are those of the joins.
     ghost view: { Self → View };
 
@@ -36,7 +40,7 @@ pub trait Hub {
     ghost refused: { Self → ℕ };
 
     /// Waits for the service, and records a new connection; returns its number, and the desks of its
-    /// reader and its writer, which have recorded nothing yet. The writer's desk waits while there is
+    /// reader and its writer at that service, which have recorded nothing yet. The writer's desk waits while there is
     /// nothing to take.
     ///
     /// Refused with `EventsSpent` if all events that can be counted are recorded, then with
@@ -45,9 +49,9 @@ pub trait Hub {
     fn join(&mut self) -> Result<(ConnId, Self::Reader, Self::Writer), JoinRefused>
         ensures joined { IfOk result (λ joined. Joins (view self.old) joined.0 (view self.new)) }
         ensures reader { IfOk result (λ joined. IsDeskOf (Self.Reader.told joined.1)
-            (Self.Reader.has_seen joined.1) joined.0 (view self.new)) }
+            (Self.Reader.has_seen joined.1) (home self.new) joined.0 (view self.new)) }
         ensures writer { IfOk result (λ joined. IsDeskOf (Self.Writer.told joined.2)
-            (Self.Writer.has_seen joined.2) joined.0 (view self.new)) }
+            (Self.Writer.has_seen joined.2) (home self.new) joined.0 (view self.new)) }
         ensures waits { IfOk result (λ joined. IsTrue (Self.Writer.told joined.2).is_waiting) }
         ensures refused { IfErr result (λ refused.
             IsNotJoined refused (view self.old) (view self.new)) }
@@ -55,7 +59,8 @@ pub trait Hub {
 
         ensures uid { uid self.new ≡ uid self.old }
         ensures guid { guid self.new ≡ guid self.old }
-        ensures seed { seed self.new ≡ seed self.old };
+        ensures seed { seed self.new ≡ seed self.old }
+        ensures home { home self.new ≡ home self.old };
 
     /// What a connection's job needs besides its desks: a handshake that hasn't begun, a clock, and
     /// the connection's salts from the first one on. The call takes no memory.
@@ -66,6 +71,7 @@ pub trait Hub {
         ensures uid { uid self.new ≡ uid self.old }
         ensures guid { guid self.new ≡ guid self.old }
         ensures seed { seed self.new ≡ seed self.old }
+        ensures home { home self.new ≡ home self.old }
         ensures view { view self.new ≡ view self.old }
         ensures counted { refused self.new ≡ refused self.old };
 }

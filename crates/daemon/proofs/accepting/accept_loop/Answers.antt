@@ -17,7 +17,7 @@ returns-clause-accepts g c =
     let finished = c.finish_all in
     accepts reader.told reader.has_seen writer.told writer.has_seen
     source.left source.faults source.is_steady source.is_closed sink.written sink.faults sink.is_steady sink.is_closed
-    (hub.uid c.args.hub.now) (hub.guid c.args.hub.now) (hub.seed c.args.hub.now)
+    (hub.uid c.args.hub.now) (hub.guid c.args.hub.now) (hub.seed c.args.hub.now) (hub.home c.args.hub.now)
     (Serves reader.told reader.has_seen writer.told writer.has_seen g.U.Time.Clock.coming source.left source.faults source.is_steady source.is_closed sink.written sink.faults sink.is_steady sink.is_closed)
     c.args.most (record { standing = standing hub.view hub.refused c.args.hub.now c.args.spawner.now; listening = listening listener.coming listener.given c.args.listener.now })
     (record { standing = standing hub.view hub.refused linked.new.hub linked.new.spawner; listening = listening listener.coming listener.given linked.new.listener })

@@ -35,10 +35,10 @@ returns-in-Ok-start-clause-admits g c =
       output_is = refl;
       admitted = record {
         made = is-job reader.told reader.has_seen writer.told writer.has_seen (g.U.Hub.uid c.args.hub.now) (g.U.Hub.uid c.join.new.self) (g.U.Hub.guid c.args.hub.now)
-            (g.U.Hub.guid c.join.new.self) (g.U.Hub.seed c.args.hub.now) (g.U.Hub.seed c.join.new.self) c.in-Ok.conn c.parts-auth.result.0 c.parts-auth.result.2 c.parts-auth.result.1
+            (g.U.Hub.guid c.join.new.self) (g.U.Hub.seed c.args.hub.now) (g.U.Hub.seed c.join.new.self) (g.U.Hub.home c.args.hub.now) (g.U.Hub.home c.join.new.self) c.in-Ok.conn c.parts-auth.result.0 c.parts-auth.result.2 c.parts-auth.result.1
             c.in-Ok.reader c.in-Ok.writer c.args.link.input c.args.link.output (g.U.Hub.view c.args.hub.now) (g.U.Hub.view c.join.new.self) (g.U.Hub.view c.parts-auth.new.self)
             c.in-Ok.ensures.joined c.in-Ok.ensures.reader c.in-Ok.ensures.writer c.parts-auth.ensures.auth c.parts-auth.ensures.salts c.in-Ok.ensures.uid c.in-Ok.ensures.guid
-            c.in-Ok.ensures.seed c.parts-auth.ensures.view;
+            c.in-Ok.ensures.seed c.in-Ok.ensures.home c.parts-auth.ensures.view;
         unjoined = c.parts-auth.ensures.counted ∙ c.in-Ok.ensures.counted;
         started = ap (λ s. s.started) c.in-Ok-start.ensures.started;
         unstarted = ap (λ s. s.unstarted) c.in-Ok-start.ensures.started;
@@ -66,10 +66,10 @@ returns-in-Err-Failed-clause-admits g c =
       output_is = refl;
       admitted = record {
         made = is-job reader.told reader.has_seen writer.told writer.has_seen (g.U.Hub.uid c.args.hub.now) (g.U.Hub.uid c.join.new.self) (g.U.Hub.guid c.args.hub.now)
-            (g.U.Hub.guid c.join.new.self) (g.U.Hub.seed c.args.hub.now) (g.U.Hub.seed c.join.new.self) c.in-Ok.conn c.parts-auth.result.0 c.parts-auth.result.2 c.parts-auth.result.1
+            (g.U.Hub.guid c.join.new.self) (g.U.Hub.seed c.args.hub.now) (g.U.Hub.seed c.join.new.self) (g.U.Hub.home c.args.hub.now) (g.U.Hub.home c.join.new.self) c.in-Ok.conn c.parts-auth.result.0 c.parts-auth.result.2 c.parts-auth.result.1
             c.in-Ok.reader c.in-Ok.writer c.args.link.input c.args.link.output (g.U.Hub.view c.args.hub.now) (g.U.Hub.view c.join.new.self) (g.U.Hub.view c.parts-auth.new.self)
             c.in-Ok.ensures.joined c.in-Ok.ensures.reader c.in-Ok.ensures.writer c.parts-auth.ensures.auth c.parts-auth.ensures.salts c.in-Ok.ensures.uid c.in-Ok.ensures.guid
-            c.in-Ok.ensures.seed c.parts-auth.ensures.view;
+            c.in-Ok.ensures.seed c.in-Ok.ensures.home c.parts-auth.ensures.view;
         goes = subst (λ w. Goes (place writer.told writer.has_seen w) (place writer.told writer.has_seen c.turn_away.result)) (ap (λ j. j.writer) refused.back) c.turn_away.ensures;
         unjoined = c.parts-auth.ensures.counted ∙ c.in-Ok.ensures.counted;
         started = refused.started;
@@ -98,10 +98,10 @@ returns-in-Err-OutOfMemory-clause-admits g c =
       output_is = refl;
       admitted = record {
         made = is-job reader.told reader.has_seen writer.told writer.has_seen (g.U.Hub.uid c.args.hub.now) (g.U.Hub.uid c.join.new.self) (g.U.Hub.guid c.args.hub.now)
-            (g.U.Hub.guid c.join.new.self) (g.U.Hub.seed c.args.hub.now) (g.U.Hub.seed c.join.new.self) c.in-Ok.conn c.parts-auth.result.0 c.parts-auth.result.2 c.parts-auth.result.1
+            (g.U.Hub.guid c.join.new.self) (g.U.Hub.seed c.args.hub.now) (g.U.Hub.seed c.join.new.self) (g.U.Hub.home c.args.hub.now) (g.U.Hub.home c.join.new.self) c.in-Ok.conn c.parts-auth.result.0 c.parts-auth.result.2 c.parts-auth.result.1
             c.in-Ok.reader c.in-Ok.writer c.args.link.input c.args.link.output (g.U.Hub.view c.args.hub.now) (g.U.Hub.view c.join.new.self) (g.U.Hub.view c.parts-auth.new.self)
             c.in-Ok.ensures.joined c.in-Ok.ensures.reader c.in-Ok.ensures.writer c.parts-auth.ensures.auth c.parts-auth.ensures.salts c.in-Ok.ensures.uid c.in-Ok.ensures.guid
-            c.in-Ok.ensures.seed c.parts-auth.ensures.view;
+            c.in-Ok.ensures.seed c.in-Ok.ensures.home c.parts-auth.ensures.view;
         goes = subst (λ w. Goes (place writer.told writer.has_seen w) (place writer.told writer.has_seen c.turn_away-in-Err-OutOfMemory.result)) (ap (λ j. j.writer) refused.back) c.turn_away-in-Err-OutOfMemory.ensures;
         unjoined = c.parts-auth.ensures.counted ∙ c.in-Ok.ensures.counted;
         started = refused.started;
