@@ -1,19 +1,20 @@
 -- How a service that threads share admits a connection, as a hub says it.
-use Rattle.std.proofs.Common.{◌≡◌, Bool, [], refl, sym, ◌∙◌, ap, subst, append-nil}
+use Rattle.std.proofs.Common.{◌≡◌, Bool, [], Some, refl, sym, ◌∙◌, ap, subst, append-nil}
+use Rattle.atomic_table.specs.Seated.{TableId}
 use Rattle.kr_base.specs.declared.ids.ConnId.{ConnId}
 use Rattle.service_events.specs.declared.event.Event.TheVariants as event
 use Rattle.service_events.specs.declared.event.JoinRefused.{JoinRefused}
 use Rattle.service_events.specs.declared.event.JoinRefused.TheVariants as join
 use Rattle.service_events.specs.declared.event.Output.TheVariants as output
 use Rattle.service_events.specs.Step.{Fits, output_of}
-use Rattle.service_desk.specs.Places.{Extends, Looks}
+use Rattle.service_desk.specs.Places.{Extends}
 use Rattle.service_desk.specs.Views.{View}
 use Rattle.shared_service.specs.Passes as pass
-use Rattle.daemon.specs.Hubs.{Joins, IsDeskOf, IsNotJoined, HasCause}
+use Rattle.daemon.specs.Hubs.{Joins, IsDeskOf, IsNotJoined}
 
 -- an event of the pass's own is a join of the hub
-pub joins : (conn : ConnId) (steady : Bool) (old new : View) → Extends (pass.spot conn steady old) (pass.spot conn steady new) (event.Connect conn) (output.Joined conn) → Joins old conn new
-joins conn steady old new e = record {
+pub joins : (conn : ConnId) (table : TableId) (steady : Bool) (old new : View) → Extends (pass.spot conn table steady old) (pass.spot conn table steady new) (event.Connect conn) (output.Joined conn) → Joins old conn new
+joins conn table steady old new e = record {
   between = e.between;
   legal = e.legal;
   fits = subst (λ s. Fits s (event.Connect conn)) e.reached e.fits;
@@ -21,17 +22,11 @@ joins conn steady old new e = record {
   is = sym (e.views old refl);
 }
 
--- a cause that the pass shows is one that the hub has seen
-cause : (refused : JoinRefused) (view : View) → pass.HasCause refused view → HasCause refused view
-cause join.EventsSpent view is = is
-cause join.TooManyConnections view is = is
-cause join.OutOfMemory view is = is
-
--- so a refusal of the service is one of the hub
-pub not-joined : (steady : Bool) (refused : JoinRefused) (old new : View) → pass.IsRefused steady refused old new → IsNotJoined refused old new
-not-joined steady refused old new is =
+-- a refusal of the service is one of the hub
+pub not-joined : (table : TableId) (steady : Bool) (refused : JoinRefused) (old new : View) → pass.IsRefused table steady refused old new → IsNotJoined refused old new
+not-joined table steady refused old new is =
     let looks = is.0 (record { 0 = 1 }) in
-    record { between = looks.between; legal = looks.legal; is = sym (looks.views old refl); cause = cause refused new is.1 }
+    record { between = looks.between; legal = looks.legal; is = sym (looks.views old refl); cause = is.1 }
 
 -- a refusal for want of memory, before the service was asked
 pub no-memory : (view : View) → IsNotJoined join.OutOfMemory view view
@@ -44,5 +39,5 @@ no-memory view = record {
 
 -- a desk with a noted pass has seen what the hub has seen, and has recorded nothing
 pub is-desk : (conn other : ConnId) (seen at : pass.Seen) → conn ≡ other → at ≡ pass.noted seen
-    → IsDeskOf (pass.told conn at.steady at.view) (λ view. view ≡ at.view) other seen.view
-is-desk conn other seen at same noted = record { conn_is = same; view_is = λ view is. is ∙ ap (λ (s : pass.Seen). s.view) noted }
+    → IsDeskOf (pass.told conn at.table at.steady at.view) (λ view. view ≡ at.view) (Some seen.table) other seen.view
+is-desk conn other seen at same noted = record { home_is = ap (λ (s : pass.Seen). Some s.table) noted; conn_is = same; view_is = λ view is. is ∙ ap (λ (s : pass.Seen). s.view) noted }

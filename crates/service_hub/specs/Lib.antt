@@ -1,1 +1,4 @@
+pub mod Gathering
+pub mod Links
 pub mod Loop
+pub mod Places

@@ -1,4 +1,4 @@
-ghost use Rattle.std.specs.Prelude.{◌≡◌, IfOk, IfErr};
+ghost use Rattle.std.specs.Prelude.{◌≡◌, IfOk, IfErr, Some};
 ghost use Rattle.std.specs.Arc.{arc_value};
 ghost use Rattle.daemon.specs.Hubs.{Joins, IsNotJoined};
 ghost use Rattle.shared_service.specs.Passes.{noted};
@@ -67,13 +67,33 @@ impl<R: Wait + Copy, F: Folder, C: Clock> ServiceHub<R, F, C> {
         })
     }
 
-    /// The pass of the hub, with all that it has seen and recorded.
-    pub fn into_pass(self) -> Pass<F>
+    // A pass that has seen what the hub has, and recorded nothing.
+    pub(crate) fn note(&mut self) -> Pass<F>
+        ensures noted { result ≡ noted self.old.pass }
+        ensures pass { self.new.pass ≡ self.old.pass }
+        ensures uid { self.new.uid ≡ self.old.uid }
+        ensures guid { self.new.guid ≡ self.old.guid }
+        ensures seed { self.new.seed ≡ self.old.seed }
+        ensures count { self.new.refused ≡ self.old.refused }
+    {
+        self.service.note(&mut self.pass)
+    }
+
+    // The service, the pass with all that the hub has seen and recorded, and how many joins were refused.
+    pub(crate) fn into_parts(self) -> (Arc<SharedService<F>, Global>, Pass<F>, u64)
     where
         R: Drop,
-        ensures { result ≡ self.pass }
+        ensures service { result.1.table ≡ arc_value result.0 }
+        ensures pass { result.1 ≡ self.pass }
+        ensures refused { result.2 ≡ self.refused }
     {
-        self.pass
+        let ServiceHub {
+            service,
+            pass,
+            refused,
+            ..
+        } = self;
+        (service, pass, refused)
     }
 
     // What two desks of one connection need, and its clock; None if no memory was left.
@@ -103,6 +123,7 @@ impl<R: Wait + Copy, F: Folder, C: Clock> ServiceHub<R, F, C> {
         ensures uid { self.new.uid ≡ self.old.uid }
         ensures guid { self.new.guid ≡ self.old.guid }
         ensures seed { self.new.seed ≡ self.old.seed }
+        ensures table { self.new.pass.table ≡ self.old.pass.table }
         ensures count { self.new.refused ≡ self.old.refused }
     {
         let shares = self.shares()?;
@@ -163,6 +184,8 @@ where
     ghost guid = { λ hub. hub.guid };
 
     ghost seed = { λ hub. hub.seed };
+
+    ghost home = { λ hub. Some hub.pass.table };
 
     ghost view = { λ hub. hub.pass.view };
 

@@ -1,7 +1,10 @@
 //! Where the links of a daemon become connections of one service that threads share. Callers may rely
 //! on these: each connection's reader and writer have a desk over that service and no other; what the
-//! hub has seen is a history of it, in which the hub's own events are those of the joins; and links
-//! are served until none will come, as many as asked for were accepted, or the listener failed.
+//! hub has seen is a history of it, in which the hub's own events are those of the joins; links are
+//! served until none will come, as many as asked for were accepted, the listener failed, or memory ran
+//! out, and a link is dropped only for a cause that is counted; and all that the connections recorded is
+//! in one history, which led to the service that is handed back. In it each of their events has a place
+//! of its own, and the answer that it has there.
 #![tactic(auto)]
 
 mod clock;
@@ -10,4 +13,4 @@ mod links;
 
 pub use clock::CommonClock;
 pub use hub::ServiceHub;
-pub use links::{LinkSpawner, serve_links};
+pub use links::{AllServed, LinkSpawner, serve_links};

@@ -1,0 +1,111 @@
+-- Gathering the passes of a service one after the other.
+use Rattle.std.proofs.Common.{◌≡◌, ℕ, List, [], ◌∷◌, ◌++◌, Some, refl, sym, ap, ◌∙◌, subst, append_assoc, append-nil}
+use Rattle.std.specs.List.{AllByRecursion}
+use Rattle.atomic_table.specs.Seated.{TableId}
+use Rattle.service_tables.proofs.EachLemmas.{each-append, each-weaker}
+use Rattle.shared_turn.specs.Places.{merged}
+use Rattle.shared_service.specs.Passes.{Seen, IsGathered}
+use Rattle.service_hub.specs.Gathering.{IsBeginning, AreGathered, all_own}
+use Rattle.service_hub.specs.Links.{ServedLink, IsOf, desk_told, all_passes}
+
+-- a pass has seen what it has seen
+pub begins-self : (pass : Seen) → IsBeginning pass pass
+begins-self pass = record { table = refl; steady = refl; start = refl; before = refl; begins = ([], sym (append-nil pass.view.seen)) }
+
+-- a beginning of a beginning is one
+pub begins-through : (first mid last : Seen) → IsBeginning first mid → IsBeginning mid last → IsBeginning first last
+begins-through first mid last one other = record {
+  table = other.table ∙ one.table;
+  steady = other.steady ∙ one.steady;
+  start = other.start ∙ one.start;
+  before = other.before ∙ one.before;
+  begins = (
+    one.begins.0 ++ other.begins.0,
+    other.begins.1 ∙ (ap (λ l. l ++ other.begins.0) one.begins.1 ∙ append_assoc first.view.seen one.begins.0 other.begins.0),
+  );
+}
+
+-- at first a pass has taken over nothing
+pub gathers-none : (pass : Seen) → AreGathered pass [] pass
+gathers-none pass = record { began = begins-self pass; all = tt; own = refl }
+
+-- it takes over one pass more
+pub gathers-one : (old mid new other : Seen) (passes : List Seen) → AreGathered old passes mid → other.table ≡ mid.table → IsGathered mid other new → AreGathered old (other ∷ passes) new
+gathers-one old mid new other passes so table met =
+    let table_is : new.table ≡ mid.table = ap (λ (s : Seen). s.table) met.is in
+    let steady_is : new.steady ≡ mid.steady = ap (λ (s : Seen). s.steady) met.is in
+    let start_is : new.view.start ≡ mid.view.start = ap (λ (s : Seen). s.view.start) met.is in
+    let before_is : new.view.before ≡ mid.view.before = ap (λ (s : Seen). s.view.before) met.is in
+    let more : IsBeginning mid new = record { table = table_is; steady = steady_is; start = start_is; before = before_is; begins = met.starts } in
+    record {
+      began = begins-through old mid new so.began more;
+      all = (
+        record {
+          table = table_is ∙ sym table;
+          steady = steady_is ∙ met.steady;
+          start = start_is ∙ met.start;
+          before = before_is ∙ met.before;
+          begins = met.starts_other;
+        },
+        each-weaker (λ pass. IsBeginning pass mid) (λ pass. IsBeginning pass new) (λ pass began. begins-through pass mid new began more) passes so.all,
+      );
+      own = ap (λ (s : Seen). s.view.own) met.is ∙ ap (λ own. merged own other.view.own) so.own;
+    }
+
+-- first these were gathered, and then those
+all_own-append : (own : List ℕ) (passes before : List Seen) → all_own own (passes ++ before) ≡ all_own (all_own own before) passes
+all_own-append own [] before = refl
+all_own-append own (pass ∷ passes) before = ap (λ places. merged places pass.view.own) (all_own-append own passes before)
+
+pub gathers-more : (old mid new : Seen) (passes before : List Seen) → AreGathered old before mid → AreGathered mid passes new → AreGathered old (passes ++ before) new
+gathers-more old mid new passes before first second = record {
+  began = begins-through old mid new first.began second.began;
+  all = each-append (λ pass. IsBeginning pass new) passes before second.all
+      (each-weaker (λ pass. IsBeginning pass mid) (λ pass. IsBeginning pass new) (λ pass began. begins-through pass mid new began second.began) before first.all);
+  own = second.own ∙ (ap (λ own. all_own own passes) first.own ∙ sym (all_own-append old.view.own passes before));
+}
+
+-- equal services, if each is one that threads share
+pub same-table : (one other : TableId) → Some one ≡ Some other → one ≡ other
+same-table one other e = cc
+
+module _ {R F S I O : Type 0} where
+  -- the passes of desks of the service
+  pub of-table : (table now : TableId) (results : List (ServedLink R F S I O))
+      → AllByRecursion (λ (s : ServedLink R F S I O). ((desk_told s.reader).home ≡ Some table) × ((desk_told s.writer).home ≡ Some table)) results → table ≡ now → AllByRecursion (IsOf now) results
+  of-table table now [] all same = tt
+  of-table table now (s ∷ ss) all same = ((same-table s.reader.pass.table table all.0.0 ∙ same, same-table s.writer.pass.table table all.0.1 ∙ same), of-table table now ss all.1 same)
+
+  pub all-pop : (P : ServedLink R F S I O → Type 0) (items : List (ServedLink R F S I O)) (last : ServedLink R F S I O) → AllByRecursion P (items ++ last ∷ []) → AllByRecursion P items × P last
+  all-pop P [] last all = (tt, all.0)
+  all-pop P (item ∷ items) last all = let rest = all-pop P items last all.1 in ((all.0, rest.0), rest.1)
+
+  -- So far: the passes of the last connections were gathered, and these are left.
+  pub record GatheredSoFar (old now : Seen) (items left : List (ServedLink R F S I O)) (passes : List Seen) : Type 0 where
+    pub behind : List (ServedLink R F S I O)
+    pub are : items ≡ left ++ behind
+    pub of_it : AllByRecursion (IsOf old.table) left
+    pub gathered : AreGathered old (all_passes behind ++ passes) now
+
+  pub none-gathered : (old : Seen) (items : List (ServedLink R F S I O)) → AllByRecursion (IsOf old.table) items → GatheredSoFar old old items items []
+  none-gathered old items all = record { behind = []; are = sym (append-nil items); of_it = all; gathered = gathers-none old }
+
+  -- those of one more connection were gathered: first the writer's, then the reader's
+  pub one-gathered : (old now mid new : Seen) (items left rest : List (ServedLink R F S I O)) (served : ServedLink R F S I O) (passes : List Seen) → GatheredSoFar old now items left passes → left ≡ rest ++ served ∷ []
+      → IsGathered now served.writer.pass mid → IsGathered mid served.reader.pass new → GatheredSoFar old new items rest passes
+  one-gathered old now mid new items left rest served passes so is writes reads =
+      let all = all-pop (IsOf old.table) rest served (subst (λ (l : List (ServedLink R F S I O)). AllByRecursion (IsOf old.table) l) is so.of_it) in
+      let one = gathers-one old now mid served.writer.pass (all_passes so.behind ++ passes) so.gathered (all.1.1 ∙ sym so.gathered.began.table) writes in
+      record {
+        behind = served ∷ so.behind;
+        are = so.are ∙ (ap (λ (l : List (ServedLink R F S I O)). l ++ so.behind) is ∙ append_assoc rest (served ∷ []) so.behind);
+        of_it = all.0;
+        gathered = gathers-one old mid new served.reader.pass (served.writer.pass ∷ (all_passes so.behind ++ passes)) one (all.1.0 ∙ sym one.began.table) reads;
+      }
+
+  -- all were gathered
+  pub all-gathered : (old now : Seen) (items left : List (ServedLink R F S I O)) → GatheredSoFar old now items left [] → left ≡ [] → AreGathered old (all_passes items) now
+  all-gathered old now items left so none =
+      subst (λ (passes : List Seen). AreGathered old passes now)
+      (append-nil (all_passes so.behind) ∙ ap all_passes (sym (so.are ∙ ap (λ (l : List (ServedLink R F S I O)). l ++ so.behind) none)))
+      so.gathered
