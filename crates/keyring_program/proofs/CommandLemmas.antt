@@ -18,10 +18,10 @@ is_built words line is built un = built (subst IsUnbuiltLine (one_line un.0 line
 
 -- the folder, the socket, the user and the number of links of `serve`
 pub one_serve : (words : List (List ℕ)) (folder other socket another : List ℕ) (uid user : ℕ) (most few : Option ℕ) → IsCommandLine (Serve folder socket uid most) words → IsCommandLine (Serve other another user few) words
-    → (folder ≡ other) × (most ≡ few)
+    → (folder ≡ other) × (most ≡ few) × (uid ≡ user)
 one_serve words folder other socket another uid user most few one two =
     let same : Serve folder socket uid most ≡ Serve other another user few = one_line (Serve folder socket uid most) (Serve other another user few) words one two in
-    (cc, cc)
+    (cc, cc, cc)
 
 -- one command isn't another
 pub serve_or_stdio : (words : List (List ℕ)) (folder other socket : List ℕ) (uid user : ℕ) (most : Option ℕ) → IsCommandLine (Serve folder socket uid most) words → IsCommandLine (Stdio other user) words → ⊥

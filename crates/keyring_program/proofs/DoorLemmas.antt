@@ -45,3 +45,10 @@ loop-complete loop.Ended most given old new has_ended cause never = inl refl
 loop-complete loop.Reached most given old new has_ended cause never = inl refl
 loop-complete loop.ListenFault most given old new has_ended cause never = absurd (never cause)
 loop-complete loop.Memory most given old new has_ended cause never = inr refl
+
+-- the folder isn't at fault then
+pub loop-folder : (how : LoopEnd) → status_of_loop how ≡ status.FolderFault → ⊥
+loop-folder loop.Ended same = let never : status.Done ≡ status.FolderFault = same in cc
+loop-folder loop.Reached same = let never : status.Done ≡ status.FolderFault = same in cc
+loop-folder loop.ListenFault same = let never : status.ListenFault ≡ status.FolderFault = same in cc
+loop-folder loop.Memory same = let never : status.Memory ≡ status.FolderFault = same in cc

@@ -4,5 +4,6 @@ pub mod Events
 pub mod Folder
 pub mod ServerNumber
 pub mod Serves
+pub mod ServesLinks
 pub mod Status
 pub mod WholeInput

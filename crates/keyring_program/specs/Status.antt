@@ -42,6 +42,13 @@ IsServeStatus status.ListenFault = Unit {0}
 IsServeStatus status.Memory = Unit {0}
 IsServeStatus _ = ⊥
 
+-- it may end in this way before the door is open
+abbrev pub IsUnservedStatus : Status → Type 0
+IsUnservedStatus status.FolderFault = Unit {0}
+IsUnservedStatus status.ListenFault = Unit {0}
+IsUnservedStatus status.Memory = Unit {0}
+IsUnservedStatus _ = ⊥
+
 -- the status of a run over whose links the loop ended in this way
 abbrev pub status_of_loop : LoopEnd → Status
 status_of_loop loop.Ended = status.Done

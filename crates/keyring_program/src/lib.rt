@@ -1,7 +1,8 @@
 //! What the program keyringd does, as a function of its arguments, its streams, its host and a
-//! seed: it opens a service over its folder, and serves one client on its streams: the handshake, and
-//! the calls of docs/SERVICE.md. Callers may rely on the contract of `run`, which says
-//! what is written for what was read, what was recorded, and why the run ended; and on the number
+//! seed: it opens a service over its folder, and serves one client on its streams, or the clients of a
+//! socket, many at once: the handshake, and the calls of docs/SERVICE.md. Callers may rely on the
+//! contract of `run`, which says what is written for what was read, what was recorded, in one history
+//! for all clients, and why the run ended; and on the number
 //! and the text of each status. The program only makes the real streams and the real host.
 #![tactic(auto)]
 

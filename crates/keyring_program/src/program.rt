@@ -10,6 +10,7 @@ ghost use Rattle.keyring_program.specs.Doors.{HasServed, TakesBackOneAtMost};
 ghost use Rattle.keyring_program.specs.Folder.{IsOpened, HadFolder, HasOpened};
 ghost use Rattle.service_tables.specs.Opened.{Contents};
 ghost use Rattle.keyring_program.specs.Serves.{Serves};
+ghost use Rattle.keyring_program.specs.ServesLinks.{IsUnserved, ServesDoor};
 ghost use Rattle.keyring_program.specs.Status.{IsServeStatus, IsStdioStatus};
 ghost use Rattle.keyring_program.specs.WholeInput.{IsWholeInput};
 
@@ -30,12 +31,18 @@ use std::thread::Threads;
 /// end, and serves the client of the user UID: the handshake, and each call with its reply. The
 /// clock is asked once for each call, and once for each key that is derived for an answer.
 ///
+/// `serve DIR SOCKET --uid U [--connections N]` opens a service over DIR in the same way, and serves
+/// the connections of the Unix socket SOCKET for the user U, each by a reader and a writer of its own,
+/// until N were accepted or no further one will come, and all have ended. What the connections record
+/// is one history. The input and the output are left alone.
+///
 /// Ends with `Usage` exactly if the arguments are invalid; with `NotBuilt` only if they are those
 /// of the command that isn't there yet, `load`; with `FolderFault` only if the host's
-/// count of faults rose, or the folder that it opened may fail; with `Memory` if none is left
-/// before a byte is read; and otherwise as `one_thread` of connection_worker says (its `HasCause`
-/// has a row for each end). Everything that was put out is written by then, except that at
-/// `WriteFault` and `Memory` it may be only a prefix of it.
+/// count of faults rose, or the folder that it opened may fail; and with `Memory` only if none is left.
+/// `serve` otherwise ends with `Done`, or with `ListenFault`, and with that only if that count rose, or
+/// the socket that it opened may fail. `stdio` otherwise ends as `one_thread` of connection_worker says
+/// (its `HasCause` has a row for each end); everything that was put out is written by then, except that
+/// at `WriteFault` and `Memory` it may be only a prefix of it.
 pub fn run<
     R: AllocGlobal + Threads + Wait + Copy + Send + Sync + Drop + 'static,
     I: Source,
@@ -112,6 +119,19 @@ where
     ensures serve_complete { (folder socket : List ℕ) (uid : ℕ) (connections : Option ℕ)
         → IsCommandLine (CommandLine.Serve folder socket uid connections) words.now
         → IsTrue (H.is_steady host.old) → (result ≡ Status.Done) ⊎ (result ≡ Status.Memory) }
+
+    // Unless `serve` ended before its door was open: what became of each link, what each connection read, recorded
+    // and wrote, and the one history that all of them have, which is legal from what the folder had.
+    ensures serve_recorded { (folder socket : List ℕ) (uid : ℕ) (connections : Option ℕ)
+        → IsCommandLine (CommandLine.Serve folder socket uid connections) words.now
+        → IsUnserved result (H.shut_doors host.old) (H.shut_doors host.new)
+        spawner.old spawner.new ⊎ ((contents : Contents)
+        × ((images : List ℕ → Image) → IsTrue (H.is_honest host.old)
+        → H.told host.old folder ≡ Some images → HasOpened H.Dir.Cell images contents)
+        × ServesDoor H.Door.In.left H.Door.In.faults H.Door.In.is_steady H.Door.In.is_closed
+        H.Door.Out.written H.Door.Out.faults H.Door.Out.is_steady H.Door.Out.is_closed
+        uid seed connections (H.is_steady host.old) contents
+        (H.shut_doors host.old) (H.shut_doors host.new) spawner.old spawner.new result) }
 
     // `stdio` opens no door, and the host has no fault once the folder is open.
     ensures stdio_status { (folder : List ℕ) (uid : ℕ)

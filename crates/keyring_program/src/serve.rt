@@ -4,10 +4,12 @@ ghost use Rattle.kr_outside.specs.Faults.{KeepsSteady, Rose};
 ghost use Rattle.kr_outside.specs.Host.{GivesOne, GivesOneAtMost};
 ghost use Rattle.kr_outside.specs.RenameDisk.{Image};
 ghost use Rattle.service_events.specs.Fates.{is_steady};
+ghost use Rattle.service_tables.specs.Opened.{Contents};
 ghost use Rattle.shared_service.specs.Passes.{opened};
 ghost use Rattle.keyring_program.specs.Doors.{HasServed, TakesBackOneAtMost};
-ghost use Rattle.keyring_program.specs.Folder.{IsOpened, HadFolder};
+ghost use Rattle.keyring_program.specs.Folder.{HasOpened, IsOpened, HadFolder};
 ghost use Rattle.keyring_program.specs.ServerNumber.{guid};
+ghost use Rattle.keyring_program.specs.ServesLinks.{IsUnserved, ServesDoor};
 ghost use Rattle.keyring_program.specs.Status.{IsServeStatus};
 
 use crate::folder::open_service;
@@ -40,6 +42,7 @@ fn hub_over<R: Wait + Copy, F: Folder, C: Clock>(
     ensures uid { IfOk result (λ hub. hub.uid ≡ uid) }
     ensures guid { IfOk result (λ hub. hub.guid ≡ guid seed) }
     ensures seed { IfOk result (λ hub. hub.seed ≡ seed) }
+    ensures refused { IfOk result (λ hub. hub.refused ≡ 0) }
 {
     let (shared, pass) = SharedService::open(alloc, service)?;
     ServiceHub::new(alloc, rt, shared, pass, uid, guid_of(seed), seed, clock)
@@ -92,6 +95,17 @@ where
     ensures had_folder { HadFolder result → GivesOne (H.given host.old) (H.given host.new) }
     ensures opened { (images : List ℕ → Image) → IsTrue (H.is_honest host.old)
         → H.told host.old folder.now ≡ Some images → HadFolder result → IsOpened images }
+
+    // Unless it ended before its door was open: what became of each link, what each connection read, recorded and
+    // wrote, and the history that all of them have, which is legal from what the folder had.
+    ensures served { IsUnserved result (H.shut_doors host.old) (H.shut_doors host.new)
+        spawner.old spawner.new ⊎ ((contents : Contents)
+        × ((images : List ℕ → Image) → IsTrue (H.is_honest host.old)
+        → H.told host.old folder.now ≡ Some images → HasOpened H.Dir.Cell images contents)
+        × ServesDoor H.Door.In.left H.Door.In.faults H.Door.In.is_steady H.Door.In.is_closed
+        H.Door.Out.written H.Door.Out.faults H.Door.Out.is_steady H.Door.Out.is_closed
+        uid seed connections (H.is_steady host.old) contents
+        (H.shut_doors host.old) (H.shut_doors host.new) spawner.old spawner.new result) }
     ensures host_later { H.faults host.old ≤ H.faults host.new }
     ensures host_honest { H.is_honest host.new ≡ H.is_honest host.old }
     ensures host_steady { KeepsSteady (H.is_steady host.old) (H.is_steady host.new)
@@ -111,7 +125,7 @@ where
         Err(OutsideRefused::Failed) => return Status::ListenFault,
         Err(OutsideRefused::OutOfMemory) => return Status::Memory,
     };
-    let end = serve_links(rt, hub, &mut door, spawner, connections);
+    let served = serve_links(rt, hub, &mut door, spawner, connections);
     host.shut(door);
-    Status::of_loop(end)
+    Status::of_loop(served.end)
 }

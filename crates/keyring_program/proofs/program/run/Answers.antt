@@ -29,6 +29,9 @@ returns-in-Ok-None-clause-serve_opened g c folder socket uid most images words =
 pub returns-in-Ok-None-clause-serve_complete : goal.returns-in-Ok-None-clause-serve_complete
 returns-in-Ok-None-clause-serve_complete g c folder socket uid most words = absurd ((rw c.in-Ok-None.field-0-is at c.in-Ok-None.ensures.read) (Serve folder socket uid most) words)
 
+pub returns-in-Ok-None-clause-serve_recorded : goal.returns-in-Ok-None-clause-serve_recorded
+returns-in-Ok-None-clause-serve_recorded g c folder socket uid most words = absurd ((rw c.in-Ok-None.field-0-is at c.in-Ok-None.ensures.read) (Serve folder socket uid most) words)
+
 pub returns-in-Ok-None-clause-stdio_status : goal.returns-in-Ok-None-clause-stdio_status
 returns-in-Ok-None-clause-stdio_status g c folder uid words = absurd ((rw c.in-Ok-None.field-0-is at c.in-Ok-None.ensures.read) (Stdio folder uid) words)
 
@@ -45,6 +48,9 @@ returns-in-Err-clause-served g c folder uid words =
       serves-none nothing uid c.args.seed (g.H.Host.coming c.args.host.now)
           (input_of g.I.Source.left g.I.Source.faults g.I.Source.is_steady g.I.Source.is_closed c.args.input.now) (output_of g.O.Sink.written g.O.Sink.faults g.O.Sink.is_steady g.O.Sink.is_closed c.args.output.now) _ nothing-sound,
     )
+
+pub returns-in-Err-clause-serve_recorded : goal.returns-in-Err-clause-serve_recorded
+returns-in-Err-clause-serve_recorded g c folder socket uid most words = inl (record { unserved = tt; doors = refl; jobs = refl })
 
 -- the arguments are those of `stdio`
 pub returns-in-Stdio-clause-usage : goal.returns-in-Stdio-clause-usage
@@ -98,6 +104,10 @@ pub returns-in-Stdio-clause-serve_complete : goal.returns-in-Stdio-clause-serve_
 returns-in-Stdio-clause-serve_complete g c folder socket uid most words =
     absurd (serve_or_stdio c.args.words.now folder c.in-Stdio.folder socket uid c.in-Stdio.uid most words (rw c.in-Stdio.is at (rw c.in-Ok-Some.field-0-is at c.in-Ok-Some.ensures.read)))
 
+pub returns-in-Stdio-clause-serve_recorded : goal.returns-in-Stdio-clause-serve_recorded
+returns-in-Stdio-clause-serve_recorded g c folder socket uid most words =
+    absurd (serve_or_stdio c.args.words.now folder c.in-Stdio.folder socket uid c.in-Stdio.uid most words (rw c.in-Stdio.is at (rw c.in-Ok-Some.field-0-is at c.in-Ok-Some.ensures.read)))
+
 -- the arguments are those of `serve`
 pub returns-in-Serve-clause-usage : goal.returns-in-Serve-clause-usage
 returns-in-Serve-clause-usage g c = (
@@ -142,6 +152,11 @@ returns-in-Serve-clause-serve_opened g c folder socket uid most images words hon
     let same = one_serve c.args.words.now c.in-Serve.folder folder c.in-Serve.socket socket c.in-Serve.uid uid c.in-Serve.connections most (rw c.in-Serve.is at (rw c.in-Ok-Some.field-0-is at c.in-Ok-Some.ensures.read)) words in
     c.run_serve.ensures.opened images honest (rw (c.as_str-in-Serve.ensures.value ∙ same.0) told) had
 
+pub returns-in-Serve-clause-serve_recorded : goal.returns-in-Serve-clause-serve_recorded
+returns-in-Serve-clause-serve_recorded g c folder socket uid most words =
+    let same = one_serve c.args.words.now c.in-Serve.folder folder c.in-Serve.socket socket c.in-Serve.uid uid c.in-Serve.connections most (rw c.in-Serve.is at (rw c.in-Ok-Some.field-0-is at c.in-Ok-Some.ensures.read)) words in
+    rw (sym same.1, sym same.2, sym (c.as_str-in-Serve.ensures.value ∙ same.0)) c.run_serve.ensures.served
+
 -- the arguments are those of `load`
 pub returns-in-Load-clause-usage : goal.returns-in-Load-clause-usage
 returns-in-Load-clause-usage g c = (
@@ -174,4 +189,8 @@ returns-in-Load-clause-serve_status g c folder socket uid most words =
 
 pub returns-in-Load-clause-serve_complete : goal.returns-in-Load-clause-serve_complete
 returns-in-Load-clause-serve_complete g c folder socket uid most words =
+    absurd (load_or_serve c.args.words.now folder socket c.in-Load.items c.in-Load.seed uid most (rw c.in-Load.is at (rw c.in-Ok-Some.field-0-is at c.in-Ok-Some.ensures.read)) words)
+
+pub returns-in-Load-clause-serve_recorded : goal.returns-in-Load-clause-serve_recorded
+returns-in-Load-clause-serve_recorded g c folder socket uid most words =
     absurd (load_or_serve c.args.words.now folder socket c.in-Load.items c.in-Load.seed uid most (rw c.in-Load.is at (rw c.in-Ok-Some.field-0-is at c.in-Ok-Some.ensures.read)) words)
