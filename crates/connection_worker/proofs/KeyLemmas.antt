@@ -99,7 +99,7 @@ module _ (caller : ConnId) (brought : Brought) where
       let prompts = asked_again prompt its.prompts in
       one-option (option_and_then (ask_signal_in its.collections prompts) (ask_at prompt prompts))
 
-  -- one that goes on
+  -- one that continues
   one-on : (prompt : PromptId) (its : State) → IsOne (sent_all caller (Go_on prompt ∷ []) its)
   one-on prompt its =
       let asks = asked_collections (contents_of its) in

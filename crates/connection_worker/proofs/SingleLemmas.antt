@@ -124,7 +124,7 @@ has-finished end.EventsSpent conn state asked refused are = finished-front conn 
 has-finished end.Memory conn state asked refused are = finished-front conn state asked refused are
 has-finished _ conn state asked refused are = all-finished conn state asked are
 
--- where there is none, none does
+-- if there is none, none does
 none-finished : (how : End) (conn : ConnId) (state : State) → HasFinished how conn state [] []
 none-finished end.WriteFault conn state = tt
 none-finished end.EventsSpent conn state = tt

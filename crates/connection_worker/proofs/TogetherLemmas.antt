@@ -264,7 +264,7 @@ module _ (caller : ConnId) (brought : Brought) where
   round-modest (Some prompt) round fates state sound =
       unless-modest (refusal prompt round caller state.prompts) (answered body.Empty (End_prompt prompt true None ∷ [])) fates state (inr (refl, end-size prompt state sound))
 
-  -- a prompt that goes on
+  -- a prompt that continues
   go_on-size : (prompt : PromptId) (its : State) → AllByRecursion IsSoundPrompt its.prompts.rows → size_sent (sent_all caller (Go_on prompt ∷ []) its) ≤ 8388836
   go_on-size prompt its sound =
       let asks = asked_collections (contents_of its) in

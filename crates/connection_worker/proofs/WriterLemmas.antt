@@ -217,7 +217,7 @@ goes-saw mid new (inr so) =
     let saw = saw-looks mid new so.0 in
     (saw.0, saw.1, inr (saw.2, subst (λ c. IsMissing c new.told.state) so.0.same.conn so.1))
 
--- the desk was told after an end that leaves the connection there
+-- the desk got a report after an end that leaves the connection there
 goes-after : (from to : Output) (old mid new : Place) (how : End) → (so : WritesOn from to old mid how) → so.last ≡ []
     → ((last : List Seen) → (own_in last ≡ gone_event old.told.conn ∷ []) ⊎ ((own_in last ≡ []) × IsMissing old.told.conn new.told.state) → GoneFor how old.told.conn new.told.state last)
     → Goes mid new → WriterEnds from to old new how

@@ -44,7 +44,7 @@ WroteFor end.Memory told from to = Unit {0}
 WroteFor _ told from to = ⊥
 
 -- What was recorded after the last take: that the connection is gone, by the take itself if everything was done, and nothing if others had
--- ended it. At any other end the desk is told, and records nothing if in this state, which it saw last, the connection isn't there.
+-- ended it. At any other end it reports to the desk that the connection is gone, which records nothing if in this state, which it saw last, the connection isn't there.
 abbrev pub GoneFor : End → ConnId → State → List Seen → Type 0
 GoneFor end.Done conn state last = last ≡ gone_event conn ∷ []
 GoneFor end.OtherEnded conn state last = last ≡ []
@@ -87,7 +87,7 @@ pub record WrittenSoFar (from to : Output) (old new : Place) (serials : ℕ) : T
   pub wrote : Gave from to (spelled_behind 0 (given seen))
   pub behind : AreBehind (length (given seen)) serials
 
--- what was recorded after the last take before the desk is told that the connection is gone
+-- what was recorded after the last take before it reports to the desk that the connection is gone
 abbrev pub LastFor : End → ConnId → List Seen → Type 0
 LastFor end.Done conn last = last ≡ gone_event conn ∷ []
 LastFor _ conn last = last ≡ []

@@ -113,7 +113,7 @@ zip-length Serves (j ∷ js) (s ∷ ss) all = let rest = zip-length Serves js ss
 pub room-kept : (len room had has more : ℕ) → len + more ≤ room → more ≡ had + 1 → has ≤ had + 1 → len + has ≤ room
 room-kept len room had has more fits is few = omega arith
 
--- the standing of a hub and a spawner, after the spawner finished its jobs
+-- the state of a hub and a spawner, after the spawner finished its jobs
 pub world-finished : {J : Type 0} (view : View) (unjoined : ℕ) (listening : Listening) (old new : Spawning J) → new ≡ record old { started = [] }
     → ◌≡◌ {A = World J} (record { standing = record { view = view; unjoined = unjoined; started = new.started; unstarted = new.unstarted }; listening = listening })
     (record { standing = record { view = view; unjoined = unjoined; started = []; unstarted = old.unstarted }; listening = listening })

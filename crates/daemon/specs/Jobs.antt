@@ -32,7 +32,7 @@ pub record Job (A B C I O : Type 0) : Type 0 where
   pub input : I
   pub output : O
 
--- A reader did its work after the handshake; its clock and its salts went on, and aren't handed back.
+-- A reader did its work after the handshake; its clock and its salts continued, and aren't handed back.
 pub record Reads {A C I : Type 0} (told : A → Told) (has_seen : A → View → Type 0) (coming : C → Option (ℕ → ℕ)) (left : I → Option (List ℕ)) (faults : I → ℕ) (is_steady is_closed : I → Bool) (has : Framing) (salting : Salting) (clock : C) (old : A) (from : I) (new : A) (to : I) (how : End) : Type 0 where
   pub clock_after : C
   pub salting_after : Salting
@@ -85,10 +85,10 @@ module _ {A B C I O : Type 0} (read_told : A → Told) (read_seen : A → View �
     pub conn : served.conn ≡ job.conn
     pub streams : Both
     pub ends : Both
-    pub shaken : Result Framing End
+    pub outcome : Result Framing End
     pub handshake : HandshakeOutcome job.auth.uid job.auth.guid
         (record { input = input_of left in_faults in_steady in_closed job.input; output = output_of written out_faults out_steady out_closed job.output })
-        streams shaken
-    pub follows : Follows job streams ends served shaken
+        streams outcome
+    pub follows : Follows job streams ends served outcome
     pub input : input_of left in_faults in_steady in_closed served.input ≡ closed_input ends.input
     pub output : output_of written out_faults out_steady out_closed served.output ≡ closed_output ends.output

@@ -19,7 +19,7 @@ use std::sync::Wait;
 use std::thread;
 use std::thread::Threads;
 
-/// All that the serving of one link needs. Contracts see its parts, but for the runtime. Its handshake
+/// All that the serving of one link needs. Contracts see its parts, except for the runtime. Its handshake
 /// hasn't begun, both its ends are open, and its writer's desk waits while there is nothing to take.
 #[derive(Drop)]
 pub struct LinkJob<

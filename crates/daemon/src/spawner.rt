@@ -193,7 +193,7 @@ impl<
         Some(started.finish(rt))
     }
 
-    // Joins the thread of the job at this place, if the thread has told its end, and keeps the result in its
+    // Joins the thread of the job at this place, if the thread has reported its end, and keeps the result in its
     // place. Returns whether the job has no thread any more.
     fn settle_at(started: &mut VecDeque<Started<R, A, B, C, I, O>>, rt: &R, place: usize) -> bool
         ensures { started.new.items ≡ started.old.items }
@@ -225,8 +225,8 @@ impl<
         }
     }
 
-    /// Joins every thread that has told its end, and keeps the results in their places: what `finish` returns
-    /// is the same. So the stack of a thread that has ended isn't kept while an older job goes on.
+    /// Joins every thread that has reported its end, and keeps the results in their places: what `finish` returns
+    /// is the same. So the stack of a thread that has ended isn't kept while an older job runs.
     pub fn settle(&mut self, rt: &R)
         ensures { self.new ≡ self.old }
     {

@@ -64,7 +64,7 @@ impl<
         (λ job. job ≡ promise.0.value) };
 }
 
-// What a job's thread and its spawner tell each other.
+// What a job's thread and its spawner report to each other.
 #[derive(Drop)]
 struct Signals {
     // The thread couldn't be made, so the job is handed back.
@@ -74,7 +74,7 @@ struct Signals {
 }
 
 impl Signals {
-    // Nothing is told yet.
+    // Nothing is reported yet.
     fn new() -> Signals {
         Signals {
             is_called_off: AtomicBool::new(false),
@@ -240,7 +240,7 @@ impl<
         }
     }
 
-    /// If the job's thread has told its end, joins it and keeps the result. Returns whether the job has no
+    /// If the job's thread has reported its end, joins it and keeps the result. Returns whether the job has no
     /// thread any more.
     pub fn settle(&mut self, rt: &R) -> bool
         ensures { self.new ≡ self.old }

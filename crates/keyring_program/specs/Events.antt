@@ -60,7 +60,7 @@ HasSameKeyFates None None = Unit {0}
 HasSameKeyFates (Some one) (Some other) = one.fates ≡ other.fates
 HasSameKeyFates _ _ = ⊥
 
--- the storings of two runs ended alike
+-- each storing ended alike in two runs
 abbrev pub HaveSameFates : List TimedRequest → List TimedRequest → Type 0
 HaveSameFates (one ∷ ones) (other ∷ others) = (one.fates ≡ other.fates) × HasSameKeyFates one.key other.key × HaveSameFates ones others
 HaveSameFates _ _ = Unit {0}

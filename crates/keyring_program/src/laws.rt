@@ -18,8 +18,8 @@ use connection_worker::{each_request_has_one_reply, each_request_is_answered_at_
 use service_machine::steps_keep_the_rows_sound;
 
 /// What is written for the calls that were read is determined by the bytes that were read, the user,
-/// the seed, what the service starts with, and how the storings of files ended: runs over the same
-/// bytes that recorded each call in them write the same, if their storings ended alike. So it is also
+/// the seed, what the service starts with, and how each storing of a file ended: runs over the same
+/// bytes that recorded each call in them write the same, if each storing ended alike. So it is also
 /// determined without these if no device failed and each derived key was recorded, since no file is in
 /// doubt at the start. A moment matters only if its call stores it or it is that of a key, and a salt
 /// only if a prompt keeps it.

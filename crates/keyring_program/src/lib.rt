@@ -2,8 +2,8 @@
 //! seed: it opens a service over its folder, and serves one client on its streams, or the clients of a
 //! socket, many at once: the handshake, and the calls of docs/SERVICE.md. Callers may rely on the
 //! contract of `run`, which says what is written for what was read, what was recorded, in one history
-//! for all clients, and why the run ended; and on the number
-//! and the text of each status. The program only makes the real streams and the real host.
+//! for all clients, and why the run ended; and on the number and the text of each status. The program
+//! only makes the real streams, the real host and the spawner of threads.
 #![tactic(auto)]
 
 mod connection;

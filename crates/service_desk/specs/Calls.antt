@@ -25,7 +25,7 @@ abbrev pub IsToldOf : ConnId → State → Bool → Bool → Bool → Type 0
 IsToldOf conn state waits overrun leaving =
     desk_of conn state.connections.rows ≡ Some (record { waits = waits; overrun = overrun; leaving = leaving })
 
--- the request was recorded with how its storings ended, within the number of events that can be counted, and gives this work
+-- the request was recorded with how each storing ended, within the number of events that can be counted, and gives this work
 pub record Arrives (old new : Place) (arrival : Arrival) (work : Option Work) : Type 0 where
   pub fates : List Fate
   pub recorded : Extends old new (with_fates arrival fates) (output.Arrived (record { work = work }))

@@ -26,8 +26,8 @@ module _ {A B C I O : Type 0} (read_told : A → Told) (read_seen : A → View �
   abbrev One : Job A B C I O → Served A B I O → Type 0
   One = Serves read_told read_seen write_told write_seen coming left in_faults in_steady in_closed written out_faults out_steady out_closed
 
-  follows-home : (job : Job A B C I O) (streams ends : Both) (served : Served A B I O) (shaken : Result Framing End)
-      → Follows read_told read_seen write_told write_seen coming left in_faults in_steady in_closed written out_faults out_steady out_closed job streams ends served shaken
+  follows-home : (job : Job A B C I O) (streams ends : Both) (served : Served A B I O) (outcome : Result Framing End)
+      → Follows read_told read_seen write_told write_seen coming left in_faults in_steady in_closed written out_faults out_steady out_closed job streams ends served outcome
       → IsHome job.reader job.writer → IsHome served.reader served.writer
   follows-home job streams ends served (Ok has) both home_is = (both.reader.recorded.same.home ∙ home_is.0, both.writer.recorded.same.home ∙ home_is.1)
   follows-home job streams ends served (Err how) turned home_is = (ap (λ r. (read_told r).home) turned.reader ∙ home_is.0, goes-home _ _ turned.gone ∙ home_is.1)
@@ -38,7 +38,7 @@ module _ {A B C I O : Type 0} (read_told : A → Told) (read_seen : A → View �
   served-home [] (s ∷ ss) all home_is = elim all [ ]
   served-home (j ∷ js) [] all home_is = elim all [ ]
   served-home (j ∷ js) (s ∷ ss) all home_is = (
-    follows-home j all.0.streams all.0.ends s all.0.shaken all.0.follows home_is.0,
+    follows-home j all.0.streams all.0.ends s all.0.outcome all.0.follows home_is.0,
     served-home js ss all.1 home_is.1,
   )
 

@@ -28,7 +28,7 @@ not-joined table steady refused old new is =
     let looks = is.0 (record { 0 = 1 }) in
     record { between = looks.between; legal = looks.legal; is = sym (looks.views old refl); cause = is.1 }
 
--- a refusal for want of memory, before the service was asked
+-- a refusal for lack of memory, before the service was asked
 pub no-memory : (view : View) → IsNotJoined join.OutOfMemory view view
 no-memory view = record {
   between = [];

@@ -58,15 +58,15 @@ module _ {R F S T I O : Type 0} where
   )
 
 module _ {R F S T I O : Type 0} (left : I → Option (List ℕ)) (in_faults : I → ℕ) (in_steady in_closed : I → Bool) (written : O → Option (List ℕ)) (out_faults : O → ℕ) (out_steady out_closed : O → Bool) where
-  reader-at : (job : LinkJob R F S T I O) (streams ends : Both) (served : ServedLink R F S I O) (shaken : Result Framing End)
-      → (follows : Follows desk_told desk_seen desk_told desk_seen (λ clock. None) left in_faults in_steady in_closed written out_faults out_steady out_closed job streams ends served shaken) → IsNew job
-      → AreAt served.reader.pass.view.start served.reader.pass.view.seen served.reader.pass.view.own (own_in (read_seen left in_faults in_steady in_closed written out_faults out_steady out_closed job streams ends served shaken follows))
+  reader-at : (job : LinkJob R F S T I O) (streams ends : Both) (served : ServedLink R F S I O) (outcome : Result Framing End)
+      → (follows : Follows desk_told desk_seen desk_told desk_seen (λ clock. None) left in_faults in_steady in_closed written out_faults out_steady out_closed job streams ends served outcome) → IsNew job
+      → AreAt served.reader.pass.view.start served.reader.pass.view.seen served.reader.pass.view.own (own_in (read_seen left in_faults in_steady in_closed written out_faults out_steady out_closed job streams ends served outcome follows))
   reader-at job streams ends served (Ok has) both new = desk-at job.reader served.reader _ both.reader.recorded new.0
   reader-at job streams ends served (Err how) turned new = none-at served.reader (ap (λ (d : SharedDesk R F S). d.pass.view.own) turned.reader ∙ new.0)
 
-  writer-at : (job : LinkJob R F S T I O) (streams ends : Both) (served : ServedLink R F S I O) (shaken : Result Framing End)
-      → (follows : Follows desk_told desk_seen desk_told desk_seen (λ clock. None) left in_faults in_steady in_closed written out_faults out_steady out_closed job streams ends served shaken) → IsNew job
-      → AreAt served.writer.pass.view.start served.writer.pass.view.seen served.writer.pass.view.own (own_in (write_seen left in_faults in_steady in_closed written out_faults out_steady out_closed job streams ends served shaken follows))
+  writer-at : (job : LinkJob R F S T I O) (streams ends : Both) (served : ServedLink R F S I O) (outcome : Result Framing End)
+      → (follows : Follows desk_told desk_seen desk_told desk_seen (λ clock. None) left in_faults in_steady in_closed written out_faults out_steady out_closed job streams ends served outcome) → IsNew job
+      → AreAt served.writer.pass.view.start served.writer.pass.view.seen served.writer.pass.view.own (own_in (write_seen left in_faults in_steady in_closed written out_faults out_steady out_closed job streams ends served outcome follows))
   writer-at job streams ends served (Ok has) both new = desk-at job.writer served.writer _ both.writer.recorded new.1
   writer-at job streams ends served (Err how) turned new = desk-at job.writer served.writer _ (goes-records _ _ turned.gone) new.1
 
@@ -81,8 +81,8 @@ module _ {R F S T I O : Type 0} (left : I → Option (List ℕ)) (in_faults : I 
   recorded-all last (j ∷ js) (s ∷ ss) rest all new began = (
     record {
       serves = all.0;
-      reader = in-last s.reader.pass last _ _ began.0 (reader-at j all.0.streams all.0.ends s all.0.shaken all.0.follows new.0);
-      writer = in-last s.writer.pass last _ _ began.1.0 (writer-at j all.0.streams all.0.ends s all.0.shaken all.0.follows new.0);
+      reader = in-last s.reader.pass last _ _ began.0 (reader-at j all.0.streams all.0.ends s all.0.outcome all.0.follows new.0);
+      writer = in-last s.writer.pass last _ _ began.1.0 (writer-at j all.0.streams all.0.ends s all.0.outcome all.0.follows new.0);
     },
     recorded-all last js ss rest all.1 new.1 began.1.1,
   )

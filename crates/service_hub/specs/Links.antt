@@ -67,14 +67,14 @@ module _ {R F S T I O : Type 0} (left : I → Option (List ℕ)) (in_faults : I 
   ServesLink = Serves desk_told desk_seen desk_told desk_seen (λ clock. None) left in_faults in_steady in_closed written out_faults out_steady out_closed
 
   -- what the reader's desk saw and recorded after a handshake, if that was open
-  abbrev pub read_seen : (job : LinkJob R F S T I O) (streams ends : Both) (served : ServedLink R F S I O) (shaken : Result Framing End)
-      → Follows desk_told desk_seen desk_told desk_seen (λ clock. None) left in_faults in_steady in_closed written out_faults out_steady out_closed job streams ends served shaken → List records.Seen
+  abbrev pub read_seen : (job : LinkJob R F S T I O) (streams ends : Both) (served : ServedLink R F S I O) (outcome : Result Framing End)
+      → Follows desk_told desk_seen desk_told desk_seen (λ clock. None) left in_faults in_steady in_closed written out_faults out_steady out_closed job streams ends served outcome → List records.Seen
   read_seen job streams ends served (Ok has) both = both.reader.seen ++ both.reader.last
   read_seen job streams ends served (Err how) turned = []
 
   -- what the writer's desk saw and recorded
-  abbrev pub write_seen : (job : LinkJob R F S T I O) (streams ends : Both) (served : ServedLink R F S I O) (shaken : Result Framing End)
-      → Follows desk_told desk_seen desk_told desk_seen (λ clock. None) left in_faults in_steady in_closed written out_faults out_steady out_closed job streams ends served shaken → List records.Seen
+  abbrev pub write_seen : (job : LinkJob R F S T I O) (streams ends : Both) (served : ServedLink R F S I O) (outcome : Result Framing End)
+      → Follows desk_told desk_seen desk_told desk_seen (λ clock. None) left in_faults in_steady in_closed written out_faults out_steady out_closed job streams ends served outcome → List records.Seen
   write_seen job streams ends served (Ok has) both = both.writer.seen ++ both.writer.last
   write_seen job streams ends served (Err how) turned = gone_seen _ _ turned.gone
 
@@ -82,8 +82,8 @@ module _ {R F S T I O : Type 0} (left : I → Option (List ℕ)) (in_faults : I 
   -- the answer that it had.
   pub record IsRecorded (start : State) (log : List Event) (job : LinkJob R F S T I O) (served : ServedLink R F S I O) : Type 0 where
     pub serves : ServesLink job served
-    pub reader : AreAt start log served.reader.pass.view.own (own_in (read_seen job serves.streams serves.ends served serves.shaken serves.follows))
-    pub writer : AreAt start log served.writer.pass.view.own (own_in (write_seen job serves.streams serves.ends served serves.shaken serves.follows))
+    pub reader : AreAt start log served.reader.pass.view.own (own_in (read_seen job serves.streams serves.ends served serves.outcome serves.follows))
+    pub writer : AreAt start log served.writer.pass.view.own (own_in (write_seen job serves.streams serves.ends served serves.outcome serves.follows))
 
   -- What became of the links that a listener gave: each was served, or dropped for a cause that was counted (the rounds of the loop); each result
   -- is in its job's relation; and all that the connections recorded is in one history, which begins where the service's first pass did. Each desk

@@ -40,9 +40,9 @@ FitsSome service None = Unit {0}
 FitsSome service (Some event) = Fits service.state event
 
 -- how the service changes: not at all, or by one more event
-abbrev pub Went : History → Option Event → History → Type 0
-Went service None new = new ≡ service
-Went service (Some event) new =
+abbrev pub Became : History → Option Event → History → Type 0
+Became service None new = new ≡ service
+Became service (Some event) new =
     (total new.window ≡ total service.window + 1)
     × (newest new.window.events ≡ event ∷ [])
     × ((start : State) (before : ℕ) (log : List Event) → Stands service start before log → Stands new start before (log ++ event ∷ []))
@@ -97,26 +97,26 @@ module _ (old pass : turn.View Start Event) (between : List Event) (is : pass �
   stands-for new more stands = subst (λ (p : turn.View Start Event). StandsFor new p more) (sym is)
       (λ start at. subst (λ (s : Start). Stands new s.state old.before ((old.seen ++ between) ++ more)) (some-is begun start (sym idle.start.1 ∙ at)) stands)
 
-  pub end-some : (event : Option Event) (new : History) (count : ℕ) → Went service event new → count ≡ total service.window → IsEnd new count pass
+  pub end-some : (event : Option Event) (new : History) (count : ℕ) → Became service event new → count ≡ total service.window → IsEnd new count pass
   end-some None new count same counted = record {
     few = few;
     none = λ _. subst (λ (p : turn.View Start Event). (start : Start) → p.start ≡ Some start → Stands new start.state p.before p.seen) (sym is)
         (λ start at. subst (λ (z : History × Start). Stands z.0 z.1.state old.before (old.seen ++ between)) (λ i. (sym same i, some-is begun start (sym idle.start.1 ∙ at) i)) found-is);
     one = λ not. absurd (not (ap (λ (h : History). total h.window) same ∙ sym counted));
   }
-  end-some (Some event) new count went counted = record {
+  end-some (Some event) new count became counted = record {
     few = few;
-    none = λ equal. let more = went.0 in absurd (omega (arith, equal, more, counted));
-    one = λ _. (event, went.1, stands-for new (event ∷ []) (went.2 begun.state old.before (old.seen ++ between) found-is));
+    none = λ equal. let more = became.0 in absurd (omega (arith, equal, more, counted));
+    one = λ _. (event, became.1, stands-for new (event ∷ []) (became.2 begun.state old.before (old.seen ++ between) found-is));
   }
 
   -- the pass as it is then
-  pub ended-some : (event : Option Event) (new : History) (count : ℕ) (last : turn.View Start Event) → Went service event new → count ≡ total service.window
+  pub ended-some : (event : Option Event) (new : History) (count : ℕ) (last : turn.View Start Event) → Became service event new → count ≡ total service.window
       → (total new.window ≡ count → last ≡ turn.outside pass) → ((one : Event) → (total new.window ≡ count → ⊥) → newest new.window.events ≡ one ∷ [] → last ≡ turn.recorded one pass)
       → last ≡ ended event (turn.inside between old)
   ended-some None new count last same counted none one = none (ap (λ (h : History). total h.window) same ∙ sym counted) ∙ ap turn.outside is
-  ended-some (Some event) new count last went counted none one =
-      one event (λ equal. let more = went.0 in absurd (omega (arith, equal, more, counted))) went.1 ∙ ap (turn.recorded event) is
+  ended-some (Some event) new count last became counted none one =
+      one event (λ equal. let more = became.0 in absurd (omega (arith, equal, more, counted))) became.1 ∙ ap (turn.recorded event) is
 
   legal-found : Legal (start_or old.start) (old.seen ++ between)
   legal-found = stands-view.legal
@@ -148,7 +148,7 @@ module _ (old pass : turn.View Start Event) (between : List Event) (is : pass �
   start-some (Some event) = refl
 
   -- the pass after the call: it is idle, of the same service, its view has the event, and its run began as it did
-  pub done : (event : Option Event) (new : History) (count : ℕ) (last : turn.View Start Event) → FitsSome service event → Went service event new → count ≡ total service.window
+  pub done : (event : Option Event) (new : History) (count : ℕ) (last : turn.View Start Event) → FitsSome service event → Became service event new → count ≡ total service.window
       → (total new.window ≡ count → last ≡ turn.outside pass) → ((one : Event) → (total new.window ≡ count → ⊥) → newest new.window.events ≡ one ∷ [] → last ≡ turn.recorded one pass)
       → IsIdle last × (last.table ≡ old.table) × (view_of last ≡ viewed event (with_others between (view_of old))) × (steady_or last.start ≡ steady_or old.start)
   done event new count last fits same counted none one =
@@ -169,9 +169,9 @@ module _ (old pass : turn.View Start Event) (between : List Event) (is : pass �
   steady-still now same = λ start at. same ∙ found start (sym (ap (λ (p : turn.View Start Event). p.start) is) ∙ at)
 
 -- one more event, after a cut if one was due
-pub went-with : (service new : History) (event : Option Event) → FitsSome service event → new ≡ with_some event service → IsHistory new → Went service event new
-went-with service new None fits same kept = same
-went-with service new (Some event) fits same kept = (
+pub became-with : (service new : History) (event : Option Event) → FitsSome service event → new ≡ with_some event service → IsHistory new → Became service event new
+became-with service new None fits same kept = same
+became-with service new (Some event) fits same kept = (
   ap (λ (h : History). total h.window) same ∙ total-with event service,
   ap (λ (h : History). newest h.window.events) same ∙ newest-push service.window.events event,
   (λ start before log stands. subst (λ (h : History). Stands h start before (log ++ event ∷ [])) (sym same) (stands-with start before log service event stands fits (subst IsHistory same kept))),
@@ -183,8 +183,8 @@ total-cut service =
     elim [ true ↦ λ is. rw is (omega arith) | false ↦ λ is. rw is refl ] in
     pass (is_due service.window) refl
 
-pub went-due : (service new : History) (event : Event) → Stores service event new → IsHistory new → Went service (Some event) new
-went-due service new event stores kept = (
+pub became-due : (service new : History) (event : Event) → Stores service event new → IsHistory new → Became service (Some event) new
+became-due service new event stores kept = (
   ap (λ (h : History). total h.window) stores.appends ∙ (total-with event (cut_where_due service) ∙ ap (λ (n : ℕ). n + 1) (total-cut service)),
   newest-due service new event stores.appends,
   (λ start before log stands. stands-due start before log service new event stands stores.fits stores.appends kept),
@@ -199,10 +199,10 @@ pub fits-if : {T F : Type 0} (event : T → Event) (service new : History) (resu
 fits-if event service new (Ok value) stores = stores.fits
 fits-if event service new (Err fault) stores = tt
 
-pub went-if : {T F : Type 0} (event : T → Event) (service new : History) (result : Result T F) → IfOk result (λ value. Stores service (event value) new) → OnErr result (new ≡ service) → IsHistory new
-    → Went service (event_if event result) new
-went-if event service new (Ok value) stores same kept = went-due service new (event value) stores kept
-went-if event service new (Err fault) stores same kept = same
+pub became-if : {T F : Type 0} (event : T → Event) (service new : History) (result : Result T F) → IfOk result (λ value. Stores service (event value) new) → OnErr result (new ≡ service) → IsHistory new
+    → Became service (event_if event result) new
+became-if event service new (Ok value) stores same kept = became-due service new (event value) stores kept
+became-if event service new (Err fault) stores same kept = same
 
 -- how each storing of a request that was recorded ended; there is none if it wasn't
 abbrev pub fates_if : (steady : Bool) (stored : Event → Type 0) (service : History) (arrival : Arrival) (new : History) (result : Result (Option Work) Refused)

@@ -3,7 +3,7 @@ use Rattle.connection_worker.specs.Streams.{output_of}
 use Rattle.connection_worker.proofs.WriterLemmas.{writer-goes}
 use Rattle.connection_worker.proofs.writing.write_side.Goals as goal
 
--- the desk was told that the connection is gone
+-- it was reported to the desk that the connection is gone
 pub returns-in_default : goal.returns-in_default
 returns-in_default g c =
     let told = g.D.Desk.told in

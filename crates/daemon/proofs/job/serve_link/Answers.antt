@@ -16,7 +16,7 @@ returns-in-Ok g c =
       conn = closing.conn ∙ c.serve_both.ensures.conn;
       streams = record { input = input_now c.handshake.new.input; output = output_now c.handshake.new.output };
       ends = record { input = input_now c.serve_both.result.input; output = output_now c.serve_both.result.output };
-      shaken = Ok c.in-Ok.framer;
+      outcome = Ok c.in-Ok.framer;
       handshake = c.in-Ok.ensures;
       follows = record {
         clock_after = reads.clock_after;
@@ -40,7 +40,7 @@ returns g c =
       conn = closing.conn;
       streams = record { input = input_now c.handshake.new.input; output = output_now c.handshake.new.output };
       ends = record { input = input_now c.handshake.new.input; output = output_now c.handshake.new.output };
-      shaken = Err c.in-Err.end;
+      outcome = Err c.in-Err.end;
       handshake = c.in-Err.ensures;
       follows = record {
         read_end = closing.read_end;

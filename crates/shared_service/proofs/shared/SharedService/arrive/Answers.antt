@@ -9,7 +9,7 @@ use Rattle.service_desk.specs.Places.{Looks}
 use Rattle.service_desk.specs.Calls.{Arrives, IsRefusal}
 use Rattle.shared_service.specs.Standing.{Start, Stands}
 use Rattle.shared_service.specs.Passes.{Seen, steady_or, told, spot, view_of}
-use Rattle.shared_service.proofs.Ends.{end-some, done, stands-view, steady-found, steady-still, event_if, fates_if, stores-if, fits-if, went-if}
+use Rattle.shared_service.proofs.Ends.{end-some, done, stands-view, steady-found, steady-still, event_if, fates_if, stores-if, fits-if, became-if}
 use Rattle.shared_service.proofs.Calls.{arrives-if, looks-if, refused-if}
 use Rattle.shared_service.proofs.shared.SharedService.arrive.Goals as goal
 
@@ -32,8 +32,8 @@ end-requires-clause-ended g c =
     let stores : IfOk result (λ work. StoresRequest steady stored service arrival work new) = subst (λ b. IfOk result (λ work. StoresRequest b stored service arrival work new)) same (rw c.deref_mut.ensures.value at c.arrive-arrived.ensures.stores) in
     let event : Option Work → Event = λ _. with_fates arrival (fates_if steady stored service arrival new result stores) in
     let recorded = stores-if steady stored service arrival new result stores in
-    let went = went-if event service new result recorded (rw c.deref_mut.ensures.value at c.arrive-arrived.ensures.unchanged) c.arrive-arrived.ensures.history in
-    end-some old c.enter-kept.new.pass e.between e.is c.pass.invariant service stands (event_if event result) new c.total-count.result went c.total-count.ensures.count
+    let became = became-if event service new result recorded (rw c.deref_mut.ensures.value at c.arrive-arrived.ensures.unchanged) c.arrive-arrived.ensures.history in
+    end-some old c.enter-kept.new.pass e.between e.is c.pass.invariant service stands (event_if event result) new c.total-count.result became c.total-count.ensures.count
 
 pub end-requires-clause-steady : goal.end-requires-clause-steady
 end-requires-clause-steady g c =
@@ -59,8 +59,8 @@ invariant_of-pass g c =
     let stores : IfOk result (λ work. StoresRequest steady stored service arrival work new) = subst (λ b. IfOk result (λ work. StoresRequest b stored service arrival work new)) same (rw c.deref_mut.ensures.value at c.arrive-arrived.ensures.stores) in
     let event : Option Work → Event = λ _. with_fates arrival (fates_if steady stored service arrival new result stores) in
     let recorded = stores-if steady stored service arrival new result stores in
-    let went = went-if event service new result recorded (rw c.deref_mut.ensures.value at c.arrive-arrived.ensures.unchanged) c.arrive-arrived.ensures.history in
-    let end = done old c.enter-kept.new.pass e.between e.is c.pass.invariant service stands (event_if event result) new c.total-count.result c.end.new.inner (fits-if event service new result recorded) went
+    let became = became-if event service new result recorded (rw c.deref_mut.ensures.value at c.arrive-arrived.ensures.unchanged) c.arrive-arrived.ensures.history in
+    let end = done old c.enter-kept.new.pass e.between e.is c.pass.invariant service stands (event_if event result) new c.total-count.result c.end.new.inner (fits-if event service new result recorded) became
     c.total-count.ensures.count c.end.ensures.same c.end.ensures.recorded in
     end.0
 
@@ -83,8 +83,8 @@ returns-clause-same g c =
     let stores : IfOk result (λ work. StoresRequest steady stored service arrival work new) = subst (λ b. IfOk result (λ work. StoresRequest b stored service arrival work new)) same (rw c.deref_mut.ensures.value at c.arrive-arrived.ensures.stores) in
     let event : Option Work → Event = λ _. with_fates arrival (fates_if steady stored service arrival new result stores) in
     let recorded = stores-if steady stored service arrival new result stores in
-    let went = went-if event service new result recorded (rw c.deref_mut.ensures.value at c.arrive-arrived.ensures.unchanged) c.arrive-arrived.ensures.history in
-    let end = done old c.enter-kept.new.pass e.between e.is c.pass.invariant service stands (event_if event result) new c.total-count.result c.end.new.inner (fits-if event service new result recorded) went
+    let became = became-if event service new result recorded (rw c.deref_mut.ensures.value at c.arrive-arrived.ensures.unchanged) c.arrive-arrived.ensures.history in
+    let end = done old c.enter-kept.new.pass e.between e.is c.pass.invariant service stands (event_if event result) new c.total-count.result c.end.new.inner (fits-if event service new result recorded) became
     c.total-count.ensures.count c.end.ensures.same c.end.ensures.recorded in
     end.1 ∙ ap (λ (s : Seen). s.table) c.pass.view_is
 
@@ -107,8 +107,8 @@ returns-clause-steady g c =
     let stores : IfOk result (λ work. StoresRequest steady stored service arrival work new) = subst (λ b. IfOk result (λ work. StoresRequest b stored service arrival work new)) same (rw c.deref_mut.ensures.value at c.arrive-arrived.ensures.stores) in
     let event : Option Work → Event = λ _. with_fates arrival (fates_if steady stored service arrival new result stores) in
     let recorded = stores-if steady stored service arrival new result stores in
-    let went = went-if event service new result recorded (rw c.deref_mut.ensures.value at c.arrive-arrived.ensures.unchanged) c.arrive-arrived.ensures.history in
-    let end = done old c.enter-kept.new.pass e.between e.is c.pass.invariant service stands (event_if event result) new c.total-count.result c.end.new.inner (fits-if event service new result recorded) went
+    let became = became-if event service new result recorded (rw c.deref_mut.ensures.value at c.arrive-arrived.ensures.unchanged) c.arrive-arrived.ensures.history in
+    let end = done old c.enter-kept.new.pass e.between e.is c.pass.invariant service stands (event_if event result) new c.total-count.result c.end.new.inner (fits-if event service new result recorded) became
     c.total-count.ensures.count c.end.ensures.same c.end.ensures.recorded in
     end.3 ∙ ap (λ (s : Seen). s.steady) c.pass.view_is
 
@@ -131,8 +131,8 @@ returns-clause-recorded g c =
     let stores : IfOk result (λ work. StoresRequest steady stored service arrival work new) = subst (λ b. IfOk result (λ work. StoresRequest b stored service arrival work new)) same (rw c.deref_mut.ensures.value at c.arrive-arrived.ensures.stores) in
     let event : Option Work → Event = λ _. with_fates arrival (fates_if steady stored service arrival new result stores) in
     let recorded = stores-if steady stored service arrival new result stores in
-    let went = went-if event service new result recorded (rw c.deref_mut.ensures.value at c.arrive-arrived.ensures.unchanged) c.arrive-arrived.ensures.history in
-    let end = done old c.enter-kept.new.pass e.between e.is c.pass.invariant service stands (event_if event result) new c.total-count.result c.end.new.inner (fits-if event service new result recorded) went
+    let became = became-if event service new result recorded (rw c.deref_mut.ensures.value at c.arrive-arrived.ensures.unchanged) c.arrive-arrived.ensures.history in
+    let end = done old c.enter-kept.new.pass e.between e.is c.pass.invariant service stands (event_if event result) new c.total-count.result c.end.new.inner (fits-if event service new result recorded) became
     c.total-count.ensures.count c.end.ensures.same c.end.ensures.recorded in
     let view : View = view_of old in
     let stood = stands-view old c.enter-kept.new.pass e.between e.is c.pass.invariant service stands in
@@ -158,8 +158,8 @@ returns-clause-looked g c =
     let stores : IfOk result (λ work. StoresRequest steady stored service arrival work new) = subst (λ b. IfOk result (λ work. StoresRequest b stored service arrival work new)) same (rw c.deref_mut.ensures.value at c.arrive-arrived.ensures.stores) in
     let event : Option Work → Event = λ _. with_fates arrival (fates_if steady stored service arrival new result stores) in
     let recorded = stores-if steady stored service arrival new result stores in
-    let went = went-if event service new result recorded (rw c.deref_mut.ensures.value at c.arrive-arrived.ensures.unchanged) c.arrive-arrived.ensures.history in
-    let end = done old c.enter-kept.new.pass e.between e.is c.pass.invariant service stands (event_if event result) new c.total-count.result c.end.new.inner (fits-if event service new result recorded) went
+    let became = became-if event service new result recorded (rw c.deref_mut.ensures.value at c.arrive-arrived.ensures.unchanged) c.arrive-arrived.ensures.history in
+    let end = done old c.enter-kept.new.pass e.between e.is c.pass.invariant service stands (event_if event result) new c.total-count.result c.end.new.inner (fits-if event service new result recorded) became
     c.total-count.ensures.count c.end.ensures.same c.end.ensures.recorded in
     let view : View = view_of old in
     let stood = stands-view old c.enter-kept.new.pass e.between e.is c.pass.invariant service stands in
@@ -185,8 +185,8 @@ returns-clause-cause g c =
     let stores : IfOk result (λ work. StoresRequest steady stored service arrival work new) = subst (λ b. IfOk result (λ work. StoresRequest b stored service arrival work new)) same (rw c.deref_mut.ensures.value at c.arrive-arrived.ensures.stores) in
     let event : Option Work → Event = λ _. with_fates arrival (fates_if steady stored service arrival new result stores) in
     let recorded = stores-if steady stored service arrival new result stores in
-    let went = went-if event service new result recorded (rw c.deref_mut.ensures.value at c.arrive-arrived.ensures.unchanged) c.arrive-arrived.ensures.history in
-    let end = done old c.enter-kept.new.pass e.between e.is c.pass.invariant service stands (event_if event result) new c.total-count.result c.end.new.inner (fits-if event service new result recorded) went
+    let became = became-if event service new result recorded (rw c.deref_mut.ensures.value at c.arrive-arrived.ensures.unchanged) c.arrive-arrived.ensures.history in
+    let end = done old c.enter-kept.new.pass e.between e.is c.pass.invariant service stands (event_if event result) new c.total-count.result c.end.new.inner (fits-if event service new result recorded) became
     c.total-count.ensures.count c.end.ensures.same c.end.ensures.recorded in
     let view : View = view_of old in
     let stood = stands-view old c.enter-kept.new.pass e.between e.is c.pass.invariant service stands in

@@ -5,14 +5,14 @@ use Rattle.service_events.specs.Fates.{is_steady}
 use Rattle.service_desk.specs.Views.{View}
 use Rattle.service_desk.specs.Places.{Extends}
 use Rattle.shared_service.specs.Passes.{Seen, steady_or, spot, view_of, IsRefused}
-use Rattle.shared_service.proofs.Ends.{end-some, done, steady-still, stands-view, event_if, fits-if, went-if}
+use Rattle.shared_service.proofs.Ends.{end-some, done, steady-still, stands-view, event_if, fits-if, became-if}
 use Rattle.shared_service.proofs.Calls.{joins-if, crowded-if}
 use Rattle.shared_service.proofs.shared.SharedService.connect.Goals as goal
 
 pub end-requires-clause-ended : goal.end-requires-clause-ended
 end-requires-clause-ended g c =
     let e = c.enter-kept.ensures in let service = c.enter-kept.result.service.value.history in
-    end-some c.pass.inside.inner c.enter-kept.new.pass e.between e.is c.pass.invariant service (λ start at. (e.stands start at).history) (event_if (λ conn. event.Connect conn) c.join-joined.result) c.join-joined.new.self.history c.total-count.result (went-if (λ conn. event.Connect conn) service c.join-joined.new.self.history c.join-joined.result (rw c.deref_mut.ensures.value at c.join-joined.ensures.stores) (rw c.deref_mut.ensures.value at c.join-joined.ensures.unchanged) c.join-joined.ensures.history) c.total-count.ensures.count
+    end-some c.pass.inside.inner c.enter-kept.new.pass e.between e.is c.pass.invariant service (λ start at. (e.stands start at).history) (event_if (λ conn. event.Connect conn) c.join-joined.result) c.join-joined.new.self.history c.total-count.result (became-if (λ conn. event.Connect conn) service c.join-joined.new.self.history c.join-joined.result (rw c.deref_mut.ensures.value at c.join-joined.ensures.stores) (rw c.deref_mut.ensures.value at c.join-joined.ensures.unchanged) c.join-joined.ensures.history) c.total-count.ensures.count
 
 pub end-requires-clause-steady : goal.end-requires-clause-steady
 end-requires-clause-steady g c =
@@ -22,22 +22,22 @@ end-requires-clause-steady g c =
 pub invariant_of-pass : goal.invariant_of-pass
 invariant_of-pass g c =
     let e = c.enter-kept.ensures in let service = c.enter-kept.result.service.value.history in
-    (done c.pass.inside.inner c.enter-kept.new.pass e.between e.is c.pass.invariant service (λ start at. (e.stands start at).history) (event_if (λ conn. event.Connect conn) c.join-joined.result) c.join-joined.new.self.history c.total-count.result c.end.new.inner (fits-if (λ conn. event.Connect conn) service c.join-joined.new.self.history c.join-joined.result (rw c.deref_mut.ensures.value at c.join-joined.ensures.stores)) (went-if (λ conn. event.Connect conn) service c.join-joined.new.self.history c.join-joined.result (rw c.deref_mut.ensures.value at c.join-joined.ensures.stores) (rw c.deref_mut.ensures.value at c.join-joined.ensures.unchanged) c.join-joined.ensures.history) c.total-count.ensures.count c.end.ensures.same c.end.ensures.recorded).0
+    (done c.pass.inside.inner c.enter-kept.new.pass e.between e.is c.pass.invariant service (λ start at. (e.stands start at).history) (event_if (λ conn. event.Connect conn) c.join-joined.result) c.join-joined.new.self.history c.total-count.result c.end.new.inner (fits-if (λ conn. event.Connect conn) service c.join-joined.new.self.history c.join-joined.result (rw c.deref_mut.ensures.value at c.join-joined.ensures.stores)) (became-if (λ conn. event.Connect conn) service c.join-joined.new.self.history c.join-joined.result (rw c.deref_mut.ensures.value at c.join-joined.ensures.stores) (rw c.deref_mut.ensures.value at c.join-joined.ensures.unchanged) c.join-joined.ensures.history) c.total-count.ensures.count c.end.ensures.same c.end.ensures.recorded).0
 
 pub returns-clause-same : goal.returns-clause-same
 returns-clause-same g c =
     let e = c.enter-kept.ensures in let service = c.enter-kept.result.service.value.history in
-    (done c.pass.inside.inner c.enter-kept.new.pass e.between e.is c.pass.invariant service (λ start at. (e.stands start at).history) (event_if (λ conn. event.Connect conn) c.join-joined.result) c.join-joined.new.self.history c.total-count.result c.end.new.inner (fits-if (λ conn. event.Connect conn) service c.join-joined.new.self.history c.join-joined.result (rw c.deref_mut.ensures.value at c.join-joined.ensures.stores)) (went-if (λ conn. event.Connect conn) service c.join-joined.new.self.history c.join-joined.result (rw c.deref_mut.ensures.value at c.join-joined.ensures.stores) (rw c.deref_mut.ensures.value at c.join-joined.ensures.unchanged) c.join-joined.ensures.history) c.total-count.ensures.count c.end.ensures.same c.end.ensures.recorded).1 ∙ ap (λ (s : Seen). s.table) c.pass.view_is
+    (done c.pass.inside.inner c.enter-kept.new.pass e.between e.is c.pass.invariant service (λ start at. (e.stands start at).history) (event_if (λ conn. event.Connect conn) c.join-joined.result) c.join-joined.new.self.history c.total-count.result c.end.new.inner (fits-if (λ conn. event.Connect conn) service c.join-joined.new.self.history c.join-joined.result (rw c.deref_mut.ensures.value at c.join-joined.ensures.stores)) (became-if (λ conn. event.Connect conn) service c.join-joined.new.self.history c.join-joined.result (rw c.deref_mut.ensures.value at c.join-joined.ensures.stores) (rw c.deref_mut.ensures.value at c.join-joined.ensures.unchanged) c.join-joined.ensures.history) c.total-count.ensures.count c.end.ensures.same c.end.ensures.recorded).1 ∙ ap (λ (s : Seen). s.table) c.pass.view_is
 
 pub returns-clause-steady : goal.returns-clause-steady
 returns-clause-steady g c =
     let e = c.enter-kept.ensures in let service = c.enter-kept.result.service.value.history in
-    (done c.pass.inside.inner c.enter-kept.new.pass e.between e.is c.pass.invariant service (λ start at. (e.stands start at).history) (event_if (λ conn. event.Connect conn) c.join-joined.result) c.join-joined.new.self.history c.total-count.result c.end.new.inner (fits-if (λ conn. event.Connect conn) service c.join-joined.new.self.history c.join-joined.result (rw c.deref_mut.ensures.value at c.join-joined.ensures.stores)) (went-if (λ conn. event.Connect conn) service c.join-joined.new.self.history c.join-joined.result (rw c.deref_mut.ensures.value at c.join-joined.ensures.stores) (rw c.deref_mut.ensures.value at c.join-joined.ensures.unchanged) c.join-joined.ensures.history) c.total-count.ensures.count c.end.ensures.same c.end.ensures.recorded).3 ∙ ap (λ (s : Seen). s.steady) c.pass.view_is
+    (done c.pass.inside.inner c.enter-kept.new.pass e.between e.is c.pass.invariant service (λ start at. (e.stands start at).history) (event_if (λ conn. event.Connect conn) c.join-joined.result) c.join-joined.new.self.history c.total-count.result c.end.new.inner (fits-if (λ conn. event.Connect conn) service c.join-joined.new.self.history c.join-joined.result (rw c.deref_mut.ensures.value at c.join-joined.ensures.stores)) (became-if (λ conn. event.Connect conn) service c.join-joined.new.self.history c.join-joined.result (rw c.deref_mut.ensures.value at c.join-joined.ensures.stores) (rw c.deref_mut.ensures.value at c.join-joined.ensures.unchanged) c.join-joined.ensures.history) c.total-count.ensures.count c.end.ensures.same c.end.ensures.recorded).3 ∙ ap (λ (s : Seen). s.steady) c.pass.view_is
 
 pub returns-clause-joined : goal.returns-clause-joined
 returns-clause-joined g c =
     let e = c.enter-kept.ensures in let service = c.enter-kept.result.service.value.history in
-    let last = (done c.pass.inside.inner c.enter-kept.new.pass e.between e.is c.pass.invariant service (λ start at. (e.stands start at).history) (event_if (λ conn. event.Connect conn) c.join-joined.result) c.join-joined.new.self.history c.total-count.result c.end.new.inner (fits-if (λ conn. event.Connect conn) service c.join-joined.new.self.history c.join-joined.result (rw c.deref_mut.ensures.value at c.join-joined.ensures.stores)) (went-if (λ conn. event.Connect conn) service c.join-joined.new.self.history c.join-joined.result (rw c.deref_mut.ensures.value at c.join-joined.ensures.stores) (rw c.deref_mut.ensures.value at c.join-joined.ensures.unchanged) c.join-joined.ensures.history) c.total-count.ensures.count c.end.ensures.same c.end.ensures.recorded).2 in
+    let last = (done c.pass.inside.inner c.enter-kept.new.pass e.between e.is c.pass.invariant service (λ start at. (e.stands start at).history) (event_if (λ conn. event.Connect conn) c.join-joined.result) c.join-joined.new.self.history c.total-count.result c.end.new.inner (fits-if (λ conn. event.Connect conn) service c.join-joined.new.self.history c.join-joined.result (rw c.deref_mut.ensures.value at c.join-joined.ensures.stores)) (became-if (λ conn. event.Connect conn) service c.join-joined.new.self.history c.join-joined.result (rw c.deref_mut.ensures.value at c.join-joined.ensures.stores) (rw c.deref_mut.ensures.value at c.join-joined.ensures.unchanged) c.join-joined.ensures.history) c.total-count.ensures.count c.end.ensures.same c.end.ensures.recorded).2 in
     let view : View = view_of c.pass.inside.inner in
     let steady = steady_or c.pass.inside.inner.start in
     let stands = stands-view c.pass.inside.inner c.enter-kept.new.pass e.between e.is c.pass.invariant service (λ start at. (e.stands start at).history) in
@@ -47,7 +47,7 @@ returns-clause-joined g c =
 pub returns-clause-refused : goal.returns-clause-refused
 returns-clause-refused g c =
     let e = c.enter-kept.ensures in let service = c.enter-kept.result.service.value.history in
-    let last = (done c.pass.inside.inner c.enter-kept.new.pass e.between e.is c.pass.invariant service (λ start at. (e.stands start at).history) (event_if (λ conn. event.Connect conn) c.join-joined.result) c.join-joined.new.self.history c.total-count.result c.end.new.inner (fits-if (λ conn. event.Connect conn) service c.join-joined.new.self.history c.join-joined.result (rw c.deref_mut.ensures.value at c.join-joined.ensures.stores)) (went-if (λ conn. event.Connect conn) service c.join-joined.new.self.history c.join-joined.result (rw c.deref_mut.ensures.value at c.join-joined.ensures.stores) (rw c.deref_mut.ensures.value at c.join-joined.ensures.unchanged) c.join-joined.ensures.history) c.total-count.ensures.count c.end.ensures.same c.end.ensures.recorded).2 in
+    let last = (done c.pass.inside.inner c.enter-kept.new.pass e.between e.is c.pass.invariant service (λ start at. (e.stands start at).history) (event_if (λ conn. event.Connect conn) c.join-joined.result) c.join-joined.new.self.history c.total-count.result c.end.new.inner (fits-if (λ conn. event.Connect conn) service c.join-joined.new.self.history c.join-joined.result (rw c.deref_mut.ensures.value at c.join-joined.ensures.stores)) (became-if (λ conn. event.Connect conn) service c.join-joined.new.self.history c.join-joined.result (rw c.deref_mut.ensures.value at c.join-joined.ensures.stores) (rw c.deref_mut.ensures.value at c.join-joined.ensures.unchanged) c.join-joined.ensures.history) c.total-count.ensures.count c.end.ensures.same c.end.ensures.recorded).2 in
     let view : View = view_of c.pass.inside.inner in
     let steady = steady_or c.pass.inside.inner.start in
     let stands = stands-view c.pass.inside.inner c.enter-kept.new.pass e.between e.is c.pass.invariant service (λ start at. (e.stands start at).history) in

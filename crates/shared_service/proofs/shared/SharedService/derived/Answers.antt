@@ -8,7 +8,7 @@ use Rattle.service_desk.specs.Places.{Looks}
 use Rattle.service_desk.specs.Calls.{Finishes, IsRefusal}
 use Rattle.shared_service.specs.Standing.{Start, Stands}
 use Rattle.shared_service.specs.Passes.{Seen, steady_or, told, spot, view_of}
-use Rattle.shared_service.proofs.Ends.{end-some, done, stands-view, steady-found, steady-still, event_if, fits-if, key_if, stores-key, went-if}
+use Rattle.shared_service.proofs.Ends.{end-some, done, stands-view, steady-found, steady-still, event_if, fits-if, key_if, stores-key, became-if}
 use Rattle.shared_service.proofs.Calls.{finishes-if, looks-if, refused-if}
 use Rattle.shared_service.proofs.shared.SharedService.derived.Goals as goal
 
@@ -31,8 +31,8 @@ end-requires-clause-ended g c =
     let stores : OnOk result (StoresKey steady stored service brought new) = subst (λ b. OnOk result (StoresKey b stored service brought new)) same (rw c.deref_mut.ensures.value at c.derived-derived.ensures.stores) in
     let event : Unit {0} → Event = λ _. key_if steady stored service brought new result stores in
     let recorded = stores-key steady stored service brought new result stores in
-    let went = went-if event service new result recorded (rw c.deref_mut.ensures.value at c.derived-derived.ensures.unchanged) c.derived-derived.ensures.history in
-    end-some old c.enter-kept.new.pass e.between e.is c.pass.invariant service stands (event_if event result) new c.total-count.result went c.total-count.ensures.count
+    let became = became-if event service new result recorded (rw c.deref_mut.ensures.value at c.derived-derived.ensures.unchanged) c.derived-derived.ensures.history in
+    end-some old c.enter-kept.new.pass e.between e.is c.pass.invariant service stands (event_if event result) new c.total-count.result became c.total-count.ensures.count
 
 pub end-requires-clause-steady : goal.end-requires-clause-steady
 end-requires-clause-steady g c =
@@ -58,8 +58,8 @@ invariant_of-pass g c =
     let stores : OnOk result (StoresKey steady stored service brought new) = subst (λ b. OnOk result (StoresKey b stored service brought new)) same (rw c.deref_mut.ensures.value at c.derived-derived.ensures.stores) in
     let event : Unit {0} → Event = λ _. key_if steady stored service brought new result stores in
     let recorded = stores-key steady stored service brought new result stores in
-    let went = went-if event service new result recorded (rw c.deref_mut.ensures.value at c.derived-derived.ensures.unchanged) c.derived-derived.ensures.history in
-    let end = done old c.enter-kept.new.pass e.between e.is c.pass.invariant service stands (event_if event result) new c.total-count.result c.end.new.inner (fits-if event service new result recorded) went
+    let became = became-if event service new result recorded (rw c.deref_mut.ensures.value at c.derived-derived.ensures.unchanged) c.derived-derived.ensures.history in
+    let end = done old c.enter-kept.new.pass e.between e.is c.pass.invariant service stands (event_if event result) new c.total-count.result c.end.new.inner (fits-if event service new result recorded) became
     c.total-count.ensures.count c.end.ensures.same c.end.ensures.recorded in
     end.0
 
@@ -82,8 +82,8 @@ returns-clause-same g c =
     let stores : OnOk result (StoresKey steady stored service brought new) = subst (λ b. OnOk result (StoresKey b stored service brought new)) same (rw c.deref_mut.ensures.value at c.derived-derived.ensures.stores) in
     let event : Unit {0} → Event = λ _. key_if steady stored service brought new result stores in
     let recorded = stores-key steady stored service brought new result stores in
-    let went = went-if event service new result recorded (rw c.deref_mut.ensures.value at c.derived-derived.ensures.unchanged) c.derived-derived.ensures.history in
-    let end = done old c.enter-kept.new.pass e.between e.is c.pass.invariant service stands (event_if event result) new c.total-count.result c.end.new.inner (fits-if event service new result recorded) went
+    let became = became-if event service new result recorded (rw c.deref_mut.ensures.value at c.derived-derived.ensures.unchanged) c.derived-derived.ensures.history in
+    let end = done old c.enter-kept.new.pass e.between e.is c.pass.invariant service stands (event_if event result) new c.total-count.result c.end.new.inner (fits-if event service new result recorded) became
     c.total-count.ensures.count c.end.ensures.same c.end.ensures.recorded in
     end.1 ∙ ap (λ (s : Seen). s.table) c.pass.view_is
 
@@ -106,8 +106,8 @@ returns-clause-steady g c =
     let stores : OnOk result (StoresKey steady stored service brought new) = subst (λ b. OnOk result (StoresKey b stored service brought new)) same (rw c.deref_mut.ensures.value at c.derived-derived.ensures.stores) in
     let event : Unit {0} → Event = λ _. key_if steady stored service brought new result stores in
     let recorded = stores-key steady stored service brought new result stores in
-    let went = went-if event service new result recorded (rw c.deref_mut.ensures.value at c.derived-derived.ensures.unchanged) c.derived-derived.ensures.history in
-    let end = done old c.enter-kept.new.pass e.between e.is c.pass.invariant service stands (event_if event result) new c.total-count.result c.end.new.inner (fits-if event service new result recorded) went
+    let became = became-if event service new result recorded (rw c.deref_mut.ensures.value at c.derived-derived.ensures.unchanged) c.derived-derived.ensures.history in
+    let end = done old c.enter-kept.new.pass e.between e.is c.pass.invariant service stands (event_if event result) new c.total-count.result c.end.new.inner (fits-if event service new result recorded) became
     c.total-count.ensures.count c.end.ensures.same c.end.ensures.recorded in
     end.3 ∙ ap (λ (s : Seen). s.steady) c.pass.view_is
 
@@ -130,8 +130,8 @@ returns-clause-recorded g c =
     let stores : OnOk result (StoresKey steady stored service brought new) = subst (λ b. OnOk result (StoresKey b stored service brought new)) same (rw c.deref_mut.ensures.value at c.derived-derived.ensures.stores) in
     let event : Unit {0} → Event = λ _. key_if steady stored service brought new result stores in
     let recorded = stores-key steady stored service brought new result stores in
-    let went = went-if event service new result recorded (rw c.deref_mut.ensures.value at c.derived-derived.ensures.unchanged) c.derived-derived.ensures.history in
-    let end = done old c.enter-kept.new.pass e.between e.is c.pass.invariant service stands (event_if event result) new c.total-count.result c.end.new.inner (fits-if event service new result recorded) went
+    let became = became-if event service new result recorded (rw c.deref_mut.ensures.value at c.derived-derived.ensures.unchanged) c.derived-derived.ensures.history in
+    let end = done old c.enter-kept.new.pass e.between e.is c.pass.invariant service stands (event_if event result) new c.total-count.result c.end.new.inner (fits-if event service new result recorded) became
     c.total-count.ensures.count c.end.ensures.same c.end.ensures.recorded in
     let view : View = view_of old in
     let stood = stands-view old c.enter-kept.new.pass e.between e.is c.pass.invariant service stands in
@@ -157,8 +157,8 @@ returns-clause-looked g c =
     let stores : OnOk result (StoresKey steady stored service brought new) = subst (λ b. OnOk result (StoresKey b stored service brought new)) same (rw c.deref_mut.ensures.value at c.derived-derived.ensures.stores) in
     let event : Unit {0} → Event = λ _. key_if steady stored service brought new result stores in
     let recorded = stores-key steady stored service brought new result stores in
-    let went = went-if event service new result recorded (rw c.deref_mut.ensures.value at c.derived-derived.ensures.unchanged) c.derived-derived.ensures.history in
-    let end = done old c.enter-kept.new.pass e.between e.is c.pass.invariant service stands (event_if event result) new c.total-count.result c.end.new.inner (fits-if event service new result recorded) went
+    let became = became-if event service new result recorded (rw c.deref_mut.ensures.value at c.derived-derived.ensures.unchanged) c.derived-derived.ensures.history in
+    let end = done old c.enter-kept.new.pass e.between e.is c.pass.invariant service stands (event_if event result) new c.total-count.result c.end.new.inner (fits-if event service new result recorded) became
     c.total-count.ensures.count c.end.ensures.same c.end.ensures.recorded in
     let view : View = view_of old in
     let stood = stands-view old c.enter-kept.new.pass e.between e.is c.pass.invariant service stands in
@@ -184,8 +184,8 @@ returns-clause-cause g c =
     let stores : OnOk result (StoresKey steady stored service brought new) = subst (λ b. OnOk result (StoresKey b stored service brought new)) same (rw c.deref_mut.ensures.value at c.derived-derived.ensures.stores) in
     let event : Unit {0} → Event = λ _. key_if steady stored service brought new result stores in
     let recorded = stores-key steady stored service brought new result stores in
-    let went = went-if event service new result recorded (rw c.deref_mut.ensures.value at c.derived-derived.ensures.unchanged) c.derived-derived.ensures.history in
-    let end = done old c.enter-kept.new.pass e.between e.is c.pass.invariant service stands (event_if event result) new c.total-count.result c.end.new.inner (fits-if event service new result recorded) went
+    let became = became-if event service new result recorded (rw c.deref_mut.ensures.value at c.derived-derived.ensures.unchanged) c.derived-derived.ensures.history in
+    let end = done old c.enter-kept.new.pass e.between e.is c.pass.invariant service stands (event_if event result) new c.total-count.result c.end.new.inner (fits-if event service new result recorded) became
     c.total-count.ensures.count c.end.ensures.same c.end.ensures.recorded in
     let view : View = view_of old in
     let stood = stands-view old c.enter-kept.new.pass e.between e.is c.pass.invariant service stands in

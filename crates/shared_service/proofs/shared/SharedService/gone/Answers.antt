@@ -4,14 +4,14 @@ use Rattle.service_history.specs.History.{told}
 use Rattle.service_desk.specs.Views.{View}
 use Rattle.service_desk.specs.Calls.{Goes}
 use Rattle.shared_service.specs.Passes.{Seen, steady_or, spot, view_of}
-use Rattle.shared_service.proofs.Ends.{end-some, done, steady-still, stands-view, went-with, gone_event, gone-some, gone-fits}
+use Rattle.shared_service.proofs.Ends.{end-some, done, steady-still, stands-view, became-with, gone_event, gone-some, gone-fits}
 use Rattle.shared_service.proofs.Calls.{goes}
 use Rattle.shared_service.proofs.shared.SharedService.gone.Goals as goal
 
 pub end-requires-clause-ended : goal.end-requires-clause-ended
 end-requires-clause-ended g c =
     let e = c.enter-kept.ensures in let service = c.enter-kept.result.service.value.history in
-    end-some c.pass.inside.inner c.enter-kept.new.pass e.between e.is c.pass.invariant service (λ start at. (e.stands start at).history) (gone_event c.args.conn (told c.args.conn service)) c.gone.new.self.history c.total-count.result (went-with service c.gone.new.self.history (gone_event c.args.conn (told c.args.conn service)) (gone-fits c.args.conn service (told c.args.conn service) refl) ((rw c.deref_mut.ensures.value at c.gone.ensures.recorded) ∙ gone-some c.args.conn service (told c.args.conn service)) c.gone.ensures.history) c.total-count.ensures.count
+    end-some c.pass.inside.inner c.enter-kept.new.pass e.between e.is c.pass.invariant service (λ start at. (e.stands start at).history) (gone_event c.args.conn (told c.args.conn service)) c.gone.new.self.history c.total-count.result (became-with service c.gone.new.self.history (gone_event c.args.conn (told c.args.conn service)) (gone-fits c.args.conn service (told c.args.conn service) refl) ((rw c.deref_mut.ensures.value at c.gone.ensures.recorded) ∙ gone-some c.args.conn service (told c.args.conn service)) c.gone.ensures.history) c.total-count.ensures.count
 
 pub end-requires-clause-steady : goal.end-requires-clause-steady
 end-requires-clause-steady g c =
@@ -21,22 +21,22 @@ end-requires-clause-steady g c =
 pub invariant_of-pass : goal.invariant_of-pass
 invariant_of-pass g c =
     let e = c.enter-kept.ensures in let service = c.enter-kept.result.service.value.history in
-    (done c.pass.inside.inner c.enter-kept.new.pass e.between e.is c.pass.invariant service (λ start at. (e.stands start at).history) (gone_event c.args.conn (told c.args.conn service)) c.gone.new.self.history c.total-count.result c.end.new.inner (gone-fits c.args.conn service (told c.args.conn service) refl) (went-with service c.gone.new.self.history (gone_event c.args.conn (told c.args.conn service)) (gone-fits c.args.conn service (told c.args.conn service) refl) ((rw c.deref_mut.ensures.value at c.gone.ensures.recorded) ∙ gone-some c.args.conn service (told c.args.conn service)) c.gone.ensures.history) c.total-count.ensures.count c.end.ensures.same c.end.ensures.recorded).0
+    (done c.pass.inside.inner c.enter-kept.new.pass e.between e.is c.pass.invariant service (λ start at. (e.stands start at).history) (gone_event c.args.conn (told c.args.conn service)) c.gone.new.self.history c.total-count.result c.end.new.inner (gone-fits c.args.conn service (told c.args.conn service) refl) (became-with service c.gone.new.self.history (gone_event c.args.conn (told c.args.conn service)) (gone-fits c.args.conn service (told c.args.conn service) refl) ((rw c.deref_mut.ensures.value at c.gone.ensures.recorded) ∙ gone-some c.args.conn service (told c.args.conn service)) c.gone.ensures.history) c.total-count.ensures.count c.end.ensures.same c.end.ensures.recorded).0
 
 pub returns-clause-same : goal.returns-clause-same
 returns-clause-same g c =
     let e = c.enter-kept.ensures in let service = c.enter-kept.result.service.value.history in
-    (done c.pass.inside.inner c.enter-kept.new.pass e.between e.is c.pass.invariant service (λ start at. (e.stands start at).history) (gone_event c.args.conn (told c.args.conn service)) c.gone.new.self.history c.total-count.result c.end.new.inner (gone-fits c.args.conn service (told c.args.conn service) refl) (went-with service c.gone.new.self.history (gone_event c.args.conn (told c.args.conn service)) (gone-fits c.args.conn service (told c.args.conn service) refl) ((rw c.deref_mut.ensures.value at c.gone.ensures.recorded) ∙ gone-some c.args.conn service (told c.args.conn service)) c.gone.ensures.history) c.total-count.ensures.count c.end.ensures.same c.end.ensures.recorded).1 ∙ ap (λ (s : Seen). s.table) c.pass.view_is
+    (done c.pass.inside.inner c.enter-kept.new.pass e.between e.is c.pass.invariant service (λ start at. (e.stands start at).history) (gone_event c.args.conn (told c.args.conn service)) c.gone.new.self.history c.total-count.result c.end.new.inner (gone-fits c.args.conn service (told c.args.conn service) refl) (became-with service c.gone.new.self.history (gone_event c.args.conn (told c.args.conn service)) (gone-fits c.args.conn service (told c.args.conn service) refl) ((rw c.deref_mut.ensures.value at c.gone.ensures.recorded) ∙ gone-some c.args.conn service (told c.args.conn service)) c.gone.ensures.history) c.total-count.ensures.count c.end.ensures.same c.end.ensures.recorded).1 ∙ ap (λ (s : Seen). s.table) c.pass.view_is
 
 pub returns-clause-steady : goal.returns-clause-steady
 returns-clause-steady g c =
     let e = c.enter-kept.ensures in let service = c.enter-kept.result.service.value.history in
-    (done c.pass.inside.inner c.enter-kept.new.pass e.between e.is c.pass.invariant service (λ start at. (e.stands start at).history) (gone_event c.args.conn (told c.args.conn service)) c.gone.new.self.history c.total-count.result c.end.new.inner (gone-fits c.args.conn service (told c.args.conn service) refl) (went-with service c.gone.new.self.history (gone_event c.args.conn (told c.args.conn service)) (gone-fits c.args.conn service (told c.args.conn service) refl) ((rw c.deref_mut.ensures.value at c.gone.ensures.recorded) ∙ gone-some c.args.conn service (told c.args.conn service)) c.gone.ensures.history) c.total-count.ensures.count c.end.ensures.same c.end.ensures.recorded).3 ∙ ap (λ (s : Seen). s.steady) c.pass.view_is
+    (done c.pass.inside.inner c.enter-kept.new.pass e.between e.is c.pass.invariant service (λ start at. (e.stands start at).history) (gone_event c.args.conn (told c.args.conn service)) c.gone.new.self.history c.total-count.result c.end.new.inner (gone-fits c.args.conn service (told c.args.conn service) refl) (became-with service c.gone.new.self.history (gone_event c.args.conn (told c.args.conn service)) (gone-fits c.args.conn service (told c.args.conn service) refl) ((rw c.deref_mut.ensures.value at c.gone.ensures.recorded) ∙ gone-some c.args.conn service (told c.args.conn service)) c.gone.ensures.history) c.total-count.ensures.count c.end.ensures.same c.end.ensures.recorded).3 ∙ ap (λ (s : Seen). s.steady) c.pass.view_is
 
 pub returns-clause-gone : goal.returns-clause-gone
 returns-clause-gone g c =
     let e = c.enter-kept.ensures in let service = c.enter-kept.result.service.value.history in
-    let last = (done c.pass.inside.inner c.enter-kept.new.pass e.between e.is c.pass.invariant service (λ start at. (e.stands start at).history) (gone_event c.args.conn (told c.args.conn service)) c.gone.new.self.history c.total-count.result c.end.new.inner (gone-fits c.args.conn service (told c.args.conn service) refl) (went-with service c.gone.new.self.history (gone_event c.args.conn (told c.args.conn service)) (gone-fits c.args.conn service (told c.args.conn service) refl) ((rw c.deref_mut.ensures.value at c.gone.ensures.recorded) ∙ gone-some c.args.conn service (told c.args.conn service)) c.gone.ensures.history) c.total-count.ensures.count c.end.ensures.same c.end.ensures.recorded).2 in
+    let last = (done c.pass.inside.inner c.enter-kept.new.pass e.between e.is c.pass.invariant service (λ start at. (e.stands start at).history) (gone_event c.args.conn (told c.args.conn service)) c.gone.new.self.history c.total-count.result c.end.new.inner (gone-fits c.args.conn service (told c.args.conn service) refl) (became-with service c.gone.new.self.history (gone_event c.args.conn (told c.args.conn service)) (gone-fits c.args.conn service (told c.args.conn service) refl) ((rw c.deref_mut.ensures.value at c.gone.ensures.recorded) ∙ gone-some c.args.conn service (told c.args.conn service)) c.gone.ensures.history) c.total-count.ensures.count c.end.ensures.same c.end.ensures.recorded).2 in
     let view : View = view_of c.pass.inside.inner in
     let steady = steady_or c.pass.inside.inner.start in
     let here = goes c.args.conn c.pass.inside.inner.table steady view e.between service (stands-view c.pass.inside.inner c.enter-kept.new.pass e.between e.is c.pass.invariant service (λ start at. (e.stands start at).history)) (told c.args.conn service) refl in
