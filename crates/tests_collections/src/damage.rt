@@ -143,11 +143,7 @@ unlock||password|ok
 search||x=v|1
 ";
 
-fn step(
-    alloc: Global,
-    collection: &mut Collection<MemorySlot>,
-    row: &str,
-) -> Result<String, Fail> {
+fn step(alloc: Global, collection: &mut Collection<MemorySlot>, row: &str) -> Result<String, Fail> {
     match cell(row, 0) {
         "search" => search(alloc, collection, cell(row, 2)),
         "unlock" => word(alloc, unlock(alloc, collection, cell(row, 2))?),

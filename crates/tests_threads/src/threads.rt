@@ -47,7 +47,8 @@ fn is_ping(request: &Request, serial: u64) -> bool {
 fn is_call(event: &Event, place: u64) -> bool {
     match event {
         Event::Connect(_) => place == 0,
-        Event::Arrive(came) => place % 2 == 1 && is_ping(&came.get().arrival.request, place / 2 + 1),
+        Event::Arrive(came) => place % 2 == 1
+            && is_ping(&came.get().arrival.request, place / 2 + 1),
         Event::Take(_) => place % 2 == 0 && place > 0,
         Event::Leave(_) => place == EVENTS - 1,
         _ => false,
