@@ -30,7 +30,7 @@ where
     <H::Door as Listener>::In: Send + 'static,
     <H::Door as Listener>::Out: Send + 'static,
 {
-    let line = "/serve/rings/socket/--uid/1000/--connections=2";
+    let line = "/serve/links/socket/--uid/1000/--connections=2";
     let words = words_of(rt.alloc(), line)?;
     let words = words.as_slice();
     let mut input = source_of(rt.alloc(), b"", &[], Vec::new(rt.alloc()))?;
@@ -71,7 +71,7 @@ fn talks(rt: &HostRuntime, first_input: &[u8], second_input: &[u8]) -> Option<(V
 
 #[test]
 fn a_silent_connection_holds_nobody_up(rt: HostRuntime) -> Result<(), Fail> {
-    fs::create_dir(&rt, "rings")?;
+    fs::create_dir(&rt, "links")?;
     let ping = bytes_of(rt.alloc(), "HELLO PING")?;
     let plain = bytes_of(rt.alloc(), "HELLO PLAIN")?;
     let (ping, plain) = (ping.as_slice(), plain.as_slice());
