@@ -1,4 +1,4 @@
-mod UsedLemmas
+pub mod UsedLemmas
 mod CandidateLemmas
 pub mod ChoiceLemmas
 mod WorkedRows
