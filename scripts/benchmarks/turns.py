@@ -538,12 +538,13 @@ EVENTS = 400000
 
 
 def service_proofs():
-    """The program's own proof files. What may be sent to another thread is proved as tests_threads proves it."""
+    """The program's own proof files. service_hub has the lemmas on what may be sent to another thread, but for the folder in memory,
+    which tests_threads has."""
     lemmas = ROOT / "crates/tests_threads/proofs"
     files = {str(it.relative_to(lemmas)): it.read_text().replace("Rattle.tests_threads.", "Rattle.service_bench.")
-             for it in (lemmas / "Lib.antt", lemmas / "Sends.antt", *sorted((lemmas / "Sends").glob("*.antt")))}
+             for it in (lemmas / "Sends.antt", lemmas / "Sends/KrMemoryDisk.antt")}
     sends = {f"{name}/Answers.antt": SENDS_PROOF.replace("FUNCTION", name) for name in ("together", "waits")}
-    return {**files, "readers/Invariants.antt": READERS_PROOF, **sends}
+    return {"Lib.antt": "pub mod Sends\n", **files, "readers/Invariants.antt": READERS_PROOF, **sends}
 
 
 def quickest(words, rounds=5):
@@ -584,7 +585,7 @@ def measure_turn(folder):
 def measure_service(folder):
     """The turn of a service, whose requests are calls of Ping."""
     service = rattle_program(
-        folder / "service", "service_bench", SERVICE_PROGRAM, lines_of(["kr_memory_disk", "shared_service"]), " atomic_table", service_proofs())
+        folder / "service", "service_bench", SERVICE_PROGRAM, lines_of(["kr_memory_disk", "service_hub"]), " atomic_table", service_proofs())
     locks = c_program(folder, "locks", LOCKS_C, "-lpthread")
     alone, shared = best([service, "alone", 1, EVENTS])[0], best([service, "shared", 1, EVENTS])[0]
     unlocked, locked = best([locks, "alone", 1, CHANGES, FEW])[0], best([locks, "mutex", 1, CHANGES, FEW])[0]

@@ -7,6 +7,8 @@ mod answer_faults;
 #[cfg(test)]
 mod answers;
 #[cfg(test)]
+mod attributes;
+#[cfg(test)]
 mod begun;
 #[cfg(test)]
 mod checks;

@@ -1,29 +1,5 @@
--- What threads that share a service send to one another, in a file for each crate, a lemma for each type: `search`
--- finds a whole service too large.
-pub mod KrBase
-pub mod KrItems
-pub mod KrNames
+-- A desk over a folder in memory may be sent to another thread: service_hub has the lemmas on all that a desk is made of.
 pub mod KrMemoryDisk
-pub mod KeyringFile
-pub mod StemChoice
-pub mod ReplaceSlot
-pub mod AliasTable
-pub mod FolderStore
-pub mod AttributeIndex
-pub mod HashedIndex
-pub mod ItemStore
-pub mod CollectionStore
-pub mod CollectionTable
-pub mod SessionTable
-pub mod PromptState
-pub mod SecretCalls
-pub mod ServiceTables
-pub mod ServiceEvents
-pub mod ServiceCalls
-pub mod ServiceMachine
-pub mod ServiceHistory
-pub mod SharedTurn
-pub mod SharedService
 use denote.RattleType.{RattleType}
 use denote.Param.Send.{IsSend}
 use Rattle.kr_memory_disk.specs.contracts.folder.MemoryFolder as MemoryFolder
@@ -32,7 +8,7 @@ use Rattle.kr_memory_disk.specs.contracts.slot.MemorySlot as MemorySlot
 use Rattle.kr_memory_disk.specs.contracts.slot.MemorySlotSlot.TheImpl.{ghosts as slot-ghosts}
 use Rattle.shared_service.specs.contracts.desk.SharedDesk as SharedDesk
 use Rattle.tests_threads.proofs.Sends.KrMemoryDisk.{MemoryFolder-send, MemorySlot-send}
-use Rattle.tests_threads.proofs.Sends.SharedService.{SharedDesk-send}
+use Rattle.service_hub.proofs.Sends.SharedService.{SharedDesk-send}
 
 -- a desk over a folder in memory
 pub desk-send : (R : RattleType) → IsSend R → IsSend (SharedDesk.the_row R MemoryFolder.the_row MemorySlot.the_row folder-ghosts slot-ghosts)

@@ -1,6 +1,6 @@
 // Objects, attributes and secrets from words. A path continues `/org/freedesktop/secrets/`.
 
-use crate::rows::{bytes_of, halves, joined, number, text};
+use crate::rows::{bytes_of, decimal, halves, joined, number, text};
 use kr_base::{Attributes, Bytes, ItemId, SessionId, Stem, Text};
 use kr_items::Items;
 use kr_names::{ObjectName, parse_path};
@@ -8,11 +8,31 @@ use secret_calls::{AliasName, Secret};
 use std::alloc::Global;
 use std::test::Fail;
 
-/// The attribute NAME=VALUE.
+// So many attributes with one value, whose names begin with this one and end with the numbers from 0 on.
+fn numbered(
+    alloc: Global,
+    pairs: &mut Vec<(Text, Text)>,
+    name: &str,
+    count: u64,
+    value: &str,
+) -> Result<(), Fail> {
+    for index in 0..count {
+        let digits = decimal(alloc, index)?;
+        let name = joined(alloc, &[name, digits.as_str()])?;
+        pairs.push((text(alloc, name.as_str())?, label(alloc, value)?))?;
+    }
+    Ok(())
+}
+
+/// The attribute NAME=VALUE, whose value may be long, or with NAME*COUNT=VALUE so many of them, each name of
+/// which ends with a number.
 pub fn attribute(alloc: Global, words: &str) -> Result<Attributes, Fail> {
     let (name, value) = halves(words, "=")?;
     let mut pairs = Vec::new(alloc);
-    pairs.push((text(alloc, name)?, text(alloc, value)?))?;
+    match name.split_once('*') {
+        Some((name, count)) => numbered(alloc, &mut pairs, name, number(count)?, value)?,
+        None => pairs.push((text(alloc, name)?, label(alloc, value)?))?,
+    }
     Ok(Attributes::from_pairs(alloc, pairs)?)
 }
 
