@@ -17,6 +17,7 @@ use std::mem;
 
 /// How a name and a text compare to those of a branch: by the name, and by the text if the names are the
 /// same.
+#[inline(never)]
 fn order_of_texts(name: &Text, text: &Text, branch: &Branch) -> Ordering
     ensures { result ≡ text_cmp (name.now, text.now) (branch.now.name, branch.now.text) }
 {
@@ -28,6 +29,7 @@ fn order_of_texts(name: &Text, text: &Text, branch: &Branch) -> Ordering
 }
 
 /// The key of a branch's pair.
+#[inline(always)]
 fn key_of(branch: &Branch) -> u32
     ensures { result ≡ pair_key (branch.now.name, branch.now.text) }
 {
@@ -41,6 +43,7 @@ fn key_of(branch: &Branch) -> u32
 
 /// How a name and a text compare to those of a branch: by their keys, and by the name and the text if the
 /// keys are the same.
+#[inline(always)]
 fn order(key: u32, name: &Text, text: &Text, branch: &Branch) -> Ordering
     requires { key ≡ pair_key (name.now, text.now) }
     ensures { result ≡ pair_cmp (name.now, text.now) (branch.now.name, branch.now.text) }
@@ -61,6 +64,7 @@ fn is_before(one: &Branch, other: &Branch) -> bool
 }
 
 /// The height of a branch: how many pairs there are on the longest way down, with its own.
+#[inline(always)]
 fn height(branch: &Branch) -> u8
     ensures height { result ≡ height_in branch.now }
     ensures many { fewest (height_in branch.now) ≤ length (all_of branch.now) }
@@ -174,6 +178,7 @@ fn with_sides(
 }
 
 /// A branch with these sides, of which the one before it is higher by two, and is rotated.
+#[inline(never)]
 fn lean_before(branch: Box<Branch>, before: Box<Branch>, after: Option<Box<Branch>>) -> Box<Branch>
     requires lean { height_in before.value ≡ height_in_side after + 2 }
     requires fits { height_in before.value < greatest_height }
@@ -199,6 +204,7 @@ fn lean_before(branch: Box<Branch>, before: Box<Branch>, after: Option<Box<Branc
 }
 
 /// A branch with these sides, of which the one after it is higher by two, and is rotated.
+#[inline(never)]
 fn lean_after(branch: Box<Branch>, before: Option<Box<Branch>>, after: Box<Branch>) -> Box<Branch>
     requires lean { height_in after.value ≡ height_in_side before + 2 }
     requires fits { height_in after.value < greatest_height }
@@ -256,6 +262,53 @@ fn balanced(
     with_sides(branch, before, after)
 }
 
+/// These two sides, of which the height of the higher one is known, with the key of the pair between them.
+#[inline(always)]
+fn both_sides(key: u32, under: u8, before: Box<Branch>, after: Box<Branch>) -> Sides
+    requires alike { DifferByAtMost 1 (height_in before.value) (height_in after.value) }
+    requires under { under ≡ max (height_in before.value) (height_in after.value) }
+    requires fits { under < greatest_height }
+    ensures key { key_beside result ≡ key }
+    ensures before { pairs_before result ≡ all_of before.value }
+    ensures after { pairs_after result ≡ all_of after.value }
+    ensures height_before { height_before result ≡ height_in before.value }
+    ensures height_after { height_after result ≡ height_in after.value }
+    ensures balanced { IsBalanced result }
+{
+    let _low = height(&before);
+    let _high = height(&after);
+    Sides::Both(under + 1, key, before, after)
+}
+
+/// Puts two sides, of which the height of the higher one is known, in place of a branch's own.
+#[inline(always)]
+fn put_both(branch: &mut Branch, under: u8, before: Box<Branch>, after: Box<Branch>)
+    requires alike { DifferByAtMost 1 (height_in before.value) (height_in after.value) }
+    requires under { under ≡ max (height_in before.value) (height_in after.value) }
+    requires fits { under < greatest_height }
+    ensures pairs { all_of branch.new
+        ≡ between (all_of before.value) branch.old (all_of after.value) }
+    ensures under { branch.new.under ≡ under }
+{
+    let key = key_of(branch);
+    branch.sides = both_sides(key, under, before, after);
+}
+
+/// A branch with two sides, of which the height of the higher one is known, in place of its own.
+#[inline(always)]
+fn with_both(branch: Box<Branch>, under: u8, before: Box<Branch>, after: Box<Branch>) -> Box<Branch>
+    requires alike { DifferByAtMost 1 (height_in before.value) (height_in after.value) }
+    requires under { under ≡ max (height_in before.value) (height_in after.value) }
+    requires fits { under < greatest_height }
+    ensures pairs { all_of result.value
+        ≡ between (all_of before.value) branch.value (all_of after.value) }
+    ensures under { result.value.under ≡ under }
+{
+    let mut branch = branch;
+    put_both(&mut branch, under, before, after);
+    branch
+}
+
 /// The pairs with one more, which isn't among them yet.
 fn with_branch(pairs: Option<Box<Branch>>, own: Box<Branch>) -> Box<Branch>
     requires sorted { IsSorted (pairs_of pairs) }
@@ -267,12 +320,27 @@ fn with_branch(pairs: Option<Box<Branch>>, own: Box<Branch>) -> Box<Branch>
         Some(branch) => branch,
         None => return with_sides(own, None, None),
     };
+    let under = height(&branch) - 1;
     let (before, branch, after) = parted(branch);
     if is_before(&own, &branch) {
+        let low = height_of(&before);
         let before = with_branch(before, own);
+        if height(&before) == low {
+            return match after {
+                Some(after) => with_both(branch, under, before, after),
+                None => balanced(branch, Some(before), None),
+            };
+        }
         return balanced(branch, Some(before), after);
     }
+    let low = height_of(&after);
     let after = with_branch(after, own);
+    if height(&after) == low {
+        return match before {
+            Some(before) => with_both(branch, under, before, after),
+            None => balanced(branch, None, Some(after)),
+        };
+    }
     balanced(branch, before, Some(after))
 }
 

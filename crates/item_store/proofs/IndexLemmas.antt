@@ -1,5 +1,5 @@
 -- The index beside the rows, after each change of a row.
-use Rattle.std.proofs.Common.{◌≡◌, ℕ, ◌<◌, ◌==◌, ◌&&◌, ◌||◌, not, Bool, true, false, cond, List, [], ◌∷◌, ◌++◌, Option, Some, None, refl, sym, ap, subst, ◌∙◌, ⊎_elim, arith, filter, ◌+◌, ◌*◌, ◌≤◌, length, take, drop, get_or}
+use Rattle.std.proofs.Common.{◌≡◌, ℕ, ◌<◌, ◌==◌, ◌&&◌, ◌||◌, not, Bool, true, false, cond, List, [], ◌∷◌, ◌++◌, Option, Some, None, refl, sym, ap, subst, ◌∙◌, ⊎_elim, arith, filter, map, ◌+◌, ◌*◌, ◌≤◌, length, take, drop, get_or}
 use Rattle.std.specs.List.{list_all}
 use Rattle.std.specs.Map.{keys_of}
 use Rattle.std.specs.Option.{option_map}
@@ -22,7 +22,7 @@ use Rattle.attribute_index.specs.Index.{Index, IsAtJust, IsFound, IsMoved, IsPut
 use Rattle.attribute_index.proofs.PairLemmas.{without-lacking}
 use Rattle.item_store.specs.declared.rows.Row.{Row}
 use Rattle.item_store.specs.Rows.{Rows, IsIndexed, IsKept, IsRising, attributes_of, candidates, first_id, has_just, ids_where, pair_lists, passes_at, row_at, rows_changed, rows_without}
-use Rattle.item_store.proofs.RowLemmas.{rises-same, with-rises, without-rises, has-with, has-without, where-rises, has-where, at-without, at-changed, at-above, at-added, keys-changed, keys-without, keys-added, rising-changed, rising-without, rising-added}
+use Rattle.item_store.proofs.RowLemmas.{rises-same, with-rises, without-rises, has-with, has-without, where-rises, has-where, at-without, at-changed, at-above, at-added, keys-changed, keys-without, keys-added, lower-before, rising-changed, rising-without, rising-added}
 
 abbrev has : List ℕ → List ℕ → Row → Bool
 has n t row = has_pair n t (attributes_of row)
@@ -87,14 +87,6 @@ indexed-added rows index new n row rising is below put all = record {
 where-all : (rows : Rows) → ids_where (λ row. true) rows ≡ keys_of rows
 where-all [] = refl
 where-all (row ∷ more) = ap (λ t. row.0 ∷ t) (where-all more)
-
--- a row that is put at its number, which had none
-pub indexed-put : (rows new : Rows) (index after : Index) (n : ℕ) (row : Row) → IsRising rows → IsRising new → IsIndexed rows index → row_at n rows ≡ None → ((x : ℕ) → row_at x new ≡ cond (x == n) (Some row) (row_at x rows))
-    → IsPut (λ name text. has_pair name text (attributes_of row)) n index.names after.names → after.all ≡ with_id n index.all → IsIndexed new after
-indexed-put rows new index after n row rising now is none at put all = record {
-  pairs = λ name text. put name text ∙ ap (λ l. cond (has name text row) (with_id n l) l) (is.pairs name text) ∙ sym (where-put (has name text) rows new n row rising now none at);
-  all = all ∙ ap (with_id n) (is.all ∙ sym (where-all rows)) ∙ sym (where-put (λ r. true) rows new n row rising now none at) ∙ where-all new;
-}
 
 -- ---- a row that is taken out
 
@@ -232,10 +224,28 @@ kept-added rows new index after n row kept below is put all =
     let here : IsPut (λ name text. has_pair name text (attributes_of row)) n index.names after.names = subst (λ o. IfSome o (λ r. IsPut (λ name text. has_pair name text (attributes_of r)) n index.names after.names)) at put in
     subst (λ rs. IsKept rs after) (sym is) (record { rising = rising-added rows n row below kept.rising; indexed = indexed-added rows index after n row kept.rising kept.indexed below here all })
 
-pub kept-put : (rows new : Rows) (index after : Index) (n : ℕ) (row : Row) → IsKept rows index → IsRising new → row_at n rows ≡ None → ((x : ℕ) → row_at x new ≡ cond (x == n) (Some row) (row_at x rows))
-    → IsPut (λ name text. has_pair name text (attributes_of row)) n index.names after.names → after.all ≡ with_id n index.all → IsKept new after
-kept-put rows new index after n row kept now none at put all =
-    record { rising = now; indexed = indexed-put rows new index after n row kept.rising now kept.indexed none at put all }
+one-on : (done : Rows) (row : ℕ × Row) (rest : Rows) → (done ++ row ∷ []) ++ rest ≡ done ++ row ∷ rest
+one-on [] row rest = refl
+one-on (first ∷ done) row rest = ap (λ l. first ∷ l) (one-on done row rest)
+
+pub mapped-more : {A : Type 0} (show : A → ℕ × Row) (xs : List A) (x : A) → map show (xs ++ x ∷ []) ≡ map show xs ++ show x ∷ []
+mapped-more show [] x = refl
+mapped-more show (y ∷ ys) x = ap (λ l. show y ∷ l) (mapped-more show ys x)
+
+-- the rows are indexed in turn: before the next one are those so far, and after it the rows that are left
+pub next-below : (done left rest all : Rows) (n : ℕ) (row : Row) → IsRising all → done ++ left ≡ all → left ≡ (n, row) ∷ rest → AllBelow n (keys_of done)
+next-below done left rest all n row rising is next = lower-before done n row rest (subst IsRising (sym is ∙ ap (λ l. done ++ l) next) rising)
+
+pub next-fresh : (done left rest all : Rows) (index : Index) (n : ℕ) (row : Row) → IsRising all → done ++ left ≡ all → left ≡ (n, row) ∷ rest → IsKept done index → IsAtJust [] n index.names
+next-fresh done left rest all index n row rising is next kept =
+    fresh done index kept.rising kept.indexed n (at-above done n (next-below done left rest all n row rising is next))
+
+pub next-kept : (done new left rest all : Rows) (index after : Index) (n : ℕ) (row : Row) → IsRising all → done ++ left ≡ all → left ≡ (n, row) ∷ rest → new ≡ done ++ (n, row) ∷ [] → IsKept done index → IsPut (λ name text. has_pair name text (attributes_of row)) n index.names after.names
+    → after.all ≡ with_id n index.all → IsKept new after × (new ++ rest ≡ all)
+next-kept done new left rest all index after n row rising is next more kept put all_put =
+    let below = next-below done left rest all n row rising is next in
+    let now : IsKept (done ++ (n, row) ∷ []) after = record { rising = rising-added done n row below kept.rising; indexed = indexed-added done index after n row kept.rising kept.indexed below put all_put } in
+    (subst (λ rs. IsKept rs after) (sym more) now, ap (λ l. l ++ rest) more ∙ one-on done (n, row) rest ∙ ap (λ l. done ++ l) (sym next) ∙ is)
 
 pub kept-same : (rows new : Rows) (index after : Index) → IsKept rows index → new ≡ rows → IsSame index.names after.names → after.all ≡ index.all → IsKept new after
 kept-same rows new index after kept is same all = subst (λ rs. IsKept rs after) (sym is) (record { rising = kept.rising; indexed = indexed-same rows index after kept.indexed same all })

@@ -2,12 +2,12 @@
 use Rattle.std.proofs.Common.{◌≡◌, ℕ, ◌+◌, ◌<◌, ◌==◌, ◌&&◌, ◌||◌, not, Bool, true, false, cond, nat_eq, nat_lt, List, [], ◌∷◌, ◌++◌, length, map, filter, Option, Some, None, refl, sym, ap, subst, ◌∙◌, inl, inr, ⊎_elim, arith, Less, Greater, suc, ◌-◌, get_or}
 use Rattle.std.specs.List.{AllByRecursion, IsDistinct}
 use Rattle.std.specs.List.Sorted.{IsStrictlySortedBy}
-use Rattle.std.specs.BTreeMap.{is_at, insert_entry}
-use Rattle.std.specs.Map.{keys_of, lookup, remove_entry, set_value}
+use Rattle.std.specs.BTreeMap.{BTreeMap, IsFromIterResult, is_at, insert_entry}
+use Rattle.std.specs.Map.{keys_of, lookup, remove_entry, set_value, update_all}
 use Rattle.std.proofs.lemmas.Option.{get_or_from_slice_get}
 use Rattle.std.specs.List.{slice_get}
 use Rattle.std.specs.Option.{option_map, option_or}
-use Rattle.std.specs.Ordering.{nat_cmp}
+use Rattle.std.specs.Ordering.{eq_by_cmp, nat_cmp}
 use Rattle.std.proofs.lemmas.Bool.{cases_Bool, cases_order, eqb-true}
 use Rattle.std.proofs.lemmas.Bool.Decides.{nat_tests}
 use Rattle.std.proofs.lemmas.List.Folds.{list_any-append}
@@ -348,66 +348,48 @@ next-last rows n next rising =
 
 -- ---- rows that are given in any order
 
-pub insert-is : (new rows : Rows) (n : ℕ) (row : Row) → ((q : ℕ) → lookup (is_at (nat_cmp q)) new ≡ cond (is_at (nat_cmp n) q) (Some row) (lookup (is_at (nat_cmp q)) rows)) → (id : ℕ) → row_at id new ≡ cond (id == n) (Some row) (row_at id rows)
-insert-is new rows n row updates id =
-    sym (lookup-is id new) ∙ updates id
-    ∙ (λ i. cond (test-is n id i) (Some row) (lookup-is id rows i))
-    ∙ ap (λ b. cond b (Some row) (row_at id rows)) (turned n id)
+at-other : (n : ℕ) (rows : Rows) → AllByRecursion (λ y. (n == y) ≡ false) (keys_of rows) → row_at n rows ≡ None
+at-other n [] other = refl
+at-other n (row ∷ more) other = rw other.0 (at-other n more other.1)
 
-abbrev Given : Type 0
-Given = ItemId × ℕ × FullItem
-
--- some of the given rows are there, and the rest is still to come
-pub record IsPartly (given rest : List (ItemId × ℕ × FullItem)) (rows : Rows) : Type 0 where
-  pub distinct : IsDistinct nat_eq (map (λ row. row.0.0) rest)
-  pub fresh : AllByRecursion (λ row. row_at row.0.0 rows ≡ None) rest
-  pub each : (id : ℕ) → option_or (row_at id rows) (row_at id (map row_of rest)) ≡ row_at id (map row_of given)
-
-all-fresh : (rest : List Given) → AllByRecursion (λ row. row_at row.0.0 [] ≡ None) rest
-all-fresh [] = tt
-all-fresh (row ∷ more) = (refl, all-fresh more)
-
-pub partly-none : (given : List (ItemId × ℕ × FullItem)) → IsDistinct nat_eq (map (λ row. row.0.0) given) → IsPartly given given []
-partly-none given distinct = record { distinct = distinct; fresh = all-fresh given; each = λ id. refl }
-
-still-fresh : (n : ℕ) (row : Row) (more : List Given) (rows new : Rows) → AllByRecursion (λ y. (n == y) ≡ false) (map (λ r. r.0.0) more) → AllByRecursion (λ r. row_at r.0.0 rows ≡ None) more → ((id : ℕ) → row_at id new ≡ cond (id == n) (Some row) (row_at id rows))
-    → AllByRecursion (λ r. row_at r.0.0 new ≡ None) more
-still-fresh n row [] rows new other fresh put = tt
-still-fresh n row (r ∷ more) rows new other fresh put =
-    let off : (r.0.0 == n) ≡ false = turned r.0.0 n ∙ other.0 in
-    (put r.0.0 ∙ ap (λ b. cond b (Some row) (row_at r.0.0 rows)) off ∙ fresh.0, still-fresh n row more rows new other.1 fresh.1 put)
-
-pub partly-next : (given : List (ItemId × ℕ × FullItem)) (row : ItemId × ℕ × FullItem) (more : List (ItemId × ℕ × FullItem)) (rows new : Rows) → IsPartly given (row ∷ more) rows → ((id : ℕ) → row_at id new ≡ cond (id == row.0.0) (Some (row_of row).1) (row_at id rows)) → IsPartly given more new
+-- rows with distinct numbers that are inserted in turn
+inserted : (rows : Rows) (before : ℕ → Option Row) → IsDistinct nat_eq (keys_of rows) → (id : ℕ) → update_all (eq_by_cmp nat_cmp) before rows id ≡ option_or (row_at id rows) (before id)
 unfolding IsDistinct
-partly-next given row more rows new had put = record {
-  distinct = had.distinct.1;
-  fresh = still-fresh row.0.0 (row_of row).1 more rows new had.distinct.0 had.fresh.1 put;
-  each = λ id.
-      let rest = row_at id (map row_of more) in
-      let was : option_or (row_at id rows) (cond (id == row.0.0) (Some (row_of row).1) rest) ≡ row_at id (map row_of given) = had.each id in
-      ap (λ o. option_or o rest) (put id)
-      ∙ ⊎_elim
-      (λ is.
-      let none : row_at id rows ≡ None = subst (λ n. row_at n rows ≡ None) (sym (eqb-true id row.0.0 is)) had.fresh.0 in
-      let now = rw (is, none) at was in
-      rw is now)
-      (λ off. let now = rw off at was in rw off now)
-      (cases_Bool (id == row.0.0));
-}
-
-pub none-left-in : (rest : List (ItemId × ℕ × FullItem)) → length rest ≡ 0 → rest ≡ []
-none-left-in [] none = refl
-none-left-in (row ∷ more) none = absurd (omega (arith, none))
+inserted [] before distinct id = refl
+inserted (row ∷ more) before distinct id =
+    inserted more (λ q. cond (is_at (nat_cmp row.0) q) (Some row.1) (before q)) distinct.1 id
+    ∙ ap (λ b. option_or (row_at id more) (cond b (Some row.1) (before id))) (test-is row.0 id ∙ turned row.0 id)
+    ∙ ⊎_elim
+    (λ is.
+    let none : row_at id more ≡ None = subst (λ n. row_at n more ≡ None) (sym (eqb-true id row.0 is)) (at-other row.0 more distinct.0) in
+    rw (is, none) refl)
+    (λ off. rw off refl)
+    (cases_Bool (id == row.0))
 
 or-none : (o : Option Row) → option_or o None ≡ o
 or-none None = refl
 or-none (Some row) = refl
 
-pub partly-all : (given rest : List (ItemId × ℕ × FullItem)) (rows : Rows) → rest ≡ [] → IsPartly given rest rows → IsRising rows → HasJustRows given rows
-partly-all given rest rows none had rising = record {
-  rising = rising;
-  each = λ id. sym (or-none (row_at id rows)) ∙ ap (λ r. option_or (row_at id rows) (row_at id (map row_of r))) (sym none) ∙ had.each id;
+numbers-of : (given : List (ItemId × ℕ × FullItem)) → map (λ row. row.0.0) given ≡ keys_of (map row_of given)
+numbers-of [] = refl
+numbers-of (row ∷ more) = ap (λ t. row.0.0 ∷ t) (numbers-of more)
+
+-- a map of the rows of items with distinct ids
+pub gathered : (given : List (ItemId × ℕ × FullItem)) (made : BTreeMap ℕ Row) → IsDistinct nat_eq (map (λ row. row.0.0) given) → IsFromIterResult nat_cmp (map row_of given) made → HasJustRows given made.entries
+gathered given made distinct is = record {
+  rising = is.1;
+  each = λ id. sym (lookup-is id made.entries) ∙ is.0 id ∙ inserted (map row_of given) (λ _. None) (subst (IsDistinct nat_eq) (numbers-of given) distinct) id ∙ or-none (row_at id (map row_of given));
 }
+
+below-first : (r : ℕ × Row) (done : Rows) (n : ℕ) (row : Row) (more : Rows) → AllAbove r.0 (keys_of (done ++ (n, row) ∷ more)) → r.0 < n
+below-first r [] n row more above = above.0
+below-first r (s ∷ done) n row more above = below-first r done n row more above.1
+
+-- the rows before one of rising rows have lower numbers
+pub lower-before : (done : Rows) (n : ℕ) (row : Row) (more : Rows) → IsRising (done ++ (n, row) ∷ more) → AllBelow n (keys_of done)
+lower-before [] n row more rising = tt
+lower-before (r ∷ done) n row more rising =
+    (below-first r done n row more (above-head r.0 (keys_of (done ++ (n, row) ∷ more)) rising), lower-before done n row more (sorted_tail nat_cmp r.0 (keys_of (done ++ (n, row) ∷ more)) rising))
 
 -- ---- rising rows are determined by the row of each id
 

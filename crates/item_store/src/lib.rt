@@ -6,6 +6,7 @@
 
 mod fault;
 mod laws;
+mod loading;
 mod moving;
 mod rows;
 mod store;

@@ -65,18 +65,6 @@ pub fn put_last(rows: &mut BTreeMap<u32, Row>, number: u32, row: Row) -> Result<
     }
 }
 
-/// Puts a row at its number.
-pub fn put(rows: &mut BTreeMap<u32, Row>, number: u32, row: Row) -> Result<(), OutOfMemory>
-    ensures put { OnOk result ((id : ℕ) → row_at id rows.new.entries
-        ≡ (if nat_eq id number then Some row else row_at id rows.old.entries)) }
-    ensures rising { IsRising rows.new.entries }
-{
-    match rows.insert(number, row) {
-        Ok(_) => Ok(()),
-        Err(_) => Err(AllocError),
-    }
-}
-
 /// Whether there is a row with this number.
 pub fn has(rows: &BTreeMap<u32, Row>, number: u32) -> bool
     ensures { result ≡ is_some (row_at number rows.now.entries) }

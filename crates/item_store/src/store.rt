@@ -10,6 +10,7 @@ ghost use Rattle.item_store.specs.Rows.{HasJustRows, IsKept, IsRising, attribute
 ghost use Rattle.item_store.specs.Moves.{with_attributes};
 ghost use Rattle.item_store.specs.Swapping.{with_parts};
 
+use crate::loading::{by_number, index_of};
 use crate::moving::{Moving, begin};
 use crate::uncounted::{first_equal, found};
 use crate::{ItemFault, Row, Swap, rows, swapping};
@@ -73,11 +74,8 @@ impl ItemStore {
         ensures { IfOk result (λ store. HasJustRows rows.items store) }
     {
         let alloc = *rows.allocator();
-        let mut kept = BTreeMap::new(alloc);
-        let mut index = AttributeIndex::new(alloc);
-        for (id, kind, item) in rows {
-            put_row(&mut kept, &mut index, id.0, Row { kind, item })?;
-        }
+        let kept = by_number(alloc, rows)?;
+        let index = index_of(alloc, &kept)?;
         Ok(ItemStore { rows: kept, index })
     }
 
@@ -354,25 +352,6 @@ fn add_row(
         rows::take_out(rows, number);
         return Err(AllocError);
     }
-    Ok(())
-}
-
-/// Puts a row at a number that has no row yet, and its id into the index. After a refusal the index may have
-/// the id of no row.
-fn put_row(
-    rows: &mut BTreeMap<u32, Row>,
-    index: &mut AttributeIndex,
-    number: u32,
-    row: Row,
-) -> Result<(), OutOfMemory>
-    requires kept { IsKept rows.old.entries index.old }
-    requires fresh { row_at number rows.old.entries ≡ None }
-    ensures kept { OnOk result (IsKept rows.new.entries index.new) }
-    ensures put { OnOk result ((id : ℕ) → row_at id rows.new.entries
-        ≡ (if nat_eq id number then Some row else row_at id rows.old.entries)) }
-{
-    index.add(ItemId(number), &row.item.attributes)?;
-    rows::put(rows, number, row)?;
     Ok(())
 }
 

@@ -1,11 +1,9 @@
-use Rattle.std.proofs.Common.{◌≡◌, ℕ, List, Some, None, refl, ap, sym, subst, ◌∙◌}
+use Rattle.std.proofs.Common.{◌≡◌, Some, None, ap, sym, subst, ◌∙◌}
 use Rattle.std.specs.Prelude.{IfSome}
 use Rattle.std.specs.BTreeMap.{is_at}
 use Rattle.std.specs.Map.{set_value}
 use Rattle.std.specs.Ordering.{nat_cmp}
 use Rattle.keyring_file.specs.declared.area.FullItem.{FullItem}
-use Rattle.kr_base.specs.declared.attributes.AttrValue.{AttrValue}
-use Rattle.item_store.specs.declared.rows.Row.{Row}
 use Rattle.item_store.specs.Moves.{with_attributes}
 use Rattle.item_store.specs.Rows.{attributes_of, row_at}
 use Rattle.item_store.proofs.RowLemmas.{changed-back, lookup-is, set-is, unset-is}

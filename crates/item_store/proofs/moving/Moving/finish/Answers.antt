@@ -1,5 +1,4 @@
-use Rattle.std.proofs.Common.{ap, subst, sym}
-use Rattle.attribute_index.specs.Index.{Index}
+use Rattle.std.proofs.Common.{subst, sym}
 use Rattle.item_store.specs.Rows.{IsKept}
 use Rattle.item_store.proofs.moving.Moving.finish.Goals as goal
 

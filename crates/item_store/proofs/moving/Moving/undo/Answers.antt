@@ -1,5 +1,4 @@
-use Rattle.std.proofs.Common.{ap, subst, sym}
-use Rattle.attribute_index.specs.Index.{Index}
+use Rattle.std.proofs.Common.{subst, sym}
 use Rattle.item_store.specs.Moves.{with_attributes}
 use Rattle.item_store.specs.Rows.{IsKept, Rows, rows_changed}
 use Rattle.item_store.proofs.moving.Moving.undo.Goals as goal
