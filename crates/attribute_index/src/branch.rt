@@ -15,8 +15,8 @@ pub struct Branch {
 
 /// The pairs before and after a pair. The heights of the two sides differ by at most one (an AVL tree), so a
 /// side without another has height 1, and only a pair with two sides has to keep its height. Each variant has
-/// the key of the pair, which is compared first: it takes no memory beside the byte that tells the variants
-/// apart.
+/// the key of the pair, which is compared first: it takes no memory beside the byte that says which variant it
+/// is.
 #[cycle(branches)]
 #[derive(Drop)]
 pub enum Sides {

@@ -148,7 +148,7 @@ shown_opened key vector items made written None alike apart same = λ i. record 
 shown_opened key vector items made written (Some part) alike apart same = apart
 
 -- what opening a locked collection's file gives is what is shown, except for the hashes
-alike_shown : Spelled → (file : File) (told : ClearPart) (newer : Option ClearPart) (parts : Option Parts) (bytes key vector : List ℕ) (content : Content) (made : ClearPart)
+pub alike_shown : Spelled → (file : File) (told : ClearPart) (newer : Option ClearPart) (parts : Option Parts) (bytes key vector : List ℕ) (content : Content) (made : ClearPart)
     → IsKept file told newer parts → held_of told parts ≡ None → HasFile file → Some bytes ≡ old_image file → opened bytes key vector ≡ Ok content → without_hashes made ≡ without_hashes (by_id content.clear) → without_hashes made ≡ without_hashes told
 alike_shown spelled file told newer parts bytes key vector content made kept locked there is opens same =
     let before : Shows (shown_image file) told = subst (λ t. Shows (shown_image file) t) (none_held told parts locked) kept.shows in

@@ -251,7 +251,7 @@ impl<S: Slot> Collection<S> {
         Ok(())
     }
 
-    /// Locks the collection: its key and its items are dropped. It never fails for want of memory; without the
+    /// Locks the collection: its key and its items are dropped. It never fails for lack of memory; without the
     /// memory for the index of the hashes, a search compares each item.
     pub fn lock(&mut self)
         ensures { self.new ≡ record self.old { held = None } }
@@ -459,7 +459,7 @@ impl<S: Slot> Collection<S> {
     }
 
     /// Ends a doubt as `FileCell::resolve` does: the file is read into the buffer, and is then known to have
-    /// the image that was found. It never fails for want of memory.
+    /// the image that was found. It never fails for lack of memory.
     ///
     /// Refused with `FaultRead` if the folder couldn't be synced or the file couldn't be read; the doubt stays.
     pub fn resolve(&mut self, buffer: &mut [u8]) -> Result<Found, FaultRead>

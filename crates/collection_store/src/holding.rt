@@ -10,13 +10,13 @@ ghost use Rattle.collection_store.specs.Changes.{name_made, rows_made};
 ghost use Rattle.collection_store.specs.Outcomes.{IsFault};
 ghost use Rattle.collection_store.specs.Preparing.{IsInStep};
 ghost use Rattle.collection_store.specs.Resting.{finished, undone};
-ghost use Rattle.collection_store.specs.State.{IsById, IsKept, shown_of};
+ghost use Rattle.collection_store.specs.State.{IsById, IsKept, shown_of, without_hashes};
 ghost use Rattle.collection_store.specs.Storing.{AreBefore, AreStored, AreUnsure, IsPreparedIn, IsReady, MayRefuseIn, finished_open, frame_for, without_answer, parts_of, undone_open};
 
 use crate::candidate::Frame;
 use crate::preparing::{Prepared, prepare, prepare_front};
 use crate::rest::Rest;
-use crate::same::are_same;
+use crate::same::have_same_hashes;
 use crate::told::Told;
 use crate::{Change, ChangeRefused, Changed};
 use item_store::ItemStore;
@@ -37,14 +37,19 @@ pub struct Open {
 }
 
 /// Puts the clear part with the hashes of the items' own attributes in place of the one in the file, and
-/// returns the latter, unless they have the same items.
+/// returns the latter, unless they have the same items. The two are the same except for the hashes, so these
+/// alone are compared.
 pub fn take_own(told: &mut Told, own: Told) -> Option<Told>
+    requires { without_hashes own ≡ without_hashes told.old }
     ensures told { told.new ≡ own }
     ensures apart { IfSome result (λ written. written ≡ told.old) }
     ensures same { IfNone result (own.items ≡ told.old.items) }
 {
     let written = mem::replace(told, own);
-    if are_same(&told.clear().items, &written.clear().items) {
+    if have_same_hashes(
+        told.clear().items.as_slice(),
+        written.clear().items.as_slice(),
+    ) {
         return None;
     }
     Some(written)

@@ -1,8 +1,8 @@
 // Items of two clear parts that are compared.
 
-ghost use Rattle.std.specs.Prelude.{◌≡◌, List, IsTrue};
+ghost use Rattle.std.specs.Prelude.{◌≡◌, List, IsTrue, map};
 ghost use Rattle.kr_base.specs.declared.hashed.HashedPair.{HashedPair as Pair};
-ghost use Rattle.keyring_file.specs.declared.clear.ClearItem.{ClearItem as Item};
+ghost use Rattle.collection_store.specs.State.{unhashed};
 
 use keyring_file::ClearItem;
 use kr_base::HashedPair;
@@ -22,18 +22,24 @@ fn equal_hashes_are_one()
     equal_pairs_are_one();
 }
 
-/// A law: items compare as equal only if they are the same. The call does nothing.
-fn equal_items_are_one()
-    ensures { (one other : Item)
-        → IsTrue (⟦<ClearItem as PartialEq>⟧.eq one other) → one ≡ other }
-{
-    equal_hashes_are_one();
-}
-
-/// Whether the items are the same.
-pub fn are_same(one: &Items<ClearItem>, other: &Items<ClearItem>) -> bool
+/// Whether items that are the same except for their hashes have the same hashes too.
+fn has_same_hashes(one: &ClearItem, other: &ClearItem) -> bool
+    requires { unhashed one.now ≡ unhashed other.now }
     ensures { IsTrue result → one.now ≡ other.now }
 {
-    equal_items_are_one();
-    one == other
+    equal_hashes_are_one();
+    one.hashed == other.hashed
+}
+
+/// Whether lists of items that are the same except for their hashes have the same hashes too.
+pub fn have_same_hashes(one: &[ClearItem], other: &[ClearItem]) -> bool
+    requires { map unhashed one.now ≡ map unhashed other.now }
+    ensures { IsTrue result → one.now ≡ other.now }
+{
+    for place in 0..one.len() {
+        if !has_same_hashes(&one[place], &other[place]) {
+            return false;
+        }
+    }
+    true
 }

@@ -1,6 +1,6 @@
 use Rattle.key_derivation.specs.Kdf.{key_of, vector_of}
 use Rattle.replace_slot.specs.Cell.{HasFile}
-use Rattle.collection_store.proofs.StateLemmas.{has_part, there_image, kept_unlocked, known_so, opens_so, state_unlocked}
+use Rattle.collection_store.proofs.StateLemmas.{alike_shown, has_part, there_image, kept_unlocked, known_so, opens_so, state_unlocked}
 use Rattle.collection_store.proofs.collection.Collection.unlock.Goals as goal
 
 pub unreachable-requires : goal.unreachable-requires
@@ -12,6 +12,14 @@ pub content_of-requires : goal.content_of-requires
 content_of-requires g c =
     let there : HasFile c.self.inside.cell.file = rw (← c.self.view_is) at c.requires.there in
     rw c.bytes.ensures (has_part c.self.inside.cell.file _ c.in-Some.image.now there c.in-Some.ensures c.self.invariant.shows)
+
+-- the file is the one that is shown
+pub take_own-written-requires : goal.take_own-written-requires
+take_own-written-requires g c =
+    let there : HasFile c.self.inside.cell.file = rw (← c.self.view_is) at c.requires.there in
+    let locked = rw (← c.self.view_is) at c.requires.locked in
+    let opens = rw c.bytes.ensures at c.in_ok-content.ensures.opened in
+    alike_shown c.a_file_that_is_spelled_so_is_read.ensures c.self.inside.cell.file c.self.inside.told c.self.inside.newer _ c.in-Some.image.now (key_of c.args.key) (vector_of c.args.key) c.in_ok-content.content c.in-Ok.parts.0 c.self.invariant locked there c.in-Some.ensures opens c.in-Ok.ensures.same
 
 pub invariant_of-self : goal.invariant_of-self
 invariant_of-self g c =
