@@ -203,6 +203,15 @@ abbrev pub refusal : PromptId → ℕ → ConnId → Prompts → Option PromptRe
 refusal prompt round from prompts =
     if is_agent from prompts then refusal_of round (row_at prompt prompts) else Some refused.NotAgent
 
+-- the refusal is one of those of an answer, and of nothing else
+abbrev pub IsOfAnswer : PromptRefused → Type 0
+IsOfAnswer refused.NoPrompt = Unit {0}
+IsOfAnswer refused.NotAgent = Unit {0}
+IsOfAnswer refused.OldRound = Unit {0}
+IsOfAnswer refused.TooMany = ⊥
+IsOfAnswer refused.AgentTaken = ⊥
+IsOfAnswer refused.OutOfMemory = ⊥
+
 -- the connection is the agent
 abbrev pub registered : ConnId → Prompts → Prompts
 registered conn prompts = record prompts { agent = Some conn }

@@ -1,9 +1,9 @@
-ghost use Rattle.std.specs.Prelude.{◌≡◌, ◌⊎◌, ℕ, ◌≤◌, IfNone, OnOk, OnErr, IfOk, IfErr, IsErrOf, Some, None, true, false, if◌then◌else◌, nat_eq};
+ghost use Rattle.std.specs.Prelude.{◌≡◌, ◌⊎◌, ℕ, ◌≤◌, IfNone, IfSome, OnOk, OnErr, IfOk, IfErr, IsErrOf, Some, None, true, false, if◌then◌else◌, nat_eq};
 ghost use Rattle.std.specs.Prelude.{◌^◌, ◌++◌, ◌∷◌, [], not, filter};
 ghost use Rattle.std.specs.Map.{values_of};
 ghost use Rattle.std.specs.Option.{is_some, option_copied, option_map};
 ghost use Rattle.prompt_state.specs.Targets.{first_done, first_dropped};
-ghost use Rattle.prompt_state.specs.Prompts.{AreSound, abandoned, answered, asked, asked_again, asks, ask_after, ask_at, begun, cleared, derives_in, ended, ended_row, first_of_row, is_agent, is_full, is_taken, last_round, next_round, no_prompts, one_more, owns, refusal, registered, row_at, targeted, unregistered, wronged};
+ghost use Rattle.prompt_state.specs.Prompts.{AreSound, IsOfAnswer, abandoned, answered, asked, asked_again, asks, ask_after, ask_at, begun, cleared, derives_in, ended, ended_row, first_of_row, is_agent, is_full, is_taken, last_round, next_round, no_prompts, one_more, owns, refusal, registered, row_at, targeted, unregistered, wronged};
 ghost use Rattle.prompt_state.specs.Prompts.{AreGiven, AreRising, IsStage, is_of, staged, without};
 ghost use Rattle.prompt_state.specs.Kept.{AreIndexed, AreNumbered, entries_without, entry_at};
 
@@ -83,7 +83,8 @@ impl PromptState {
     /// Begins a prompt of the connection, and gives it the next number. It isn't asked yet. Of the
     /// calls that change something, only this one takes memory.
     ///
-    /// Refused with `TooMany` if the connection has 64 prompts or no number is left.
+    /// Refused with `TooMany` if the connection has 64 prompts or no number is left; otherwise memory may
+    /// run out.
     pub fn begin(&mut self, owner: ConnId, kind: PromptKind) -> Result<PromptId, PromptRefused>
         ensures number { IfOk result (λ prompt. prompt.0 ≡ self.old.next) }
         ensures begun { OnOk result (self.new ≡ begun owner kind self.old) }
@@ -93,6 +94,7 @@ impl PromptState {
         ensures too_many { IsErrOf result PromptRefused.TooMany → is_full owner self.old ≡ true }
         ensures cause { OnErr result (IsErrOf result PromptRefused.TooMany
             ⊎ IsErrOf result PromptRefused.OutOfMemory) }
+        ensures memory { IsErrOf result PromptRefused.OutOfMemory → is_full owner self.old ≡ false }
         ensures unchanged { OnErr result (self.new ≡ self.old) }
     {
         if self.is_full(owner) {
@@ -162,6 +164,16 @@ impl PromptState {
         }
     }
 
+    /// Whether another connection is the agent.
+    pub fn is_taken(&self, conn: ConnId) -> bool
+        ensures { result ≡ is_taken conn self.now.agent }
+    {
+        match self.agent {
+            Some(agent) => agent.0 != conn.0,
+            None => false,
+        }
+    }
+
     /// Asks a prompt for the first time, in round 1. A prompt that was asked before stays as it is.
     ///
     /// Refused with `NoPrompt` if the connection owns no such prompt: another connection's prompt is refused
@@ -225,6 +237,7 @@ impl PromptState {
     /// asked in that round.
     pub fn refusal(&self, prompt: PromptId, round: u64, from: ConnId) -> Option<PromptRefused>
         ensures refusal { result ≡ refusal prompt round from self.now }
+        ensures cause { IfSome result IsOfAnswer }
         ensures round { IfNone result (1 ≤ round) }
     {
         if !self.is_agent(from) {
@@ -260,6 +273,7 @@ impl PromptState {
         ensures taken { OnOk result (refusal prompt round from self.old ≡ None) }
         ensures refused { IfErr result (λ refused.
             refusal prompt round from self.old ≡ Some refused) }
+        ensures cause { IfErr result IsOfAnswer }
         ensures unchanged { OnErr result (self.new ≡ self.old) }
     {
         if let Some(refused) = self.refusal(prompt, round, from) {
@@ -289,6 +303,7 @@ impl PromptState {
         ensures taken { OnOk result (refusal prompt round from self.old ≡ None) }
         ensures refused { IfErr result (λ refused.
             refusal prompt round from self.old ≡ Some refused) }
+        ensures cause { IfErr result IsOfAnswer }
         ensures unchanged { OnErr result (self.new ≡ self.old) }
     {
         if let Some(refused) = self.refusal(prompt, round, from) {
@@ -474,16 +489,6 @@ impl PromptState {
         match self.row(prompt) {
             Some(row) => row.stage.round() + 1,
             None => 1,
-        }
-    }
-
-    // Whether another connection is the agent.
-    fn is_taken(&self, conn: ConnId) -> bool
-        ensures { result ≡ is_taken conn self.now.agent }
-    {
-        match self.agent {
-            Some(agent) => agent.0 != conn.0,
-            None => false,
         }
     }
 

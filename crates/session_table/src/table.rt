@@ -61,7 +61,8 @@ impl SessionTable {
 
     /// Opens a session of the connection, and gives it the next number.
     ///
-    /// Refused with `TooMany` if the connection has 64 sessions or no number is left.
+    /// Refused with `TooMany` if the connection has 64 sessions or no number is left; otherwise memory may
+    /// run out.
     pub fn open(&mut self, owner: ConnId) -> Result<SessionId, SessionRefused>
         ensures number { IfOk result (λ session. session.0 ≡ self.old.next) }
         ensures opened { OnOk result (self.new ≡ opened owner self.old) }
@@ -70,6 +71,8 @@ impl SessionTable {
         // Nothing has changed after a refusal.
         ensures too_many { IsErrOf result SessionRefused.TooMany → is_full owner self.old ≡ true }
         ensures no_other { IsErrOf result SessionRefused.NoSession → ⊥ }
+        ensures memory { IsErrOf result SessionRefused.OutOfMemory
+            → is_full owner self.old ≡ false }
         ensures unchanged { OnErr result (self.new ≡ self.old) }
     {
         if self.is_full(owner) {
