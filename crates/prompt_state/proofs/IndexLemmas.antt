@@ -143,7 +143,7 @@ all-left owner rows pairs indexed none = sym (no-own owner rows (sym (indexed.sa
 -- what is always true of the table doesn't depend on the agent
 pub agent-kept : (entries : Entries) (agent other : Option ConnId) (next : ℕ) (pairs : List (ℕ × ℕ)) → IsKept (prompts_of entries agent next) entries pairs → IsKept (prompts_of entries other next) entries pairs
 agent-kept entries agent other next pairs kept = record {
-  sound = record { given = kept.sound.given; rising = kept.sound.rising; rounds = kept.sound.rounds; few = kept.sound.few; numbered = kept.sound.numbered };
+  sound = record { first = kept.sound.first; numbers = kept.sound.numbers; given = kept.sound.given; rising = kept.sound.rising; rounds = kept.sound.rounds; few = kept.sound.few; numbered = kept.sound.numbered };
   numbered = kept.numbered;
   indexed = kept.indexed;
 }

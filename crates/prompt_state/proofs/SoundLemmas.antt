@@ -114,6 +114,8 @@ module _ (h : PromptRow → PromptRow) (keeps : IsKeeping h) where
 
   pub sound-map : (prompts : Prompts) → AreSound prompts → AreSound (record prompts { rows = map h prompts.rows })
   sound-map prompts sound = record {
+    first = sound.first;
+    numbers = above-map 0 prompts.rows sound.numbers;
     given = given-map prompts.next prompts.rows sound.given;
     rising = rising-map prompts.rows sound.rising;
     rounds = rounds-map prompts.rows sound.rounds;
@@ -141,6 +143,8 @@ sound-changed prompt f prompts keeps sound = sound-map (λ row. cond (nat_eq row
 
 pub sound-filter : (p : PromptRow → Bool) (prompts : Prompts) → AreSound prompts → AreSound (record prompts { rows = filter p prompts.rows })
 sound-filter p prompts sound = record {
+  first = sound.first;
+  numbers = all-filter (λ row. 0 < row.prompt.0) p prompts.rows sound.numbers;
   given = all-filter (λ row. row.prompt.0 < prompts.next) p prompts.rows sound.given;
   rising = rising-filter p prompts.rows sound.rising;
   rounds = all-filter (λ row. IsStage row.stage) p prompts.rows sound.rounds;
@@ -221,6 +225,8 @@ pub sound-begun : (owner : ConnId) (kind : PromptKind) (prompts : Prompts) → i
 sound-begun owner kind prompts full sound =
     let room = room-of owner prompts full in
     record {
+      first = omega arith;
+      numbers = all-added (λ row. 0 < row.prompt.0) prompts.rows _ sound.first sound.numbers;
       given = all-added (λ row. row.prompt.0 < prompts.next + 1) prompts.rows _ (omega arith)
           (all-weaker (λ row. row.prompt.0 < prompts.next) (λ row. row.prompt.0 < prompts.next + 1) prompts.rows (λ row less. omega (arith, less)) sound.given);
       rising = rising-added prompts.rows _ sound.given sound.rising;

@@ -285,6 +285,10 @@ IsStage Made = Unit {0}
 IsStage (Asked round) = (1 ≤ round) × (round ≤ last_round)
 IsStage (Deriving round) = (1 ≤ round) × (round < last_round)
 
+-- no prompt has the number 0
+abbrev pub AreNumbers : List PromptRow → Type 0
+AreNumbers rows = AllByRecursion (λ row. 0 < row.prompt.0) rows
+
 -- each prompt's number is below the next one
 abbrev pub AreGiven : ℕ → List PromptRow → Type 0
 AreGiven next rows = AllByRecursion (λ row. row.prompt.0 < next) rows
@@ -300,6 +304,8 @@ AreFew rows = (owner : ConnId) → length (rows_of owner rows) ≤ most_prompts
 
 -- what is true of the prompts at every moment
 pub record AreSound (prompts : Prompts) : Type 0 where
+  pub first : 0 < prompts.next
+  pub numbers : AreNumbers prompts.rows
   pub given : AreGiven prompts.next prompts.rows
   pub rising : AreRising prompts.rows
   pub rounds : AllByRecursion (λ row. IsStage row.stage) prompts.rows

@@ -28,7 +28,7 @@ use Rattle.service_tables.proofs.TableLemmas.{has-without}
 
 pub prompts-none : (conns : List ConnRow) → AreSoundPrompts conns no_prompts
 prompts-none conns = record {
-  kept = record { given = tt; rising = tt; rounds = tt; few = λ owner. omega arith; numbered = omega arith };
+  kept = record { first = omega arith; numbers = tt; given = tt; rising = tt; rounds = tt; few = λ owner. omega arith; numbered = omega arith };
   each = tt;
   owned = tt;
   agent = tt;
@@ -226,7 +226,7 @@ prompts-cleared conns prompt prompts sound =
 
 pub prompts-registered : (conns : List ConnRow) (conn : ConnId) (prompts : Prompts) → has conn conns ≡ true → AreSoundPrompts conns prompts → AreSoundPrompts conns (registered conn prompts)
 prompts-registered conns conn prompts there sound = record {
-  kept = record { given = sound.kept.given; rising = sound.kept.rising; rounds = sound.kept.rounds; few = sound.kept.few; numbered = sound.kept.numbered };
+  kept = record { first = sound.kept.first; numbers = sound.kept.numbers; given = sound.kept.given; rising = sound.kept.rising; rounds = sound.kept.rounds; few = sound.kept.few; numbered = sound.kept.numbered };
   each = sound.each;
   owned = sound.owned;
   agent = there;
@@ -245,7 +245,7 @@ pub prompts-unregistered : (conns : List ConnRow) (prompts : Prompts) → AreSou
 prompts-unregistered conns prompts sound =
     let mapped = sound-map unanswered_row keeps-unanswered prompts sound.kept in
     record {
-      kept = record { given = mapped.given; rising = mapped.rising; rounds = mapped.rounds; few = mapped.few; numbered = mapped.numbered };
+      kept = record { first = mapped.first; numbers = mapped.numbers; given = mapped.given; rising = mapped.rising; rounds = mapped.rounds; few = mapped.few; numbered = mapped.numbered };
       each = each-mapped unanswered_row IsSoundPrompt prompts.rows (each-weaker IsSoundPrompt _ unanswered-sound prompts.rows sound.each);
       owned = each-mapped unanswered_row (λ (row : PromptRow). IsTrue (has row.owner conns)) prompts.rows sound.owned;
       agent = tt;
@@ -276,7 +276,7 @@ prompts-alone : (conn : ConnId) (conns : List ConnRow) (prompts : Prompts) → A
     → AreSoundPrompts (connections.without conn conns) (record (without conn prompts) { agent = None })
 prompts-alone conn conns prompts sound =
     prompts-others conn conns (record prompts { agent = None }) refl (record {
-      kept = record { given = sound.kept.given; rising = sound.kept.rising; rounds = sound.kept.rounds; few = sound.kept.few; numbered = sound.kept.numbered };
+      kept = record { first = sound.kept.first; numbers = sound.kept.numbers; given = sound.kept.given; rising = sound.kept.rising; rounds = sound.kept.rounds; few = sound.kept.few; numbered = sound.kept.numbered };
       each = sound.each;
       owned = sound.owned;
       agent = tt;
