@@ -1,5 +1,6 @@
 // The calls of the agent's interface (docs/SERVICE.md, "Interfaces").
-ghost use Rattle.std.specs.Prelude.{◌≡◌, ℕ, [], None, IfOk, OnErr};
+ghost use Rattle.std.specs.Prelude.{◌≡◌, ℕ, [], None, IfOk, OnErr, true, false};
+ghost use Rattle.prompt_state.specs.Prompts.{IsOfAnswer, is_taken};
 ghost use Rattle.service_events.specs.AgentCalls.{error_for, refuse, register, unregister};
 ghost use Rattle.service_calls.specs.Rows.{disk_of, rows_of};
 ghost use Rattle.service_events.specs.Run.{asked};
@@ -17,20 +18,22 @@ use service_prompts::asks_sent_to;
 
 /// The error for what the agent says about a prompt that doesn't wait for it.
 pub fn error_for(why: PromptRefused) -> ErrorName
+    requires { IsOfAnswer why }
     ensures { result ≡ error_for why }
 {
     match why {
         PromptRefused::NoPrompt => ErrorName::NoSuchObject,
         PromptRefused::NotAgent => ErrorName::AccessDenied,
         PromptRefused::OldRound => ErrorName::OldRound,
-        PromptRefused::TooMany => ErrorName::LimitsExceeded,
-        PromptRefused::AgentTaken => ErrorName::AgentTaken,
-        PromptRefused::OutOfMemory => ErrorName::LimitsExceeded,
+        PromptRefused::TooMany | PromptRefused::AgentTaken | PromptRefused::OutOfMemory => {
+            unreachable!()
+        }
     }
 }
 
 impl<F: Folder> Tables<F> {
-    /// Performs the row of Register. All memory is taken before the caller becomes the agent.
+    /// Performs the row of Register. All memory is taken before the caller becomes the agent, and none if
+    /// another connection is.
     pub fn register(&mut self, conn: ConnId) -> Result<Done, OutOfMemory>
         requires { HasRoom 1 conn self.old.connections.rooms }
         ensures leads { IfOk result (λ done. (brought : Brought)
@@ -42,14 +45,22 @@ impl<F: Folder> Tables<F> {
             (rows_of self.old) (rows_of self.new) (disk_of self.old) (disk_of self.new) done) }
         ensures room { IfOk result (λ done.
             HasRoomToReply conn done.sends self.new.connections.rooms) }
+
+        // A caller that is refused costs no memory.
+        ensures memory { OnErr result (is_taken conn (rows_of self.old).prompts.agent ≡ false) }
+        ensures idle { is_taken conn (rows_of self.old).prompts.agent ≡ true
+            → self.new.connections ≡ self.old.connections }
         ensures unchanged { OnErr result ((rows_of self.new ≡ rows_of self.old)
             × (disk_of self.new ≡ disk_of self.old)) }
     {
+        if self.prompts.is_taken(conn) {
+            return Ok(refused(self.alloc, ErrorName::AgentTaken));
+        }
         let sends = asks_sent_to(self.alloc, &self.disk, &self.prompts, conn)?;
         self.connections.reserve_for(conn, &sends)?;
         match self.prompts.register(conn) {
             Ok(()) => Ok(sending(Ok(Body::Empty), sends)),
-            Err(_) => Ok(refused(self.alloc, ErrorName::AgentTaken)),
+            Err(_) => unreachable!(),
         }
     }
 

@@ -20,7 +20,7 @@ for_agent asked next = if asked.prompts.is_agent then next else refused name.Acc
 abbrev pub unregister : Questions → Plan
 unregister asked = for_agent asked (answered body.Empty (Leave_agent ∷ []))
 
--- the error for what the agent says about a prompt that doesn't wait for it
+-- the error for what the agent says about a prompt that doesn't wait for it, which is one of the first three
 abbrev pub error_for : PromptRefused → ErrorName
 error_for refusal.NoPrompt = name.NoSuchObject
 error_for refusal.NotAgent = name.AccessDenied

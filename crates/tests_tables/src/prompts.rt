@@ -18,7 +18,10 @@ const HISTORY: &str = "\
 1|begin|2|new|2|made 0 new 0
 3|begin|3|d|3|made 0 /d 0
 3|ask|3||ok|asked 1 /d 0
+3|taken|1||no|asked 1 /abc 0
 2|register|1||ok|asked 1 /abc 0
+2|taken|1||no|asked 1 /abc 0
+3|taken|1||yes|asked 1 /abc 0
 2|asks|1||ask 2 1 1 0,ask 2 3 1 0|asked 1 /abc 0
 3|register|1||agent taken|asked 1 /abc 0
 2|register|1||ok|asked 1 /abc 0
@@ -193,13 +196,9 @@ fn changed(table: &mut PromptState, who: ConnId, call: &str, prompt: PromptId) -
     "ok"
 }
 
-// Whether the prompt's key is being derived in the round.
-fn derived(table: &PromptState, prompt: PromptId, round: u64) -> &'static str {
-    if table.derived(prompt, round) {
-        "yes"
-    } else {
-        "no"
-    }
+// Yes or no.
+fn told(is: bool) -> &'static str {
+    if is { "yes" } else { "no" }
 }
 
 // The answer to an owner's call.
@@ -239,7 +238,8 @@ fn of_agent(
         "asks" => asks(alloc, table),
         "answer" => answered(alloc, table, prompt, number(words)?, who),
         "refuse" => left(alloc, table.refuse(prompt, number(words)?, who)),
-        "derived" => spaced(alloc, &[derived(table, prompt, number(words)?)]),
+        "taken" => spaced(alloc, &[told(table.is_taken(who))]),
+        "derived" => spaced(alloc, &[told(table.derived(prompt, number(words)?))]),
         _ => of_owner(alloc, table, who, call, prompt, words),
     }
 }
