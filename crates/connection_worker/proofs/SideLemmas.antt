@@ -45,4 +45,7 @@ pub refusal-seen : (why : Refused) (old new : Place) (seen : List Seen) → Reco
 refusal-seen refusal.EventsSpent old new seen so is = subst (λ n. IsSpent n) so.count is
 refusal-seen refusal.Gone old new seen so is =
     (subst (λ n. n < most_events) so.count is.0, subst (λ s. IsMissing old.told.conn s) so.state (subst (λ c. IsMissing c new.told.state) so.same.conn is.1))
-refusal-seen refusal.OutOfMemory old new seen so is = tt
+refusal-seen refusal.OutOfMemory old new seen so is = (
+  subst (λ n. n < most_events) so.count is.0,
+  subst (λ s. ¬ (IsMissing old.told.conn s)) so.state (subst (λ c. ¬ (IsMissing c new.told.state)) so.same.conn is.1),
+)

@@ -37,6 +37,14 @@ seen-none old view is =
     let none : total old.window + 0 ≡ total old.window = omega arith in
     subst (λ n. IsView old.state n (with_others [] view)) none (view-others old.state (total old.window) view [] is tt)
 
+-- a refusal is the same, whatever is returned otherwise
+pub same-refusal : {S T F : Type 0} (one other : F) → ◌≡◌ {A = Result S F} (Err one) (Err other) → ◌≡◌ {A = Result T F} (Err one) (Err other)
+same-refusal {S} {T} {F} one other e = ap back e
+  where
+    back : Result S F → Result T F
+    back (Ok value) = Err one
+    back (Err fault) = Err fault
+
 -- nothing was recorded
 pub looks : (conn : ConnId) (steady : Bool) (old : History) → Looks (spot conn steady old) (spot conn steady old)
 looks conn steady old = record {

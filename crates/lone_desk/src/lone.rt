@@ -1,5 +1,5 @@
-ghost use Rattle.std.specs.Prelude.{◌≡◌, ◌≤◌, ◌+◌, IfOk, IsErrOf};
-ghost use Rattle.service_events.specs.Step.{step, IsCrowded, Fits};
+ghost use Rattle.std.specs.Prelude.{◌≡◌, ◌≢◌, ◌≤◌, ◌+◌, Err, IfOk, IsErrOf};
+ghost use Rattle.service_events.specs.Step.{step, CanJoin, IsCrowded, Fits};
 ghost use Rattle.service_tables.specs.Limits.{IsSpent};
 ghost use Rattle.service_tables.specs.Sound.{IsSound};
 ghost use Rattle.service_history.specs.Windows.{total};
@@ -22,8 +22,8 @@ impl<F: Folder> LoneDesk<F> {
     /// Lets a connection join the service, and returns its desk.
     ///
     /// Refused with `EventsSpent` if all events that can be counted are recorded, then with
-    /// `TooManyConnections` if 256 connections are there or no number is left; `OutOfMemory` may come
-    /// in place of any. The service is dropped then.
+    /// `TooManyConnections` if 256 connections are there or no number is left, then with `OutOfMemory`.
+    /// The service is dropped then.
     pub fn join(service: Service<F>) -> Result<LoneDesk<F>, JoinRefused>
         ensures joined { IfOk result (λ desk.
             desk.service.history.state ≡ step service.history.state (Event.Connect desk.conn)) }
@@ -36,6 +36,9 @@ impl<F: Folder> LoneDesk<F> {
             → IsSpent (total service.history.window) }
         ensures crowded { IsErrOf result JoinRefused.TooManyConnections
             → IsCrowded service.history.state }
+        ensures not_spent { result ≢ Err JoinRefused.EventsSpent
+            → ¬ IsSpent (total service.history.window) }
+        ensures memory { IsErrOf result JoinRefused.OutOfMemory → CanJoin service.history.state }
     {
         let mut service = service;
         match service.join() {

@@ -38,12 +38,12 @@ pub record Finishes (old new : Place) (brought : BroughtKey) : Type 0 where
   pub recorded : Extends old new (event.Derived came) output.Derived
   pub counted : new.told.count ≤ most_events
 
--- why a request or a derived key wasn't recorded: all the events that can be counted have been; otherwise the connection isn't there; or
--- memory ran out
+-- why a request or a derived key wasn't recorded: all the events that can be counted have been; otherwise the connection isn't there;
+-- otherwise memory ran out
 abbrev pub IsRefusal : Refused → Told → Type 0
 IsRefusal refused.EventsSpent told = IsSpent told.count
 IsRefusal refused.Gone told = (told.count < most_events) × IsMissing told.conn told.state
-IsRefusal refused.OutOfMemory told = Unit {0}
+IsRefusal refused.OutOfMemory told = (told.count < most_events) × ¬ (IsMissing told.conn told.state)
 
 -- A Leave is recorded; or nothing is, and the connection isn't there or is leaving already.
 abbrev pub Leaves : Place → Place → Type 0

@@ -12,7 +12,7 @@ pub trait ReadDesk: Desk {
     /// is to be derived and brought by `derived`, if the request is an answer that was taken.
     ///
     /// Refused with `EventsSpent` if all the events that can be counted have been recorded, then with
-    /// `Gone` if the connection isn't there; `OutOfMemory` may come in place of any result.
+    /// `Gone` if the connection isn't there, then with `OutOfMemory`.
     fn arrive(&mut self, request: Request, now: u64, salt: [u8; 8]) -> Result<Option<Work>, Refused>
         ensures recorded { IfOk result (Arrives
             (place Self.told Self.has_seen self.old) (place Self.told Self.has_seen self.new)

@@ -10,7 +10,7 @@ use Rattle.service_events.specs.declared.event.Event.{Event}
 use Rattle.service_events.specs.declared.event.Event.TheVariants as event
 use Rattle.service_tables.specs.Connections.{desk_of, has}
 use Rattle.service_events.specs.Fates.{with_fates, IsFaultless}
-use Rattle.service_events.specs.Step.{step, output_of, Fits, IsMissing, IsCrowded}
+use Rattle.service_events.specs.Step.{step, output_of, Fits, IsMissing, IsCrowded, CanJoin}
 use Rattle.service_events.specs.Replay.{replay, Legal}
 use Rattle.service_tables.proofs.FitLemmas.{has-told, has-none}
 use Rattle.service_events.proofs.ReplayLemmas.{replay-append}
@@ -30,7 +30,7 @@ use Rattle.service_events.specs.declared.event.JoinRefused.{JoinRefused}
 use Rattle.service_events.specs.declared.event.JoinRefused.TheVariants as join
 use Rattle.secret_calls.specs.declared.taken.Refused.{Refused}
 use Rattle.secret_calls.specs.declared.taken.Refused.TheVariants as refused
-use Rattle.shared_service.specs.Passes.{spot, told, IsRefused}
+use Rattle.shared_service.specs.Passes.{spot, told, HasPlace, IsRefused}
 use Rattle.shared_service.specs.Standing.{Stands}
 use Rattle.shared_service.specs.Tries.{Tries, after_take}
 use Rattle.shared_service.proofs.Ends.{viewed, left_event, gone_event, event_if, fates_if, key_if}
@@ -183,19 +183,22 @@ module _ (conn : ConnId) (table : TableId) (steady : Bool) (view last : View) (b
   looks-if event (Err fault) is = subst (λ (v : View). Looks (spot conn table steady view) (spot conn table steady v)) (sym is) (looks conn table steady view between service stands)
 
   refused-by : (fault : Refused) → (fault ≡ refused.EventsSpent → IsSpent (total service.window)) → (fault ≢ refused.EventsSpent → IsSpent (total service.window) → ⊥) → (fault ≡ refused.Gone → IsMissing conn service.state)
-      → IsRefusal fault (told conn table steady (with_others between view))
-  refused-by refused.EventsSpent spent left gone = let all = count-met conn table steady view between service stands in let most = spent refl in omega (arith, all, most)
-  refused-by refused.Gone spent left gone = (
+      → (fault ≡ refused.OutOfMemory → ¬ (IsMissing conn service.state)) → IsRefusal fault (told conn table steady (with_others between view))
+  refused-by refused.EventsSpent spent left gone there = let all = count-met conn table steady view between service stands in let most = spent refl in omega (arith, all, most)
+  refused-by refused.Gone spent left gone there = (
     (let all = count-met conn table steady view between service stands in let few : total service.window < most_events = not-spent (total service.window) (left (λ e. cc)) in omega (arith, all, few)),
     told-met conn table steady view between service stands (IsMissing conn) (gone refl),
   )
-  refused-by refused.OutOfMemory spent left gone = tt
+  refused-by refused.OutOfMemory spent left gone there = (
+    (let all = count-met conn table steady view between service stands in let few : total service.window < most_events = not-spent (total service.window) (left (λ e. cc)) in omega (arith, all, few)),
+    told-met conn table steady view between service stands (λ state. ¬ (IsMissing conn state)) (there refl),
+  )
 
   -- for a cause in the state
   pub refused-if : {T : Type 0} (event : T → Event) (result : Result T Refused) → (IsErrOf result refused.EventsSpent → IsSpent (total service.window)) → (result ≢ Err refused.EventsSpent → IsSpent (total service.window) → ⊥)
-      → (IsErrOf result refused.Gone → IsMissing conn service.state) → last ≡ viewed (event_if event result) (with_others between view) → IfErr result (λ fault. IsRefusal fault (told conn table steady last))
-  refused-if event (Ok done) spent left gone is = tt
-  refused-if event (Err fault) spent left gone is = subst (λ (v : View). IsRefusal fault (told conn table steady v)) (sym is) (refused-by fault (λ e. spent (ap (λ (f : Refused). Err f) e)) (λ other. left (λ e. other (err-of fault refused.EventsSpent e))) (λ e. gone (ap (λ (f : Refused). Err f) e)))
+      → (IsErrOf result refused.Gone → IsMissing conn service.state) → (IsErrOf result refused.OutOfMemory → ¬ (IsMissing conn service.state)) → last ≡ viewed (event_if event result) (with_others between view) → IfErr result (λ fault. IsRefusal fault (told conn table steady last))
+  refused-if event (Ok done) spent left gone there is = tt
+  refused-if event (Err fault) spent left gone there is = subst (λ (v : View). IsRefusal fault (told conn table steady v)) (sym is) (refused-by fault (λ e. spent (ap (λ (f : Refused). Err f) e)) (λ other. left (λ e. other (err-of fault refused.EventsSpent e))) (λ e. gone (ap (λ (f : Refused). Err f) e)) (λ e. there (ap (λ (f : Refused). Err f) e)))
 
 module _ (table : TableId) (steady : Bool) (view last : View) (between : List Event) (service : History) (stands : Stands service view.start view.before (view.seen ++ between)) where
   -- the connection joined
@@ -209,8 +212,19 @@ module _ (table : TableId) (steady : Bool) (view last : View) (between : List Ev
   cause-of join.TooManyConnections spent crowded = told-met (record { 0 = 0 }) table steady view between service stands IsCrowded (crowded refl)
   cause-of join.OutOfMemory spent crowded = tt
 
+  -- it could have joined where memory ran out
+  place-of : (fault : JoinRefused) → (fault ≢ join.EventsSpent → IsSpent (total service.window) → ⊥) → (fault ≡ join.OutOfMemory → CanJoin service.state) → fault ≡ join.OutOfMemory → HasPlace (with_others between view)
+  place-of fault left room is = (
+    (let all = count-met (record { 0 = 0 }) table steady view between service stands in let few : total service.window < most_events = not-spent (total service.window) (left (λ e. cc)) in omega (arith, all, few)),
+    told-met (record { 0 = 0 }) table steady view between service stands CanJoin (room is),
+  )
+
   -- it couldn't join, for a cause in the state
   pub crowded-if : (result : Result ConnId JoinRefused) → (IsErrOf result join.EventsSpent → IsSpent (total service.window)) → (IsErrOf result join.TooManyConnections → IsCrowded service.state)
-      → last ≡ viewed (event_if (λ conn. event.Connect conn) result) (with_others between view) → IfErr result (λ fault. IsRefused table steady fault view last)
-  crowded-if (Ok conn) spent crowded is = tt
-  crowded-if (Err fault) spent crowded is = subst (λ (v : View). IsRefused table steady fault view v) (sym is) ((λ conn. looks conn table steady view between service stands), cause-of fault (λ e. spent (ap (λ (f : JoinRefused). Err f) e)) (λ e. crowded (ap (λ (f : JoinRefused). Err f) e)))
+      → (result ≢ Err join.EventsSpent → IsSpent (total service.window) → ⊥) → (IsErrOf result join.OutOfMemory → CanJoin service.state) → last ≡ viewed (event_if (λ conn. event.Connect conn) result) (with_others between view) → IfErr result (λ fault. IsRefused table steady fault view last)
+  crowded-if (Ok conn) spent crowded left room is = tt
+  crowded-if (Err fault) spent crowded left room is = subst (λ (v : View). IsRefused table steady fault view v) (sym is) (
+    (λ conn. looks conn table steady view between service stands),
+    cause-of fault (λ e. spent (ap (λ (f : JoinRefused). Err f) e)) (λ e. crowded (ap (λ (f : JoinRefused). Err f) e)),
+    place-of fault (λ other. left (λ e. other (err-of fault join.EventsSpent e))) (λ e. room (ap (λ (f : JoinRefused). Err f) e)),
+  )

@@ -1,5 +1,5 @@
 -- What a pass is: the service that it belongs to, and its view of that service's history.
-use Rattle.std.specs.Prelude.{◌≡◌, Bool, true, false, [], length, Option, Some, None}
+use Rattle.std.specs.Prelude.{◌≡◌, ◌<◌, Bool, true, false, [], length, Option, Some, None}
 use Rattle.atomic_table.specs.Seated.{TableId}
 use Rattle.kr_base.specs.declared.ids.ConnId.{ConnId}
 use Rattle.service_tables.specs.State.{State}
@@ -10,6 +10,9 @@ use Rattle.service_history.specs.Windows.{Window}
 use Rattle.service_desk.specs.Views.{View, ArePlaces, state_of, count_of, HasCause}
 use Rattle.service_desk.specs.Places.{Told, Place, Looks}
 use Rattle.service_events.specs.declared.event.JoinRefused.{JoinRefused}
+use Rattle.service_events.specs.declared.event.JoinRefused.TheVariants as join
+use Rattle.service_events.specs.Step.{CanJoin}
+use Rattle.service_tables.specs.Limits.{most_events}
 use Rattle.shared_turn.specs.Passes as turn
 use Rattle.shared_turn.specs.Places.{StartsWith, longer, merged}
 use Rattle.shared_service.specs.Standing.{Start}
@@ -63,9 +66,15 @@ told conn table steady view = record { conn = conn; home = Some table; state = s
 abbrev pub spot : ConnId → TableId → Bool → View → Place
 spot conn table steady view = record { told = told conn table steady view; has_seen = λ other. other ≡ view }
 
--- Why no connection could join, according to the state that the pass has seen by then; nothing was recorded.
+-- events can be counted that weren't recorded yet, and a further connection can join
+abbrev pub HasPlace : View → Type 0
+HasPlace view = (count_of view < most_events) × CanJoin (state_of view)
+
+-- Why no connection could join, according to the state that the pass has seen by then; nothing was recorded. Memory ran out only if one could
+-- have joined.
 abbrev pub IsRefused : TableId → Bool → JoinRefused → View → View → Type 0
-IsRefused table steady refused old new = ((conn : ConnId) → Looks (spot conn table steady old) (spot conn table steady new)) × HasCause refused new
+IsRefused table steady refused old new =
+    ((conn : ConnId) → Looks (spot conn table steady old) (spot conn table steady new)) × HasCause refused new × (refused ≡ join.OutOfMemory → HasPlace new)
 
 -- Both belong to one run. The pass also knows what the other one did: it has seen the longer of the two histories, of which each had seen a
 -- beginning, and the places of both are its own, each once.

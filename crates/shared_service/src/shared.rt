@@ -171,7 +171,7 @@ impl<F: Folder> SharedService<F> {
     /// request is an answer that was taken: it is derived while others have the turn.
     ///
     /// Refused with `EventsSpent` if all events that can be counted are recorded, then with `Gone` if the
-    /// connection isn't there; `OutOfMemory` may come in place of any.
+    /// connection isn't there, then with `OutOfMemory`.
     pub fn arrive<R: Wait>(
         &self,
         rt: &R,
@@ -261,8 +261,7 @@ impl<F: Folder> SharedService<F> {
     /// for its writer: both have seen what this one has, the joining last, and have recorded nothing.
     ///
     /// Refused with `EventsSpent` if all events that can be counted are recorded, then with
-    /// `TooManyConnections` if 256 connections are there or no number is left; `OutOfMemory` may come in
-    /// place of any.
+    /// `TooManyConnections` if 256 connections are there or no number is left, then with `OutOfMemory`.
     pub fn join<R: Wait>(
         &self,
         rt: &R,

@@ -4,7 +4,7 @@ use Rattle.service_events.specs.Step.{step}
 use Rattle.service_events.specs.declared.event.Event.TheVariants as event
 use Rattle.service_history.specs.History.{History}
 use Rattle.service_history.proofs.HistoryLemmas.{history-sound}
-use Rattle.lone_desk.proofs.DeskLemmas.{counts-stored, state-cut}
+use Rattle.lone_desk.proofs.DeskLemmas.{counts-stored, same-refusal, state-cut}
 use Rattle.lone_desk.proofs.lone.LoneDesk.join.Goals as goal
 
 -- a cut changes no state
@@ -21,3 +21,6 @@ returns-in-Ok-clause-count g c = counts-stored c.args.service.history c.join.new
 
 pub returns-in-Err-clause-crowded : goal.returns-in-Err-clause-crowded
 returns-in-Err-clause-crowded g c = λ is. c.in-Err.ensures.crowded (search rules)
+
+pub returns-in-Err-clause-not_spent : goal.returns-in-Err-clause-not_spent
+returns-in-Err-clause-not_spent g c = λ other. c.in-Err.ensures.not_spent (λ e. other (same-refusal _ _ e))

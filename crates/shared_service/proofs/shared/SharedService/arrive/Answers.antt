@@ -191,4 +191,4 @@ returns-clause-cause g c =
     let view : View = view_of old in
     let stood = stands-view old c.enter-kept.new.pass e.between e.is c.pass.invariant service stands in
     subst (λ (s : Seen). IfErr result (λ refused. IsRefusal refused (told c.args.conn s.table s.steady (view_of c.end.new.inner)))) c.pass.view_is
-    (refused-if c.args.conn old.table steady view (view_of c.end.new.inner) e.between service stood event result (rw c.deref_mut.ensures.value at c.arrive-arrived.ensures.spent) (rw c.deref_mut.ensures.value at c.arrive-arrived.ensures.not_spent) (rw c.deref_mut.ensures.value at c.arrive-arrived.ensures.gone) end.2)
+    (refused-if c.args.conn old.table steady view (view_of c.end.new.inner) e.between service stood event result (rw c.deref_mut.ensures.value at c.arrive-arrived.ensures.spent) (rw c.deref_mut.ensures.value at c.arrive-arrived.ensures.not_spent) (rw c.deref_mut.ensures.value at c.arrive-arrived.ensures.gone) (rw c.deref_mut.ensures.value at c.arrive-arrived.ensures.memory) end.2)

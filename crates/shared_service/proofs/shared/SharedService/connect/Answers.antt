@@ -52,4 +52,4 @@ returns-clause-refused g c =
     let steady = steady_or c.pass.inside.inner.start in
     let stands = stands-view c.pass.inside.inner c.enter-kept.new.pass e.between e.is c.pass.invariant service (λ start at. (e.stands start at).history) in
     subst (λ (s : Seen). IfErr c.join-joined.result (λ refused. IsRefused s.table s.steady refused s.view (view_of c.end.new.inner))) c.pass.view_is
-    (crowded-if c.pass.inside.inner.table steady view (view_of c.end.new.inner) e.between service stands c.join-joined.result (rw c.deref_mut.ensures.value at c.join-joined.ensures.spent) (rw c.deref_mut.ensures.value at c.join-joined.ensures.crowded) last)
+    (crowded-if c.pass.inside.inner.table steady view (view_of c.end.new.inner) e.between service stands c.join-joined.result (rw c.deref_mut.ensures.value at c.join-joined.ensures.spent) (rw c.deref_mut.ensures.value at c.join-joined.ensures.crowded) (rw c.deref_mut.ensures.value at c.join-joined.ensures.not_spent) (rw c.deref_mut.ensures.value at c.join-joined.ensures.memory) last)
