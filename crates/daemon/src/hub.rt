@@ -1,4 +1,4 @@
-ghost use Rattle.std.specs.Prelude.{◌≡◌, ℕ, List, Option, IsTrue, IfOk, IfErr};
+ghost use Rattle.std.specs.Prelude.{◌≡◌, ℕ, Bool, List, Option, IsTrue, OnOk, IfOk, IfErr};
 ghost use Rattle.atomic_table.specs.Seated.{TableId};
 ghost use Rattle.dbus_auth.specs.Table.{fresh};
 ghost use Rattle.service_desk.specs.Views.{View};
@@ -39,6 +39,9 @@ pub trait Hub {
     /// How many joins were refused. The count never falls, and stays at 2^64 - 1.
     ghost refused: { Self → ℕ };
 
+    /// Whether a connection joined whose parts haven't been asked for yet.
+    ghost is_ready: { Self → Bool };
+
     /// Waits for the service, and records a new connection; returns its number, and the desks of its
     /// reader and its writer at that service, which have recorded nothing yet. The writer's desk waits while there is
     /// nothing to take.
@@ -56,15 +59,17 @@ pub trait Hub {
         ensures refused { IfErr result (λ refused.
             IsNotJoined refused (view self.old) (view self.new)) }
         ensures counted { CountsRefused (refused self.old) (refused self.new) result }
+        ensures ready { OnOk result (IsTrue (is_ready self.new)) }
 
         ensures uid { uid self.new ≡ uid self.old }
         ensures guid { guid self.new ≡ guid self.old }
         ensures seed { seed self.new ≡ seed self.old }
         ensures home { home self.new ≡ home self.old };
 
-    /// What a connection's job needs besides its desks: a handshake that hasn't begun, a clock, and
-    /// the connection's salts from the first one on. The call takes no memory.
+    /// What the job of the connection that joined last needs besides its desks: a handshake that hasn't
+    /// begun, a clock, and the connection's salts from the first one on. The call takes no memory.
     fn parts(&mut self, conn: ConnId) -> (Auth, Self::Time, Salts)
+        requires ready { IsTrue (is_ready self.old) }
         ensures auth { result.0 ≡ fresh (uid self.old) (guid self.old) }
         ensures salts { result.2 ≡ salts_of (seed self.old) conn }
 

@@ -1,4 +1,5 @@
 pub mod Gathering
 pub mod Links
 pub mod Loop
+pub mod Moments
 pub mod Places

@@ -1,4 +1,4 @@
-ghost use Rattle.std.specs.Prelude.{◌≡◌, IfOk, IfErr, Some};
+ghost use Rattle.std.specs.Prelude.{◌≡◌, IfOk, IfErr, OnOk, IsSome, is_some, Some};
 ghost use Rattle.std.specs.Arc.{arc_value};
 ghost use Rattle.daemon.specs.Hubs.{Joins, IsNotJoined};
 ghost use Rattle.shared_service.specs.Passes.{noted};
@@ -125,6 +125,7 @@ impl<R: Wait + Copy, F: Folder, C: Clock> ServiceHub<R, F, C> {
         ensures seed { self.new.seed ≡ self.old.seed }
         ensures table { self.new.pass.table ≡ self.old.pass.table }
         ensures count { self.new.refused ≡ self.old.refused }
+        ensures clock { OnOk result (IsSome self.new.next) }
     {
         let shares = self.shares()?;
         let pass = &mut self.pass;
@@ -191,6 +192,8 @@ where
 
     ghost refused = { λ hub. hub.refused };
 
+    ghost is_ready = { λ hub. is_some hub.next };
+
     fn join(&mut self) -> Result<(ConnId, SharedDesk<R, F>, SharedDesk<R, F>), JoinRefused> {
         let joined = self.admit();
         if joined.is_err() {
@@ -200,7 +203,7 @@ where
     }
 
     fn parts(&mut self, conn: ConnId) -> (Auth, CommonClock<R, C>, Salts) {
-        let clock = CommonClock::new(self.rt, self.next.take());
+        let clock = CommonClock::new(self.rt, self.next.take().unwrap());
         (
             Auth::new(self.uid, self.guid),
             clock,
