@@ -1,9 +1,12 @@
 -- Gathering the passes of a service one after the other.
-use Rattle.std.proofs.Common.{◌≡◌, ℕ, List, [], ◌∷◌, ◌++◌, Some, refl, sym, ap, ◌∙◌, subst, append_assoc, append-nil}
+use Rattle.std.proofs.Common.{◌≡◌, ℕ, Bool, true, false, if◌then◌else◌, nat_le, List, [], ◌∷◌, ◌++◌, Some, refl, sym, ap, ◌∙◌, subst, append_assoc, append-nil}
+use Rattle.std.proofs.lemmas.List.Concat.{flat_map-append}
+use Rattle.std.proofs.lemmas.List.Sorted.{IsPermutation-refl, IsPermutation-trans, IsPermutation-cons, IsPermutation-middle, IsPermutation-append, IsPermutation-append_comm}
 use Rattle.std.specs.List.{AllByRecursion}
+use Rattle.std.specs.List.Sorted.{IsPermutation}
 use Rattle.atomic_table.specs.Seated.{TableId}
 use Rattle.service_tables.proofs.EachLemmas.{each-append, each-weaker}
-use Rattle.shared_turn.specs.Places.{merged}
+use Rattle.shared_turn.specs.Places.{inserted, merged}
 use Rattle.shared_service.specs.Passes.{Seen, IsGathered}
 use Rattle.service_hub.specs.Gathering.{IsBeginning, AreGathered, all_own}
 use Rattle.service_hub.specs.Links.{ServedLink, IsOf, desk_told, all_passes}
@@ -25,9 +28,40 @@ begins-through first mid last one other = record {
   );
 }
 
+-- a place that is inserted is one more
+inserted-by : (is_first : Bool) (place first : ℕ) (places : List ℕ) → IsPermutation (place ∷ places) (inserted place places)
+    → IsPermutation (place ∷ first ∷ places) (if is_first then place ∷ first ∷ places else first ∷ inserted place places)
+inserted-by true place first places rest = IsPermutation-refl (place ∷ first ∷ places)
+inserted-by false place first places rest =
+    IsPermutation-trans (place ∷ first ∷ places) (first ∷ place ∷ places) (first ∷ inserted place places) (IsPermutation-middle (place ∷ []) first places)
+    (IsPermutation-cons first (place ∷ places) (inserted place places) rest)
+
+inserted-one : (place : ℕ) (places : List ℕ) → IsPermutation (place ∷ places) (inserted place places)
+inserted-one place [] = IsPermutation-refl (place ∷ [])
+inserted-one place (first ∷ places) = inserted-by (nat_le place first) place first places (inserted-one place places)
+
+-- merging two lists loses no place, and adds none
+merged-all : (places others : List ℕ) → IsPermutation (places ++ others) (merged places others)
+merged-all [] others = IsPermutation-refl others
+merged-all (place ∷ places) others =
+    IsPermutation-trans (place ∷ (places ++ others)) (place ∷ merged places others) (inserted place (merged places others))
+    (IsPermutation-cons place (places ++ others) (merged places others) (merged-all places others)) (inserted-one place (merged places others))
+
+-- first some were added, and then more
+added-more : (own some more mid new : List ℕ) → IsPermutation (own ++ some) mid → IsPermutation (mid ++ more) new → IsPermutation (own ++ (more ++ some)) new
+added-more own some more mid new first second =
+    IsPermutation-trans (own ++ (more ++ some)) (own ++ (some ++ more)) new
+    (IsPermutation-append own own (more ++ some) (some ++ more) (IsPermutation-refl own) (IsPermutation-append_comm more some))
+    (subst (λ (l : List ℕ). IsPermutation l new) (append_assoc own some more)
+    (IsPermutation-trans ((own ++ some) ++ more) (mid ++ more) new (IsPermutation-append (own ++ some) mid more more first (IsPermutation-refl more)) second))
+
 -- at first a pass has taken over nothing
 pub gathers-none : (pass : Seen) → AreGathered pass [] pass
-gathers-none pass = record { began = begins-self pass; all = tt; own = refl }
+gathers-none pass = record {
+  began = begins-self pass;
+  all = tt;
+  own = subst (λ (l : List ℕ). IsPermutation l pass.view.own) (sym (append-nil pass.view.own)) (IsPermutation-refl pass.view.own);
+}
 
 -- it takes over one pass more
 pub gathers-one : (old mid new other : Seen) (passes : List Seen) → AreGathered old passes mid → other.table ≡ mid.table → IsGathered mid other new → AreGathered old (other ∷ passes) new
@@ -49,20 +83,18 @@ gathers-one old mid new other passes so table met =
         },
         each-weaker (λ pass. IsBeginning pass mid) (λ pass. IsBeginning pass new) (λ pass began. begins-through pass mid new began more) passes so.all,
       );
-      own = ap (λ (s : Seen). s.view.own) met.is ∙ ap (λ own. merged own other.view.own) so.own;
+      own = added-more old.view.own (all_own passes) other.view.own mid.view.own new.view.own so.own
+          (subst (λ (s : Seen). IsPermutation (mid.view.own ++ other.view.own) s.view.own) (sym met.is) (merged-all mid.view.own other.view.own));
     }
 
 -- first these were gathered, and then those
-all_own-append : (own : List ℕ) (passes before : List Seen) → all_own own (passes ++ before) ≡ all_own (all_own own before) passes
-all_own-append own [] before = refl
-all_own-append own (pass ∷ passes) before = ap (λ places. merged places pass.view.own) (all_own-append own passes before)
-
 pub gathers-more : (old mid new : Seen) (passes before : List Seen) → AreGathered old before mid → AreGathered mid passes new → AreGathered old (passes ++ before) new
 gathers-more old mid new passes before first second = record {
   began = begins-through old mid new first.began second.began;
   all = each-append (λ pass. IsBeginning pass new) passes before second.all
       (each-weaker (λ pass. IsBeginning pass mid) (λ pass. IsBeginning pass new) (λ pass began. begins-through pass mid new began second.began) before first.all);
-  own = second.own ∙ (ap (λ own. all_own own passes) first.own ∙ sym (all_own-append old.view.own passes before));
+  own = subst (λ (l : List ℕ). IsPermutation (old.view.own ++ l) new.view.own) (sym (flat_map-append (λ (pass : Seen). pass.view.own) passes before))
+      (added-more old.view.own (all_own before) (all_own passes) mid.view.own new.view.own first.own second.own);
 }
 
 -- equal services, if each is one that threads share

@@ -2,10 +2,7 @@
 ghost use Rattle.std.specs.Prelude.{◌≡◌, ◌<◌, ◌^◌, [], IfSome, Some};
 ghost use Rattle.kr_outside.specs.Faults.{KeepsSteady};
 ghost use Rattle.service_events.specs.Fates.{is_steady};
-ghost use Rattle.service_desk.specs.Views.{IsView, state_of, count_of};
-ghost use Rattle.daemon.specs.Accepts.{listening, standing};
-ghost use Rattle.shared_service.specs.Passes.{noted};
-ghost use Rattle.shared_service.specs.Tries.{IsClosed};
+ghost use Rattle.daemon.specs.Accepts.{listening};
 ghost use Rattle.std.specs.List.{AllByRecursion};
 ghost use Rattle.service_hub.specs.Gathering.{AreGathered};
 ghost use Rattle.service_hub.specs.Links.{IsOf, ServesLinks, all_passes};
