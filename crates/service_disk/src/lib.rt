@@ -8,7 +8,6 @@
 
 mod making;
 mod opening;
-mod putting;
 mod resolving;
 mod taking;
 

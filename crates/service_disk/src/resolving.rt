@@ -8,7 +8,6 @@ ghost use Rattle.service_tables.specs.Disk.{contents_in, disk_state};
 ghost use Rattle.service_tables.specs.Slots.{StoresAt, StoresIn, file_at};
 ghost use Rattle.service_tables.specs.Storing.{IsResolve};
 
-use crate::putting::put_aside;
 use collection_store::Collection;
 use kr_base::{OutOfMemory, Stem};
 use kr_outside::{Folder, Slot};
@@ -144,7 +143,7 @@ pub fn resolve<F: Folder>(disk: &mut Disk<F>, stem: Stem, buffer: &mut [u8]) -> 
     match resolve_in(collection, buffer) {
         Reread::Stays(fate) => fate,
         Reread::Goes(fate) => {
-            put_aside(disk, stem);
+            disk.put_aside(stem);
             fate
         }
     }

@@ -156,7 +156,7 @@ impl<F: Folder> Disk<F> {
     }
 
     /// Takes the collection of a stem out of those that are there, and keeps its slot, for which there is
-    /// room. It takes no memory.
+    /// room. Nothing changes if there is none. It takes no memory.
     pub fn put_aside(&mut self, stem: Stem)
         requires { vec_len self.old.spare < vec_capacity self.old.spare }
         ensures contents { contents_in self.new ≡ record (contents_in self.old) {
@@ -165,6 +165,8 @@ impl<F: Folder> Disk<F> {
         ensures slots { (disk_state self.new).slots ≡ without stem (disk_state self.old).slots }
         ensures spare { IfSome (value_at stem (disk_state self.old).slots) (λ slot.
             (disk_state self.new).spare ≡ (stem, slot) ∷ (disk_state self.old).spare) }
+        ensures missing { IfNone (value_at stem (disk_state self.old).slots)
+            (disk_state self.new ≡ disk_state self.old) }
         ensures rest { disk_state self.new ≡ record (disk_state self.old) {
           slots = (disk_state self.new).slots;
           spare = (disk_state self.new).spare;

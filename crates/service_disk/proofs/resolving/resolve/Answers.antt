@@ -63,7 +63,7 @@ returns-in-Goes-clause-disk g c =
     let there : value_at c.args.stem entries ≡ Some was = sym c.in-Some.ensures.value in
     let slot : value_at c.args.stem (slots_of (changed c.args.stem (λ _. is) entries)) ≡ Some is.slot =
     value-slots c.args.stem (changed c.args.stem (λ _. is) entries) ∙ ap (option_map (λ (v : CollectionState _). v.slot)) (changed-here c.args.stem is entries ∙ ap (option_map (λ _. is)) there) in
-    at-erased c.args.stem _ _ _ _ _ _ c.in-Goes.fate entries was is (disk_state c.args.disk.now) (disk_state c.put_aside.new.disk) (slots-ordered entries c.entries-ordered.ensures.ordered) there refl
+    at-erased c.args.stem _ _ _ _ _ _ c.in-Goes.fate entries was is (disk_state c.args.disk.now) (disk_state c.put_aside.new.self) (slots-ordered entries c.entries-ordered.ensures.ordered) there refl
     (c.put_aside.ensures.slots ∙ slots-left c.args.stem entries is)
     (of-some _ _ is.slot slot c.put_aside.ensures.spare)
     c.put_aside.ensures.rest
