@@ -17,7 +17,8 @@ use Rattle.service_tables.specs.State.{State}
 use Rattle.service_tables.specs.Opened.{Contents, opened_state}
 
 -- a folder with the slots that were made of it: one for the file of each collection, by its stem, those of the files that were left
--- alone, and that of the aliases; those of collections that were removed, the latest first; and the stems that are used, in byte order
+-- alone, and that of the aliases; those that are kept without a collection, the latest first, because their collection was removed or
+-- went, or wasn't made; and the stems that are used, in byte order
 pub record DiskState (F S : Type 0) : Type 0 where
   pub folder : F
   pub slots : List (List ℕ × S)

@@ -33,7 +33,7 @@ file_at stem rows = option_map_or (λ (row : CollectionRow). row.file) (value_at
 abbrev pub alias_file : Option AliasRows → File
 alias_file aliases = option_map_or (λ (rows : AliasRows). rows.file) aliases (Known None)
 
--- the slot of a stem: that of its collection, or of one that was removed
+-- the slot of a stem: that of its collection, or the one that is kept without one
 abbrev pub slot_at : {F S : Type 0} → List ℕ → DiskState F S → Option S
 slot_at stem disk = option_or (value_at stem disk.slots) (value_at stem disk.spare)
 
@@ -41,7 +41,7 @@ slot_at stem disk = option_or (value_at stem disk.slots) (value_at stem disk.spa
 abbrev pub LeavesKnown : {S : Type 0} → (S → Bool) → (S → ℕ) → (S → ℕ → Image → Type 0) → File → S → Type 0
 LeavesKnown is_honest moment left_since file slot = IsTrue (is_honest slot) → LeavesOnly moment left_since slot slot (IsOneOf file)
 
--- whether the slot of each collection is steady, and of each that was removed
+-- whether the slot of each collection is steady, and each that is kept without one
 abbrev pub are_steady : {F S : Type 0} → (S → Bool) → DiskState F S → Bool
 are_steady steady disk = list_all (λ slot. steady slot.1) disk.slots && list_all (λ slot. steady slot.1) disk.spare
 

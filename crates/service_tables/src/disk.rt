@@ -44,7 +44,8 @@ pub struct Disk<F: Folder> {
     pub folder: F,
     /// The collections, each with the slot of its file.
     pub collections: CollectionTable<F::Cell>,
-    /// The cells of collections that were removed, the latest first, each with its stem.
+    /// The cells without a collection, the latest first, each with its stem: those of collections that were
+    /// removed or went, and of those that weren't made.
     pub spare: Vec<(Stem, FileCell<F::Cell>)>,
     /// The stems that are used: those of all keyring files at the start, including those that were left
     /// alone, those that aliases stood for then, and those of all collections that were made since.
