@@ -2,10 +2,8 @@
 use Rattle.std.proofs.Common.{◌≡◌, ◌↔◌, ◌||◌, inl, inr, ℕ, Bool, true, false, ◌&&◌, IsTrue, IfNone, List, Contains, Option, Some, None, refl, sym, ap, subst, ◌∙◌}
 use Rattle.std.specs.List.{list_all}
 use Rattle.std.specs.Option.{is_some, option_map, option_or}
-use Rattle.std.proofs.lemmas.Map.Made.{lookup-map_values}
 use Rattle.kr_base.specs.Attributes.{is_name, value_at}
 use Rattle.kr_outside.specs.RenameDisk.{Image, Only}
-use Rattle.replace_slot.specs.Cell.{CellState}
 use Rattle.folder_store.specs.Loads.{IsFree}
 use Rattle.folder_store.specs.Names.{IsRingName}
 use Rattle.collection_store.specs.State.{CollectionState}
@@ -19,7 +17,7 @@ use Rattle.service_tables.proofs.DiskLemmas.{value-slots}
 use Rattle.service_tables.proofs.SlotLemmas.{of-some}
 use Rattle.service_disk.specs.Making.{IsFreeStem, KeepsFolder, is_steady_with}
 use Rattle.service_disk.specs.Taking.{RefusesSlot, TakesNew, TakesSlot, without_first}
-use Rattle.service_disk.proofs.TakingLemmas.{all-without, each, itself, names-apart, without-apart}
+use Rattle.service_disk.proofs.TakingLemmas.{all-without, itself, names-apart, without-apart}
 
 -- ---- what is at a stem without a collection
 
@@ -36,13 +34,6 @@ module _ {S : Type 0} (stem : List ℕ) where
   no-slot entries off =
       value-slots stem entries
       ∙ none-mapped (λ (c : CollectionState S). c.slot) (value_at stem entries) (sym (ap is_some (value-rows stem entries) ∙ is_some-mapped row_of (value_at stem entries)) ∙ off)
-
-  -- the slots of cells that are kept
-  abbrev pub kept_slots : List (List ℕ × CellState S) → List (List ℕ × S)
-  kept_slots cells = each stem (λ (cell : CellState S). cell.slot) cells
-
-  pub slot-kept : (cells : List (List ℕ × CellState S)) → value_at stem (kept_slots cells) ≡ option_map (λ (cell : CellState S). cell.slot) (value_at stem cells)
-  slot-kept cells = lookup-map_values (λ (cell : CellState S). cell.slot) (is_name stem) cells
 
 or-true : (b : Bool) → (b || true) ≡ true
 or-true true = refl
@@ -114,12 +105,6 @@ module _ {F S : Type 0} (folder_honest folder_steady : F → Bool) (folder_fault
             ∙ ap (λ b. folder_steady old.folder && (all old.slots && b)) (all-without stem is_steady slot old.spare there);
         rest = is ∙ (λ i. record old { folder = (sym is i).folder; spare = (sym is i).spare });
       }
-
-  -- the same of a cell: a crash leaves no file of it
-  pub kept-empty : (slot : S) (old : DiskState F S) → IsFreeStem folder_honest images folder_leaves made is_honest may_leave stem old → value_at stem old.slots ≡ None → value_at stem old.spare ≡ Some slot
-      → IsTrue (is_honest slot) → Only None (may_leave slot)
-  kept-empty slot old free unlisted there =
-      of-some (λ slot. IsTrue (is_honest slot) → Only None (may_leave slot)) (slot_at stem old) slot (ap (λ o. option_or o (value_at stem old.spare)) unlisted ∙ there) free.kept
 
   -- the name of a stem without a slot
   pub name-free : (name : List ℕ) (old : DiskState F S) → IsFreeStem folder_honest images folder_leaves made is_honest may_leave stem old → value_at stem old.slots ≡ None → value_at stem old.spare ≡ None

@@ -1,5 +1,5 @@
 -- The slot that is kept for a stem: the first one of it, and what is left without it.
-use Rattle.std.proofs.Common.{◌≡◌, bytes_eq, ℕ, suc, ◌+◌, ◌<◌, ◌≤◌, Bool, true, false, ◌&&◌, cond, List, [], ◌∷◌, ◌++◌, length, get_or, take, drop, map, Some, None, refl, sym, ap, subst, ◌∙◌, append_assoc, arith}
+use Rattle.std.proofs.Common.{◌≡◌, bytes_eq, ℕ, suc, ◌+◌, ◌<◌, ◌≤◌, Bool, true, false, ◌&&◌, cond, List, [], ◌∷◌, ◌++◌, length, get_or, take, drop, Some, None, refl, sym, ap, subst, ◌∙◌, append_assoc, arith}
 use Rattle.std.specs.Cmp.Lexicographic.{nat_list_cmp_total, slice_cmp}
 use Rattle.std.specs.List.{list_all}
 use Rattle.std.specs.Ordering.{is_eq, nat_cmp}
@@ -126,14 +126,3 @@ module _ {V : Type 0} (stem : List ℕ) where
           | false ↦ λ off. rw off (swapped (test was) (test e.1) (all (without_first stem more)) ∙ ap (λ b. test e.1 && b) (all-without was more (rw off at at)))
         ] in
         pass (is_name stem e.0) refl
-
-module _ {V W : Type 0} (stem : List ℕ) (f : V → W) where
-  abbrev pub each : List (List ℕ × V) → List (List ℕ × W)
-  each entries = map (λ (e : List ℕ × V). (e.0, f e.1)) entries
-
-  pub each-without : (entries : List (List ℕ × V)) → each (without_first stem entries) ≡ without_first stem (each entries)
-  each-without [] = refl
-  each-without (e ∷ more) =
-      let pass : (b : Bool) → is_name stem e.0 ≡ b → each (without_first stem (e ∷ more)) ≡ without_first stem (each (e ∷ more)) =
-      elim [ true ↦ λ is. rw is refl | false ↦ λ off. rw off (ap (λ t. (e.0, f e.1) ∷ t) (each-without more)) ] in
-      pass (is_name stem e.0) refl

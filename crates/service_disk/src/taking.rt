@@ -16,11 +16,11 @@ use collection_store::Collection;
 use kr_base::{OutOfMemory, Stem};
 use kr_outside::{Folder, Slot};
 use replace_slot::FileCell;
-use service_tables::Disk;
+use service_tables::{Disk, KeptSlot};
 use stem_choice::{a_used_stem_is_in_the_list, adding_a_stem_uses_it_alone};
 
-// The place of the first cell that was kept for a stem.
-fn place_of<S: Slot>(spare: &[(Stem, FileCell<S>)], stem: &Stem) -> Option<usize>
+// The place of the first slot that was kept for a stem.
+fn place_of<S: Slot>(spare: &[(Stem, KeptSlot<S>)], stem: &Stem) -> Option<usize>
     ensures found { IfSome result (IsFirstOf stem.now spare.now) }
     ensures none { IfNone result (value_at stem.now spare.now ≡ None) }
 {
@@ -32,8 +32,8 @@ fn place_of<S: Slot>(spare: &[(Stem, FileCell<S>)], stem: &Stem) -> Option<usize
     None
 }
 
-// Takes the first cell out that was kept for a stem.
-fn take_spare<S: Slot>(spare: &mut Vec<(Stem, FileCell<S>)>, stem: &Stem) -> Option<FileCell<S>>
+// Takes the first slot out that was kept for a stem.
+fn take_spare<S: Slot>(spare: &mut Vec<(Stem, KeptSlot<S>)>, stem: &Stem) -> Option<KeptSlot<S>>
     ensures value { result ≡ value_at stem.now spare.old.items }
     ensures rest { spare.new.items ≡ without_first stem.now spare.old.items }
     ensures room { vec_capacity spare.old - vec_len spare.old
@@ -84,7 +84,7 @@ pub fn take_cell<F: Folder>(
         ≤ vec_capacity disk.new.spare - vec_len disk.new.spare }
 {
     match take_spare(&mut disk.spare, stem) {
-        Some(cell) => Ok(FileCell::known(cell.into_slot(), None)),
+        Some(kept) => Ok(kept.into_cell()),
         None => new_cell(&mut disk.folder, name),
     }
 }
@@ -99,20 +99,23 @@ fn others_were_unused()
     adding_a_stem_uses_it_alone();
 }
 
-/// Keeps the cell of a stem that has no collection. It takes no memory.
+/// Keeps the slot of a stem that has no collection and no file. It takes no memory.
 pub fn keep<F: Folder>(disk: &mut Disk<F>, stem: Stem, cell: FileCell<F::Cell>)
-    requires { vec_len disk.old.spare < vec_capacity disk.old.spare }
+    requires room { vec_len disk.old.spare < vec_capacity disk.old.spare }
+    requires gone { cell.file ≡ Known None }
     ensures contents { contents_in disk.new ≡ contents_in disk.old }
     ensures disk { disk_state disk.new ≡ record (disk_state disk.old) {
       spare = (stem, cell.slot) ∷ (disk_state disk.old).spare;
     } }
 {
-    disk.spare.insert(0, (stem, cell)).unwrap();
+    let kept = KeptSlot::new(cell.into_slot());
+    disk.spare.insert(0, (stem, kept)).unwrap();
 }
 
 /// The same once its stem is used, of which a copy is given. It takes no memory.
 pub fn keep_used<F: Folder>(disk: &mut Disk<F>, stem: Stem, copy: Stem, cell: FileCell<F::Cell>)
     requires spare { vec_len disk.old.spare < vec_capacity disk.old.spare }
+    requires gone { cell.file ≡ Known None }
     requires used { 0 < disk.old.used.room }
     requires same { copy ≡ stem }
     ensures contents { contents_in disk.new ≡ record (contents_in disk.old) {

@@ -1,7 +1,8 @@
-ghost use Rattle.std.specs.Prelude.{◌≡◌, ◌≢◌, ◌<◌, ◌≤◌, [], IsTrue, IfOk, IfSome, OnOk, OnErr, IsErrOf, Err};
-ghost use Rattle.kr_base.specs.Attributes.{value_at};
+ghost use Rattle.std.specs.Prelude.{◌≡◌, ◌≢◌, ◌<◌, ◌≤◌, [], IsTrue, IfOk, IfSome, OnOk, OnErr, IsErrOf, Err, None};
+ghost use Rattle.std.specs.List.{AllByRecursion};
 ghost use Rattle.service_tables.specs.Aliases.{rows_in};
-ghost use Rattle.service_tables.specs.Slots.{LeavesKnown, file_at};
+ghost use Rattle.replace_slot.specs.Cell.{Known};
+ghost use Rattle.service_tables.specs.Slots.{LeavesKnown, file_at, slot_at};
 ghost use Rattle.folder_store.specs.Ring.{IsAsFound};
 ghost use Rattle.collection_table.specs.Entries.{rows_of as collections_of};
 ghost use Rattle.service_tables.specs.Disk.{IsLoaded, FailedToLoad, disk_state};
@@ -336,9 +337,10 @@ impl<F: Folder> Service<F> {
     }
 
     /// While no call runs, a crash leaves of a collection's file what is known of it: its image, or one of
-    /// the two that it may have if it is in doubt. It does nothing.
+    /// the two that it may have if it is in doubt. It leaves no file of a stem without a collection whose
+    /// slot is kept. It does nothing.
     pub fn untouched(&self, stem: &Stem)
-        ensures { IfSome (value_at stem.now self.now.disk.slots) (LeavesKnown
+        ensures { IfSome (slot_at stem.now self.now.disk) (LeavesKnown
             F.Cell.is_honest F.Cell.moment F.Cell.left_since
             (file_at stem.now self.now.history.state.collections)) }
     {
@@ -351,6 +353,15 @@ impl<F: Folder> Service<F> {
             F.Cell.is_honest F.Cell.moment F.Cell.left_since rows.file self.now.disk.aliases) }
     {
         self.machine.untouched_aliases();
+    }
+
+    /// While no call runs, a crash leaves no file of a slot that is kept without a collection: one that was
+    /// removed doesn't come back. It does nothing.
+    pub fn untouched_kept(&self)
+        ensures { AllByRecursion (λ kept. LeavesKnown F.Cell.is_honest F.Cell.moment
+            F.Cell.left_since (Known None) kept.1) self.now.disk.spare }
+    {
+        self.machine.untouched_kept();
     }
 
     /// The events since the last cut, in order.

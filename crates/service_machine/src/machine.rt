@@ -1,8 +1,9 @@
-ghost use Rattle.std.specs.Prelude.{◌≡◌, ◌≢◌, ℕ, List, ◌<◌, ◌^◌, ◌++◌, [], Ok, Err, true, false, IsTrue, IfOk, IfSome, OnOk, OnErr, IsErrOf, ◌+◌};
-ghost use Rattle.kr_base.specs.Attributes.{value_at};
+ghost use Rattle.std.specs.Prelude.{◌≡◌, ◌≢◌, ℕ, List, ◌<◌, ◌^◌, ◌++◌, [], None, Ok, Err, true, false, IsTrue, IfOk, IfSome, OnOk, OnErr, IsErrOf, ◌+◌};
+ghost use Rattle.std.specs.List.{AllByRecursion};
 ghost use Rattle.collection_table.specs.Entries.{rows_of as collections_of};
 ghost use Rattle.service_tables.specs.Aliases.{rows_in};
-ghost use Rattle.service_tables.specs.Slots.{LeavesKnown, file_at};
+ghost use Rattle.replace_slot.specs.Cell.{Known};
+ghost use Rattle.service_tables.specs.Slots.{LeavesKnown, file_at, slot_at};
 ghost use Rattle.folder_store.specs.Ring.{IsAsFound};
 ghost use Rattle.service_tables.specs.Connections.{HasRoom, has, waiting_for, desk_of};
 ghost use Rattle.service_tables.specs.Disk.{IsLoaded, FailedToLoad, disk_state};
@@ -439,9 +440,10 @@ impl<F: Folder> Machine<F> {
     }
 
     /// While no call runs, a crash leaves of a collection's file what is known of it: its image, or one of
-    /// the two that it may have if it is in doubt. It does nothing.
+    /// the two that it may have if it is in doubt. It leaves no file of a stem without a collection whose
+    /// slot is kept. It does nothing.
     pub fn untouched(&self, stem: &Stem)
-        ensures { IfSome (value_at stem.now (disk_of self.now).slots) (LeavesKnown
+        ensures { IfSome (slot_at stem.now (disk_of self.now)) (LeavesKnown
             F.Cell.is_honest F.Cell.moment F.Cell.left_since
             (file_at stem.now (rows_of self.now).collections)) }
     {
@@ -455,6 +457,15 @@ impl<F: Folder> Machine<F> {
             F.Cell.moment F.Cell.left_since rows.file (disk_of self.now).aliases) }
     {
         self.tables.disk.untouched_aliases();
+    }
+
+    /// While no call runs, a crash leaves no file of a slot that is kept without a collection. It does
+    /// nothing.
+    pub fn untouched_kept(&self)
+        ensures { AllByRecursion (λ kept. LeavesKnown F.Cell.is_honest F.Cell.moment
+            F.Cell.left_since (Known None) kept.1) (disk_of self.now).spare }
+    {
+        self.tables.disk.untouched_kept();
     }
 
     /// Marks that a connection asks no more. It takes no memory.

@@ -32,7 +32,7 @@ abbrev pub disk_state : {F S : Type 0} → Disk F S → DiskState F S
 disk_state disk = record {
   folder = disk.folder;
   slots = slots_of disk.collections.entries;
-  spare = map (λ entry. (entry.0, entry.1.slot)) disk.spare.items;
+  spare = disk.spare.items;
   used = disk.used.stems;
   left_alone = disk.left_alone.items;
   aliases = slot_in disk.aliases;

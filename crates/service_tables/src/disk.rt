@@ -8,12 +8,11 @@ ghost use Rattle.service_tables.specs.declared.disk.OpenRefused.TheVariants as O
 ghost use Rattle.service_tables.specs.Opened.{opened_state};
 ghost use Rattle.service_tables.specs.Sound.{AreSoundContents};
 
-use crate::KeptAliases;
+use crate::{KeptAliases, KeptSlot};
 use collection_table::CollectionTable;
 use folder_store::{LeftAlone, LoadRefused, Loaded, Ring, load};
 use kr_base::{OutOfMemory, Stem};
 use kr_outside::{Folder, Slot};
-use replace_slot::FileCell;
 use std::alloc::{AllocError, Global};
 use stem_choice::{UsedStems, adding_a_stem_uses_it_alone};
 use thiserror::Error;
@@ -44,9 +43,9 @@ pub struct Disk<F: Folder> {
     pub folder: F,
     /// The collections, each with the slot of its file.
     pub collections: CollectionTable<F::Cell>,
-    /// The cells without a collection, the latest first, each with its stem: those of collections that were
-    /// removed or went, and of those that weren't made.
-    pub spare: Vec<(Stem, FileCell<F::Cell>)>,
+    /// The slots without a collection, the latest first, each with its stem: those of collections that were
+    /// removed or went, and of those that weren't made. A crash leaves no file of an honest one.
+    pub spare: Vec<(Stem, KeptSlot<F::Cell>)>,
     /// The stems that are used: those of all keyring files at the start, including those that were left
     /// alone, those that aliases stood for then, and those of all collections that were made since.
     pub used: UsedStems,

@@ -16,6 +16,7 @@ mod desks;
 mod disk;
 mod fate;
 mod keeping;
+mod kept;
 mod known;
 mod objects;
 mod paths;
@@ -27,6 +28,7 @@ pub use aliases::KeptAliases;
 pub use connections::Connections;
 pub use disk::{Disk, OpenRefused};
 pub use fate::Fate;
+pub use kept::KeptSlot;
 pub use known::{known_alias, known_item, known_secret, known_text};
 pub use paths::{
     collection_path, is_new, item_path, item_paths, locked_paths, put_path, unlocked_paths,

@@ -1,16 +1,17 @@
 // Changes of collections, and of their files.
-ghost use Rattle.std.specs.Prelude.{◌≡◌, ◌<◌, ℕ, IfSome, IfNone, ◌∷◌, true, IfOk, OnOk, OnErr, IsOk, IsSome, Some, None, Err, vec_capacity, vec_len};
+ghost use Rattle.std.specs.Prelude.{◌≡◌, ◌<◌, ℕ, IfSome, IfNone, ◌∷◌, true, IfOk, OnOk, OnErr, IsOk, IsSome, IsTrue, Some, None, Err, vec_capacity, vec_len};
 ghost use Rattle.collection_store.specs.Changes.{content_changed};
 ghost use Rattle.collection_store.specs.Storable.{answer_of, storable};
 ghost use Rattle.collection_store.specs.declared.refused.ChangeRefused.TheVariants as ChangeRefused;
 ghost use Rattle.collection_table.specs.Entries.{row_of, without};
 ghost use Rattle.kr_base.specs.Attributes.{value_at};
+ghost use Rattle.kr_outside.specs.RenameDisk.{Only};
 ghost use Rattle.collection_table.specs.Rows.{is_open};
 ghost use Rattle.service_tables.specs.Disk.{contents_in, disk_state};
 ghost use Rattle.service_tables.specs.Slots.{StoresAt, StoresIn};
 ghost use Rattle.service_tables.specs.Storing.{IsStoring, answered_at, fate_by, placed_answer, row_changed, row_erased, rows_erased, rows_stored, storable_at};
 
-use crate::{Disk, Fate};
+use crate::{Disk, Fate, KeptSlot};
 use collection_store::{Change, ChangeRefused, Changed, Collection};
 use kr_base::{ItemId, OutOfMemory, Stem};
 use kr_outside::{Folder, Slot};
@@ -156,9 +157,12 @@ impl<F: Folder> Disk<F> {
     }
 
     /// Takes the collection of a stem out of those that are there, and keeps its slot, for which there is
-    /// room. Nothing changes if there is none. It takes no memory.
+    /// room: a crash leaves no file of it if it is honest. Nothing changes if there is none. It takes no
+    /// memory.
     pub fn put_aside(&mut self, stem: Stem)
-        requires { vec_len self.old.spare < vec_capacity self.old.spare }
+        requires room { vec_len self.old.spare < vec_capacity self.old.spare }
+        requires gone { IfSome (value_at stem (disk_state self.old).slots) (λ slot.
+            IsTrue (F.Cell.is_honest slot) → Only None (F.Cell.may_leave slot)) }
         ensures contents { contents_in self.new ≡ record (contents_in self.old) {
           collections = without stem (contents_in self.old).collections;
         } }
@@ -173,9 +177,8 @@ impl<F: Folder> Disk<F> {
         } }
     {
         if let Some(collection) = self.collections.remove(&stem) {
-            self.spare
-                .insert(0, (stem, collection.into_cell()))
-                .unwrap();
+            let kept = KeptSlot::new(collection.into_cell().into_slot());
+            self.spare.insert(0, (stem, kept)).unwrap();
         }
     }
 

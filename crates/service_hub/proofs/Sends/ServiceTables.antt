@@ -9,6 +9,7 @@ use Rattle.service_tables.specs.contracts.connections.Connections as Connections
 use Rattle.service_tables.specs.contracts.desk.Desk as Desk
 use Rattle.service_tables.specs.contracts.disk.Disk as Disk
 use Rattle.service_tables.specs.contracts.fate.Fate as Fate
+use Rattle.service_tables.specs.contracts.kept.KeptSlot as KeptSlot
 use Rattle.service_hub.proofs.Sends.CollectionTable.{CollectionTable-send}
 use Rattle.service_hub.proofs.Sends.AliasTable.{AliasTable-send}
 use Rattle.service_hub.proofs.Sends.FolderStore.{LeftAlone-send}
@@ -30,5 +31,8 @@ module _ (S : RattleType) (s : slot.Ghosts S.Denot) where
   KeptAliases-send : IsSend S → IsSend (KeptAliases.the_field S s).row
   KeptAliases-send of-slot = search (AliasTable-send, FileCell-send, sendable) depth 40
 
+  KeptSlot-send : IsSend S → IsSend (KeptSlot.the_row S s)
+  KeptSlot-send of-slot = search sendable depth 40
+
 pub Disk-send : (F S : RattleType) (s : slot.Ghosts S.Denot) → IsSend F → IsSend S → IsSend (Disk.the_field F S s).row
-Disk-send F S s of-folder of-slot = search (CollectionTable-send, LeftAlone-send, KeptAliases-send, FileCell-send, Stem-send, UsedStems-send, sendable, heap.crosses) depth 40 fits 20000
+Disk-send F S s of-folder of-slot = search (CollectionTable-send, LeftAlone-send, KeptAliases-send, KeptSlot-send, Stem-send, UsedStems-send, sendable, heap.crosses) depth 40 fits 20000

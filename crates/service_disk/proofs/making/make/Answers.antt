@@ -31,6 +31,13 @@ returns-in_err-cell-clause-free g c =
     frees-refused folder.is_honest folder.is_steady folder.faults folder.images folder.may_leave folder.made slots.is_honest slots.is_steady slots.faults slots.may_leave c.args.stem
     (disk_state c.args.disk.now) (disk_state c.prepare.new.disk) (disk_state c.take_cell.new.disk) c.prepare.ensures.disk c.in_err-cell.ensures.refused c.requires.free
 
+-- a slot that is kept has no file
+pub keep_used-requires-clause-gone : goal.keep_used-requires-clause-gone
+keep_used-requires-clause-gone g c = (rw c.in-Err-FaultBefore.field-0-is at c.in-Err-FaultBefore.ensures.before) ∙ c.in_ok-cell.ensures.file
+
+pub keep-requires-clause-gone : goal.keep-requires-clause-gone
+keep-requires-clause-gone g c = ap (λ (cell : CellState _). cell.file) (rw c.in-Err-OutOfMemory.field-0-is at c.in-Err-OutOfMemory.ensures.memory) ∙ c.in_ok-cell.ensures.file
+
 -- it was stored
 pub returns-in-Ok-clause-disk : goal.returns-in-Ok-clause-disk
 returns-in-Ok-clause-disk g c =

@@ -43,6 +43,20 @@ returns-in-Stays-clause-disk g c =
     at-changed c.args.stem _ _ _ _ _ _ c.in-Stays.fate entries c.in-Some.collection.now is old _ (slots-ordered entries c.entries-ordered.ensures.ordered) (sym c.in-Some.ensures.value) refl
     (ap (λ slots. record old { slots = slots }) (slots-changed c.args.stem is entries)) c.in-Stays.ensures.slot _ refl
 
+-- a crash leaves no file of one that goes
+pub put_aside-requires-clause-gone : goal.put_aside-requires-clause-gone
+put_aside-requires-clause-gone g c =
+    let slot_is = g.F.Cell.Slot in
+    let entries = c.args.disk.now.collections.entries in
+    let was = c.in-Some.collection.now in
+    let is = c.resolve_in.new.collection in
+    let there : value_at c.args.stem entries ≡ Some was = sym c.in-Some.ensures.value in
+    let slot : value_at c.args.stem (slots_of (changed c.args.stem (λ _. is) entries)) ≡ Some is.slot =
+    value-slots c.args.stem (changed c.args.stem (λ _. is) entries) ∙ ap (option_map (λ (v : CollectionState _). v.slot)) (changed-here c.args.stem is entries ∙ ap (option_map (λ _. is)) there) in
+    let stores = gone-stores slot_is.is_honest slot_is.is_steady slot_is.faults slot_is.moment slot_is.left_since slot_is.may_leave c.in-Goes.fate was.file is.file (row_of was) was.slot is.slot
+    c.in-Goes.ensures.kind refl (ap (λ (row : CollectionRow). row.file) c.in-Goes.ensures.row) (sym c.in-Goes.ensures.stays) c.in-Goes.ensures.slot in
+    rw slot stores.crash
+
 -- it goes, and its slot is put aside
 pub returns-in-Goes-clause-resolved : goal.returns-in-Goes-clause-resolved
 returns-in-Goes-clause-resolved g c =

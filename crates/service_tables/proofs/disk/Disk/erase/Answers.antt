@@ -1,6 +1,7 @@
-use Rattle.std.proofs.Common.{◌≡◌, Some, true, false, refl, sym, ap, subst, ◌∙◌, rules}
+use Rattle.std.proofs.Common.{◌≡◌, Some, true, false, IsTrue, refl, sym, ap, subst, ◌∙◌, rules}
 use Rattle.std.specs.Option.{option_map}
 use Rattle.kr_base.specs.Attributes.{value_at}
+use Rattle.replace_slot.specs.Cell.{LeavesFile}
 use Rattle.collection_store.specs.State.{CollectionState}
 use Rattle.collection_table.specs.Entries.{changed, rows_of, slots_of}
 use Rattle.collection_table.specs.Rows.{CollectionRow, Rows, perhaps_removed}
@@ -20,7 +21,19 @@ unreachable-requires g c = let wrong : false ≡ true = open-missing c.args.stem
 pub erase_in-requires : goal.erase_in-requires
 erase_in-requires g c = some-is c.in-Some.collection.now.held (open-there c.args.stem c.args.self.now.collections.entries c.in-Some.collection.now c.in-Some.ensures.value ∙ c.requires.open)
 
--- the file was removed: the collection goes, and its slot is put aside
+-- the file was removed: a crash leaves none
+pub put_aside-requires-clause-gone : goal.put_aside-requires-clause-gone
+put_aside-requires-clause-gone g c =
+    let slot_is = g.F.Cell.Slot in
+    let entries = c.args.self.now.collections.entries in
+    let is = c.erase_in.new.collection in
+    let there : value_at c.args.stem entries ≡ Some c.in-Some.collection.now = sym c.in-Some.ensures.value in
+    let slot : value_at c.args.stem (slots_of (changed c.args.stem (λ _. is) entries)) ≡ Some is.slot =
+    value-slots c.args.stem (changed c.args.stem (λ _. is) entries) ∙ ap (option_map (λ (v : CollectionState _). v.slot)) (changed-here c.args.stem is entries ∙ ap (option_map (λ _. is)) there) in
+    rw slot
+    (subst (λ file. IsTrue (slot_is.is_honest is.slot) → LeavesFile file (slot_is.may_leave is.slot)) (ap (λ (row : CollectionRow). row.file) c.if-erase_in.ensures.row) c.if-erase_in.ensures.slot.crash)
+
+-- the collection goes, and its slot is put aside
 pub returns-then-erase_in-clause-erased : goal.returns-then-erase_in-clause-erased
 returns-then-erase_in-clause-erased g c =
     c.put_aside.ensures.contents

@@ -5,7 +5,16 @@ use Rattle.collection_table.specs.Entries.{slots_of}
 use Rattle.collection_table.proofs.EntryLemmas.{others_none}
 use Rattle.service_tables.specs.Disk.{disk_state}
 use Rattle.service_tables.proofs.DiskLemmas.{value-slots}
+use Rattle.service_tables.proofs.SlotLemmas.{of-some}
 use Rattle.service_tables.proofs.disk.Disk.put_aside.Goals as goal
+
+-- it is the slot of the collection that is kept
+pub new-kept-requires : goal.new-kept-requires
+new-kept-requires g c =
+    rw (c.into_slot.ensures.slot ∙ c.into_cell.ensures.slot)
+    (of-some _ _ c.in-Some.collection.slot
+    (value-slots c.args.stem c.args.self.now.collections.entries ∙ ap (option_map (λ (collection : CollectionState _). collection.slot)) (sym c.in-Some.ensures.value))
+    c.requires.gone)
 
 -- the slot of the collection is the first of those that are put aside
 pub returns-in-Some-clause-spare : goal.returns-in-Some-clause-spare
