@@ -332,11 +332,11 @@ map-err (Err e) P Q weaker is = weaker is
 -- a plan said otherwise makes the same slot
 pub keeps-as : {F S : Type 0} (folder_honest folder_steady : F → Bool) (folder_faults : F → ℕ) (images : F → List ℕ → Image)
     (folder_leaves : F → List ℕ → Image → Type 0) (names_made : F → List (List ℕ)) (is_honest is_steady : S → Bool) (faults : S → ℕ)
-    (old new : DiskState F S) (plan other : Plan) → plan ≡ other
-    → KeepsSlotOrAll folder_honest folder_steady folder_faults images folder_leaves names_made is_honest is_steady faults other old new
-    → KeepsSlotOrAll folder_honest folder_steady folder_faults images folder_leaves names_made is_honest is_steady faults plan old new
-keeps-as folder_honest folder_steady folder_faults images folder_leaves names_made is_honest is_steady faults old new plan other same its =
-    subst (λ p. KeepsSlotOrAll folder_honest folder_steady folder_faults images folder_leaves names_made is_honest is_steady faults p old new) (sym same) its
+    (left_since : S → ℕ → Image → Type 0) (old new : DiskState F S) (plan other : Plan) → plan ≡ other
+    → KeepsSlotOrAll folder_honest folder_steady folder_faults images folder_leaves names_made is_honest is_steady faults left_since other old new
+    → KeepsSlotOrAll folder_honest folder_steady folder_faults images folder_leaves names_made is_honest is_steady faults left_since plan old new
+keeps-as folder_honest folder_steady folder_faults images folder_leaves names_made is_honest is_steady faults left_since old new plan other same its =
+    subst (λ p. KeepsSlotOrAll folder_honest folder_steady folder_faults images folder_leaves names_made is_honest is_steady faults left_since p old new) (sym same) its
 
 -- ---- what a derived key leads to
 

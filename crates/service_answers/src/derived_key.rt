@@ -153,7 +153,7 @@ pub fn settle<F: Folder>(
         F.Cell.may_leave (disk_of tables.new) }
     ensures unchanged { OnErr result (rows_of tables.new ≡ rows_of tables.old) }
     ensures kept { OnErr result (KeepsSlotOrAll F.is_honest F.is_steady F.faults F.images
-        F.may_leave F.made F.Cell.is_honest F.Cell.is_steady F.Cell.faults
+        F.may_leave F.made F.Cell.is_honest F.Cell.is_steady F.Cell.faults F.Cell.left_since
         (derived prompt round (record { salt = key.salt; iterations = key.iterations })
         (asked conn (record { now = now; value = key.password }) (rows_of tables.old)))
         (disk_of tables.old) (disk_of tables.new)) }
@@ -497,7 +497,7 @@ fn create<F: Folder>(
         F.Cell.may_leave (disk_of tables.new) }
     ensures unchanged { OnErr result (rows_of tables.new ≡ rows_of tables.old) }
     ensures kept { OnErr result (KeepsSlotOrAll F.is_honest F.is_steady F.faults F.images
-        F.may_leave F.made F.Cell.is_honest F.Cell.is_steady F.Cell.faults
+        F.may_leave F.made F.Cell.is_honest F.Cell.is_steady F.Cell.faults F.Cell.left_since
         (collection_made prompt label alias salt
         (record { salt = key.salt; iterations = key.iterations })
         (asked conn (record { now = now; value = key.password }) (rows_of tables.old)))
@@ -541,7 +541,7 @@ fn make_new<F: Folder>(
         F.Cell.may_leave (disk_of tables.new) }
     ensures unchanged { OnErr result (rows_of tables.new ≡ rows_of tables.old) }
     ensures kept { OnErr result (KeepsSlotOrAll F.is_honest F.is_steady F.faults F.images
-        F.may_leave F.made F.Cell.is_honest F.Cell.is_steady F.Cell.faults
+        F.may_leave F.made F.Cell.is_honest F.Cell.is_steady F.Cell.faults F.Cell.left_since
         (Asks (Make (chosen label (rows_of tables.old).used) label
         (record { salt = key.salt; iterations = key.iterations }))
         (making_ended prompt alias (chosen label (rows_of tables.old).used)))

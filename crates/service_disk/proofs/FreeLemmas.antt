@@ -68,12 +68,12 @@ were-unused listed adding stem other used off =
 -- ---- a slot that is taken
 
 module _ {F S : Type 0} (folder_honest folder_steady : F → Bool) (folder_faults : F → ℕ) (images : F → List ℕ → Image) (folder_leaves : F → List ℕ → Image → Type 0)
-    (made : F → List (List ℕ)) (is_honest is_steady : S → Bool) (faults : S → ℕ) (may_leave : S → Image → Type 0) (stem : List ℕ) where
+    (made : F → List (List ℕ)) (is_honest is_steady : S → Bool) (faults : S → ℕ) (left_since : S → ℕ → Image → Type 0) (may_leave : S → Image → Type 0) (stem : List ℕ) where
   abbrev Keeps : F → F → Type 0
   Keeps old new = KeepsFolder folder_honest folder_steady folder_faults images folder_leaves made old new
 
   abbrev Takes : S → DiskState F S → DiskState F S → Type 0
-  Takes slot old new = TakesSlot folder_honest folder_steady folder_faults images folder_leaves made is_honest is_steady faults may_leave stem slot old new
+  Takes slot old new = TakesSlot folder_honest folder_steady folder_faults images folder_leaves made is_honest is_steady faults left_since may_leave stem slot old new
 
   abbrev steady_with : DiskState F S → Bool
   steady_with disk = is_steady_with folder_steady is_steady disk
@@ -115,7 +115,7 @@ module _ {F S : Type 0} (folder_honest folder_steady : F → Bool) (folder_fault
 
   -- one that was made
   pub takes-new : (name : List ℕ) (slot : S) (old new : DiskState F S) (folder : F) → value_at stem old.slots ≡ None → value_at stem old.spare ≡ None → IsRingName name stem → Keeps old.folder folder
-      → TakesNew folder_honest folder_steady made is_honest is_steady faults may_leave name slot old.folder folder → new ≡ record old { folder = folder } → Takes slot old new
+      → TakesNew folder_honest folder_steady made is_honest is_steady faults left_since may_leave name slot old.folder folder → new ≡ record old { folder = folder } → Takes slot old new
   takes-new name slot old new folder unlisted none named keeps takes is =
       let same : new.folder ≡ folder = ap (λ (d : DiskState F S). d.folder) is in
       record {

@@ -21,15 +21,15 @@ use Rattle.service_disk.proofs.InsertedLemmas.{all-inserted, value-beside, value
 use Rattle.service_disk.proofs.TakingLemmas.{itself, names-one}
 
 module _ {F S : Type 0} (folder_honest folder_steady : F → Bool) (folder_faults : F → ℕ) (images : F → List ℕ → Image) (folder_leaves : F → List ℕ → Image → Type 0)
-    (made : F → List (List ℕ)) (is_honest is_steady : S → Bool) (faults : S → ℕ) (may_leave : S → Image → Type 0) (stem : List ℕ) where
+    (made : F → List (List ℕ)) (is_honest is_steady : S → Bool) (faults : S → ℕ) (left_since : S → ℕ → Image → Type 0) (may_leave : S → Image → Type 0) (stem : List ℕ) where
   abbrev Keeps : F → F → Type 0
   Keeps old new = KeepsFolder folder_honest folder_steady folder_faults images folder_leaves made old new
 
   abbrev Takes : S → DiskState F S → DiskState F S → Type 0
-  Takes slot old new = TakesSlot folder_honest folder_steady folder_faults images folder_leaves made is_honest is_steady faults may_leave stem slot old new
+  Takes slot old new = TakesSlot folder_honest folder_steady folder_faults images folder_leaves made is_honest is_steady faults left_since may_leave stem slot old new
 
   abbrev Makes : S → DiskState F S → DiskState F S → Type 0
-  Makes slot old new = MakesSlot folder_honest folder_steady made is_honest is_steady faults stem slot old new
+  Makes slot old new = MakesSlot folder_honest folder_steady made is_honest is_steady faults left_since stem slot old new
 
   abbrev IsFreeIn : List ℕ → DiskState F S → Type 0
   IsFreeIn other disk = IsFreeStem folder_honest images folder_leaves made is_honest may_leave other disk
@@ -175,7 +175,7 @@ module _ {F S : Type 0} (folder_honest folder_steady : F → Bool) (folder_fault
     alone = ap made same ∙ makes.alone;
   }
 
-  module _ (moment : S → ℕ) (left_since : S → ℕ → Image → Type 0) where
+  module _ (moment : S → ℕ) where
     pub makes-at : (some : Fate) (before after : Rows) (was is : S) (old mid new : DiskState F S) → Takes was old mid → Puts is mid new
         → StoresIn is_honest is_steady faults moment left_since may_leave some (file_at stem before) (file_at stem after) was is → new.used ≡ with_stem stem old.used
         → new.left_alone ≡ old.left_alone → new.aliases ≡ old.aliases
@@ -246,7 +246,7 @@ module _ {F S : Type 0} (folder_honest folder_steady : F → Bool) (folder_fault
   -- ---- a making that was refused
 
   abbrev KeepsAt : DiskState F S → DiskState F S → Type 0
-  KeepsAt old new = KeepsSlot folder_honest folder_steady folder_faults images folder_leaves made is_honest is_steady faults stem old new
+  KeepsAt old new = KeepsSlot folder_honest folder_steady folder_faults images folder_leaves made is_honest is_steady faults left_since stem old new
 
   pub keeps-back : (was : S) (old mid new : DiskState F S) → Takes was old mid → Puts was mid new → new ≡ record mid { spare = new.spare } → KeepsAt old new
   keeps-back was old mid new takes puts is = record {

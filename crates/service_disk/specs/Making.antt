@@ -66,11 +66,14 @@ pub record KeepsFolder {F : Type 0} (is_honest is_steady : F → Bool) (faults :
   pub steady : is_steady new ≡ is_steady old
   pub count : faults new ≡ faults old
 
--- a slot that was just made: no fault of it is counted, and it is as honest and as steady as its folder
-pub record IsFresh {S : Type 0} (is_honest is_steady : S → Bool) (faults : S → ℕ) (honest steady : Bool) (slot : S) : Type 0 where
+-- A slot that was just made for a name without a file: no fault of it is counted, and it is as honest and as steady as its folder. In an
+-- honest folder no crash might have left a file at any moment of the slot's clock.
+pub record IsFresh {S : Type 0} (is_honest is_steady : S → Bool) (faults : S → ℕ) (left_since : S → ℕ → Image → Type 0) (honest steady : Bool)
+    (slot : S) : Type 0 where
   pub as_honest : is_honest slot ≡ honest
   pub as_steady : is_steady slot ≡ steady
   pub count : faults slot ≡ 0
+  pub any_moment : IsTrue honest → Only None (left_since slot 0)
 
 -- Nothing has the name of the file of this stem: either no slot was made of that name and it is free, or its slot was kept, and a crash
 -- leaves no file of it.
@@ -92,9 +95,9 @@ is_steady_with folder_steady is_steady disk = folder_steady disk.folder && are_s
 
 -- A slot was just made for the file of this stem, of which the disk had none: it is the first one of its name.
 pub record MakesSlot {F S : Type 0} (folder_honest folder_steady : F → Bool) (made : F → List (List ℕ)) (is_honest is_steady : S → Bool)
-    (faults : S → ℕ) (stem : List ℕ) (slot : S) (old new : DiskState F S) : Type 0 where
+    (faults : S → ℕ) (left_since : S → ℕ → Image → Type 0) (stem : List ℕ) (slot : S) (old new : DiskState F S) : Type 0 where
   pub none : slot_at stem old ≡ None
-  pub fresh : IsFresh is_honest is_steady faults (folder_honest old.folder) (folder_steady old.folder) slot
+  pub fresh : IsFresh is_honest is_steady faults left_since (folder_honest old.folder) (folder_steady old.folder) slot
   pub name : List ℕ
   pub named : IsRingName name stem
   pub unmade : ¬ (Contains (made old.folder) name)
@@ -103,9 +106,9 @@ pub record MakesSlot {F S : Type 0} (folder_honest folder_steady : F → Bool) (
 -- The disk has a slot for this stem that it had, or that was just made of its folder; all else is as before.
 pub record HasSlot {F S : Type 0} (folder_honest folder_steady : F → Bool) (folder_faults : F → ℕ) (images : F → List ℕ → Image)
     (folder_leaves : F → List ℕ → Image → Type 0) (made : F → List (List ℕ)) (is_honest is_steady : S → Bool) (faults : S → ℕ)
-    (stem : List ℕ) (slot : S) (old new : DiskState F S) : Type 0 where
+    (left_since : S → ℕ → Image → Type 0) (stem : List ℕ) (slot : S) (old new : DiskState F S) : Type 0 where
   pub one : ((slot_at stem old ≡ Some slot) × (made new.folder ≡ made old.folder))
-      ⊎ MakesSlot folder_honest folder_steady made is_honest is_steady faults stem slot old new
+      ⊎ MakesSlot folder_honest folder_steady made is_honest is_steady faults left_since stem slot old new
   pub folder : KeepsFolder folder_honest folder_steady folder_faults images folder_leaves made old.folder new.folder
   pub others : (other : List ℕ) → is_name stem other ≡ false → slot_at other new ≡ slot_at other old
   pub all_steady : is_steady_with folder_steady is_steady new ≡ is_steady_with folder_steady is_steady old
@@ -117,7 +120,7 @@ pub record MakesAt {F S : Type 0} (folder_honest folder_steady : F → Bool) (fo
     (old new : DiskState F S) : Type 0 where
   pub was : S
   pub is : S
-  pub slot : HasSlot folder_honest folder_steady folder_faults images folder_leaves made is_honest is_steady faults stem was old new
+  pub slot : HasSlot folder_honest folder_steady folder_faults images folder_leaves made is_honest is_steady faults left_since stem was old new
   pub kept : slot_at stem new ≡ Some is
   pub stores : StoresIn is_honest is_steady faults moment left_since may_leave fate (file_at stem before) (file_at stem after) was is
   pub used : new.used ≡ with_stem stem old.used
@@ -127,10 +130,10 @@ pub record MakesAt {F S : Type 0} (folder_honest folder_steady : F → Bool) (fo
 -- this stem, which isn't used by that.
 pub record KeepsSlot {F S : Type 0} (folder_honest folder_steady : F → Bool) (folder_faults : F → ℕ) (images : F → List ℕ → Image)
     (folder_leaves : F → List ℕ → Image → Type 0) (made : F → List (List ℕ)) (is_honest is_steady : S → Bool) (faults : S → ℕ)
-    (stem : List ℕ) (old new : DiskState F S) : Type 0 where
+    (left_since : S → ℕ → Image → Type 0) (stem : List ℕ) (old new : DiskState F S) : Type 0 where
   pub slot : ((slot_at stem new ≡ slot_at stem old) × (made new.folder ≡ made old.folder))
       ⊎ ((slot : S) × (slot_at stem new ≡ Some slot)
-      × MakesSlot folder_honest folder_steady made is_honest is_steady faults stem slot old new)
+      × MakesSlot folder_honest folder_steady made is_honest is_steady faults left_since stem slot old new)
   pub folder : KeepsFolder folder_honest folder_steady folder_faults images folder_leaves made old.folder new.folder
   pub others : (other : List ℕ) → is_name stem other ≡ false → slot_at other new ≡ slot_at other old
   pub all_steady : is_steady_with folder_steady is_steady new ≡ is_steady_with folder_steady is_steady old

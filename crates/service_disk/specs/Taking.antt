@@ -22,8 +22,8 @@ pub record IsFirstOf {V : Type 0} (stem : List ℕ) (entries : List (List ℕ ×
 
 -- a slot was made of a folder, the first one of its name, and a crash leaves no file of it
 pub record TakesNew {F S : Type 0} (folder_honest folder_steady : F → Bool) (made : F → List (List ℕ)) (is_honest is_steady : S → Bool)
-    (faults : S → ℕ) (may_leave : S → Image → Type 0) (name : List ℕ) (slot : S) (old new : F) : Type 0 where
-  pub fresh : IsFresh is_honest is_steady faults (folder_honest old) (folder_steady old) slot
+    (faults : S → ℕ) (left_since : S → ℕ → Image → Type 0) (may_leave : S → Image → Type 0) (name : List ℕ) (slot : S) (old new : F) : Type 0 where
+  pub fresh : IsFresh is_honest is_steady faults left_since (folder_honest old) (folder_steady old) slot
   pub unmade : ¬ (Contains (made old) name)
   pub alone : made new ≡ name ∷ made old
   pub empty : IsTrue (is_honest slot) → Only None (may_leave slot)
@@ -32,9 +32,9 @@ pub record TakesNew {F S : Type 0} (folder_honest folder_steady : F → Bool) (m
 -- before.
 pub record TakesSlot {F S : Type 0} (folder_honest folder_steady : F → Bool) (folder_faults : F → ℕ) (images : F → List ℕ → Image)
     (folder_leaves : F → List ℕ → Image → Type 0) (made : F → List (List ℕ)) (is_honest is_steady : S → Bool) (faults : S → ℕ)
-    (may_leave : S → Image → Type 0) (stem : List ℕ) (slot : S) (old new : DiskState F S) : Type 0 where
+    (left_since : S → ℕ → Image → Type 0) (may_leave : S → Image → Type 0) (stem : List ℕ) (slot : S) (old new : DiskState F S) : Type 0 where
   pub one : ((slot_at stem old ≡ Some slot) × (made new.folder ≡ made old.folder))
-      ⊎ MakesSlot folder_honest folder_steady made is_honest is_steady faults stem slot old new
+      ⊎ MakesSlot folder_honest folder_steady made is_honest is_steady faults left_since stem slot old new
   pub folder : KeepsFolder folder_honest folder_steady folder_faults images folder_leaves made old.folder new.folder
   pub empty : IsTrue (is_honest slot) → Only None (may_leave slot)
   pub others : (other : List ℕ) → is_name stem other ≡ false → slot_at other new ≡ slot_at other old

@@ -113,7 +113,7 @@ pub fn make<F: Folder>(
     // After a refusal the collections are as before, and the disk too, except for a slot that it keeps.
     ensures unchanged { OnErr result (contents_in disk.new ≡ contents_in disk.old) }
     ensures kept { OnErr result (KeepsSlot F.is_honest F.is_steady F.faults F.images F.may_leave
-        F.made F.Cell.is_honest F.Cell.is_steady F.Cell.faults stem
+        F.made F.Cell.is_honest F.Cell.is_steady F.Cell.faults F.Cell.left_since stem
         (disk_state disk.old) (disk_state disk.new)) }
 {
     let (name, copy) = prepare(alloc, disk, &stem)?;

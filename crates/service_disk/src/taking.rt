@@ -52,7 +52,7 @@ fn new_cell<F: Folder>(folder: &mut F, name: &str) -> Result<FileCell<F::Cell>, 
         folder.old folder.new }
     ensures file { IfOk result (λ cell. cell.file ≡ Known None) }
     ensures made { IfOk result (λ cell. TakesNew F.is_honest F.is_steady F.made
-        F.Cell.is_honest F.Cell.is_steady F.Cell.faults F.Cell.may_leave
+        F.Cell.is_honest F.Cell.is_steady F.Cell.faults F.Cell.left_since F.Cell.may_leave
         name.now cell.slot folder.old folder.new) }
     ensures none { OnErr result (F.made folder.new ≡ F.made folder.old) }
 {
@@ -73,8 +73,8 @@ pub fn take_cell<F: Folder>(
     requires name { IsRingName name.now stem.now }
     ensures file { IfOk result (λ cell. cell.file ≡ Known None) }
     ensures taken { IfOk result (λ cell. TakesSlot F.is_honest F.is_steady F.faults F.images
-        F.may_leave F.made F.Cell.is_honest F.Cell.is_steady F.Cell.faults F.Cell.may_leave
-        stem.now cell.slot (disk_state disk.old) (disk_state disk.new)) }
+        F.may_leave F.made F.Cell.is_honest F.Cell.is_steady F.Cell.faults F.Cell.left_since
+        F.Cell.may_leave stem.now cell.slot (disk_state disk.old) (disk_state disk.new)) }
     ensures refused { OnErr result (RefusesSlot F.is_honest F.is_steady F.faults F.images
         F.may_leave F.made (disk_state disk.old) (disk_state disk.new)) }
     ensures contents { contents_in disk.new ≡ contents_in disk.old }

@@ -66,11 +66,12 @@ plan_brought brought state =
     (asked brought.conn (record { now = brought.now; value = key.password }) state)
 
 module _ {F S : Type 0} (folder_honest folder_steady : F → Bool) (folder_faults : F → ℕ) (images : F → List ℕ → Image)
-    (folder_leaves : F → List ℕ → Image → Type 0) (names_made : F → List (List ℕ)) (is_honest is_steady : S → Bool) (faults : S → ℕ) where
+    (folder_leaves : F → List ℕ → Image → Type 0) (names_made : F → List (List ℕ)) (is_honest is_steady : S → Bool) (faults : S → ℕ)
+    (left_since : S → ℕ → Image → Type 0) where
   -- a slot was made at most for the collection that a plan makes, if it makes one, and is kept for the next one under its stem
   abbrev pub KeepsSlotOf : Plan → DiskState F S → DiskState F S → Type 0
   KeepsSlotOf (Asks (Make stem label terms) next) old new =
-      KeepsSlot folder_honest folder_steady folder_faults images folder_leaves names_made is_honest is_steady faults stem old new
+      KeepsSlot folder_honest folder_steady folder_faults images folder_leaves names_made is_honest is_steady faults left_since stem old new
   KeepsSlotOf _ old new = ⊥
 
   -- after a refusal of what a plan asks for the disk is as before, except for a slot that was made for its collection

@@ -204,8 +204,8 @@ impl<F: Folder> Service<F> {
             → ¬ (IsMissing brought.conn self.old.history.state) }
         ensures unchanged { OnErr result (self.new.history ≡ self.old.history) }
         ensures kept { OnErr result (KeepsMaking F.is_honest F.is_steady F.faults F.images
-            F.may_leave F.made F.Cell.is_honest F.Cell.is_steady F.Cell.faults brought
-            self.old.history.state self.old.disk self.new.disk) }
+            F.may_leave F.made F.Cell.is_honest F.Cell.is_steady F.Cell.faults
+            F.Cell.left_since brought self.old.history.state self.old.disk self.new.disk) }
         ensures idle { result ≢ Err Refused.OutOfMemory
             → OnErr result (self.new.disk ≡ self.old.disk) }
     {
@@ -255,8 +255,8 @@ impl<F: Folder> Service<F> {
             → CanJoin self.old.history.state }
         ensures unchanged { OnErr result (self.new.history ≡ self.old.history) }
         ensures kept { OnErr result (KeepsDisk F.is_honest F.is_steady F.faults F.images
-            F.may_leave F.made F.Cell.is_honest F.Cell.is_steady F.Cell.faults event
-            self.old.history.state self.old.disk self.new.disk) }
+            F.may_leave F.made F.Cell.is_honest F.Cell.is_steady F.Cell.faults
+            F.Cell.left_since event self.old.history.state self.old.disk self.new.disk) }
         ensures idle { result ≢ Err EventRefused.OutOfMemory
             → OnErr result (self.new.disk ≡ self.old.disk) }
     {

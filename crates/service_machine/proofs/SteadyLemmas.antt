@@ -199,7 +199,7 @@ module _ {F S : Type 0} (folder_honest folder_steady : F → Bool) (folder_fault
   Of caller brought plan fates state old new = StoresOf folder_honest folder_steady folder_faults images folder_leaves names_made is_honest slot_steady faults moment left_since may_leave caller brought plan fates state old new
 
   -- what a refusal leaves is as steady as before
-  left-steady : (plan : Plan) (old new : DiskState F S) → KeepsSlotOf folder_honest folder_steady folder_faults images folder_leaves names_made is_honest slot_steady faults plan old new → whole new ≡ whole old
+  left-steady : (plan : Plan) (old new : DiskState F S) → KeepsSlotOf folder_honest folder_steady folder_faults images folder_leaves names_made is_honest slot_steady faults left_since plan old new → whole new ≡ whole old
   left-steady (Ends answer changes) old new is = absurd is
   left-steady (After changes next) old new is = absurd is
   left-steady (Asks (Store stem edit) next) old new is = absurd is
@@ -216,7 +216,7 @@ module _ {F S : Type 0} (folder_honest folder_steady : F → Bool) (folder_fault
       ∙ sym (and-and (folder_steady old.folder) (are_steady slot_steady old) files)
   left-steady (Opens stem terms next) old new is = absurd is
 
-  pub kept-steady : (plan : Plan) (old new : DiskState F S) → KeepsSlotOrAll folder_honest folder_steady folder_faults images folder_leaves names_made is_honest slot_steady faults plan old new → whole new ≡ whole old
+  pub kept-steady : (plan : Plan) (old new : DiskState F S) → KeepsSlotOrAll folder_honest folder_steady folder_faults images folder_leaves names_made is_honest slot_steady faults left_since plan old new → whole new ≡ whole old
   kept-steady plan old new (inl same) = ap whole same
   kept-steady plan old new (inr is) = left-steady plan old new is
 

@@ -64,8 +64,8 @@ impl<F: Folder> Machine<F> {
             F.Cell.may_leave (disk_of self.new) }
         ensures unchanged { OnErr result (rows_of self.new ≡ rows_of self.old) }
         ensures kept { OnErr result (KeepsMaking F.is_honest F.is_steady F.faults F.images
-            F.may_leave F.made F.Cell.is_honest F.Cell.is_steady F.Cell.faults brought
-            (rows_of self.old) (disk_of self.old) (disk_of self.new)) }
+            F.may_leave F.made F.Cell.is_honest F.Cell.is_steady F.Cell.faults
+            F.Cell.left_since brought (rows_of self.old) (disk_of self.old) (disk_of self.new)) }
     {
         known_files(&self.tables.disk);
         let BroughtKey { conn, done, now } = brought;

@@ -144,8 +144,8 @@ impl<F: Folder> Machine<F> {
         ensures idle { result ≢ Err ApplyRefused.OutOfMemory
             → OnErr result (disk_of self.new ≡ disk_of self.old) }
         ensures kept { OnErr result (KeepsDisk F.is_honest F.is_steady F.faults F.images
-            F.may_leave F.made F.Cell.is_honest F.Cell.is_steady F.Cell.faults event
-            (rows_of self.old) (disk_of self.old) (disk_of self.new)) }
+            F.may_leave F.made F.Cell.is_honest F.Cell.is_steady F.Cell.faults
+            F.Cell.left_since event (rows_of self.old) (disk_of self.old) (disk_of self.new)) }
         ensures free { AreFreeFor F.is_honest F.images F.may_leave F.made F.Cell.is_honest
             F.Cell.may_leave event (disk_of self.new) }
     {

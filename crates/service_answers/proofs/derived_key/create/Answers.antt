@@ -125,5 +125,5 @@ returns-clause-kept g c =
     let asks = asked conn brought (rows_of c.args.tables.now) in
     let on : can_make label salt terms asks ≡ true = sym (c.can_make.ensures conn c.args.now) ∙ c.if-not-can_make.false in
     map-err c.make_new.result _ _
-    (keeps-as folder.is_honest folder.is_steady folder.faults folder.images folder.may_leave folder.made slot.is_honest slot.is_steady slot.faults (disk_of c.args.tables.now) (disk_of c.make_new.new.tables) _ _ (can-plan label salt terms asks prompt alias on))
+    (keeps-as folder.is_honest folder.is_steady folder.faults folder.images folder.may_leave folder.made slot.is_honest slot.is_steady slot.faults slot.left_since (disk_of c.args.tables.now) (disk_of c.make_new.new.tables) _ _ (can-plan label salt terms asks prompt alias on))
     c.make_new.ensures.kept

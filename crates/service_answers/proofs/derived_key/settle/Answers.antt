@@ -146,7 +146,7 @@ returns-in-Create-clause-kept g c =
     let on : derives_in round row ≡ true = sym c.derived.ensures ∙ c.if-not-derived.false in
     let is = subst (λ p. IsPurposeOf p row) c.in-Create.is c.in_ok-stem.ensures in
     map-err c.create.result _ _
-    (keeps-as folder.is_honest folder.is_steady folder.faults folder.images folder.may_leave folder.made slot.is_honest slot.is_steady slot.faults (disk_of c.args.tables.now) (disk_of c.create.new.tables)
+    (keeps-as folder.is_honest folder.is_steady folder.faults folder.images folder.may_leave folder.made slot.is_honest slot.is_steady slot.faults slot.left_since (disk_of c.args.tables.now) (disk_of c.create.new.tables)
     (derived prompt round terms asks) (collection_made prompt c.in-Create.label c.in-Create.alias c.in-Create.salt terms asks)
     (create-plan prompt round terms asks c.in-Create.label c.in-Create.alias c.in-Create.salt row on is))
     c.create.ensures.kept

@@ -17,7 +17,7 @@ pub returns-in_err-name-clause-free : goal.returns-in_err-name-clause-free
 returns-in_err-name-clause-free g c =
     let folder = g.F.Folder in
     let slots = g.F.Cell.Slot in
-    frees-same folder.is_honest folder.is_steady folder.faults folder.images folder.may_leave folder.made slots.is_honest slots.is_steady slots.faults slots.may_leave c.args.stem
+    frees-same folder.is_honest folder.is_steady folder.faults folder.images folder.may_leave folder.made slots.is_honest slots.is_steady slots.faults slots.left_since slots.may_leave c.args.stem
     (disk_state c.args.disk.now) (disk_state c.prepare.new.disk) c.prepare.ensures.disk c.requires.free
 
 pub take_cell-requires-clause-free : goal.take_cell-requires-clause-free
@@ -28,7 +28,7 @@ pub returns-in_err-cell-clause-free : goal.returns-in_err-cell-clause-free
 returns-in_err-cell-clause-free g c =
     let folder = g.F.Folder in
     let slots = g.F.Cell.Slot in
-    frees-refused folder.is_honest folder.is_steady folder.faults folder.images folder.may_leave folder.made slots.is_honest slots.is_steady slots.faults slots.may_leave c.args.stem
+    frees-refused folder.is_honest folder.is_steady folder.faults folder.images folder.may_leave folder.made slots.is_honest slots.is_steady slots.faults slots.left_since slots.may_leave c.args.stem
     (disk_state c.args.disk.now) (disk_state c.prepare.new.disk) (disk_state c.take_cell.new.disk) c.prepare.ensures.disk c.in_err-cell.ensures.refused c.requires.free
 
 -- a slot that is kept has no file
@@ -49,7 +49,7 @@ returns-in-Ok-clause-disk g c =
     let plan : Plan = record { label = c.args.label; key = c.args.key; now = c.args.now } in
     let was = c.in_ok-cell.cell.slot in
     let is = c.in-Ok.collection in
-    makes-listed folder.is_honest folder.is_steady folder.faults folder.images folder.may_leave folder.made slots.is_honest slots.is_steady slots.faults slots.may_leave stem slots.moment slots.left_since
+    makes-listed folder.is_honest folder.is_steady folder.faults folder.images folder.may_leave folder.made slots.is_honest slots.is_steady slots.faults slots.left_since slots.may_leave stem slots.moment
     fate.Stored before after was is.slot (disk_state c.args.disk.now) (disk_state c.prepare.new.disk) (disk_state c.take_cell.new.disk) (disk_state c.list.new.disk)
     c.prepare.ensures.disk (no-slot stem c.args.disk.now.collections.entries c.requires.unlisted) c.in_ok-cell.ensures.taken c.list.ensures.disk
     (stores-at slots.is_honest slots.is_steady slots.faults slots.moment slots.left_since slots.may_leave g.met.F.Cell.Slot.counts_now g.met.F.Cell.Slot.steady_below
@@ -62,7 +62,7 @@ pub returns-in-Ok-clause-free : goal.returns-in-Ok-clause-free
 returns-in-Ok-clause-free g c =
     let folder = g.F.Folder in
     let slots = g.F.Cell.Slot in
-    frees-listed folder.is_honest folder.is_steady folder.faults folder.images folder.may_leave folder.made slots.is_honest slots.is_steady slots.faults slots.may_leave c.args.stem
+    frees-listed folder.is_honest folder.is_steady folder.faults folder.images folder.may_leave folder.made slots.is_honest slots.is_steady slots.faults slots.left_since slots.may_leave c.args.stem
     c.in_ok-cell.cell.slot c.in-Ok.collection.slot (disk_state c.args.disk.now) (disk_state c.prepare.new.disk) (disk_state c.take_cell.new.disk) (disk_state c.list.new.disk)
     c.prepare.ensures.disk (no-slot c.args.stem c.args.disk.now.collections.entries c.requires.unlisted) c.in_ok-cell.ensures.taken c.list.ensures.unused c.list.ensures.disk c.requires.free
 
@@ -78,7 +78,7 @@ returns-in-Err-FaultUnsure-clause-disk g c =
     let plan : Plan = record { label = c.args.label; key = c.args.key; now = c.args.now } in
     let was = c.in_ok-cell.cell.slot in
     let is = c.in-Err-FaultUnsure.collection in
-    makes-listed folder.is_honest folder.is_steady folder.faults folder.images folder.may_leave folder.made slots.is_honest slots.is_steady slots.faults slots.may_leave stem slots.moment slots.left_since
+    makes-listed folder.is_honest folder.is_steady folder.faults folder.images folder.may_leave folder.made slots.is_honest slots.is_steady slots.faults slots.left_since slots.may_leave stem slots.moment
     fate.Unsure before after was is.slot (disk_state c.args.disk.now) (disk_state c.prepare.new.disk) (disk_state c.take_cell.new.disk) (disk_state list.new.disk)
     c.prepare.ensures.disk (no-slot stem c.args.disk.now.collections.entries c.requires.unlisted) c.in_ok-cell.ensures.taken list.ensures.disk
     (stores-at slots.is_honest slots.is_steady slots.faults slots.moment slots.left_since slots.may_leave g.met.F.Cell.Slot.counts_now g.met.F.Cell.Slot.steady_below
@@ -93,7 +93,7 @@ returns-in-Err-FaultUnsure-clause-free g c =
     let folder = g.F.Folder in
     let slots = g.F.Cell.Slot in
     let list = c.list-in-Err-FaultUnsure in
-    frees-listed folder.is_honest folder.is_steady folder.faults folder.images folder.may_leave folder.made slots.is_honest slots.is_steady slots.faults slots.may_leave c.args.stem
+    frees-listed folder.is_honest folder.is_steady folder.faults folder.images folder.may_leave folder.made slots.is_honest slots.is_steady slots.faults slots.left_since slots.may_leave c.args.stem
     c.in_ok-cell.cell.slot c.in-Err-FaultUnsure.collection.slot (disk_state c.args.disk.now) (disk_state c.prepare.new.disk) (disk_state c.take_cell.new.disk) (disk_state list.new.disk)
     c.prepare.ensures.disk (no-slot c.args.stem c.args.disk.now.collections.entries c.requires.unlisted) c.in_ok-cell.ensures.taken list.ensures.unused list.ensures.disk c.requires.free
 
@@ -110,7 +110,7 @@ returns-in-Err-FaultBefore-clause-disk g c =
     let same = ap (λ (contents : Contents). contents.collections) c.keep_used.ensures.contents
     ∙ ap (λ (contents : Contents). contents.collections) c.take_cell.ensures.contents
     ∙ ap (λ (contents : Contents). contents.collections) c.prepare.ensures.contents in
-    makes-kept folder.is_honest folder.is_steady folder.faults folder.images folder.may_leave folder.made slots.is_honest slots.is_steady slots.faults slots.may_leave stem slots.moment slots.left_since
+    makes-kept folder.is_honest folder.is_steady folder.faults folder.images folder.may_leave folder.made slots.is_honest slots.is_steady slots.faults slots.left_since slots.may_leave stem slots.moment
     fate.Before before after was.slot is (disk_state c.args.disk.now) (disk_state c.prepare.new.disk) (disk_state c.take_cell.new.disk) (disk_state c.keep_used.new.disk)
     c.prepare.ensures.disk (no-slot stem c.args.disk.now.collections.entries c.requires.unlisted) c.in_ok-cell.ensures.taken c.keep_used.ensures.disk
     (stores-at slots.is_honest slots.is_steady slots.faults slots.moment slots.left_since slots.may_leave g.met.F.Cell.Slot.counts_now g.met.F.Cell.Slot.steady_below
@@ -122,7 +122,7 @@ pub returns-in-Err-FaultBefore-clause-free : goal.returns-in-Err-FaultBefore-cla
 returns-in-Err-FaultBefore-clause-free g c =
     let folder = g.F.Folder in
     let slots = g.F.Cell.Slot in
-    frees-kept folder.is_honest folder.is_steady folder.faults folder.images folder.may_leave folder.made slots.is_honest slots.is_steady slots.faults slots.may_leave c.args.stem
+    frees-kept folder.is_honest folder.is_steady folder.faults folder.images folder.may_leave folder.made slots.is_honest slots.is_steady slots.faults slots.left_since slots.may_leave c.args.stem
     c.in_ok-cell.cell.slot c.in-Err-FaultBefore.cell.slot (disk_state c.args.disk.now) (disk_state c.prepare.new.disk) (disk_state c.take_cell.new.disk) (disk_state c.keep_used.new.disk)
     c.prepare.ensures.disk (no-slot c.args.stem c.args.disk.now.collections.entries c.requires.unlisted) c.in_ok-cell.ensures.taken c.keep_used.ensures.unused c.keep_used.ensures.disk c.requires.free
 
@@ -133,7 +133,7 @@ returns-in-Err-OutOfMemory-clause-free g c =
     let slots = g.F.Cell.Slot in
     let stem = c.args.stem in
     let mid = disk_state c.take_cell.new.disk in
-    frees-again folder.is_honest folder.is_steady folder.faults folder.images folder.may_leave folder.made slots.is_honest slots.is_steady slots.faults slots.may_leave stem
+    frees-again folder.is_honest folder.is_steady folder.faults folder.images folder.may_leave folder.made slots.is_honest slots.is_steady slots.faults slots.left_since slots.may_leave stem
     c.in_ok-cell.cell.slot (disk_state c.args.disk.now) (disk_state c.prepare.new.disk) mid (disk_state c.keep.new.disk)
     c.prepare.ensures.disk (no-slot stem c.args.disk.now.collections.entries c.requires.unlisted) c.in_ok-cell.ensures.taken
     (c.keep.ensures.disk ∙ ap (λ (cell : CellState _). record mid { spare = (stem, cell.slot) ∷ mid.spare }) (rw c.in-Err-OutOfMemory.field-0-is at c.in-Err-OutOfMemory.ensures.memory)) c.requires.free
@@ -144,7 +144,7 @@ returns-in-Err-OutOfMemory-clause-kept g c =
     let slots = g.F.Cell.Slot in
     let stem = c.args.stem in
     let mid = disk_state c.take_cell.new.disk in
-    keeps-again folder.is_honest folder.is_steady folder.faults folder.images folder.may_leave folder.made slots.is_honest slots.is_steady slots.faults slots.may_leave stem
+    keeps-again folder.is_honest folder.is_steady folder.faults folder.images folder.may_leave folder.made slots.is_honest slots.is_steady slots.faults slots.left_since slots.may_leave stem
     c.in_ok-cell.cell.slot (disk_state c.args.disk.now) (disk_state c.prepare.new.disk) mid (disk_state c.keep.new.disk)
     c.prepare.ensures.disk (no-slot stem c.args.disk.now.collections.entries c.requires.unlisted) c.in_ok-cell.ensures.taken
     (c.keep.ensures.disk ∙ ap (λ (cell : CellState _). record mid { spare = (stem, cell.slot) ∷ mid.spare }) (rw c.in-Err-OutOfMemory.field-0-is at c.in-Err-OutOfMemory.ensures.memory))
