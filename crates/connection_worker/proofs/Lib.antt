@@ -17,5 +17,5 @@ mod SizeLemmas
 mod StreamLemmas
 mod TakenLemmas
 mod TogetherLemmas
-mod WholeLemmas
+pub mod WholeLemmas
 mod WriterLemmas

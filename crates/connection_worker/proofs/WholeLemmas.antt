@@ -16,17 +16,18 @@ use Rattle.connection_worker.specs.Reading.{ReadFor, IsWholeEnd}
 use Rattle.connection_worker.specs.Streams.{Input, Took}
 
 -- a count that stays the same didn't rise
-still : (old new : ℕ) → StandsStill old new → Rose old new → ⊥
+pub still : (old new : ℕ) → StandsStill old new → Rose old new → ⊥
 still old new s (inl rose) = omega (arith, s.0)
 still old new s (inr stands) = s.1 stands
 
 -- what was read begins the bytes
-front-of : (old new : Option (List ℕ)) (read bytes : List ℕ) → old ≡ Some bytes → Consumes old new read → (left : List ℕ) × (bytes ≡ read ++ left) × (new ≡ Some left)
+pub front-of : (old new : Option (List ℕ)) (read bytes : List ℕ) → old ≡ Some bytes → Consumes old new read → (left : List ℕ) × (bytes ≡ read ++ left) × (new ≡ Some left)
 front-of None new read bytes e c = absurd (let f : None ≡ Some bytes = e in cc)
 front-of (Some xs) None read bytes e c = absurd c
 front-of (Some xs) (Some ys) read bytes e c = let same : xs ≡ bytes = cc in (ys, sym same ∙ c, refl)
 
-at-end : (new : Option (List ℕ)) (left : List ℕ) → new ≡ Some left → IsAtEnd new → left ≡ []
+-- nothing is left at an end
+pub at-end : (new : Option (List ℕ)) (left : List ℕ) → new ≡ Some left → IsAtEnd new → left ≡ []
 at-end None left e end = absurd (let f : None ≡ Some left = e in cc)
 at-end (Some xs) left e end = let same : xs ≡ left = cc in sym same ∙ end
 
@@ -53,7 +54,8 @@ never-ended behind left rest messages all to told stream some ended whole =
     let here : Stream most_bytes behind all [] = subst (λ l. Stream most_bytes l all []) (ap (λ l. behind ++ l) none ∙ append-nil behind) whole in
     some (one_stream most_bytes behind rest [] messages all stream here).1
 
-never-violated : (behind left rest : List ℕ) (messages all : List Parts) (to : Input) (cause : Violation) → to.left ≡ Some left → Stream most_bytes behind messages rest
+-- so the cause of a violation isn't there
+pub never-violated : (behind left rest : List ℕ) (messages all : List Parts) (to : Input) (cause : Violation) → to.left ≡ Some left → Stream most_bytes behind messages rest
     → IsViolated cause to rest → Stream most_bytes (behind ++ left) all [] → ⊥
 never-violated behind left rest messages all to violation.EndInside told stream is whole = never-ended behind left rest messages all to told stream is.0 is.1 whole
 never-violated behind left rest messages all to violation.Endian told stream is whole = never-broken behind left rest messages all violation.Endian stream is whole

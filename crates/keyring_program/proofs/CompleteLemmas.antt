@@ -1,24 +1,21 @@
 -- Over streams that didn't fail, a whole input is answered to its end.
-use Rattle.std.proofs.Common.{◌≡◌, ◌≢◌, ℕ, ◌+◌, ◌≤◌, ◌⊎◌, inl, inr, Bool, List, [], ◌∷◌, ◌++◌, length, Option, Some, None, refl, sym, ◌∙◌, ap, arith, subst, append-nil, length-append}
-use Rattle.std.specs.Io.KnownBytes.{Consumes, IsAtEnd}
-use Rattle.kr_outside.specs.Faults.{Rose, StandsStill}
+use Rattle.std.proofs.Common.{◌≡◌, ℕ, ◌+◌, ◌≤◌, ◌⊎◌, inl, inr, Bool, List, [], ◌∷◌, ◌++◌, length, Option, Some, refl, sym, ◌∙◌, ap, arith, subst, append-nil, length-append}
+use Rattle.kr_outside.specs.Faults.{StandsStill}
 use Rattle.dbus_auth.specs.declared.auth.AuthFault.{AuthFault}
 use Rattle.dbus_auth.specs.declared.auth.AuthFault.TheVariants as fault
 use Rattle.dbus_auth.specs.Conversation.{continued}
 use Rattle.dbus_auth.specs.Handshake.{End, waiting, refused, opened, Run}
 use Rattle.dbus_auth.proofs.HandshakeLemmas.{handshake-nothing, handshake-append}
-use Rattle.dbus_framing.specs.declared.violation.Violation.{Violation}
-use Rattle.dbus_framing.specs.declared.violation.Violation.TheVariants as violation
-use Rattle.dbus_framing.specs.Messages.{Parts}
-use Rattle.dbus_framing.specs.Streams.{Stream, Breaks, early, late}
-use Rattle.dbus_framing.proofs.Cuts.{cut_none, cut_more, breaks_stay, breaks_none, one_stream, stream_then}
+use Rattle.dbus_framing.specs.Streams.{Stream}
+use Rattle.dbus_framing.proofs.Cuts.{cut_more}
 use Rattle.connection_worker.specs.Arrivals.{FirstRequests}
 use Rattle.connection_worker.specs.Handshakes.{most_bytes, Awaits, IsRefusedFor}
 use Rattle.connection_worker.specs.declared.ending.End as ending
 use Rattle.connection_worker.specs.declared.ending.End.TheVariants as end
-use Rattle.connection_worker.specs.Causes.{AllServed, FirstServed, IsViolated, HasCause}
+use Rattle.connection_worker.specs.Causes.{AllServed, FirstServed, HasCause}
 use Rattle.service_events.specs.Single.{TimedRequest, requests_of}
 use Rattle.connection_worker.specs.Streams.{Input, Output}
+use Rattle.connection_worker.proofs.WholeLemmas.{still, front-of, at-end, never-violated}
 use Rattle.keyring_program.specs.Events.{events_until, events_of, the_connection}
 use Rattle.keyring_program.specs.ServerNumber.{guid}
 use Rattle.keyring_program.specs.Serves.{Serves, handshake_run}
@@ -29,23 +26,6 @@ use Rattle.keyring_program.specs.Status.{IsStdioStatus, status_of}
 use Rattle.service_events.specs.declared.event.Event.TheVariants as event
 use Rattle.service_tables.specs.Limits.{most_events}
 use Rattle.service_tables.specs.Opened.{Contents}
-
--- ---- streams
-
--- a count that stays the same didn't rise
-pub still : (old new : ℕ) → StandsStill old new → Rose old new → ⊥
-still old new s (inl rose) = omega (arith, s.0)
-still old new s (inr stands) = s.1 stands
-
--- what was read begins the bytes
-front-of : (old new : Option (List ℕ)) (read bytes : List ℕ) → old ≡ Some bytes → Consumes old new read → (left : List ℕ) × (bytes ≡ read ++ left) × (new ≡ Some left)
-front-of None new read bytes e c = absurd (let f : None ≡ Some bytes = e in cc)
-front-of (Some xs) None read bytes e c = absurd c
-front-of (Some xs) (Some ys) read bytes e c = let same : xs ≡ bytes = cc in (ys, sym same ∙ c, refl)
-
-at-end : (new : Option (List ℕ)) (left : List ℕ) → new ≡ Some left → IsAtEnd new → left ≡ []
-at-end None left e end = absurd (let f : None ≡ Some left = e in cc)
-at-end (Some xs) left e end = let same : xs ≡ left = cc in sym same ∙ end
 
 -- ---- the handshake
 
@@ -84,41 +64,6 @@ never-refused uid seed read left behind to fault.EndedEarly told is-open is =
     subst Awaits here is.0
 
 -- ---- the messages
-
-breaks-long : (bytes : List ℕ) (cause : Violation) → Breaks most_bytes bytes cause → 16 ≤ length bytes
-breaks-long bytes cause (early begun broken) = begun
-breaks-long bytes cause (late head begun known fits read) = begun
-
--- a rest that shows a violation is left over
-never-broken : (behind left rest : List ℕ) (messages all : List Parts) (cause : Violation) → Stream most_bytes behind messages rest → Breaks most_bytes rest cause
-    → Stream most_bytes (behind ++ left) all [] → ⊥
-never-broken behind left rest messages all cause stream breaks whole =
-    let more = breaks_stay most_bytes rest left cause breaks in
-    let alone : Stream most_bytes (rest ++ left) [] (rest ++ left) = record { cut = cut_none most_bytes (rest ++ left); no_more = breaks_none most_bytes (rest ++ left) cause more } in
-    let other = stream_then most_bytes (behind ++ left) (rest ++ left) (rest ++ left) messages [] (cut_more most_bytes behind left rest messages stream.cut) alone in
-    let none : rest ++ left ≡ [] = (one_stream most_bytes (behind ++ left) (rest ++ left) [] (messages ++ []) all other whole).1 in
-    let short : length (rest ++ left) ≡ 0 = ap length none in
-    omega (arith, breaks-long (rest ++ left) cause more, short)
-
--- so is one inside which the input ended
-never-ended : (behind left rest : List ℕ) (messages all : List Parts) (to : Input) → to.left ≡ Some left → Stream most_bytes behind messages rest → rest ≢ [] → IsAtEnd to.left
-    → Stream most_bytes (behind ++ left) all [] → ⊥
-never-ended behind left rest messages all to told stream some ended whole =
-    let none : left ≡ [] = at-end to.left left told ended in
-    let here : Stream most_bytes behind all [] = subst (λ l. Stream most_bytes l all []) (ap (λ l. behind ++ l) none ∙ append-nil behind) whole in
-    some (one_stream most_bytes behind rest [] messages all stream here).1
-
-never-violated : (behind left rest : List ℕ) (messages all : List Parts) (to : Input) (cause : Violation) → to.left ≡ Some left → Stream most_bytes behind messages rest
-    → IsViolated cause to rest → Stream most_bytes (behind ++ left) all [] → ⊥
-never-violated behind left rest messages all to violation.EndInside told stream is whole = never-ended behind left rest messages all to told stream is.0 is.1 whole
-never-violated behind left rest messages all to violation.Endian told stream is whole = never-broken behind left rest messages all violation.Endian stream is whole
-never-violated behind left rest messages all to violation.Version told stream is whole = never-broken behind left rest messages all violation.Version stream is whole
-never-violated behind left rest messages all to violation.ZeroSerial told stream is whole = never-broken behind left rest messages all violation.ZeroSerial stream is whole
-never-violated behind left rest messages all to violation.TooLarge told stream is whole = never-broken behind left rest messages all violation.TooLarge stream is whole
-never-violated behind left rest messages all to violation.BadHeader told stream is whole = never-broken behind left rest messages all violation.BadHeader stream is whole
-never-violated behind left rest messages all to violation.MissingField told stream is whole = never-broken behind left rest messages all violation.MissingField stream is whole
-never-violated behind left rest messages all to violation.BadBody told stream is whole = never-broken behind left rest messages all violation.BadBody stream is whole
-never-violated behind left rest messages all to violation.InvalidType told stream is whole = never-broken behind left rest messages all violation.InvalidType stream is whole
 
 -- requests of the first messages stay so, whatever follows
 first-more : (behind left : List ℕ) (asked : List TimedRequest) → FirstRequests most_bytes behind (requests_of asked) → FirstRequests most_bytes (behind ++ left) (requests_of asked)
