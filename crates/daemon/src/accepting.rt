@@ -1,18 +1,18 @@
-ghost use Rattle.std.specs.Prelude.{◌≡◌, ◌+◌, ◌≤◌, ◌<◌, [], length, IfSome, IsFalse, vec_len, vec_capacity};
+ghost use Rattle.std.specs.Prelude.{◌≡◌, ◌+◌, ◌≤◌, ◌<◌, [], length, IfSome, IfOk, IfErr, IsFalse, vec_len, vec_capacity};
 ghost use Rattle.std.specs.Option.{option_map};
 ghost use Rattle.kr_outside.specs.Faults.{KeepsSteady};
 ghost use Rattle.service_desk.specs.Calls.{Goes};
 ghost use Rattle.service_desk.specs.Places.{place};
-ghost use Rattle.daemon.specs.Accepts.{standing, listening, Admits, AcceptsOne, Accepts, AcceptsLinks, FinishesAll, Rounds};
-ghost use Rattle.daemon.specs.Hubs.{IsSameHub};
+ghost use Rattle.daemon.specs.Accepts.{standing, listening, Admits, AcceptsOne, Accepts, AcceptsLinks, FinishesAll, IsJobOf, Rounds};
+ghost use Rattle.daemon.specs.Hubs.{CountsRefused, IsNotJoined, IsSameHub};
 ghost use Rattle.daemon.specs.Jobs.{Serves};
 
 use crate::hub::Hub;
-use crate::job::{LinkJob, Served, let_go};
+use crate::job::{LinkJob, Served, Serving, let_go};
 use crate::spawner::ServingSpawner;
 use crate::started::StartRefused;
 use kr_outside::{Clock, Failed, Link, Listener, Sink, Source};
-use service_desk::{ReadDesk, WriteDesk};
+use service_desk::{JoinRefused, ReadDesk, WriteDesk};
 use std::alloc::AllocGlobal;
 use std::sync::Wait;
 use std::thread::Threads;
@@ -59,6 +59,43 @@ enum Next {
     Failed,
 }
 
+// Joins the connection of a link, and returns its job. If the connection can't join, the link is dropped.
+fn join_link<R: Copy + Drop, U: Hub, L: Listener>(
+    rt: &R,
+    hub: &mut U,
+    link: Link<L::In, L::Out>,
+) -> Result<Serving<R, U, L>, JoinRefused>
+    requires input_open { IsFalse (L.In.is_closed link.input) }
+    requires output_open { IsFalse (L.Out.is_closed link.output) }
+    ensures made { IfOk result (λ job. IsJobOf
+        U.Reader.told U.Reader.has_seen U.Writer.told U.Writer.has_seen
+        (U.uid hub.old) (U.guid hub.old) (U.seed hub.old) (U.home hub.old)
+        job (U.view hub.old) (U.view hub.new)) }
+    ensures link { IfOk result (λ job. (job.input ≡ link.input) × (job.output ≡ link.output)) }
+    ensures refused { IfErr result (λ refused.
+        IsNotJoined refused (U.view hub.old) (U.view hub.new)) }
+    ensures counted { CountsRefused (U.refused hub.old) (U.refused hub.new) result }
+    ensures hub { IsSameHub U.uid U.guid U.seed U.home hub.old hub.new }
+{
+    let Link { input, output } = link;
+    let (conn, reader, writer) = match hub.join() {
+        Ok(joined) => joined,
+        Err(refused) => return Err(refused),
+    };
+    let (auth, clock, salts) = hub.parts(conn);
+    Ok(LinkJob {
+        rt: *rt,
+        conn,
+        auth,
+        salts,
+        clock,
+        reader,
+        writer,
+        input,
+        output,
+    })
+}
+
 // Joins the connection of a link, and starts its job. If the connection can't join, the link is dropped; if
 // the job can't be started, the link is dropped and its connection is gone.
 fn admit<
@@ -77,21 +114,8 @@ where
         (standing U.view U.refused hub.new spawner.new) }
     ensures hub { IsSameHub U.uid U.guid U.seed U.home hub.old hub.new }
 {
-    let Link { input, output } = link;
-    let Ok((conn, reader, writer)) = hub.join() else {
+    let Ok(job) = join_link::<R, U, L>(rt, hub, link) else {
         return;
-    };
-    let (auth, clock, salts) = hub.parts(conn);
-    let job = LinkJob {
-        rt: *rt,
-        conn,
-        auth,
-        salts,
-        clock,
-        reader,
-        writer,
-        input,
-        output,
     };
     match spawner.start(rt, job) {
         Ok(()) => {}
