@@ -1,18 +1,17 @@
 // Aliases that are read and set, over a folder with two collections.
 ghost use Rattle.std.specs.Prelude.{◌≡◌, [], IfOk};
 
+use crate::asking::{arrival, is_answered};
 use crate::checks::{holds, same_text};
 use crate::folders::{Service, over, service_over_two};
-use crate::members::arrival;
-use kr_base::{Bytes, ConnId};
+use kr_base::Bytes;
 use kr_memory_disk::{MemoryFolder, SlotPlan};
-use secret_calls::Taken;
 use service_machine::{Event, Fates};
 use service_tables::Fate;
 use std::alloc::Global;
 use std::process::Abort;
 use std::test::Fail;
-use tests_words::{cell, decimal, joined, last_told, numbers, text, two_folder};
+use tests_words::{cell, decimal, joined, numbers, text, two_folder};
 
 // In a row, a connection and what it does: it reads an alias, or sets one to an object, where `-` is `/` and `?` a path
 // that is none of the service; and what it gets. Paths continue `/org/freedesktop/secrets/`.
@@ -40,28 +39,6 @@ const CONVERSATION: &str = "\
 1|alias|lost=-|done
 1|read|default|/org/freedesktop/secrets/collection/other
 ";
-
-// What the first connection gets.
-fn taken_told(alloc: Global, service: &mut Service) -> Result<String, Fail> {
-    match service.take(ConnId(1)) {
-        Taken::Outs(outs) => last_told(alloc, outs.as_slice()),
-        _ => joined(alloc, &["nothing"]),
-    }
-}
-
-// Asserts what it gets for the call of a row.
-fn is_answered(
-    rt: &impl Abort,
-    alloc: Global,
-    service: &mut Service,
-    row: &str,
-    want: &str,
-) -> Result<(), Fail> {
-    holds(rt, service.arrive(arrival(alloc, row)?).is_ok(), row);
-    let told = taken_told(alloc, service)?;
-    same_text(rt, told.as_str(), want, row);
-    Ok(())
-}
 
 fn talk(rt: &impl Abort, alloc: Global, service: &mut Service, rows: &str) -> Result<(), Fail> {
     service.join()?;

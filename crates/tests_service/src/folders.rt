@@ -23,16 +23,6 @@ pub fn machine_over_nothing(alloc: Global) -> Result<Machine, Fail> {
     Ok(Machine::open(alloc, no_files(alloc))?)
 }
 
-/// A machine over a folder with one collection.
-pub fn machine_over_login(alloc: Global) -> Result<Machine, Fail> {
-    Ok(Machine::open(alloc, login_folder(alloc)?)?)
-}
-
-/// A machine over a folder with two collections.
-pub fn machine_over_two(alloc: Global) -> Result<Machine, Fail> {
-    Ok(Machine::open(alloc, two_folder(alloc)?)?)
-}
-
 /// A service over a folder with one collection.
 pub fn service_over_login(alloc: Global) -> Result<Service, Fail> {
     Ok(Service::open(alloc, login_folder(alloc)?)?)

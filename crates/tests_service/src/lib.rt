@@ -6,6 +6,8 @@
 #[cfg(test)]
 mod aliases;
 #[cfg(test)]
+mod asking;
+#[cfg(test)]
 mod checks;
 #[cfg(test)]
 mod desk;

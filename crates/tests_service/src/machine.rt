@@ -28,8 +28,8 @@ const CONVERSATION: &str = "\
 2|close|3|NoSession
 ";
 
-/// Lets a connection join, and returns its number.
-pub fn join(machine: &mut Machine) -> Result<u64, ApplyRefused> {
+// Lets a connection join, and returns its number.
+fn join(machine: &mut Machine) -> Result<u64, ApplyRefused> {
     let (output, _) = machine.apply(Incoming::Connect)?;
     match output {
         Output::Joined(conn) => Ok(conn.0),
@@ -102,8 +102,8 @@ fn is_taken_or_of_none(applied: Result<(), ApplyRefused>) -> bool {
     matches!(applied, Ok(()) | Err(ApplyRefused::NoConnection))
 }
 
-/// Asserts what a connection gets for what it does, as a row says.
-pub fn is_answered(
+// Asserts what a connection gets for what it does, as a row says.
+fn is_answered(
     rt: &impl Abort,
     alloc: Global,
     machine: &mut Machine,

@@ -1,15 +1,12 @@
 // The members that store nothing, over a folder with one collection, which is locked.
 
+use crate::asking::{arrival, is_answered};
 use crate::checks::{holds, same_number};
-use crate::folders::{Machine, Service, machine_over_login, over, service_over_login};
-use crate::machine::{is_answered, join};
-use kr_base::ConnId;
-use secret_calls::{Request, Serial};
-use service_machine::Arrival;
+use crate::folders::{Service, over, service_over_login};
 use std::alloc::Global;
 use std::process::Abort;
 use std::test::Fail;
-use tests_words::{call_of, cell, number};
+use tests_words::{cell, number};
 
 // In a row, a connection and what it does: it opens a session, searches all items or those of one
 // object, locks objects, or gets a secret or several for a session; and what it gets. Paths continue
@@ -38,19 +35,24 @@ const CONVERSATION: &str = "\
 1|search|service=empty|unlocked, locked collection/login/2
 ";
 
-fn talk(rt: &impl Abort, alloc: Global, machine: &mut Machine) -> Result<(), Fail> {
-    same_number(rt, join(machine)?, 1, "the first connection");
-    same_number(rt, join(machine)?, 2, "the second connection");
+fn joins(rt: &impl Abort, service: &mut Service) -> Result<(), Fail> {
+    same_number(rt, service.join()?.0, 1, "the first connection");
+    same_number(rt, service.join()?.0, 2, "the second connection");
+    Ok(())
+}
+
+fn talk(rt: &impl Abort, alloc: Global, service: &mut Service) -> Result<(), Fail> {
+    joins(rt, service)?;
     for row in CONVERSATION.lines() {
-        is_answered(rt, alloc, machine, row)?;
+        is_answered(rt, alloc, service, row, cell(row, 3))?;
     }
     Ok(())
 }
 
 #[test]
 fn each_member_finds_what_is_there(rt: HostRuntime) -> Result<(), Fail> {
-    let machine = machine_over_login(rt.alloc())?;
-    over(machine, |machine| talk(&rt, rt.alloc(), machine))
+    let service = service_over_login(rt.alloc())?;
+    over(service, |service| talk(&rt, rt.alloc(), service))
 }
 
 // What a connection asks, and the era of the service after that: a cut comes before the event that
@@ -67,22 +69,6 @@ const CUTS: &str = "\
 1|read|default|9
 1|ping||9
 ";
-
-/// The arrival of a row's call, by the first connection.
-pub fn arrival(alloc: Global, row: &str) -> Result<Arrival, Fail> {
-    let request = Request {
-        serial: Serial { number: 7 },
-        wants_reply: true,
-        length: 128,
-        call: call_of(alloc, row)?,
-    };
-    Ok(Arrival {
-        conn: ConnId(1),
-        request,
-        now: 0,
-        salt: [0; 8],
-    })
-}
 
 fn is_cut(rt: &impl Abort, alloc: Global, service: &mut Service, row: &str) -> Result<(), Fail> {
     let arrived = service.arrive(arrival(alloc, row)?).is_ok();

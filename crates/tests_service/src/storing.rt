@@ -1,10 +1,9 @@
 // The members that store, over a folder with two collections, which are locked: each call is refused, and no file is
 // touched.
 
+use crate::asking::{arrival, is_answered};
 use crate::checks::{holds, same_number};
-use crate::folders::{Machine, Service, lent, machine_over_two, over, service_over_two};
-use crate::machine::{is_answered, join};
-use crate::members::arrival;
+use crate::folders::{Service, lent, over, service_over_two};
 use kr_base::Stem;
 use kr_memory_disk::MemoryFolder;
 use kr_outside::DeviceCall;
@@ -12,6 +11,7 @@ use service_machine::{Disk, Event};
 use std::alloc::Global;
 use std::process::Abort;
 use std::test::Fail;
+use tests_words::cell;
 
 // In a row, a connection and what it does: it opens a session, makes an item in a collection or replaces one there,
 // with an attribute and a secret for a session, deletes an object, or sets the secret of an item; and what it gets.
@@ -61,11 +61,11 @@ const REFUSALS: &str = "\
 1|find|aliases/lost?service=empty|NoSuchObject
 ";
 
-fn talk(rt: &impl Abort, alloc: Global, machine: &mut Machine) -> Result<(), Fail> {
-    join(machine)?;
-    join(machine)?;
+fn talk(rt: &impl Abort, alloc: Global, service: &mut Service) -> Result<(), Fail> {
+    service.join()?;
+    service.join()?;
     for row in REFUSALS.lines() {
-        is_answered(rt, alloc, machine, row)?;
+        is_answered(rt, alloc, service, row, cell(row, 3))?;
     }
     Ok(())
 }
@@ -103,10 +103,10 @@ fn are_untouched(
 
 #[test]
 fn each_member_that_stores_is_refused_while_all_is_locked(rt: HostRuntime) -> Result<(), Fail> {
-    let machine = machine_over_two(rt.alloc())?;
-    let machine = lent(machine, |machine| talk(&rt, rt.alloc(), machine))?;
+    let service = service_over_two(rt.alloc())?;
+    let service = lent(service, |service| talk(&rt, rt.alloc(), service))?;
     over(
-        machine.into_disk(),
+        service.into_disk(),
         |disk| are_untouched(&rt, rt.alloc(), disk),
     )
 }
