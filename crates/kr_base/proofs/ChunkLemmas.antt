@@ -3,7 +3,7 @@ use Rattle.std.proofs.Common.{◌≡◌, ℕ, ◌+◌, ◌-◌, ◌<◌, ◌≤�
 use Rattle.std.specs.List.Sorted.{IsStrictlySortedBy}
 use Rattle.std.specs.List.{concat, insert, remove}
 use Rattle.std.proofs.lemmas.Bool.{cases_lt, eqb-true}
-use Rattle.std.proofs.lemmas.List.{append-nil, append_assoc, get_or-append-add, get_or_append_left, take-append-drop, drop_more, take_more, drop_all, set_split, length-append, length-take-le, length-drop, set-get_or, get_or-set_same, get_or-set_other, length-map, map-set}
+use Rattle.std.proofs.lemmas.List.{append-nil, append_assoc, get_or-append-add, get_or_append_left, take-append-drop, drop_more, take_more, drop_all, set_split, length-append, length-take-le, length-drop, length-set, take-set-le, set-get_or, get_or-set_same, get_or-set_other, length-map, map-set}
 use Rattle.std.proofs.lemmas.List.Edits.{length-insert, get_or-insert_below}
 use Rattle.std.proofs.lemmas.List.Folds.{concat-append}
 use Rattle.kr_base.specs.IdLists.{IsIdList, IsFilled, IsCounted, IsLaid, has_id, ids_in, keys, parts, with_id, without_id}
@@ -259,6 +259,12 @@ module _ (cs : List Chunk) (k : ℕ) (lt : k < length cs) (c new : Chunk) (is : 
             subst (λ j. slice_index (keys key.Before (slice_set cs k new)) j ≡ length (concat (take j ps))) (sym same)
             (ap (λ (t : List ℕ). get_or t k 0) written ∙ get_or-set_same (keys key.Before cs) k new.before 0 in_range ∙ e)
       ]
+
+-- after a change of the last part alone, the numbers of ids before each part are what they were
+pub counted-set : (counts : List ℕ) (ps : List (List ℕ)) (k : ℕ) (p : List ℕ) → length ps ≤ k + 1 → IsCounted counts ps → IsCounted counts (slice_set ps k p)
+counted-set counts ps k p last counted = λ place lt.
+    let within : place < length ps = omega (arith, lt, length-set ps k p) in
+    counted place within ∙ ap (λ t. length (concat t)) (sym (take-set-le place ps k p (omega (arith, within, last))))
 
 -- ---- splitting a chunk, and removing one
 

@@ -1,5 +1,5 @@
 -- Ids in rising order: what is below an id, what is above it, and one that is inserted or removed.
-use Rattle.std.proofs.Common.{◌≡◌, ℕ, ◌+◌, ◌<◌, ◌≤◌, ◌==◌, ◌||◌, Less, suc, Result, Ok, Err, Bool, true, false, not, nat_lt, List, [], ◌∷◌, ◌++◌, length, filter, take, drop, get_or, refl, sym, ap, subst, ◌∙◌, arith}
+use Rattle.std.proofs.Common.{◌≡◌, ℕ, ◌+◌, ◌-◌, ◌<◌, ◌≤◌, ◌==◌, ◌||◌, Less, suc, Result, Ok, Err, Bool, true, false, not, nat_lt, List, [], ◌∷◌, ◌++◌, length, filter, take, drop, get_or, refl, sym, ap, subst, ◌∙◌, arith}
 use Rattle.std.specs.List.{AllByRecursion, insert, remove}
 use Rattle.std.specs.List.Sorted.{IsStrictlySortedBy, IsBinarySearchResult}
 use Rattle.std.specs.Ordering.{nat_cmp}
@@ -288,6 +288,25 @@ without-hit ids id i rises found = let at = hit ids id i rises found in without-
 
 pub without-miss : (ids : List ℕ) (id i : ℕ) → Rises ids → Sought ids id (Err i) → ids ≡ without_id id ids
 without-miss ids id i rises found = let at = miss ids id i rises found in without-none ids i id at.0 at.1 at.2
+
+-- ---- an id after all others
+
+last-above : (x : ℕ) (xs : List ℕ) (id d : ℕ) → Rises (x ∷ xs) → get_or (x ∷ xs) (length xs) d < id → AllBelow id (x ∷ xs)
+last-above x [] id d rises lt = (lt, tt)
+last-above x (y ∷ ys) id d rises lt =
+    let rest = last-above y ys id d (rises-right (x ∷ []) (y ∷ ys) rises) lt in
+    let less = (above-head x (y ∷ ys) rises).0 in
+    (omega (arith, rest.0, less), rest)
+
+with-below : (id : ℕ) (ids : List ℕ) → AllBelow id ids → with_id id ids ≡ ids ++ id ∷ []
+with-below id ids below = ap (with_id id) (sym (append-nil ids)) ∙ with-gap id ids [] below tt
+
+pub with-last : (ids : List ℕ) (id last : ℕ) → Rises ids → 0 < length ids → last ≡ get_or ids (length ids - 1) last → nat_lt last id ≡ true → with_id id ids ≡ ids ++ id ∷ []
+with-last [] id last rises some is less = absurd (omega (arith, some))
+with-last (x ∷ xs) id last rises some is less =
+    let at : length (x ∷ xs) - 1 ≡ length xs = omega arith in
+    let end : get_or (x ∷ xs) (length xs) last < id = subst (λ n. n < id) (is ∙ ap (λ n. get_or (x ∷ xs) n last) at) (ltb-true last id less) in
+    with-below id (x ∷ xs) (last-above x xs id last rises end)
 
 -- ---- what stays true
 

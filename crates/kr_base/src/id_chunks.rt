@@ -1,4 +1,4 @@
-ghost use Rattle.std.specs.Prelude.{◌≡◌, ◌+◌, ◌<◌, ◌≤◌, ◌∷◌, [], OnOk, OnErr, IfOk, length, slice_index, slice_index_or, slice_set};
+ghost use Rattle.std.specs.Prelude.{◌≡◌, ◌+◌, ◌<◌, ◌≤◌, ◌∷◌, ◌++◌, [], IsTrue, OnOk, OnErr, IfOk, length, slice_index, slice_index_or, slice_set};
 ghost use Rattle.std.specs.List.{remove};
 ghost use Rattle.std.specs.List.Sorted.{IsStrictlySortedBy};
 ghost use Rattle.std.specs.Ordering.{nat_cmp};
@@ -75,12 +75,29 @@ pub fn has_in(ids: &[u32], id: u32) -> bool
     }
 }
 
-/// Inserts an id at its position in the order.
+/// Whether an id comes after all of these.
+fn comes_last(ids: &[u32], id: u32) -> bool
+    requires { IsStrictlySortedBy nat_cmp ids.now }
+    ensures { IsTrue result → with_id id ids.now ≡ ids.now ++ id ∷ [] }
+{
+    match ids.last() {
+        Some(last) => *last < id,
+        None => true,
+    }
+}
+
+/// Inserts an id at its position in the order. One that comes after all others takes no search.
 fn put_in(ids: &mut Vec<u32>, id: u32) -> Result<(), OutOfMemory>
     requires { IsStrictlySortedBy nat_cmp ids.old.items }
     ensures put { OnOk result (ids.new.items ≡ with_id id ids.old.items) }
     ensures unchanged { OnErr result (ids.new.items ≡ ids.old.items) }
 {
+    if comes_last(ids.as_slice(), id) {
+        return match ids.push(id) {
+            Ok(()) => Ok(()),
+            Err(_) => Err(AllocError),
+        };
+    }
     match ids.as_slice().binary_search(&id) {
         Ok(_) => Ok(()),
         Err(place) => match ids.insert(place, id) {
@@ -101,6 +118,22 @@ fn take_in(ids: &mut Vec<u32>, id: u32)
         }
         Err(_) => {}
     }
+}
+
+/// The position of the chunk that an id is put into. An id that comes after the first one of the last chunk
+/// takes no search.
+fn place_of(chunks: &[Chunk], id: u32) -> usize
+    requires { 0 < length chunks.now }
+    ensures within { result < length chunks.now }
+    ensures from { 0 < result → slice_index (keys key.First chunks.now) result ≤ id }
+    ensures to { result + 1 < length chunks.now
+        → id < slice_index (keys key.First chunks.now) (result + 1) }
+{
+    let last = chunks.len() - 1;
+    if key_at(chunks, Key::First, last) <= id as usize {
+        return last;
+    }
+    last_up_to(chunks, Key::First, id as usize)
 }
 
 /// The ids of the chunk at a position.
@@ -140,6 +173,7 @@ fn split(alloc: Global, chunks: &mut Vec<Chunk>, place: usize)
     requires within { place < length chunks.old.items }
     ensures ids { ids_in chunks.new.items ≡ ids_in chunks.old.items }
     ensures filled { IsFilled (parts chunks.old.items) → IsFilled (parts chunks.new.items) }
+    ensures whole { length chunks.new.items ≡ place + 1 → chunks.new.items ≡ chunks.old.items }
 {
     let ids = part_at(chunks.as_slice(), place);
     let half = ids.len() / 2;
@@ -181,7 +215,8 @@ fn count(chunks: &mut Vec<Chunk>)
     }
 }
 
-/// Inserts an id at its position among the ids of the chunks, of which there is at least one.
+/// Inserts an id at its position among the ids of the chunks, of which there is at least one. An id that comes
+/// after all others takes no search, and no recount unless the last chunk is split.
 pub fn put(alloc: Global, chunks: &mut Vec<Chunk>, id: u32) -> Result<(), OutOfMemory>
     requires laid { IsLaid chunks.old.items }
     requires some { 0 < length chunks.old.items }
@@ -189,9 +224,12 @@ pub fn put(alloc: Global, chunks: &mut Vec<Chunk>, id: u32) -> Result<(), OutOfM
     ensures put { OnOk result (ids_in chunks.new.items ≡ with_id id (ids_in chunks.old.items)) }
     ensures unchanged { OnErr result (ids_in chunks.new.items ≡ ids_in chunks.old.items) }
 {
-    let place = last_up_to(chunks.as_slice(), Key::First, id as usize);
+    let place = place_of(chunks.as_slice(), id);
     put_at(chunks, place, id)?;
     split(alloc, chunks, place);
+    if chunks.as_slice().len() == place + 1 {
+        return Ok(());
+    }
     count(chunks);
     Ok(())
 }
