@@ -140,18 +140,23 @@ fn find(
     }
 }
 
+// Removes the first bytes, which are at least half of all: so the others are copied to the front at
+// once, since they don't overlap the bytes that they replace.
 fn remove_front(bytes: &mut Vec<u8>, count: usize)
-    requires { count ≤ vec_len bytes.old }
+    requires within { count ≤ vec_len bytes.old }
+    requires half { vec_len bytes.old ≤ count + count }
     ensures { bytes.new.items ≡ drop count bytes.old.items }
 {
-    let len = bytes.len();
-    bytes.as_mut_slice().copy_within(count..len, 0);
-    bytes.truncate(len - count);
+    let left = bytes.len() - count;
+    let (front, others) = bytes.as_mut_slice().split_at_mut(count);
+    front[..left].copy_from_slice(others);
+    bytes.truncate(left);
 }
 
 // Removes the bytes that messages consumed, and frees a large buffer if no byte is left.
 fn let_go(bytes: &mut Vec<u8>, taken: usize)
-    requires { taken ≤ vec_len bytes.old }
+    requires within { taken ≤ vec_len bytes.old }
+    requires half { vec_len bytes.old ≤ taken + taken }
     ensures { bytes.new.items ≡ drop taken bytes.old.items }
 {
     if taken == 0 {

@@ -85,90 +85,82 @@ fn empty() -> Header
     }
 }
 
-fn with_path(header: Header, value: Value) -> Option<Header>
-    ensures { option_map fields_of result
-        ≡ with_field (fields_of header) kinds.Path (value_of value) }
+fn with_path(header: &mut Header, value: Value) -> Option<()>
+    ensures { option_map (λ _. fields_of header.new) result
+        ≡ with_field (fields_of header.old) kinds.Path (value_of value) }
 {
-    let mut header = header;
     header.path = Some(once(&header.path, path_in(value))?);
-    Some(header)
+    Some(())
 }
 
-fn with_interface(header: Header, value: Value) -> Option<Header>
-    ensures { option_map fields_of result
-        ≡ with_field (fields_of header) kinds.Interface (value_of value) }
+fn with_interface(header: &mut Header, value: Value) -> Option<()>
+    ensures { option_map (λ _. fields_of header.new) result
+        ≡ with_field (fields_of header.old) kinds.Interface (value_of value) }
 {
-    let mut header = header;
     header.interface = Some(once(&header.interface, interface_in(value))?);
-    Some(header)
+    Some(())
 }
 
-fn with_member(header: Header, value: Value) -> Option<Header>
-    ensures { option_map fields_of result
-        ≡ with_field (fields_of header) kinds.Member (value_of value) }
+fn with_member(header: &mut Header, value: Value) -> Option<()>
+    ensures { option_map (λ _. fields_of header.new) result
+        ≡ with_field (fields_of header.old) kinds.Member (value_of value) }
 {
-    let mut header = header;
     header.member = Some(once(&header.member, member_in(value))?);
-    Some(header)
+    Some(())
 }
 
-fn with_error_name(header: Header, value: Value) -> Option<Header>
-    ensures { option_map fields_of result
-        ≡ with_field (fields_of header) kinds.ErrorName (value_of value) }
+fn with_error_name(header: &mut Header, value: Value) -> Option<()>
+    ensures { option_map (λ _. fields_of header.new) result
+        ≡ with_field (fields_of header.old) kinds.ErrorName (value_of value) }
 {
-    let mut header = header;
     header.error_name = Some(once(&header.error_name, interface_in(value))?);
-    Some(header)
+    Some(())
 }
 
-fn with_reply_serial(header: Header, value: Value) -> Option<Header>
-    ensures { option_map fields_of result
-        ≡ with_field (fields_of header) kinds.ReplySerial (value_of value) }
+fn with_reply_serial(header: &mut Header, value: Value) -> Option<()>
+    ensures { option_map (λ _. fields_of header.new) result
+        ≡ with_field (fields_of header.old) kinds.ReplySerial (value_of value) }
 {
-    let mut header = header;
     header.reply_serial = Some(once(&header.reply_serial, serial_in(value))?);
-    Some(header)
+    Some(())
 }
 
-fn with_destination(header: Header, value: Value) -> Option<Header>
-    ensures { option_map fields_of result
-        ≡ with_field (fields_of header) kinds.Destination (value_of value) }
+fn with_destination(header: &mut Header, value: Value) -> Option<()>
+    ensures { option_map (λ _. fields_of header.new) result
+        ≡ with_field (fields_of header.old) kinds.Destination (value_of value) }
 {
-    let mut header = header;
     header.destination = Some(once(&header.destination, string_in(value))?);
-    Some(header)
+    Some(())
 }
 
-fn with_sender(header: Header, value: Value) -> Option<Header>
-    ensures { option_map fields_of result
-        ≡ with_field (fields_of header) kinds.Sender (value_of value) }
+fn with_sender(header: &mut Header, value: Value) -> Option<()>
+    ensures { option_map (λ _. fields_of header.new) result
+        ≡ with_field (fields_of header.old) kinds.Sender (value_of value) }
 {
-    let mut header = header;
     header.sender = Some(once(&header.sender, string_in(value))?);
-    Some(header)
+    Some(())
 }
 
-fn with_signature(header: Header, value: Value) -> Option<Header>
-    ensures { option_map fields_of result
-        ≡ with_field (fields_of header) kinds.Signature (value_of value) }
+fn with_signature(header: &mut Header, value: Value) -> Option<()>
+    ensures { option_map (λ _. fields_of header.new) result
+        ≡ with_field (fields_of header.old) kinds.Signature (value_of value) }
 {
-    let mut header = header;
     header.signature = Some(once(&header.signature, signature_in(value))?);
-    Some(header)
+    Some(())
 }
 
-fn with_unix_fds(header: Header, value: Value) -> Option<Header>
-    ensures { option_map fields_of result
-        ≡ with_field (fields_of header) kinds.UnixFds (value_of value) }
+fn with_unix_fds(header: &mut Header, value: Value) -> Option<()>
+    ensures { option_map (λ _. fields_of header.new) result
+        ≡ with_field (fields_of header.old) kinds.UnixFds (value_of value) }
 {
-    let mut header = header;
     header.unix_fds = Some(once(&header.unix_fds, number_in(value))?);
-    Some(header)
+    Some(())
 }
 
-// The header with one more field.
-fn with_field(header: Header, kind: FieldKind, value: Value) -> Option<Header>
-    ensures { option_map fields_of result ≡ with_field (fields_of header) kind (value_of value) }
+// Adds a field to the header, unless that makes it invalid.
+fn with_field(header: &mut Header, kind: FieldKind, value: Value) -> Option<()>
+    ensures { option_map (λ _. fields_of header.new) result
+        ≡ with_field (fields_of header.old) kind (value_of value) }
 {
     match kind {
         FieldKind::Invalid => None,
@@ -181,13 +173,13 @@ fn with_field(header: Header, kind: FieldKind, value: Value) -> Option<Header>
         FieldKind::Sender => with_sender(header, value),
         FieldKind::Signature => with_signature(header, value),
         FieldKind::UnixFds => with_unix_fds(header, value),
-        FieldKind::Unknown => Some(header),
+        FieldKind::Unknown => Some(()),
     }
 }
 
-fn with_value(header: Header, field: Value) -> Option<Header>
-    ensures { option_map fields_of result
-        ≡ with_value (fields_of header) (value_as field_type field) }
+fn with_value(header: &mut Header, field: Value) -> Option<()>
+    ensures { option_map (λ _. fields_of header.new) result
+        ≡ with_value (fields_of header.old) (value_as field_type field) }
 {
     let (code, value) = field_in(field)?;
     with_field(header, kind_of(code), value)
@@ -199,7 +191,7 @@ fn with_values(header: Header, fields: Vec<Value>) -> Option<Header>
 {
     let mut header = header;
     for field in fields {
-        header = with_value(header, field)?;
+        with_value(&mut header, field)?;
     }
     Some(header)
 }
