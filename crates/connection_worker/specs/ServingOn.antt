@@ -1,5 +1,5 @@
 -- The calls after a handshake, as they arrive from a source.
-use Rattle.std.specs.Prelude.{◌≡◌, ◌≢◌, ℕ, List, [], ◌++◌, Result, Ok, Err}
+use Rattle.std.specs.Prelude.{◌≡◌, ◌≢◌, ℕ, ◌<◌, List, [], ◌++◌, length, Result, Ok, Err}
 use Rattle.std.specs.Io.KnownBytes.{IsAtEnd}
 use Rattle.kr_outside.specs.Faults.{Rose}
 use Rattle.dbus_auth.specs.Handshake.{silent, opened}
@@ -15,14 +15,14 @@ use Rattle.service_events.specs.Single.{TimedRequest, turns}
 use Rattle.connection_worker.specs.Streams.{Input, Output, Took, IsStill}
 use Rattle.connection_worker.specs.Written.{written_after}
 
--- more bytes were fed to the framer; or the source failed, or ended between two messages or inside one, or no memory was left
+-- at least one byte more was read and fed to the framer; or the source failed, or ended between two messages or inside one, or no memory was left for what was read
 abbrev pub FeedsMore : Framing → Framing → Input → Input → Result Unit End → Type 0
 FeedsMore has left from to (Ok done) =
-    (more : List ℕ) × Took from to more × (left.rest ≡ has.rest ++ more) × (left.most ≡ has.most) × IsStill from to
+    (more : List ℕ) × Took from to more × (left.rest ≡ has.rest ++ more) × (left.most ≡ has.most) × IsStill from to × (0 < length more)
 FeedsMore has left from to (Err end.ReadFault) = Took from to [] × Rose from.faults to.faults
 FeedsMore has left from to (Err end.Done) = Took from to [] × IsAtEnd to.left × (has.rest ≡ []) × IsStill from to
 FeedsMore has left from to (Err (end.Violation violation.EndInside)) = Took from to [] × IsAtEnd to.left × (has.rest ≢ []) × IsStill from to
-FeedsMore has left from to (Err end.Memory) = (more : List ℕ) × Took from to more × IsStill from to
+FeedsMore has left from to (Err end.Memory) = (more : List ℕ) × Took from to more × IsStill from to × (0 < length more)
 FeedsMore has left from to (Err _) = ⊥
 
 -- all that was read, recorded and written after a handshake
