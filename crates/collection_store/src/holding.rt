@@ -37,21 +37,18 @@ pub struct Open {
 }
 
 /// Puts the clear part with the hashes of the items' own attributes in place of the one in the file, and
-/// returns the latter, unless they have the same items. The two are the same except for the hashes, so these
-/// alone are compared.
+/// returns the latter, unless they have the same items: then the one in the file stays, with its index. The two
+/// are the same except for the hashes, so these alone are compared.
 pub fn take_own(told: &mut Told, own: Told) -> Option<Told>
     requires { without_hashes own ≡ without_hashes told.old }
     ensures told { told.new ≡ own }
     ensures apart { IfSome result (λ written. written ≡ told.old) }
     ensures same { IfNone result (own.items ≡ told.old.items) }
 {
-    let written = mem::replace(told, own);
-    if have_same_hashes(
-        told.clear().items.as_slice(),
-        written.clear().items.as_slice(),
-    ) {
+    if have_same_hashes(own.clear().items.as_slice(), told.clear().items.as_slice()) {
         return None;
     }
+    let written = mem::replace(told, own);
     Some(written)
 }
 

@@ -17,7 +17,8 @@ use std::marker::Model;
 #[derive(Drop)]
 pub struct Told {
     clear: Clear,
-    // While the collection is locked, the index of the items' hashes, if there was memory for it.
+    // The index of the items' hashes, by which a locked collection is searched, if there was memory for it. It is
+    // kept while the collection is unlocked, until its first change.
     index: Option<HashedIndex>,
 }
 
