@@ -1,6 +1,6 @@
 // Calls of one collection in turn.
 
-use crate::checks::{add_number, cell, joined, number, same_text, word};
+use crate::checks::{add_number, cell, joined, number, over, same_text, word};
 use crate::made::{create, made};
 use crate::steps::{change, rekey, search, unlock};
 use crate::words::id_of;
@@ -120,7 +120,7 @@ fn answer(
         "shown" => shown(alloc, collection),
         "lock" => locked(alloc, collection),
         "unlock" => word(alloc, unlock(alloc, collection, cell(row, 2))?),
-        "key" => word(alloc, rekey(alloc, collection, 1000)?),
+        "key" => key_changed(alloc, collection, 1000),
         _ => change(alloc, collection, row, 1000),
     }
 }
@@ -138,8 +138,7 @@ fn answer_rows(
 
 #[test]
 fn calls_are_answered_in_turn(rt: HostRuntime) -> Result<(), Fail> {
-    let mut collection = made(rt.alloc())?;
-    answer_rows(&rt, &mut collection)
+    over(made(rt.alloc())?, |collection| answer_rows(&rt, collection))
 }
 
 // What is done with this many bytes of room, and what comes of it: the answer, and the ids of the
@@ -168,19 +167,28 @@ fn added(
 }
 
 fn changed(alloc: Global, room: u64) -> Result<String, Fail> {
-    let mut collection = made(alloc)?;
-    added(alloc, &mut collection, room)
+    over(made(alloc)?, |collection| added(alloc, collection, room))
 }
 
-fn rekeyed(alloc: Global, room: u64) -> Result<&'static str, Fail> {
-    let mut collection = made(alloc)?;
-    rekey(alloc, &mut collection, room)
+fn key_changed(
+    alloc: Global,
+    collection: &mut Collection<MemorySlot>,
+    room: u64,
+) -> Result<String, Fail> {
+    word(alloc, rekey(alloc, collection, room)?)
+}
+
+fn rekeyed(alloc: Global, room: u64) -> Result<String, Fail> {
+    over(
+        made(alloc)?,
+        |collection| key_changed(alloc, collection, room),
+    )
 }
 
 fn in_room(alloc: Global, name: &str, room: u64) -> Result<String, Fail> {
     match name {
         "create" => word(alloc, created(alloc, room)?),
-        "key" => word(alloc, rekeyed(alloc, room)?),
+        "key" => rekeyed(alloc, room),
         _ => changed(alloc, room),
     }
 }

@@ -9,6 +9,15 @@ pub fn same_text(rt: &impl Abort, found: &str, want: &str, at: &str) {
     assert_eq!(rt; found, want, "at {at}");
 }
 
+/// Lends a value to a test, and drops it then. The drop is here, where the type isn't known: in a
+/// function that knows it, the prover takes seconds for each drop.
+pub fn over<T: Drop, A, L: FnOnce(&mut T) -> Result<A, Fail>>(value: T, test: L) -> Result<A, Fail>
+    requires { L.IsAlwaysCallable test }
+{
+    let mut value = value;
+    test(&mut value)
+}
+
 /// The cell of a row at this index, without spaces around it; bars separate the cells.
 pub fn cell(row: &str, place: usize) -> &str {
     row.split('|').nth(place).unwrap_or("no such cell").trim()

@@ -1,6 +1,6 @@
 // What a crash at each moment leaves, loaded and opened again.
 
-use crate::checks::{cell, same_text, word};
+use crate::checks::{cell, over, same_text, word};
 use crate::faults::story;
 use crate::made::loaded;
 use crate::steps::{search, unlock};
@@ -40,8 +40,10 @@ fn opened(alloc: Global, collection: &mut Collection<MemorySlot>) -> Result<Stri
 
 // An image, loaded and opened again.
 fn opened_again(alloc: Global, image: Bytes) -> Result<String, Fail> {
-    let mut collection = loaded(alloc, image)?;
-    opened(alloc, &mut collection)
+    over(
+        loaded(alloc, image)?,
+        |collection| opened(alloc, collection),
+    )
 }
 
 // The letter of an image: . for no file, e for the empty collection, o for its item under the old password, n
@@ -114,20 +116,25 @@ add delete resolve|9||. . o. o. o eo e e e .e . . .
 ";
 
 // What a crash leaves after all calls, then after one fewer, down to none.
-fn left(alloc: Global, row: &str) -> Result<String, Fail> {
-    let (_, mut slot) = story(alloc, row)?;
+fn left(alloc: Global, slot: &mut MemorySlot) -> Result<String, Fail> {
     let mut left = word(alloc, "")?;
     for calls in (0..slot.calls().len().saturating_add(1)).rev() {
-        left.push_str(left_at(alloc, &mut slot, calls)?.as_str())?;
+        left.push_str(left_at(alloc, slot, calls)?.as_str())?;
         left.push(' ')?;
     }
     Ok(left)
 }
 
+// The same, after the steps of a row.
+fn left_after(alloc: Global, row: &str) -> Result<String, Fail> {
+    let (_, slot) = story(alloc, row)?;
+    over(slot, |slot| left(alloc, slot))
+}
+
 #[test]
 fn a_crash_leaves_a_file_that_opens_to_what_was_stored(rt: HostRuntime) -> Result<(), Fail> {
     for row in LEFT.lines() {
-        let found = left(rt.alloc(), row)?;
+        let found = left_after(rt.alloc(), row)?;
         same_text(&rt, found.as_str().trim(), cell(row, 3), row);
     }
     Ok(())

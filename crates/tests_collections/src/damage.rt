@@ -1,7 +1,7 @@
 // A file whose area is damaged, opened with its own key.
 ghost use Rattle.std.specs.Prelude.{◌≤◌, IfOk, length};
 
-use crate::checks::{cell, number, same_text, word};
+use crate::checks::{cell, joined, number, over, same_text, word};
 use crate::made::{loaded, made};
 use crate::steps::{change, search, unlock};
 use crate::words::key_of;
@@ -12,11 +12,12 @@ use keyring_file::{AreaFault, read_clear};
 use kr_base::Bytes;
 use kr_memory_disk::MemorySlot;
 use md5::{Digest, Md5};
-use std::alloc::Global;
+use std::alloc::{AllocGlobal, Global};
+use std::process::Abort;
 use std::test::Fail;
 
-// The file of a collection with an item whose attributes are k=v and l=w.
-fn whole(alloc: Global) -> Result<Vec<u8>, Fail> {
+/// The file of a collection with an item whose attributes are k=v and l=w.
+pub fn whole(alloc: Global) -> Result<Vec<u8>, Fail> {
     let mut collection = made(alloc)?;
     let _made = change(alloc, &mut collection, "add||k=v l=w", 1000)?;
     match collection.into_cell().image() {
@@ -59,14 +60,20 @@ fn damage_encrypted(key: &Derived, area: &mut [u8], place: usize, byte: u8) {
     cipher.encrypt_in_place(key.vector(), area);
 }
 
+// Writes a byte at a place of the text of a file's area.
+fn damage_file(alloc: Global, file: &mut [u8], place: usize, byte: u8) -> Result<(), Fail> {
+    let start = area_place(alloc, file)?;
+    let key = key_of(alloc, "password")?;
+    let (_, area) = file.split_at_mut(start);
+    damage_encrypted(&key, area, place, byte);
+    Ok(())
+}
+
 // The collection of a file with another byte at a place of its area's text.
 fn damaged(alloc: Global, place: usize, byte: u8) -> Result<Collection<MemorySlot>, Fail> {
     let mut file = whole(alloc)?;
-    let start = area_place(alloc, file.as_slice())?;
-    let key = key_of(alloc, "password")?;
-    let (_, area) = file.as_mut_slice().split_at_mut(start);
-    damage_encrypted(&key, area, place, byte);
-    loaded(alloc, Bytes::from_slice(alloc, file.as_slice())?)
+    damage_file(alloc, file.as_mut_slice(), place, byte)?;
+    loaded(alloc, Bytes::new(file))
 }
 
 fn fault(fault: &AreaFault) -> &'static str {
@@ -103,12 +110,18 @@ const DAMAGED: &str = "\
 77|107|name 1
 ";
 
-fn told(alloc: Global, place: usize, byte: u8) -> Result<String, Fail> {
-    let mut collection = damaged(alloc, place, byte)?;
+fn opened_told(alloc: Global, collection: &mut Collection<MemorySlot>) -> Result<String, Fail> {
     let key = key_of(alloc, "password")?;
-    let mut told = word(alloc, opened(&mut collection, key))?;
-    told.push_str(search(alloc, &collection, "k=v")?.as_str())?;
-    Ok(told)
+    let answer = opened(collection, key);
+    let ids = search(alloc, collection, "k=v")?;
+    joined(alloc, &[answer, ids.as_str()])
+}
+
+fn told(alloc: Global, place: usize, byte: u8) -> Result<String, Fail> {
+    over(
+        damaged(alloc, place, byte)?,
+        |collection| opened_told(alloc, collection),
+    )
 }
 
 #[test]
@@ -155,12 +168,21 @@ fn step(alloc: Global, collection: &mut Collection<MemorySlot>, row: &str) -> Re
     }
 }
 
-#[test]
-fn the_hashes_of_the_file_are_shown_until_a_change(rt: HostRuntime) -> Result<(), Fail> {
-    let mut collection = damaged(rt.alloc(), 63, 120)?;
+fn step_rows(
+    rt: &(impl AllocGlobal + Abort),
+    collection: &mut Collection<MemorySlot>,
+) -> Result<(), Fail> {
     for row in HASHES.lines() {
-        let found = step(rt.alloc(), &mut collection, row)?;
-        same_text(&rt, found.as_str().trim(), cell(row, 3), row);
+        let found = step(rt.alloc(), collection, row)?;
+        same_text(rt, found.as_str().trim(), cell(row, 3), row);
     }
     Ok(())
+}
+
+#[test]
+fn the_hashes_of_the_file_are_shown_until_a_change(rt: HostRuntime) -> Result<(), Fail> {
+    over(
+        damaged(rt.alloc(), 63, 120)?,
+        |collection| step_rows(&rt, collection),
+    )
 }

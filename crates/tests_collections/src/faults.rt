@@ -5,13 +5,14 @@ use crate::made::{Outcome, create};
 use crate::steps::{change, delete, rekey, resolve, search, unlock};
 use collection_store::Collection;
 use kr_memory_disk::MemorySlot;
+use kr_outside::Slot;
 use std::alloc::Global;
 use std::test::Fail;
 
 // A step in a word.
-fn step(
+fn step<S: Slot>(
     alloc: Global,
-    collection: &mut Collection<MemorySlot>,
+    collection: &mut Collection<S>,
     name: &str,
 ) -> Result<String, Fail> {
     match name {
@@ -23,7 +24,7 @@ fn step(
     }
 }
 
-fn state(collection: &Collection<MemorySlot>) -> &'static str {
+fn state<S: Slot>(collection: &Collection<S>) -> &'static str {
     if collection.is_open() {
         return "open";
     }
@@ -34,9 +35,9 @@ fn state(collection: &Collection<MemorySlot>) -> &'static str {
 }
 
 // What a step came to: its answer, the state, and the ids of the items with k=v that are shown.
-fn step_told(
+fn step_told<S: Slot>(
     alloc: Global,
-    collection: &mut Collection<MemorySlot>,
+    collection: &mut Collection<S>,
     name: &str,
 ) -> Result<String, Fail> {
     let answer = step(alloc, collection, name)?;
@@ -47,16 +48,13 @@ fn step_told(
 
 // What the making of the collection came to, and its state.
 fn begun(alloc: Global, made: &str, state: &str) -> Result<String, Fail> {
-    let mut told = word(alloc, made)?;
-    told.push(' ')?;
-    told.push_str(state)?;
-    Ok(told)
+    joined(alloc, &[made, " ", state])
 }
 
 // What the steps came to, after the making of the collection.
-fn steps_told(
+fn steps_told<S: Slot>(
     alloc: Global,
-    collection: &mut Collection<MemorySlot>,
+    collection: &mut Collection<S>,
     steps: &str,
     made: &str,
 ) -> Result<String, Fail> {
@@ -67,13 +65,13 @@ fn steps_told(
     Ok(told)
 }
 
-// The same, and the slot after the steps.
-fn lived(
+/// The same, and the slot after the steps.
+pub fn lived<S: Slot>(
     alloc: Global,
-    collection: Collection<MemorySlot>,
+    collection: Collection<S>,
     steps: &str,
     made: &str,
-) -> Result<(String, MemorySlot), Fail> {
+) -> Result<(String, S), Fail> {
     let mut collection = collection;
     let told = steps_told(alloc, &mut collection, steps, made);
     let slot = collection.into_cell().into_slot();

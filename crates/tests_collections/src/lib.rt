@@ -18,4 +18,6 @@ mod made;
 #[cfg(test)]
 mod steps;
 #[cfg(test)]
+mod strange;
+#[cfg(test)]
 mod words;

@@ -58,8 +58,8 @@ pub fn made(alloc: Global) -> Result<Collection<MemorySlot>, Fail> {
     }
 }
 
-// The clear part of an image.
-fn clear_of(alloc: Global, image: &[u8]) -> Result<Clear, Fail>
+/// The clear part of an image.
+pub fn clear_of(alloc: Global, image: &[u8]) -> Result<Clear, Fail>
     ensures { IfOk result (HasClear image.now) }
 {
     match read_clear(alloc, image) {

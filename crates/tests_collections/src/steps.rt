@@ -6,7 +6,7 @@ use crate::words::{attributes_of, change_of, key_of, refusal};
 use collection_store::{Change, ChangeRefused, Changed, Collection, UnlockRefused};
 use item_store::ItemFault;
 use kr_base::ItemId;
-use kr_memory_disk::MemorySlot;
+use kr_outside::Slot;
 use replace_slot::{FaultRead, Found, RemoveFault};
 use std::alloc::Global;
 use std::test::Fail;
@@ -24,8 +24,8 @@ fn is_known(known: &Result<Changed, ItemFault>, made: &Result<Changed, ChangeRef
 
 // Makes a change at the time 200, and says whether its answer was known before. None if the collection is
 // locked.
-fn changed(
-    collection: &mut Collection<MemorySlot>,
+fn changed<S: Slot>(
+    collection: &mut Collection<S>,
     change: Change,
     room: u64,
 ) -> Option<(bool, Result<Changed, ChangeRefused>)> {
@@ -52,9 +52,9 @@ fn change_told(alloc: Global, changed: Changed) -> Result<String, Fail> {
 }
 
 /// Makes the change of a row, with this many bytes of room.
-pub fn change(
+pub fn change<S: Slot>(
     alloc: Global,
-    collection: &mut Collection<MemorySlot>,
+    collection: &mut Collection<S>,
     row: &str,
     room: u64,
 ) -> Result<String, Fail> {
@@ -76,9 +76,9 @@ fn unlock_refusal(refused: &UnlockRefused) -> &'static str {
 }
 
 /// Unlocks with the key of a password.
-pub fn unlock(
+pub fn unlock<S: Slot>(
     alloc: Global,
-    collection: &mut Collection<MemorySlot>,
+    collection: &mut Collection<S>,
     password: &str,
 ) -> Result<&'static str, Fail> {
     let key = key_of(alloc, password)?;
@@ -99,9 +99,9 @@ fn done(answer: Result<(), ChangeRefused>) -> &'static str {
 }
 
 /// Stores the collection under the key of `later`.
-pub fn rekey(
+pub fn rekey<S: Slot>(
     alloc: Global,
-    collection: &mut Collection<MemorySlot>,
+    collection: &mut Collection<S>,
     room: u64,
 ) -> Result<&'static str, Fail> {
     let key = key_of(alloc, "later")?;
@@ -112,7 +112,7 @@ pub fn rekey(
 }
 
 /// Deletes the file.
-pub fn delete(collection: &mut Collection<MemorySlot>) -> &'static str {
+pub fn delete<S: Slot>(collection: &mut Collection<S>) -> &'static str {
     if !collection.is_open() {
         return "locked";
     }
@@ -123,9 +123,9 @@ pub fn delete(collection: &mut Collection<MemorySlot>) -> &'static str {
 }
 
 /// Resolves a doubt.
-pub fn resolve(
+pub fn resolve<S: Slot>(
     alloc: Global,
-    collection: &mut Collection<MemorySlot>,
+    collection: &mut Collection<S>,
 ) -> Result<&'static str, Fail> {
     let mut buffer = vec![in alloc; 0; 1000]?;
     if collection.is_known() || collection.longest() >= buffer.len() {
@@ -148,9 +148,9 @@ fn ids(alloc: Global, ids: &[ItemId]) -> Result<String, Fail> {
 }
 
 /// The ids of the items that have the attributes of these words, a space before each.
-pub fn search(
+pub fn search<S: Slot>(
     alloc: Global,
-    collection: &Collection<MemorySlot>,
+    collection: &Collection<S>,
     words: &str,
 ) -> Result<String, Fail> {
     let wanted = attributes_of(alloc, words)?;
