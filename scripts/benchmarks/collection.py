@@ -219,14 +219,6 @@ fn sealed(alloc: Global, file: &[u8], count: u32, length: usize) -> Option<usize
     Some(digests(&key(alloc)?, area.as_mut_slice(), count))
 }
 
-fn indexed(alloc: Global, clear: &Clear, count: u32) -> Option<usize> {
-    let items = clear.items.as_slice();
-    for _ in 0..count {
-        let _index = HashedIndex::new(alloc, items).ok()?;
-    }
-    Some(items.len())
-}
-
 fn tell(rt: HostRuntime, number: usize) {
     let _ = println!(rt; "{number}");
 }
@@ -249,10 +241,6 @@ fn clear_part(rt: HostRuntime, what: &str, count: u32, file: &[u8]) -> Option<()
             rt,
             compared(rt.alloc(), &clear, &wanted(rt.alloc(), what)?, count)?,
         );
-        return Some(());
-    }
-    if what == "indexed" {
-        tell(rt, indexed(rt.alloc(), &clear, count)?);
         return Some(());
     }
     shown(rt, &clear, what)
@@ -527,10 +515,9 @@ def unlocking(program):
         rounds = 300000 // items
         read = program.spent("part", "read", rounds, name)[0]
         both = program.spent("disk", "unlock", rounds, name, rounds)[0]
-        index = program.spent("part", "indexed", rounds, name)[0]
-        small = small or (both - index) / items
-        print(f"collection_store, {items} items unlocked: {(both - index) / read:.2f} of AES, MD5 and reading the area ({read * 1e3:.3f} ms), and {both / read:.2f} with locking, which makes the index;")
-        print(f"  for each item {(both - index) / items / small:.2f} of among 200")
+        small = small or both / items
+        print(f"collection_store, {items} items locked and unlocked: {both / read:.2f} of AES, MD5 and reading the area ({read * 1e3:.3f} ms);")
+        print(f"  for each item {both / items / small:.2f} of among 200")
 
 
 def searches(program):
