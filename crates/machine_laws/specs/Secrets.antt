@@ -1,0 +1,73 @@
+-- Which secrets a connection is shown, and what is true of each (Secret Service API draft 0.2, "Secrets", and the interfaces Item and Service):
+-- GetSecret returns the secret of the item on which it is called, and GetSecrets those of several items, each with the path of its item. The
+-- values of no other message have room for a secret.
+use Rattle.std.specs.Prelude.{◌≡◌, ℕ, IsSomeAnd, IsTrue, List, [], ◌∷◌, Contains, slice_get, take, Some, Result, Ok}
+use Rattle.kr_base.specs.declared.ids.ItemId.{ItemId}
+use Rattle.kr_names.specs.declared.object_name.ObjectName.TheVariants as object
+use Rattle.kr_names.specs.Path.{path_text}
+use Rattle.collection_table.specs.Rows.{Rows, is_open}
+use Rattle.secret_calls.specs.declared.call.Call.{Call}
+use Rattle.secret_calls.specs.declared.call.Call.TheVariants as call
+use Rattle.secret_calls.specs.declared.call.CallFault.{CallFault}
+use Rattle.secret_calls.specs.declared.out.Body.TheVariants as body
+use Rattle.secret_calls.specs.declared.out.Out.{Out}
+use Rattle.secret_calls.specs.declared.out.Out.TheVariants as out
+use Rattle.secret_calls.specs.declared.secret.ItemSecret.{ItemSecret}
+use Rattle.secret_calls.specs.declared.serial.Serial.{Serial}
+use Rattle.service_tables.specs.declared.rows.Sent.{Sent}
+use Rattle.service_tables.specs.Reading.{secret_of}
+use Rattle.service_tables.specs.State.{State}
+use Rattle.service_events.specs.declared.event.Event.{Event}
+use Rattle.service_events.specs.declared.event.Event.TheVariants as event
+use Rattle.service_events.specs.Replay.{replay}
+use Rattle.service_events.specs.Step.{puts_out}
+
+-- ---- what is shown
+
+-- the path of the item on which a call is GetSecret; empty, which is no object's path, for any other call
+abbrev pub item_called : Result Call CallFault → List ℕ
+item_called (Ok (call.GetSecret stem item session)) = path_text (object.Item stem item)
+item_called _ = []
+
+-- the same of an event
+abbrev pub item_asked : Event → List ℕ
+item_asked (event.Arrive came) = item_called came.arrival.request.call
+item_asked _ = []
+
+-- the secrets that a message contains, each with the path of its item, which is this one where the message doesn't have it
+abbrev pub secrets_in : List ℕ → Out → List ItemSecret
+secrets_in path (out.Return serial (body.Secret secret)) = record { item = path; secret = secret } ∷ []
+secrets_in path (out.Return serial (body.Secrets secrets)) = secrets
+secrets_in path _ = []
+
+-- an event shows a secret: it puts out this message, which contains the secret, as that of the item with this path
+abbrev pub Shows : State → Event → Sent → ItemSecret → Type 0
+Shows state event sent shown = Contains (puts_out state event) sent × Contains (secrets_in (item_asked event) sent.out) shown
+
+-- the state at a place of a list of events: the one that the events before it lead to
+abbrev pub state_at : State → List Event → ℕ → State
+state_at start events place = replay start (take place events)
+
+-- the event at this place of the list shows the secret
+abbrev pub ShowsAt : State → List Event → ℕ → Sent → ItemSecret → Type 0
+ShowsAt start events place sent shown = IsSomeAnd (slice_get events place) (λ event. Shows (state_at start events place) event sent shown)
+
+-- ---- what is true of it
+
+-- the message is a return that answers the call of this serial
+abbrev pub IsReturn : Serial → Out → Type 0
+IsReturn serial (out.Return to body) = to ≡ serial
+IsReturn serial _ = ⊥
+
+-- the event is a request of the connection to which the message goes, and the message is its return
+abbrev pub IsReturnOf : Event → Sent → Type 0
+IsReturnOf (event.Arrive came) sent = (sent.to ≡ came.arrival.conn) × IsReturn came.arrival.request.serial sent.out
+IsReturnOf _ sent = ⊥
+
+-- The path is that of an item whose collection is unlocked, and the value and the content type of the secret are those of that item.
+pub record IsOfOpenItem (rows : Rows) (shown : ItemSecret) : Type 0 where
+  pub stem : List ℕ
+  pub item : ItemId
+  pub named : shown.item ≡ path_text (object.Item stem item)
+  pub unlocked : IsTrue (is_open stem rows)
+  pub whose : secret_of shown.secret.session rows stem item ≡ Some shown.secret

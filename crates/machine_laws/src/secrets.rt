@@ -1,0 +1,70 @@
+// Who is shown a secret, and whose it is. Each law is the contract of a function that does nothing.
+ghost use Rattle.std.specs.Prelude.{◌≡◌, ℕ, ◌≤◌, List, length, true, slice_get, IsTrue, IsSomeAnd, Some, Ok};
+ghost use Rattle.kr_base.specs.declared.ids.ItemId.{ItemId};
+ghost use Rattle.kr_base.specs.declared.ids.SessionId.{SessionId};
+ghost use Rattle.kr_names.specs.declared.object_name.ObjectName.TheVariants as object;
+ghost use Rattle.kr_names.specs.Path.{path_text};
+ghost use Rattle.collection_table.specs.Rows.{has_item};
+ghost use Rattle.secret_calls.specs.declared.call.Call.TheVariants as call;
+ghost use Rattle.secret_calls.specs.declared.out.Body.TheVariants as body;
+ghost use Rattle.secret_calls.specs.declared.out.Out.TheVariants as Out;
+ghost use Rattle.secret_calls.specs.declared.secret.ItemSecret.{ItemSecret};
+ghost use Rattle.secret_calls.specs.declared.secret.ReturnedSecret.{ReturnedSecret};
+ghost use Rattle.secret_calls.specs.Outs.{spelled_body};
+ghost use Rattle.session_table.specs.Sessions.{owns};
+ghost use Rattle.service_tables.specs.Limits.{most_body};
+ghost use Rattle.service_tables.specs.Reading.{secret_of};
+ghost use Rattle.service_tables.specs.State.{State};
+ghost use Rattle.service_tables.specs.declared.rows.Sent.{Sent};
+ghost use Rattle.service_events.specs.declared.event.Event.{Event};
+ghost use Rattle.service_events.specs.declared.event.Event.TheVariants as Event;
+ghost use Rattle.service_events.specs.declared.event.Recorded.{Recorded};
+ghost use Rattle.machine_laws.specs.Secrets.{IsOfOpenItem, IsReturnOf, Shows, ShowsAt, state_at};
+
+/// A message that contains a secret is the return of a request of the connection to which it goes. In the
+/// state before that request the connection owns the secret's session, and the secret is that of an item
+/// whose collection is unlocked. This is true of any event in any state, whether or not the event fits.
+pub fn a_secret_goes_to_its_sessions_owner()
+    ensures reply { (state : State) (event : Event) (sent : Sent) (shown : ItemSecret)
+        → Shows state event sent shown → IsReturnOf event sent }
+    ensures owned { (state : State) (event : Event) (sent : Sent) (shown : ItemSecret)
+        → Shows state event sent shown
+        → IsTrue (owns sent.to shown.secret.session state.sessions) }
+    ensures unlocked { (state : State) (event : Event) (sent : Sent) (shown : ItemSecret)
+        → Shows state event sent shown → IsOfOpenItem state.collections shown }
+{}
+
+/// The same at each place of a list of events, in the state that the events before that place lead to. So
+/// it is true of a list that is legal from the start of a service.
+#[tactic(auto, using(crate::proofs::SecretLemmas::reply_at, crate::proofs::SecretLemmas::owned_at, crate::proofs::SecretLemmas::unlocked_at))]
+pub fn each_secret_of_a_history_goes_to_its_sessions_owner()
+    ensures reply { (start : State) (events : List Event) (place : ℕ) (sent : Sent)
+        (shown : ItemSecret) → ShowsAt start events place sent shown
+        → IsSomeAnd (slice_get events place) (λ event. IsReturnOf event sent) }
+    ensures owned { (start : State) (events : List Event) (place : ℕ) (sent : Sent)
+        (shown : ItemSecret) → ShowsAt start events place sent shown
+        → IsTrue (owns sent.to shown.secret.session (state_at start events place).sessions) }
+    ensures unlocked { (start : State) (events : List Event) (place : ℕ) (sent : Sent)
+        (shown : ItemSecret) → ShowsAt start events place sent shown
+        → IsOfOpenItem (state_at start events place).collections shown }
+{}
+
+/// By GetSecret, the owner of a session is shown the secret of an item that is there and whose collection
+/// is unlocked, if a reply is wanted and its values aren't too large.
+#[tactic(auto, using(crate::proofs::SecretLemmas::shown_on_call))]
+pub fn an_unlocked_item_is_shown_to_a_sessions_owner()
+    ensures { (state : State) (came : Recorded) (stem : List ℕ) (item : ItemId)
+        (session : SessionId) (secret : ReturnedSecret)
+        → came.arrival.request.call ≡ Ok (call.GetSecret stem item (Some session))
+        → came.arrival.request.wants_reply ≡ true
+        → IsTrue (owns came.arrival.conn session state.sessions)
+        → IsTrue (has_item stem item.0 state.collections)
+        → secret_of session state.collections stem item ≡ Some secret
+        → length (spelled_body (body.Secret secret)) ≤ most_body
+        → Shows state (Event.Arrive came)
+        (record {
+          to = came.arrival.conn;
+          out = Out.Return came.arrival.request.serial (body.Secret secret);
+        })
+        (record { item = path_text (object.Item stem item); secret = secret }) }
+{}
