@@ -1,2 +1,4 @@
+pub mod Asks
+pub mod Completions
 pub mod Delivery
 pub mod Secrets

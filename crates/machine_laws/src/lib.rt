@@ -1,13 +1,21 @@
-//! Laws over the definitions of the service: what is true of every event, from any state, and so of every list of
-//! events. A secret is shown only in the reply to a request of the connection that owns the secret's session, and it is
-//! that of an item whose collection is unlocked there. What waits for a connection, and is taken, was put out to it by an
-//! earlier event. Each law is the contract of a function that does nothing.
+//! Laws over the definitions of service_events (Secret Service API draft 0.2, and the agent of docs/SERVICE.md): what is true
+//! of every list of events. A secret is shown only in the reply to a request of the connection that owns the secret's
+//! session, and it is that of an item whose collection is unlocked there. What waits for a connection, and is taken, was put
+//! out to it by an earlier event. From a sound state on, a prompt completes at most once, and to its owner alone; once it
+//! has, or its owner has gone, no prompt has its number again, and a key that is derived for it does nothing. Ask goes to the
+//! agent alone. Each law is the contract of a function that does nothing.
 #![tactic(auto)]
 
+mod agent;
 mod delivery;
+mod prompts;
 mod secrets;
 
+pub use agent::ask_goes_to_the_agent;
 pub use delivery::what_waits_was_put_out;
+pub use prompts::{
+    a_prompt_completes_at_most_once, a_prompt_that_is_over_stays_so, completed_goes_to_the_owner,
+};
 pub use secrets::{
     a_secret_goes_to_its_sessions_owner, an_unlocked_item_is_shown_to_a_sessions_owner,
     each_secret_of_a_history_goes_to_its_sessions_owner,
