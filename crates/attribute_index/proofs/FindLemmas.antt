@@ -1,11 +1,12 @@
 -- Ids that all lists have, and how many steps were taken for them.
-use Rattle.std.proofs.Common.{◌≡◌, ℕ, ◌+◌, ◌<◌, ◌≤◌, ◌==◌, ◌&&◌, Bool, true, false, List, [], ◌∷◌, length, map, take, filter, get_or, zero, suc, subst, refl, sym, ap, ◌∙◌, inl, inr, ⊎_elim, arith}
+use Rattle.std.proofs.Common.{◌≡◌, ℕ, ◌+◌, ◌<◌, ◌≤◌, ◌==◌, ◌&&◌, ◌||◌, nat_lt, Bool, true, false, List, [], ◌∷◌, length, map, take, filter, get_or, zero, suc, subst, refl, sym, ap, ◌∙◌, inl, inr, ⊎_elim, arith}
 use Rattle.std.specs.Ordering.{nat_cmp}
 use Rattle.std.proofs.lemmas.Bool.{cases_lt, cases_Bool, eqb-true}
 use Rattle.std.proofs.lemmas.List.Kept.{IsStrictlySortedBy-filter}
 use Rattle.std.proofs.lemmas.List.{length-map}
-use Rattle.std.proofs.lemmas.List.Folds.{list_all_more, list_all_at}
-use Rattle.kr_base.specs.IdLists.{has_id}
+use Rattle.std.proofs.lemmas.List.Folds.{list_all_more, list_all_at, list_any-append}
+use Rattle.std.proofs.lemmas.Bool.Decides.{nat_tests}
+use Rattle.kr_base.specs.IdLists.{has_id, with_id}
 use Rattle.kr_base.specs.declared.attributes.AttrValue.{AttrValue}
 use Rattle.kr_base.proofs.IdLemmas.{Rises}
 use Rattle.attribute_match.specs.Match.{text_of}
@@ -49,6 +50,17 @@ has-filter p (x ∷ xs) id =
       ]
     ] in
     step (p x) (x == id) refl refl
+
+with-bits : (has : Bool) (x id : ℕ) → ((has && nat_lt x id) || ((id == x) || (has && nat_lt id x))) ≡ ((x == id) || has)
+with-bits true x id = grind (arith, nat_tests)
+with-bits false x id = grind (arith, nat_tests)
+
+pub has-with : (id : ℕ) (ids : List ℕ) (x : ℕ) → has_id (with_id id ids) x ≡ ((x == id) || has_id ids x)
+has-with id ids x =
+    list_any-append (λ y. y == x) (filter (λ y. nat_lt y id) ids) (id ∷ filter (λ y. nat_lt id y) ids)
+    ∙ ap (λ b. b || ((id == x) || has_id (filter (λ y. nat_lt id y) ids) x)) (has-filter (λ y. nat_lt y id) ids x)
+    ∙ ap (λ b. (has_id ids x && nat_lt x id) || ((id == x) || b)) (has-filter (λ y. nat_lt id y) ids x)
+    ∙ with-bits (has_id ids x) x id
 
 one-of-all : (lists : List (List ℕ)) (place id : ℕ) → place < length lists → (has_id (get_or lists place []) id && in_every lists id) ≡ in_every lists id
 one-of-all lists place id lt =

@@ -5,3 +5,4 @@ pub mod KeptLemmas
 pub mod PairLemmas
 pub mod FindLemmas
 pub mod HeightLemmas
+pub mod MakingLemmas

@@ -1,4 +1,5 @@
 pub mod Around
 pub mod Branches
+pub mod Entries
 pub mod Heights
 pub mod Index

@@ -1,9 +1,13 @@
 ghost use Rattle.std.specs.Prelude.{◌≡◌, ℕ, ◌+◌, ◌*◌, ◌<◌, ◌≤◌, List, [], IfOk, OnOk, OnErr, length, map, slice_index_or};
-ghost use Rattle.kr_base.specs.IdLists.{with_id, without_id};
+ghost use Rattle.kr_base.specs.IdLists.{IsIdList, has_id, with_id, without_id};
 ghost use Rattle.attribute_match.specs.Match.{has_pair, text_of};
+ghost use Rattle.attribute_index.specs.Entries.{IsIndexOf, some_is};
 ghost use Rattle.attribute_index.specs.Index.{IsAtJust, IsFound, IsMoved, IsPut, IsSame, IsTaken, ids_at, is_own, wanted_lists};
 
+use crate::chain::pairs_of_entries;
+use crate::entries::sorted_entries;
 use crate::finding::{all_of, in_all};
+use crate::keys::fits;
 use crate::names::{put_all, take_all};
 use crate::pairs::Pairs;
 use kr_base::{AttrValue, Attributes, IdList, ItemId, OutOfMemory, Steps, Text};
@@ -32,10 +36,19 @@ impl Model for AttributeIndex {
     ghost invariant = { λ i. AllRise i.names × IsLean i.names × (i.none ≡ []) };
 }
 
-/// A 32-bit number is below 2 to the power of 32.
-fn fits(number: u32)
-    ensures { number < 4294967296 }
-{}
+/// The ids of the items.
+fn all_ids(alloc: Global, items: &[(ItemId, &Attributes)]) -> Result<IdList, OutOfMemory>
+    ensures rise { IfOk result IsIdList }
+    ensures each { IfOk result (λ ids. (id : ℕ) → has_id ids id ≡ some_is items.now id) }
+{
+    let mut ids = IdList::new(alloc);
+    for place in 0..items.len() {
+        let (id, _) = items[place];
+        fits(id.0);
+        ids.insert(alloc, id)?;
+    }
+    Ok(ids)
+}
 
 impl AttributeIndex {
     /// An index without ids. It takes no memory.
@@ -49,6 +62,24 @@ impl AttributeIndex {
             none: IdList::new(alloc),
             alloc,
         }
+    }
+
+    /// The index of many items, each given with its id. It is made at once, from their sorted attributes: to
+    /// add one item after the other takes several times as long.
+    pub fn of_items(
+        alloc: Global,
+        items: &[(ItemId, &Attributes)],
+    ) -> Result<AttributeIndex, OutOfMemory>
+        ensures { IfOk result (IsIndexOf items.now) }
+    {
+        let entries = sorted_entries(alloc, items)?;
+        let names = pairs_of_entries(alloc, entries.as_slice())?;
+        Ok(AttributeIndex {
+            names,
+            all: all_ids(alloc, items)?,
+            none: IdList::new(alloc),
+            alloc,
+        })
     }
 
     /// Puts an id, which isn't in the index yet, at the pairs of the attributes and into the list of all ids.

@@ -6,6 +6,8 @@
 #![tactic(auto)]
 
 mod branch;
+mod chain;
+mod entries;
 mod finding;
 mod index;
 mod keys;

@@ -8,7 +8,7 @@ use kr_base::{AttrValue, Attributes, ItemId, OutOfMemory, Text};
 use std::alloc::{AllocError, Global};
 
 /// Puts an id at a name with the text of a value.
-fn put_value(
+pub fn put_value(
     alloc: Global,
     names: &mut Pairs,
     name: &Text,

@@ -44,7 +44,7 @@ fn key_of(branch: &Branch) -> u32
 /// How a name and a text compare to those of a branch: by their keys, and by the name and the text if the
 /// keys are the same.
 #[inline(always)]
-fn order(key: u32, name: &Text, text: &Text, branch: &Branch) -> Ordering
+pub fn order(key: u32, name: &Text, text: &Text, branch: &Branch) -> Ordering
     requires { key ≡ pair_key (name.now, text.now) }
     ensures { result ≡ pair_cmp (name.now, text.now) (branch.now.name, branch.now.text) }
 {
@@ -160,7 +160,7 @@ fn put_sides(branch: &mut Branch, before: Option<Box<Branch>>, after: Option<Box
 }
 
 /// A branch with these sides in place of its own.
-fn with_sides(
+pub fn with_sides(
     branch: Box<Branch>,
     before: Option<Box<Branch>>,
     after: Option<Box<Branch>>,
@@ -495,7 +495,7 @@ impl Branch {
 }
 
 /// A branch of one pair with one id.
-fn branch_of_one(
+pub fn branch_of_one(
     alloc: Global,
     key: u32,
     name: &Text,
@@ -661,6 +661,14 @@ impl Pairs {
         ensures { result ≡ [] }
     {
         Pairs { root: None }
+    }
+
+    /// The pairs of a tree.
+    pub fn of_root(root: Option<Box<Branch>>) -> Pairs
+        requires { IsSorted (pairs_of root) }
+        ensures { result ≡ pairs_of root }
+    {
+        Pairs { root }
     }
 
     /// The ids at a pair; None if the pair isn't there.

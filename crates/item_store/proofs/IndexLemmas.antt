@@ -1,6 +1,7 @@
 -- The index beside the rows, after each change of a row.
+use denote.Ref.{Bor}
 use Rattle.std.proofs.Common.{◌≡◌, ℕ, ◌<◌, ◌==◌, ◌&&◌, ◌||◌, not, Bool, true, false, cond, List, [], ◌∷◌, ◌++◌, Option, Some, None, refl, sym, ap, subst, ◌∙◌, ⊎_elim, arith, filter, map, ◌+◌, ◌*◌, ◌≤◌, length, take, drop, get_or}
-use Rattle.std.specs.List.{list_all}
+use Rattle.std.specs.List.{list_all, list_any}
 use Rattle.std.specs.Map.{keys_of}
 use Rattle.std.specs.Option.{option_map}
 use Rattle.std.proofs.lemmas.Bool.{cases_Bool, eqb-true}
@@ -11,18 +12,20 @@ use Rattle.std.proofs.lemmas.Map.Entries.{length-keys_of}
 use Rattle.std.proofs.lemmas.List.{take-append-drop, drop_more, take_all}
 use Rattle.std.proofs.lemmas.List.Elements.{filter-append, filter_more}
 use Rattle.std.proofs.lemmas.List.Kept.{IsStrictlySortedBy-filter}
-use Rattle.attribute_index.proofs.FindLemmas.{has-filter}
+use Rattle.attribute_index.proofs.FindLemmas.{has-filter, has-with}
 use Rattle.std.specs.Prelude.{IfSome}
 use Rattle.kr_base.specs.IdLists.{has_id, with_id, without_id}
 use Rattle.kr_base.specs.declared.attributes.AttrValue.{AttrValue}
+use Rattle.kr_base.specs.declared.ids.ItemId.{ItemId}
 use Rattle.kr_base.proofs.IdLemmas.{Rises, AllBelow, lower-below, upper-below}
 use Rattle.kr_base.specs.Attributes.{is_name}
 use Rattle.attribute_match.specs.Match.{has_pair, is_equal, matches, text_of}
+use Rattle.attribute_index.specs.Entries.{IsIndexOf, Items}
 use Rattle.attribute_index.specs.Index.{Index, IsAtJust, IsFound, IsMoved, IsPut, IsSame, IsTaken, ids_at, in_each, is_own, wanted_lists}
 use Rattle.attribute_index.proofs.PairLemmas.{without-lacking}
 use Rattle.item_store.specs.declared.rows.Row.{Row}
-use Rattle.item_store.specs.Rows.{Rows, IsIndexed, IsKept, IsRising, attributes_of, candidates, first_id, has_just, ids_where, pair_lists, passes_at, row_at, rows_changed, rows_without}
-use Rattle.item_store.proofs.RowLemmas.{rises-same, with-rises, without-rises, has-with, has-without, where-rises, has-where, at-without, at-changed, at-above, at-added, keys-changed, keys-without, keys-added, lower-before, rising-changed, rising-without, rising-added}
+use Rattle.item_store.specs.Rows.{AreOf, Rows, IsIndexed, IsKept, IsRising, attributes_of, candidates, first_id, given_of, given_row, has_just, ids_where, pair_lists, passes_at, row_at, rows_changed, rows_without}
+use Rattle.item_store.proofs.RowLemmas.{rises-same, with-rises, without-rises, has-without, where-rises, has-where, at-without, at-changed, at-above, at-added, keys-changed, keys-without, keys-added, lower-before, rising-changed, rising-without, rising-added}
 
 abbrev has : List ℕ → List ℕ → Row → Bool
 has n t row = has_pair n t (attributes_of row)
@@ -228,24 +231,45 @@ one-on : (done : Rows) (row : ℕ × Row) (rest : Rows) → (done ++ row ∷ [])
 one-on [] row rest = refl
 one-on (first ∷ done) row rest = ap (λ l. first ∷ l) (one-on done row rest)
 
-pub mapped-more : {A : Type 0} (show : A → ℕ × Row) (xs : List A) (x : A) → map show (xs ++ x ∷ []) ≡ map show xs ++ show x ∷ []
+pub mapped-more : {A B : Type 0} (show : A → B) (xs : List A) (x : A) → map show (xs ++ x ∷ []) ≡ map show xs ++ show x ∷ []
 mapped-more show [] x = refl
 mapped-more show (y ∷ ys) x = ap (λ l. show y ∷ l) (mapped-more show ys x)
 
--- the rows are indexed in turn: before the next one are those so far, and after it the rows that are left
-pub next-below : (done left rest all : Rows) (n : ℕ) (row : Row) → IsRising all → done ++ left ≡ all → left ≡ (n, row) ∷ rest → AllBelow n (keys_of done)
-next-below done left rest all n row rising is next = lower-before done n row rest (subst IsRising (sym is ∙ ap (λ l. done ++ l) next) rising)
+-- ---- an index that is made at once
 
-pub next-fresh : (done left rest all : Rows) (index : Index) (n : ℕ) (row : Row) → IsRising all → done ++ left ≡ all → left ≡ (n, row) ∷ rest → IsKept done index → IsAtJust [] n index.names
-next-fresh done left rest all index n row rising is next kept =
-    fresh done index kept.rising kept.indexed n (at-above done n (next-below done left rest all n row rising is next))
+any-map : {X Y : Type 0} (p : Y → Bool) (f : X → Y) (xs : List X) → list_any p (map f xs) ≡ list_any (λ x. p (f x)) xs
+any-map p f [] = refl
+any-map p f (x ∷ xs) = ap (λ b. p (f x) || b) (any-map p f xs)
 
-pub next-kept : (done new left rest all : Rows) (index after : Index) (n : ℕ) (row : Row) → IsRising all → done ++ left ≡ all → left ≡ (n, row) ∷ rest → new ≡ done ++ (n, row) ∷ [] → IsKept done index → IsPut (λ name text. has_pair name text (attributes_of row)) n index.names after.names
-    → after.all ≡ with_id n index.all → IsKept new after × (new ++ rest ≡ all)
-next-kept done new left rest all index after n row rising is next more kept put all_put =
-    let below = next-below done left rest all n row rising is next in
-    let now : IsKept (done ++ (n, row) ∷ []) after = record { rising = rising-added done n row below kept.rising; indexed = indexed-added done index after n row kept.rising kept.indexed below put all_put } in
-    (subst (λ rs. IsKept rs after) (sym more) now, ap (λ l. l ++ rest) more ∙ one-on done (n, row) rest ∙ ap (λ l. done ++ l) (sym next) ∙ is)
+abbrev given-has : (n t : List ℕ) (x : ℕ) → ℕ × List (List ℕ × AttrValue) → Bool
+given-has n t x given = (given.0 == x) && has_pair n t given.1
+
+where-given : (n t : List ℕ) (x : ℕ) (rows : Rows) → list_any (given-has n t x) (map given_row rows) ≡ has_id (ids_where (has n t) rows) x
+where-given n t x [] = refl
+where-given n t x (row ∷ more) =
+    let rest = where-given n t x more in
+    ⊎_elim
+    (λ is. rw is (ap (λ b. (row.0 == x) && true || b) rest ∙ ap (λ b. b || has_id (ids_where (has n t) more) x) (and-true (row.0 == x))))
+    (λ off. rw off (ap (λ b. (row.0 == x) && false || b) rest ∙ ap (λ b. b || has_id (ids_where (has n t) more) x) (and-false (row.0 == x))))
+    (cases_Bool (has n t row.1))
+
+-- the items are collected in turn: before the next one are those so far, and after it the rows that are left
+pub next-given : (done new left rest all : Rows) (items now : Items) (item : ItemId × Bor (List (List ℕ × AttrValue))) (row : ℕ × Row) → done ++ left ≡ all → left ≡ row ∷ rest → new ≡ done ++ row ∷ [] → AreOf done items → now ≡ items ++ item ∷ [] → given_of item ≡ given_row row
+    → AreOf new now × (new ++ rest ≡ all)
+next-given done new left rest all items now item row is next more are put same = (
+  ap (map given_of) put ∙ mapped-more given_of items item ∙ (λ i. are i ++ same i ∷ []) ∙ sym (mapped-more given_row done row) ∙ ap (map given_row) (sym more),
+  ap (λ l. l ++ rest) more ∙ one-on done row rest ∙ ap (λ l. done ++ l) (sym next) ∙ is,
+)
+
+pub kept-made : (rows : Rows) (items : Items) (index : Index) → IsRising rows → AreOf rows items → IsIndexOf items index → IsKept rows index
+kept-made rows items index rising are is =
+    record {
+      rising = rising;
+      indexed = record {
+        pairs = λ n t. rises-same _ _ (is.rise n t).rising (where-rises (has n t) rows rising) (λ x. is.each n t x ∙ sym (any-map (given-has n t x) given_of items) ∙ ap (list_any (given-has n t x)) are ∙ where-given n t x rows);
+        all = rises-same _ _ is.all_rise.rising rising (λ x. is.all x ∙ sym (any-map (λ g. g.0 == x) given_of items) ∙ ap (list_any (λ g. g.0 == x)) are ∙ any-map (λ g. g.0 == x) given_row rows ∙ sym (any-map (λ y. y == x) (λ row. row.0) rows));
+      };
+    }
 
 pub kept-same : (rows new : Rows) (index after : Index) → IsKept rows index → new ≡ rows → IsSame index.names after.names → after.all ≡ index.all → IsKept new after
 kept-same rows new index after kept is same all = subst (λ rs. IsKept rs after) (sym is) (record { rising = kept.rising; indexed = indexed-same rows index after kept.indexed same all })

@@ -17,7 +17,7 @@ use Rattle.kr_base.specs.declared.ids.ItemId.{ItemId}
 use Rattle.keyring_file.specs.declared.area.FullItem.{FullItem}
 use Rattle.kr_base.specs.IdLists.{has_id, with_id, without_id}
 use Rattle.kr_base.proofs.IdLemmas.{Rises, AllBelow, AllAbove, all-weaker, all-lower, all-upper, above-head, has-other, other-above, rises-joined}
-use Rattle.attribute_index.proofs.FindLemmas.{has-filter}
+use Rattle.attribute_index.proofs.FindLemmas.{has-filter, has-with}
 use Rattle.item_store.specs.declared.rows.Row.{Row}
 use Rattle.item_store.specs.Rows.{HasJustRows, Rows, IsRising, greatest_id, ids_where, last_id, next_id, passes_at, row_at, row_of, rows_changed, rows_without}
 
@@ -80,17 +80,6 @@ with-rises id ids rises = rises-joined (filter (λ x. nat_lt x id) ids) id (filt
 
 pub without-rises : (id : ℕ) (ids : List ℕ) → Rises ids → Rises (without_id id ids)
 without-rises id ids rises = IsStrictlySortedBy-filter nat_cmp (λ x. not (x == id)) ids rises
-
-with-bits : (has : Bool) (x id : ℕ) → ((has && nat_lt x id) || ((id == x) || (has && nat_lt id x))) ≡ ((x == id) || has)
-with-bits true x id = grind (arith, nat_tests)
-with-bits false x id = grind (arith, nat_tests)
-
-pub has-with : (id : ℕ) (ids : List ℕ) (x : ℕ) → has_id (with_id id ids) x ≡ ((x == id) || has_id ids x)
-has-with id ids x =
-    list_any-append (λ y. y == x) (filter (λ y. nat_lt y id) ids) (id ∷ filter (λ y. nat_lt id y) ids)
-    ∙ ap (λ b. b || ((id == x) || has_id (filter (λ y. nat_lt id y) ids) x)) (has-filter (λ y. nat_lt y id) ids x)
-    ∙ ap (λ b. (has_id ids x && nat_lt x id) || ((id == x) || b)) (has-filter (λ y. nat_lt id y) ids x)
-    ∙ with-bits (has_id ids x) x id
 
 pub has-without : (id : ℕ) (ids : List ℕ) (x : ℕ) → has_id (without_id id ids) x ≡ (has_id ids x && not (x == id))
 has-without id ids x = has-filter (λ y. not (y == id)) ids x

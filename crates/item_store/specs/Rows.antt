@@ -1,4 +1,5 @@
 -- The items of one collection as rows by rising id (Secret Service API, interfaces Collection and Item), and the index beside them.
+use denote.Ref.{Bor}
 use Rattle.std.specs.Prelude.{◌≡◌, ℕ, ◌+◌, Bool, false, if◌then◌else◌, List, [], ◌∷◌, Option, Some, None, map, filter, not, nat_eq}
 use Rattle.std.specs.List.Sorted.{IsStrictlySortedBy}
 use Rattle.std.specs.Map.{keys_of, lookup}
@@ -8,6 +9,7 @@ use Rattle.kr_base.specs.declared.ids.ItemId.{ItemId}
 use Rattle.keyring_file.specs.declared.area.FullItem.{FullItem}
 use Rattle.item_store.specs.declared.rows.Row.{Row}
 use Rattle.attribute_match.specs.Match.{has_pair, is_equal, text_of}
+use Rattle.attribute_index.specs.Entries.{Items}
 use Rattle.attribute_index.specs.Index.{Index, ids_at}
 
 -- the greatest id that an item can have: ids have 32 bits
@@ -97,3 +99,15 @@ row_of given = (given.0.0, record { kind = given.1; item = given.2 })
 pub record HasJustRows (given : List (ItemId × ℕ × FullItem)) (rows : Rows) : Type 0 where
   pub rising : IsRising rows
   pub each : (id : ℕ) → row_at id rows ≡ row_at id (map row_of given)
+
+-- the row's id and attributes, as an index is given them
+abbrev pub given_of : ItemId × Bor (List (List ℕ × AttrValue)) → ℕ × List (List ℕ × AttrValue)
+given_of item = (item.0.0, item.1.now)
+
+-- the same of a row
+abbrev pub given_row : ℕ × Row → ℕ × List (List ℕ × AttrValue)
+given_row row = (row.0, attributes_of row.1)
+
+-- the items are those of the rows
+abbrev pub AreOf : Rows → Items → Type 0
+AreOf rows items = map given_of items ≡ map given_row rows

@@ -10,6 +10,8 @@ mod counting;
 #[cfg(test)]
 mod finding;
 #[cfg(test)]
+mod gathered;
+#[cfg(test)]
 mod items;
 #[cfg(test)]
 mod locked;

@@ -1,15 +1,11 @@
-use Rattle.std.proofs.Common.{map}
-use Rattle.std.specs.Map.Iter.{deref_pair}
-use Rattle.item_store.proofs.IndexLemmas.{mapped-more, next-fresh, next-kept}
+use Rattle.std.proofs.lemmas.Result.{IfOk-weaker}
+use Rattle.attribute_index.specs.Entries.{IsIndexOf}
+use Rattle.item_store.specs.Rows.{IsKept}
+use Rattle.item_store.proofs.IndexLemmas.{kept-made}
 use Rattle.item_store.proofs.loading.index_of.Goals as goal
 
-pub add-requires : goal.add-requires
-add-requires c =
-    let (kept, left) = c.loop-number.invariant in
-    next-fresh (map deref_pair c.loop-number.yielded) c.loop-number.number-iterator c.next.new.self c.args.rows.now.entries c.loop-number.index c.in-Some.number.now c.in-Some.row.now c.requires left c.in-Some.ensures.steps kept
-
-pub loop-number-preserved : goal.loop-number-preserved
-loop-number-preserved c =
-    let (kept, left) = c.loop-number.invariant in
-    next-kept (map deref_pair c.loop-number.yielded) _ c.loop-number.number-iterator c.next.new.self c.args.rows.now.entries c.loop-number.index c.add.new.self c.in-Some.number.now c.in-Some.row.now c.requires left c.in-Some.ensures.steps
-    (mapped-more deref_pair c.loop-number.yielded (c.in-Some.number, c.in-Some.row)) kept c.in_ok-add.ensures.put c.in_ok-add.ensures.all
+pub returns : goal.returns
+returns c =
+    let items = c.in_ok-items.items.items in
+    let made = rw c.as_slice.ensures.value at c.of_items.ensures in
+    IfOk-weaker c.of_items.result (IsIndexOf items) (IsKept c.args.rows.now.entries) (λ index is. kept-made c.args.rows.now.entries items index c.requires c.in_ok-items.ensures is) made
