@@ -25,7 +25,7 @@ use Rattle.attribute_index.specs.Index.{Index, IsAtJust, IsFound, IsMoved, IsPut
 use Rattle.attribute_index.proofs.PairLemmas.{without-lacking}
 use Rattle.item_store.specs.declared.rows.Row.{Row}
 use Rattle.item_store.specs.Rows.{AreOf, Rows, IsIndexed, IsKept, IsRising, attributes_of, candidates, first_id, given_of, given_row, has_just, ids_where, pair_lists, passes_at, row_at, rows_changed, rows_without}
-use Rattle.item_store.proofs.RowLemmas.{rises-same, with-rises, without-rises, has-without, where-rises, has-where, at-without, at-changed, at-above, at-added, keys-changed, keys-without, keys-added, lower-before, rising-changed, rising-without, rising-added}
+use Rattle.item_store.proofs.RowLemmas.{rises-same, with-rises, without-rises, has-without, where-rises, has-where, at-without, at-changed, at-above, at-added, keys-changed, keys-without, keys-added, rising-changed, rising-without, rising-added}
 
 abbrev has : List ℕ → List ℕ → Row → Bool
 has n t row = has_pair n t (attributes_of row)

@@ -1,5 +1,5 @@
 -- Rows by rising id: the row of an id after each change, and the ids of the rows that pass a test.
-use Rattle.std.proofs.Common.{◌≡◌, ℕ, ◌+◌, ◌<◌, ◌==◌, ◌&&◌, ◌||◌, not, Bool, true, false, cond, nat_eq, nat_lt, List, [], ◌∷◌, ◌++◌, length, map, filter, Option, Some, None, refl, sym, ap, subst, ◌∙◌, inl, inr, ⊎_elim, arith, Less, Greater, suc, ◌-◌, get_or}
+use Rattle.std.proofs.Common.{◌≡◌, ℕ, ◌+◌, ◌<◌, ◌==◌, ◌&&◌, not, Bool, true, false, cond, nat_eq, nat_lt, List, [], ◌∷◌, ◌++◌, length, map, filter, Option, Some, None, refl, sym, ap, subst, ◌∙◌, inl, inr, ⊎_elim, arith, Less, Greater, suc, ◌-◌, get_or}
 use Rattle.std.specs.List.{AllByRecursion, IsDistinct}
 use Rattle.std.specs.List.Sorted.{IsStrictlySortedBy}
 use Rattle.std.specs.BTreeMap.{BTreeMap, IsFromIterResult, is_at, insert_entry}
@@ -10,14 +10,13 @@ use Rattle.std.specs.Option.{option_map, option_or}
 use Rattle.std.specs.Ordering.{eq_by_cmp, nat_cmp}
 use Rattle.std.proofs.lemmas.Bool.{cases_Bool, cases_order, eqb-true}
 use Rattle.std.proofs.lemmas.Bool.Decides.{nat_tests}
-use Rattle.std.proofs.lemmas.List.Folds.{list_any-append}
 use Rattle.std.proofs.lemmas.List.Kept.{IsStrictlySortedBy-filter}
 use Rattle.std.proofs.lemmas.Map.Keys.{sorted_tail}
 use Rattle.kr_base.specs.declared.ids.ItemId.{ItemId}
 use Rattle.keyring_file.specs.declared.area.FullItem.{FullItem}
 use Rattle.kr_base.specs.IdLists.{has_id, with_id, without_id}
 use Rattle.kr_base.proofs.IdLemmas.{Rises, AllBelow, AllAbove, all-weaker, all-lower, all-upper, above-head, has-other, other-above, rises-joined}
-use Rattle.attribute_index.proofs.FindLemmas.{has-filter, has-with}
+use Rattle.attribute_index.proofs.FindLemmas.{has-filter}
 use Rattle.item_store.specs.declared.rows.Row.{Row}
 use Rattle.item_store.specs.Rows.{HasJustRows, Rows, IsRising, greatest_id, ids_where, last_id, next_id, passes_at, row_at, row_of, rows_changed, rows_without}
 
@@ -369,16 +368,6 @@ gathered given made distinct is = record {
   rising = is.1;
   each = λ id. sym (lookup-is id made.entries) ∙ is.0 id ∙ inserted (map row_of given) (λ _. None) (subst (IsDistinct nat_eq) (numbers-of given) distinct) id ∙ or-none (row_at id (map row_of given));
 }
-
-below-first : (r : ℕ × Row) (done : Rows) (n : ℕ) (row : Row) (more : Rows) → AllAbove r.0 (keys_of (done ++ (n, row) ∷ more)) → r.0 < n
-below-first r [] n row more above = above.0
-below-first r (s ∷ done) n row more above = below-first r done n row more above.1
-
--- the rows before one of rising rows have lower numbers
-pub lower-before : (done : Rows) (n : ℕ) (row : Row) (more : Rows) → IsRising (done ++ (n, row) ∷ more) → AllBelow n (keys_of done)
-lower-before [] n row more rising = tt
-lower-before (r ∷ done) n row more rising =
-    (below-first r done n row more (above-head r.0 (keys_of (done ++ (n, row) ∷ more)) rising), lower-before done n row more (sorted_tail nat_cmp r.0 (keys_of (done ++ (n, row) ∷ more)) rising))
 
 -- ---- rising rows are determined by the row of each id
 
