@@ -1,7 +1,7 @@
-ghost use Rattle.std.specs.Prelude.{◌≡◌, IfOk};
-ghost use Rattle.attribute_hash.specs.Hash.{hashes, number_hash as number_hash_of, text_hash as text_hash_of, value_hash as value_hash_of};
+ghost use Rattle.std.specs.Prelude.{◌≡◌, ◌↔◌, IsTrue, IfOk};
+ghost use Rattle.attribute_hash.specs.Hash.{hashes, number_hash as number_hash_of, pair_hash as pair_hash_of, text_hash as text_hash_of, value_hash as value_hash_of};
 
-use kr_base::{AttrValue, Attributes, Bytes, HashedPair, HashedValue, OutOfMemory};
+use kr_base::{AttrValue, Attributes, Bytes, HashedPair, HashedValue, OutOfMemory, Text};
 use md5::{Digest, Md5};
 use std::alloc::Global;
 
@@ -50,4 +50,41 @@ pub fn hashed(alloc: Global, attributes: &Attributes) -> Result<Vec<HashedPair>,
         })?;
     }
     Ok(hashed)
+}
+
+/// Whether this is the hash of the value.
+fn is_hash_of(found: &HashedValue, value: &AttrValue) -> bool
+    ensures { IsTrue result ↔ (found.now ≡ value_hash_of value.now) }
+{
+    match (found, value) {
+        (HashedValue::Text(bytes), AttrValue::Text(text)) => {
+            bytes.as_slice() == text_hash(text.as_str()).as_slice()
+        }
+        (HashedValue::Number(hash), AttrValue::Number(number)) => *hash == number_hash(*number),
+        _ => false,
+    }
+}
+
+/// Whether this is the attribute's name with the hash of its value.
+fn is_pair_hash(found: &HashedPair, pair: &(Text, AttrValue)) -> bool
+    ensures { IsTrue result ↔ (found.now ≡ pair_hash_of pair.now) }
+{
+    found.name == pair.0 && is_hash_of(&found.value, &pair.1)
+}
+
+/// Whether these are the hashes of the attributes, in their order, each with its attribute's name. It takes no
+/// memory.
+pub fn are_hashes_of(found: &[HashedPair], attributes: &Attributes) -> bool
+    ensures { IsTrue result ↔ (found.now ≡ hashes attributes.now) }
+{
+    let pairs = attributes.as_slice();
+    if found.len() != pairs.len() {
+        return false;
+    }
+    for place in 0..found.len() {
+        if !is_pair_hash(&found[place], &pairs[place]) {
+            return false;
+        }
+    }
+    true
 }

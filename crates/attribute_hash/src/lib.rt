@@ -5,4 +5,4 @@
 
 mod hash;
 
-pub use hash::{hashed, number_hash, text_hash};
+pub use hash::{are_hashes_of, hashed, number_hash, text_hash};

@@ -1,5 +1,6 @@
 mod AnswerLemmas
 mod ChangeLemmas
+mod InPlaceLemmas
 mod KeyLemmas
 mod LentLemmas
 mod OpenedLemmas

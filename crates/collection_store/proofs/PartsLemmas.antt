@@ -20,9 +20,9 @@ use Rattle.keyring_seal.specs.Arranged.{IsSealable, Row, arranged_rows, hashed_r
 use Rattle.keyring_seal.specs.Order.{by_number, entered}
 use Rattle.keyring_seal.proofs.ArrangeLemmas.{clear_items_of, same_version}
 use Rattle.keyring_seal.proofs.OrderLemmas.{changed, changed-insert, values_of-changed}
-use Rattle.keyring_seal.proofs.RisingLemmas.{place_by_rising}
+use Rattle.keyring_seal.proofs.RisingLemmas.{as_they_stand, place_by_rising, rising_by_number, rising_by_place}
 use Rattle.keyring_seal.proofs.SealLemmas.{arranged-permutation, map_number-zip}
-use Rattle.collection_store.specs.State.{by_id, ids_of, rows_with, unhashed, without_hashes}
+use Rattle.collection_store.specs.State.{AreParts, IsInPlace, by_id, ids_of, rows_with, unhashed, without_hashes}
 use Rattle.collection_store.proofs.OrderLemmas.{by_number_rising}
 
 -- values that are changed and keep their numbers are sorted in the same order
@@ -124,3 +124,34 @@ module _ (content : Content) (can : IsSealable content) where
         let firsts : map (λ (row : Row). row.0) ordered ≡ by_number (λ (item : ClearItem). item.id.0) content.clear.items =
         by_number_changed (λ (row : Row). row.0) (λ (item : ClearItem). item.id.0) (rows content) ∙ ap (λ t. by_number (λ (item : ClearItem). item.id.0) t) (zip_first content.clear.items content.items can.counted) in
         rw is_told (ap (λ (t : List ClearItem). record content.clear { items = t }) (clear_unhashed ordered ∙ ap (λ t. map unhashed t) firsts))
+
+-- ---- a content that is as a collection keeps it
+
+own_clear : (these : List Row) → AllByRecursion (λ (row : Row). row.0.hashed ≡ hashes row.1.attributes) these → map as_clear these ≡ map (λ (row : Row). row.0) these
+own_clear [] own = refl
+own_clear (row ∷ more) own = λ i. (record row.0 { hashed = sym own.0 i }) ∷ own_clear more own.1 i
+
+module _ (content : Content) (can : IsSealable content) (is : IsInPlace content) where
+  in_order : rows content ≡ ordered content can
+  in_order = as_they_stand content.clear.items content.items is.rising
+
+  told_in_place : by_id content.clear ≡ record content.clear { items = map as_clear (ordered content can) }
+  told_in_place =
+      let by_place : by_number (λ (item : ClearItem). item.id.0) content.clear.items ≡ content.clear.items = rising_by_number (λ (item : ClearItem). item.id.0) content.clear.items (rising_by_place (λ (item : ClearItem). item.id.0) content.clear.items is.rising) in
+      ap (λ (t : List ClearItem). record content.clear { items = t })
+      (by_place ∙ sym (zip_first content.clear.items content.items can.counted) ∙ sym (own_clear (rows content) is.hashed) ∙ ap (λ (t : List Row). map as_clear t) in_order)
+
+  module _ (given : List (ItemId × ℕ × FullItem)) (is_given : given ≡ map as_given (rows content)) where
+    given_in_order : given ≡ map as_given (ordered content can)
+    given_in_order = is_given ∙ ap (λ (t : List Row). map as_given t) in_order
+
+    pub distinct_in_place : IsDistinct nat_eq (map (λ (g : ItemId × ℕ × FullItem). g.0.0) given)
+    distinct_in_place = given_distinct content can given given_in_order
+
+    pub parts_in_place : OneList → (items : Rows) → HasJustRows given items → AreParts content (by_id content.clear) items
+    parts_in_place one items loaded = record {
+      rows = parts_rows content can one (by_id content.clear) items given told_in_place given_in_order loaded;
+      ids = parts_ids content can one (by_id content.clear) items given told_in_place given_in_order loaded;
+      hashed = parts_hashed content can one (by_id content.clear) items given told_in_place given_in_order loaded;
+      same = refl;
+    }

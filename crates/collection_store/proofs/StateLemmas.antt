@@ -147,15 +147,20 @@ pub shown_opened : (key vector : List ℕ) (items : Rows) (made written : ClearP
 shown_opened key vector items made written None alike apart same = λ i. record (alike i) { items = same i }
 shown_opened key vector items made written (Some part) alike apart same = apart
 
--- what opening a locked collection's file gives is what is shown, except for the hashes
-pub alike_shown : Spelled → (file : File) (told : ClearPart) (newer : Option ClearPart) (parts : Option Parts) (bytes key vector : List ℕ) (content : Content) (made : ClearPart)
-    → IsKept file told newer parts → held_of told parts ≡ None → HasFile file → Some bytes ≡ old_image file → opened bytes key vector ≡ Ok content → without_hashes made ≡ without_hashes (by_id content.clear) → without_hashes made ≡ without_hashes told
-alike_shown spelled file told newer parts bytes key vector content made kept locked there is opens same =
+-- a locked collection shows the clear part that its file opens to
+pub opened_shown : Spelled → (file : File) (told : ClearPart) (newer : Option ClearPart) (parts : Option Parts) (bytes key vector : List ℕ) (content : Content)
+    → IsKept file told newer parts → held_of told parts ≡ None → HasFile file → Some bytes ≡ old_image file → opened bytes key vector ≡ Ok content → told ≡ by_id content.clear
+opened_shown spelled file told newer parts bytes key vector content kept locked there is opens =
     let before : Shows (shown_image file) told = subst (λ t. Shows (shown_image file) t) (none_held told parts locked) kept.shows in
     let part = shown_part file told bytes there is before in
     let own : content.clear ≡ part.0 = opened_clear spelled bytes key vector part.0 content part.1 opens in
-    let shown : by_id content.clear ≡ told = ap (λ (t : ClearPart). by_id t) own ∙ sym part.2 in
-    same ∙ ap (λ (t : ClearPart). without_hashes t) shown
+    part.2 ∙ sym (ap (λ (t : ClearPart). by_id t) own)
+
+-- what opening its file gives is what is shown, except for the hashes
+alike_shown : Spelled → (file : File) (told : ClearPart) (newer : Option ClearPart) (parts : Option Parts) (bytes key vector : List ℕ) (content : Content) (made : ClearPart)
+    → IsKept file told newer parts → held_of told parts ≡ None → HasFile file → Some bytes ≡ old_image file → opened bytes key vector ≡ Ok content → without_hashes made ≡ without_hashes (by_id content.clear) → without_hashes made ≡ without_hashes told
+alike_shown spelled file told newer parts bytes key vector content made kept locked there is opens same =
+    same ∙ ap (λ (t : ClearPart). without_hashes t) (sym (opened_shown spelled file told newer parts bytes key vector content kept locked there is opens))
 
 -- a locked collection is unlocked
 pub kept_unlocked : Spelled → (file : File) (told : ClearPart) (newer : Option ClearPart) (parts : Option Parts) (bytes key vector : List ℕ) (content : Content) (made : ClearPart) (items : Rows) (written : Option ClearPart)

@@ -14,7 +14,7 @@ use Rattle.keyring_file.specs.Clear.{ClearPart}
 use Rattle.keyring_file.specs.ClearText.{HasClear}
 use Rattle.keyring_file.specs.declared.clear.ClearItem.{ClearItem}
 use Rattle.item_store.specs.Rows.{Rows}
-use Rattle.keyring_seal.specs.Arranged.{Row, arranged_rows}
+use Rattle.keyring_seal.specs.Arranged.{Row, arranged_rows, rows}
 use Rattle.keyring_seal.specs.Order.{by_number}
 use Rattle.keyring_seal.specs.Whole.{opened}
 use Rattle.keyring_seal.specs.declared.content.Content.{Content}
@@ -125,6 +125,18 @@ unhashed item = record item { hashed = [] }
 -- the clear part without its hashes
 abbrev pub without_hashes : ClearPart → ClearPart
 without_hashes clear = record clear { items = map unhashed clear.items }
+
+-- the content is as a collection keeps it: the ids rise, and each item has the hashes of its own attributes
+pub record IsInPlace (content : Content) : Type 0 where
+  pub rising : IsById content.clear
+  pub hashed : AllByRecursion (λ (row : Row). row.0.hashed ≡ hashes row.1.attributes) (rows content)
+
+-- the clear part and the items are those of the content, in order of their ids and with the hashes of their own attributes
+pub record AreParts (content : Content) (told : ClearPart) (items : Rows) : Type 0 where
+  pub rows : rows_with told items ≡ arranged_rows content
+  pub ids : ids_of told.items ≡ keys_of items
+  pub hashed : AllByRecursion (λ (row : Row). row.0.hashed ≡ hashes row.1.attributes) (rows_with told items)
+  pub same : without_hashes told ≡ without_hashes (by_id content.clear)
 
 -- the file decrypts to the items; the clear part has the same ids and the hashes of their own attributes, and except for these is the
 -- one that is shown

@@ -18,10 +18,8 @@ ghost use Rattle.collection_store.specs.Storable.{EndsAs, answer_of, storable};
 
 use crate::answering::answer_in;
 use crate::candidate::Frame;
-use crate::holding::{
-    Open, answered, frame_of, prepare_in, prepare_key, show_again, store, take_own,
-};
-use crate::opening::{arranged_parts, content_of};
+use crate::holding::{Open, answered, frame_of, prepare_in, prepare_key, show_again, store};
+use crate::opening::{content_of, take_parts};
 use crate::sealing::image_of;
 use crate::told::Told;
 use crate::{Change, ChangeRefused, Changed, CreateRefused, UnlockRefused};
@@ -237,11 +235,10 @@ impl<S: Slot> Collection<S> {
             None => unreachable!(),
         };
         let content = content_of(self.alloc, image.bytes(), &key)?;
-        let (told, items) = match arranged_parts(self.alloc, content) {
+        let (items, written) = match take_parts(self.alloc, &mut self.told, content) {
             Ok(parts) => parts,
             Err(_) => return Err(UnlockRefused::OutOfMemory),
         };
-        let written = take_own(&mut self.told, told);
         self.held = Some(Open {
             key: key.key(),
             vector: key.vector(),

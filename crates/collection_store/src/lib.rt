@@ -6,6 +6,7 @@
 #![tactic(auto)]
 
 mod answering;
+mod arranged;
 mod candidate;
 mod change;
 mod collection;

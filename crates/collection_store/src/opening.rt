@@ -1,6 +1,6 @@
 // The state of an unlocked collection, made of the content that its file decrypts to.
 
-ghost use Rattle.std.specs.Prelude.{◌≡◌, ◌⊎◌, IfOk, IsErrOf, Ok, length, map};
+ghost use Rattle.std.specs.Prelude.{◌≡◌, ◌⊎◌, IfOk, IfSome, IfNone, IsErrOf, OnErr, Ok, length, map};
 ghost use Rattle.std.specs.List.{AllByRecursion, zip};
 ghost use Rattle.std.specs.List.Sorted.{IsStrictlyIncreasing};
 ghost use Rattle.std.specs.Map.{keys_of};
@@ -10,10 +10,12 @@ ghost use Rattle.keyring_file.specs.Clear.{ClearPart};
 ghost use Rattle.keyring_seal.specs.Arranged.{IsSealable, arranged_rows, hashed_row, row_number};
 ghost use Rattle.keyring_seal.specs.Whole.{IsFileOf, opened};
 ghost use Rattle.collection_store.specs.Reading.{Unlocks};
-ghost use Rattle.collection_store.specs.State.{by_id, ids_of, rows_with, without_hashes};
+ghost use Rattle.collection_store.specs.State.{AreParts, by_id, ids_of, rows_with, without_hashes};
 ghost use Rattle.keyring_file.specs.ClearText.{HasClear};
 
 use crate::UnlockRefused;
+use crate::arranged::{is_in_place, items_in_place};
+use crate::holding::take_own;
 use crate::order::in_order;
 use crate::told::Told;
 use attribute_hash::hashed;
@@ -99,7 +101,7 @@ fn parted(
 }
 
 /// A content's clear part in order of ids, with the hashes of the items' own attributes, and its items.
-pub fn arranged_parts(alloc: Global, content: Content) -> Result<(Told, ItemStore), OutOfMemory>
+fn arranged_parts(alloc: Global, content: Content) -> Result<(Told, ItemStore), OutOfMemory>
     requires { IsSealable content }
     ensures rows { IfOk result (λ made. rows_with made.0 made.1 ≡ arranged_rows content) }
     ensures ids { IfOk result (λ made. ids_of made.0.items ≡ keys_of made.1) }
@@ -137,4 +139,27 @@ pub fn arranged_parts(alloc: Global, content: Content) -> Result<(Told, ItemStor
         minor,
     });
     Ok((told, items))
+}
+
+/// Opens a locked collection to a content: its items, and the clear part as it is in the file, unless that has the
+/// hashes of the items' own attributes. Otherwise the clear part with these hashes takes its place.
+pub fn take_parts(
+    alloc: Global,
+    told: &mut Told,
+    content: Content,
+) -> Result<(ItemStore, Option<Told>), OutOfMemory>
+    requires sealable { IsSealable content }
+    requires shown { told.old ≡ by_id content.clear }
+    ensures parts { IfOk result (λ made. AreParts content told.new made.0) }
+    ensures apart { IfOk result (λ made. IfSome made.1 (λ written. written ≡ told.old)) }
+    ensures same { IfOk result (λ made. IfNone made.1 (told.new.items ≡ told.old.items)) }
+    ensures unchanged { OnErr result (told.new ≡ told.old) }
+{
+    // Most files are so, and their clear part stays with its index.
+    if is_in_place(&content) {
+        return Ok((items_in_place(alloc, content)?, None));
+    }
+    let (own, items) = arranged_parts(alloc, content)?;
+    let written = take_own(told, own);
+    Ok((items, written))
 }

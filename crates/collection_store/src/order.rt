@@ -34,7 +34,7 @@ impl Numbered for (ClearItem, FullItem) {
 }
 
 /// Whether each number is less than the next one.
-fn is_rising<T: Numbered>(these: &[T]) -> bool
+pub fn is_rising<T: Numbered>(these: &[T]) -> bool
     ensures { IsTrue result ↔ IsStrictlyIncreasing (map T.number_of these.now) }
 {
     for i in 0..these.len().saturating_sub(1) {

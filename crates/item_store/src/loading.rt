@@ -10,20 +10,6 @@ use kr_base::{Attributes, ItemId, OutOfMemory};
 use std::alloc::Global;
 use std::collections::BTreeMap;
 
-/// The rows of the items, in the given order.
-fn rows_of(
-    alloc: Global,
-    items: Vec<(ItemId, u32, FullItem)>,
-) -> Result<Vec<(u32, Row)>, OutOfMemory>
-    ensures { IfOk result (λ rows. rows.items ≡ map row_of items.items) }
-{
-    let mut rows = Vec::with_capacity(alloc, items.len())?;
-    for (id, kind, item) in items {
-        rows.push((id.0, Row { kind, item }))?;
-    }
-    Ok(rows)
-}
-
 /// The rows of the items, whose ids are distinct, by rising id. They are made at once: to insert one after
 /// the other takes four times as long.
 pub fn by_number(
@@ -33,9 +19,11 @@ pub fn by_number(
     requires { IsDistinct nat_eq (map (λ item. item.0.0) items.items) }
     ensures { IfOk result (λ rows. HasJustRows items.items rows.entries) }
 {
-    let rows = rows_of(alloc, items)?;
-    let ordered: BTreeMap<u32, Row> = rows.into_iter().collect(alloc)?;
-    Ok(ordered)
+    let rows: BTreeMap<u32, Row> = items
+        .into_iter()
+        .map(|(id, kind, item)| (id.0, Row { kind, item }))
+        .collect(alloc)?;
+    Ok(rows)
 }
 
 /// The attributes of the rows, each with the row's id.

@@ -12,6 +12,8 @@ mod crashes;
 #[cfg(test)]
 mod damage;
 #[cfg(test)]
+mod disorder;
+#[cfg(test)]
 mod faults;
 #[cfg(test)]
 mod made;
