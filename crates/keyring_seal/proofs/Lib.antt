@@ -14,3 +14,4 @@ pub mod ArrangedLemmas
 pub mod LentLemmas
 pub mod OnlyLemmas
 pub mod SealsLemmas
+pub mod SpelledLemmas

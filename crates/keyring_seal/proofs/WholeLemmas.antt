@@ -7,7 +7,9 @@ use Rattle.keyring_file.specs.Clear.{ClearPart}
 use Rattle.keyring_file.specs.ClearText.{ClearText}
 use Rattle.keyring_file.specs.Reading.{area_read, clear_read}
 use Rattle.keyring_file.specs.declared.area.FullItem.{FullItem}
+use Rattle.keyring_file.specs.declared.fault.AreaFault.{AreaFault}
 use Rattle.keyring_seal.specs.declared.content.Content.{Content}
+use Rattle.keyring_seal.specs.declared.opening.OpenFault.TheVariants as open_fault
 use Rattle.keyring_seal.specs.Arranged.{IsSealable}
 use Rattle.keyring_seal.specs.Whole.{IsFileOf, opened}
 
@@ -18,6 +20,12 @@ unfolding opened
 opened_again clear_again area_again file key vector content is =
     let items : area_read (length content.clear.items) (decrypted key vector is.area) ≡ Ok content.items = subst (λ (n : ℕ). area_read n (decrypted key vector is.area) ≡ Ok content.items) is.counted (area_again (decrypted key vector is.area) content.items is.items) in
     rw (clear_again file is.area content.clear is.clear, items) refl
+
+-- the fault of an area is that of the file
+pub opened_fault : (file key vector area : List ℕ) (clear : ClearPart) (fault : AreaFault) → clear_read file ≡ Ok (clear, area) → area_read (length clear.items) (decrypted key vector area) ≡ Err fault
+    → opened file key vector ≡ Err (open_fault.Area fault)
+unfolding opened
+opened_fault file key vector area clear fault read damaged = rw (read, damaged) refl
 
 -- the content that a file encodes can be sealed
 pub sealable : (file : List ℕ) (key vector : List ℕ) (content : Content) → IsFileOf file key vector content → IsSealable content

@@ -2,4 +2,5 @@ pub mod Arranged
 pub mod Laws
 pub mod Order
 pub mod Room
+pub mod Told
 pub mod Whole

@@ -5,6 +5,7 @@
 //! attributes, and a file that would be too large is refused before anything is built.
 #![tactic(auto)]
 
+mod area;
 mod content;
 mod laws;
 mod opening;
@@ -13,6 +14,7 @@ mod room;
 mod sealing;
 mod writing;
 
+pub use area::open_area;
 pub use content::{Content, known_content};
 pub use laws::{
     a_file_of_a_content_opens_to_it, same_shape, what_is_arranged_rises, what_is_sealed_opens,

@@ -29,7 +29,7 @@ pub enum OpenFault {
 }
 
 /// A copy of the blocks, decrypted under the key.
-fn decrypted_copy(alloc: Global, blocks: &[u8], key: &Derived) -> Result<Vec<u8>, OutOfMemory>
+pub fn decrypted_copy(alloc: Global, blocks: &[u8], key: &Derived) -> Result<Vec<u8>, OutOfMemory>
     requires { length blocks.now % 16 ≡ 0 }
     ensures { IfOk result (λ area. area.items
         ≡ decrypted (key_of key.now) (vector_of key.now) blocks.now) }
