@@ -131,13 +131,17 @@ own_clear : (these : List Row) → AllByRecursion (λ (row : Row). row.0.hashed 
 own_clear [] own = refl
 own_clear (row ∷ more) own = λ i. (record row.0 { hashed = sym own.0 i }) ∷ own_clear more own.1 i
 
+-- a clear part whose ids rise is in order
+pub by_id_stays : (clear : ClearPart) → IsStrictlyIncreasing (ids_of clear.items) → by_id clear ≡ clear
+by_id_stays clear rising = ap (λ (t : List ClearItem). record clear { items = t }) (rising_by_number (λ (item : ClearItem). item.id.0) clear.items (rising_by_place (λ (item : ClearItem). item.id.0) clear.items rising))
+
 module _ (content : Content) (can : IsSealable content) (is : IsInPlace content) where
   in_order : rows content ≡ ordered content can
   in_order = as_they_stand content.clear.items content.items is.rising
 
   told_in_place : by_id content.clear ≡ record content.clear { items = map as_clear (ordered content can) }
   told_in_place =
-      let by_place : by_number (λ (item : ClearItem). item.id.0) content.clear.items ≡ content.clear.items = rising_by_number (λ (item : ClearItem). item.id.0) content.clear.items (rising_by_place (λ (item : ClearItem). item.id.0) content.clear.items is.rising) in
+      let by_place = ap (λ (t : ClearPart). t.items) (by_id_stays content.clear is.rising) in
       ap (λ (t : List ClearItem). record content.clear { items = t })
       (by_place ∙ sym (zip_first content.clear.items content.items can.counted) ∙ sym (own_clear (rows content) is.hashed) ∙ ap (λ (t : List Row). map as_clear t) in_order)
 

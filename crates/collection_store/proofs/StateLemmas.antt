@@ -9,6 +9,7 @@ use Rattle.attribute_hash.specs.Hash.{hashes}
 use Rattle.item_store.specs.Rows.{Rows}
 use Rattle.keyring_seal.specs.Arranged.{Row, arranged_rows, of_rows}
 use Rattle.keyring_seal.specs.Order.{by_number}
+use Rattle.keyring_seal.specs.Told.{HasSorted}
 use Rattle.keyring_seal.specs.Whole.{opened}
 use Rattle.keyring_seal.specs.declared.content.Content.{Content}
 use Rattle.collection_store.proofs.OpenedLemmas.{Spelled, opened_clear}
@@ -132,14 +133,14 @@ shown_part (Known None) clear bytes there e shows = absurd there
 shown_part (Known (Some image)) clear bytes there e shows = let same : image ≡ bytes = cc in subst (λ b. (part : ClearPart) × HasClear b part × (clear ≡ by_id part)) same shows
 shown_part (Doubt old new) clear bytes there e shows = absurd there
 
--- a clear part that is read
-pub has_part : (file : File) (clear : ClearPart) (bytes : List ℕ) → HasFile file → Some bytes ≡ old_image file → Shows (shown_image file) clear → (part : ClearPart) × HasClear bytes part
-has_part file clear bytes there e shows = let found = shown_part file clear bytes there e shows in (found.0, found.1)
-
 -- a locked collection keeps nothing
 none_held : (told : ClearPart) (parts : Option Parts) → held_of told parts ≡ None → shown_of told parts ≡ told
 none_held told None e = refl
 none_held told (Some parts) e = absurd cc
+
+-- a locked collection has the clear part of its file
+pub told_sorted : (file : File) (told : ClearPart) (newer : Option ClearPart) (parts : Option Parts) (bytes : List ℕ) → IsKept file told newer parts → held_of told parts ≡ None → HasFile file → Some bytes ≡ old_image file → HasSorted bytes told
+told_sorted file told newer parts bytes kept locked there is = shown_part file told bytes there is (subst (λ t. Shows (shown_image file) t) (none_held told parts locked) kept.shows)
 
 -- the clear part of the file is shown, whether it is kept apart or has the same items as the one with the items' own hashes
 pub shown_opened : (key vector : List ℕ) (items : Rows) (made written : ClearPart) (kept : Option ClearPart) → without_hashes made ≡ without_hashes written → IfSome kept (λ part. part ≡ written) → IfNone kept (made.items ≡ written.items)

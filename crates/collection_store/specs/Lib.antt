@@ -1,6 +1,7 @@
 pub mod Changes
 pub mod Copying
 pub mod Outcomes
+pub mod Parts
 pub mod Preparing
 pub mod Reading
 pub mod Resting

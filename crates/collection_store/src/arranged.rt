@@ -10,7 +10,7 @@ ghost use Rattle.collection_store.specs.State.{AreParts, IsInPlace, by_id};
 use crate::order::is_rising;
 use attribute_hash::are_hashes_of;
 use item_store::{ItemStore, rising_rows_are_one_list};
-use keyring_file::{ClearItem, FullItem};
+use keyring_file::{Clear, ClearItem, FullItem};
 use keyring_seal::Content;
 use kr_base::{ItemId, OutOfMemory};
 use std::alloc::Global;
@@ -23,7 +23,7 @@ fn has_own_hashes(one: &ClearItem, item: &FullItem) -> bool
 }
 
 /// Whether each item has the hashes of its own attributes.
-fn have_own_hashes(clear: &[ClearItem], items: &[FullItem]) -> bool
+pub fn have_own_hashes(clear: &[ClearItem], items: &[FullItem]) -> bool
     requires { length items.now ≡ length clear.now }
     ensures { IsTrue result ↔ AllByRecursion (λ row. row.0.hashed ≡ hashes row.1.attributes)
         (zip clear.now items.now) }
@@ -66,13 +66,17 @@ fn numbered(
 }
 
 /// The items of a content that is in its file as a collection keeps it.
-pub fn items_in_place(alloc: Global, content: Content) -> Result<ItemStore, OutOfMemory>
-    requires sealable { IsSealable content }
-    requires in_place { IsInPlace content }
-    ensures { IfOk result (AreParts content (by_id content.clear)) }
+pub fn items_in_place(
+    alloc: Global,
+    clear: &Clear,
+    items: Vec<FullItem>,
+) -> Result<ItemStore, OutOfMemory>
+    requires sealable { IsSealable (record { clear = clear.now; items = items.items }) }
+    requires in_place { IsInPlace (record { clear = clear.now; items = items.items }) }
+    ensures { IfOk result (AreParts (record { clear = clear.now; items = items.items })
+        (by_id clear.now)) }
 {
-    let Content { clear, items } = content;
-    let given = numbered(alloc, clear.items.as_slice(), items.into_vec())?;
+    let given = numbered(alloc, clear.items.as_slice(), items)?;
     rising_rows_are_one_list();
     let store = ItemStore::loaded(given)?;
     Ok(store)

@@ -19,7 +19,7 @@ ghost use Rattle.collection_store.specs.Storable.{EndsAs, answer_of, storable};
 use crate::answering::answer_in;
 use crate::candidate::Frame;
 use crate::holding::{Open, answered, frame_of, prepare_in, prepare_key, show_again, store};
-use crate::opening::{content_of, take_parts};
+use crate::opening::opened_parts;
 use crate::sealing::image_of;
 use crate::told::Told;
 use crate::{Change, ChangeRefused, Changed, CreateRefused, UnlockRefused};
@@ -234,11 +234,8 @@ impl<S: Slot> Collection<S> {
             Some(image) => image,
             None => unreachable!(),
         };
-        let content = content_of(self.alloc, image.bytes(), &key)?;
-        let (items, written) = match take_parts(self.alloc, &mut self.told, content) {
-            Ok(parts) => parts,
-            Err(_) => return Err(UnlockRefused::OutOfMemory),
-        };
+        let opened = opened_parts(self.alloc, image.bytes(), &mut self.told, &key);
+        let (items, written) = opened?;
         self.held = Some(Open {
             key: key.key(),
             vector: key.vector(),

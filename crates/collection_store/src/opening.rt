@@ -1,20 +1,21 @@
 // The state of an unlocked collection, made of the content that its file decrypts to.
 
-ghost use Rattle.std.specs.Prelude.{◌≡◌, ◌⊎◌, IfOk, IfSome, IfNone, IsErrOf, OnErr, Ok, length, map};
+ghost use Rattle.std.specs.Prelude.{◌≡◌, ◌⊎◌, IfOk, IfSome, IfNone, IsErrOf, OnErr, Ok, map};
 ghost use Rattle.std.specs.List.{AllByRecursion, zip};
-ghost use Rattle.std.specs.List.Sorted.{IsStrictlyIncreasing};
 ghost use Rattle.std.specs.Map.{keys_of};
 ghost use Rattle.attribute_hash.specs.Hash.{hashes};
 ghost use Rattle.key_derivation.specs.Kdf.{key_of, vector_of};
 ghost use Rattle.keyring_file.specs.Clear.{ClearPart};
-ghost use Rattle.keyring_seal.specs.Arranged.{IsSealable, arranged_rows, hashed_row, row_number};
+ghost use Rattle.keyring_seal.specs.Arranged.{IsSealable, arranged_rows, hashed_row};
 ghost use Rattle.keyring_seal.specs.Whole.{IsFileOf, opened};
 ghost use Rattle.collection_store.specs.Reading.{Unlocks};
-ghost use Rattle.collection_store.specs.State.{AreParts, by_id, ids_of, rows_with, without_hashes};
+ghost use Rattle.collection_store.specs.State.{AreParts, IsById, by_id, ids_of, rows_with, without_hashes};
+ghost use Rattle.collection_store.specs.Parts.{OpensIn};
+ghost use Rattle.keyring_seal.specs.Told.{HasSorted};
 ghost use Rattle.keyring_file.specs.ClearText.{HasClear};
 
 use crate::UnlockRefused;
-use crate::arranged::{is_in_place, items_in_place};
+use crate::arranged::{have_own_hashes, is_in_place, items_in_place};
 use crate::holding::take_own;
 use crate::order::in_order;
 use crate::told::Told;
@@ -22,14 +23,14 @@ use attribute_hash::hashed;
 use item_store::{ItemStore, rising_rows_are_one_list};
 use key_derivation::Derived;
 use keyring_file::{AreaFault, Clear, ClearItem, FullItem, a_file_that_is_spelled_so_is_read};
-use keyring_seal::{Content, OpenFault, open};
+use keyring_seal::{Content, OpenFault, a_file_of_a_content_opens_to_it, open, open_area};
 use keyring_text::ReadRefused;
 use kr_base::{ItemId, OutOfMemory};
 use kr_items::Items;
 use std::alloc::Global;
 
 /// The content of a file whose clear part has been read.
-pub fn content_of(alloc: Global, file: &[u8], key: &Derived) -> Result<Content, UnlockRefused>
+fn content_of(alloc: Global, file: &[u8], key: &Derived) -> Result<Content, UnlockRefused>
     requires { (clear : ClearPart) × HasClear file.now clear }
     ensures opened { IfOk result (λ content.
         opened file.now (key_of key.now) (vector_of key.now) ≡ Ok content) }
@@ -47,6 +48,29 @@ pub fn content_of(alloc: Global, file: &[u8], key: &Derived) -> Result<Content, 
         }
         Err(ReadRefused::Fault(OpenFault::Area(fault))) => Err(UnlockRefused::Damaged(fault)),
         Err(ReadRefused::Fault(OpenFault::Clear(_))) => unreachable!(),
+        Err(ReadRefused::OutOfMemory) => Err(UnlockRefused::OutOfMemory),
+    }
+}
+
+/// The items of a file that begins with the clear part as it is known. None if it doesn't.
+fn area_of(
+    alloc: Global,
+    file: &[u8],
+    clear: &Clear,
+    key: &Derived,
+) -> Result<Option<Vec<FullItem>>, UnlockRefused>
+    requires { HasSorted file.now clear.now }
+    ensures found { IfOk result (λ found. IfSome found (λ items.
+        IsFileOf file.now (key_of key.now) (vector_of key.now)
+        (record { clear = clear.now; items = items.items }))) }
+    ensures refused { (refused : UnlockRefused) → IsErrOf result refused
+        → (refused ≡ UnlockRefused.OutOfMemory)
+        ⊎ Unlocks (opened file.now (key_of key.now) (vector_of key.now)) refused }
+{
+    match open_area(alloc, file, clear, key) {
+        Ok(found) => Ok(found),
+        Err(ReadRefused::Fault(AreaFault::CheckDiffers)) => Err(UnlockRefused::WrongPassword),
+        Err(ReadRefused::Fault(fault)) => Err(UnlockRefused::Damaged(fault)),
         Err(ReadRefused::OutOfMemory) => Err(UnlockRefused::OutOfMemory),
     }
 }
@@ -141,9 +165,38 @@ fn arranged_parts(alloc: Global, content: Content) -> Result<(Told, ItemStore), 
     Ok((told, items))
 }
 
+/// The items of a file that begins with the clear part as it is known and has the hashes of the items' own
+/// attributes. None if the file isn't so.
+fn told_items(
+    alloc: Global,
+    file: &[u8],
+    clear: &Clear,
+    key: &Derived,
+) -> Result<Option<ItemStore>, UnlockRefused>
+    requires told { HasSorted file.now clear.now }
+    requires rising { IsById clear.now }
+    ensures parts { IfOk result (λ made. IfSome made (OpensIn file.now (key_of key.now)
+        (vector_of key.now) clear.now)) }
+    ensures refused { (refused : UnlockRefused) → IsErrOf result refused
+        → (refused ≡ UnlockRefused.OutOfMemory)
+        ⊎ Unlocks (opened file.now (key_of key.now) (vector_of key.now)) refused }
+{
+    a_file_of_a_content_opens_to_it();
+    let Some(items) = area_of(alloc, file, clear, key)? else {
+        return Ok(None);
+    };
+    if !have_own_hashes(clear.items.as_slice(), items.as_slice()) {
+        return Ok(None);
+    }
+    match items_in_place(alloc, clear, items) {
+        Ok(store) => Ok(Some(store)),
+        Err(_) => Err(UnlockRefused::OutOfMemory),
+    }
+}
+
 /// Opens a locked collection to a content: its items, and the clear part as it is in the file, unless that has the
 /// hashes of the items' own attributes. Otherwise the clear part with these hashes takes its place.
-pub fn take_parts(
+fn take_parts(
     alloc: Global,
     told: &mut Told,
     content: Content,
@@ -157,9 +210,41 @@ pub fn take_parts(
 {
     // Most files are so, and their clear part stays with its index.
     if is_in_place(&content) {
-        return Ok((items_in_place(alloc, content)?, None));
+        let Content { clear, items } = content;
+        let store = items_in_place(alloc, &clear, items.into_vec())?;
+        return Ok((store, None));
     }
     let (own, items) = arranged_parts(alloc, content)?;
     let written = take_own(told, own);
     Ok((items, written))
+}
+
+/// Opens a locked collection with its file and a key: its items, and the clear part as it is in the file, unless
+/// that has the hashes of the items' own attributes. Otherwise the clear part with these hashes takes its place.
+pub fn opened_parts(
+    alloc: Global,
+    file: &[u8],
+    told: &mut Told,
+    key: &Derived,
+) -> Result<(ItemStore, Option<Told>), UnlockRefused>
+    requires { HasSorted file.now told.old }
+    ensures parts { IfOk result (λ made.
+        OpensIn file.now (key_of key.now) (vector_of key.now) told.new made.0) }
+    ensures apart { IfOk result (λ made. IfSome made.1 (λ written. written ≡ told.old)) }
+    ensures same { IfOk result (λ made. IfNone made.1 (told.new.items ≡ told.old.items)) }
+    ensures refused { (refused : UnlockRefused) → IsErrOf result refused
+        → (refused ≡ UnlockRefused.OutOfMemory)
+        ⊎ Unlocks (opened file.now (key_of key.now) (vector_of key.now)) refused }
+    ensures unchanged { OnErr result (told.new ≡ told.old) }
+{
+    // Most files are as a collection keeps them, and their clear part isn't read again.
+    if let Some(items) = told_items(alloc, file, told.clear(), key)? {
+        return Ok((items, None));
+    }
+    a_file_that_is_spelled_so_is_read();
+    let content = content_of(alloc, file, key)?;
+    match take_parts(alloc, told, content) {
+        Ok(parts) => Ok(parts),
+        Err(_) => Err(UnlockRefused::OutOfMemory),
+    }
 }
