@@ -513,8 +513,8 @@ def unlocking(program):
     for name in "200", "2000", "10000":
         items = int(name)
         rounds = 300000 // items
-        read = program.spent("part", "read", rounds, name)[0]
-        both = program.spent("disk", "unlock", rounds, name, rounds)[0]
+        read = program.spent("part", "read", rounds, name)[1]
+        both = program.spent("disk", "unlock", rounds, name, rounds)[1]
         small = small or both / items
         print(f"collection_store, {items} items locked and unlocked: {both / read:.2f} of AES, MD5 and reading the area ({read * 1e3:.3f} ms);")
         print(f"  for each item {both / items / small:.2f} of among 200")
