@@ -1,9 +1,9 @@
 -- What a file says of its clear part: it can be written again, with its items in order of their numbers.
-use Rattle.std.proofs.Common.{◌≡◌, ℕ, ◌-◌, ◌+◌, ◌<◌, ◌≤◌, ◌%◌, ◌^◌, List, [], ◌∷◌, ◌++◌, length, take, drop, map, nat_eq, sym, ap, subst, ◌∙◌, append_assoc, arith}
+use Rattle.std.proofs.Common.{◌≡◌, ℕ, ◌+◌, ◌<◌, ◌≤◌, ◌%◌, ◌^◌, List, [], ◌∷◌, ◌++◌, Option, None, Some, IfSome, length, map, nat_eq, sym, ap, subst, ◌∙◌, append_assoc, arith}
 use Rattle.std.specs.Cmp.{nat_eq_equiv}
 use Rattle.std.specs.List.{AllByRecursion, IsDistinct}
 use Rattle.std.specs.List.Sorted.{IsPermutation}
-use Rattle.std.proofs.lemmas.List.{length-append, length-drop, take-append-drop, take_at}
+use Rattle.std.proofs.lemmas.List.{length-append}
 use Rattle.std.proofs.lemmas.List.Sorted.{IsPermutation-map, length_permutation}
 use Rattle.std.proofs.lemmas.Map.Keys.{IsDistinct-IsPermutation}
 use Rattle.kr_base.specs.Attributes.{is_name}
@@ -21,51 +21,35 @@ use Rattle.keyring_file.specs.Known.{IsKnownClear, IsKnownClearItem}
 use Rattle.keyring_file.specs.Short.{IsShort, IsShortClear, IsShortClearItem, IsShortHashed, IsShortPair}
 use Rattle.keyring_file.specs.Sound.{IsSoundClear, IsSoundClearItem, IsSoundHashed, IsSoundPair}
 use Rattle.keyring_seal.specs.Order.{by_number}
-use Rattle.keyring_seal.specs.Told.{HasSorted, IsBeforeArea}
+use Rattle.keyring_seal.specs.Told.{HasSorted}
 use Rattle.keyring_seal.proofs.ArrangeLemmas.{all_by_number}
 use Rattle.keyring_seal.proofs.OrderLemmas.{by_number-permutation}
 
--- ---- the last four bytes of the text, which are the length of the area
+-- ---- a file that begins with the canonical text
 
 abbrev before_length : ClearPart → List ℕ
 before_length clear = front_text clear ++ list_text (clear_item_text clear.minor) clear.items
 
-in_two : (clear : ClearPart) (n : ℕ) → before_length clear ++ number n ≡ clear_text clear n
-in_two clear n = append_assoc (front_text clear) (list_text (clear_item_text clear.minor) clear.items) (number n)
+in_two : (clear : ClearPart) (n : ℕ) (hidden : List ℕ) → before_length clear ++ (number n ++ hidden) ≡ clear_text clear n ++ hidden
+in_two clear n hidden = simp append_assoc
 
-with_length : (clear : ClearPart) (n : ℕ) → take (length (clear_text clear 0) - 4) (clear_text clear 0) ++ number n ≡ clear_text clear n
-with_length clear n =
-    let front = before_length clear in
-    let sum = length-append front (number 0) in
-    let four = length-number 0 in
-    let before : take (length (front ++ number 0) - 4) (front ++ number 0) ≡ front = take_at front (number 0) (length (front ++ number 0) - 4) (omega (arith, sum, four)) in
-    ap (λ t. take (length t - 4) t ++ number n) (sym (in_two clear 0)) ∙ ap (λ t. t ++ number n) before ∙ in_two clear n
+abbrev SpellsEach : Type 0
+SpellsEach = (clear : ClearPart) (area : List ℕ) → IsSoundClear clear → IsShortClear clear → IsAreaLength (length area) → length area < 2 ^ 32 → ClearText (clear_text clear (length area) ++ area) clear area
 
-same_length : (clear : ClearPart) (n : ℕ) → length (clear_text clear n) ≡ length (clear_text clear 0)
-unfolding number
-same_length clear n =
-    let one : length (before_length clear) + 4 ≡ length (clear_text clear n) = sym (length-append (before_length clear) (number n)) ∙ ap (λ t. length t) (in_two clear n) in
-    let other : length (before_length clear) + 4 ≡ length (clear_text clear 0) = sym (length-append (before_length clear) (number 0)) ∙ ap (λ t. length t) (in_two clear 0) in
-    sym one ∙ other
+-- the length of the rest of the file comes after the text, and before the rest
+begins_so : SpellsEach → (clear : ClearPart) (file rest hidden : List ℕ) (n : ℕ) → IsSoundClear clear → IsShortClear clear → file ≡ before_length clear ++ rest → n + 4 ≡ length rest → 16 ≤ n → n % 16 ≡ 0 → n < 2 ^ 32 → rest ≡ number n ++ hidden → ClearText file clear hidden
+begins_so law clear file rest hidden n sound short front left enough blocks few back =
+    let sum : length (number n ++ hidden) ≡ length (number n) + length hidden = length-append (number n) hidden in
+    let long : length hidden ≡ n = omega (arith, sum, length-number n, left, ap (λ t. length t) back) in
+    let spelled = law clear hidden sound short (subst (λ m. IsAreaLength m) (sym long) (record { blocks = blocks; some = enough })) (omega (arith, long, few)) in
+    let is : clear_text clear (length hidden) ++ hidden ≡ file = ap (λ m. clear_text clear m ++ hidden) long ∙ sym (in_two clear n hidden) ∙ ap (λ t. before_length clear ++ t) (sym back) ∙ sym front in
+    subst (λ f. ClearText f clear hidden) is spelled
 
--- the text with the length of the rest of the file
-pub before_area : (clear : ClearPart) (whole area : ℕ) (text shorter made : List ℕ) → text ≡ clear_text clear 0 → area + length text ≡ whole → shorter ≡ take (length text - 4) text → made ≡ shorter ++ number area
-    → 16 ≤ area → area % 16 ≡ 0 → area < 2 ^ 32 → IsBeforeArea clear whole made
-before_area clear whole area text shorter made is_text sum is_shorter is_made enough blocks few =
-    let is : made ≡ clear_text clear area = is_made ∙ ap (λ t. t ++ number area) (is_shorter ∙ ap (λ t. take (length t - 4) t) is_text) ∙ with_length clear area in
-    let long : length made ≡ length text = ap (λ t. length t) is ∙ same_length clear area ∙ sym (ap (λ t. length t) is_text) in
-    record { area = area; blocks = record { blocks = blocks; some = enough }; few = few; is = is; long = omega (arith, sum, long) }
-
--- a file that begins with the text has the clear part, and the area is the rest of the file
-pub begins_so : ((clear : ClearPart) (area : List ℕ) → IsSoundClear clear → IsShortClear clear → IsAreaLength (length area) → length area < 2 ^ 32 → ClearText (clear_text clear (length area) ++ area) clear area)
-    → (clear : ClearPart) (file text : List ℕ) (place : ℕ) → IsSoundClear clear → IsShortClear clear → IsBeforeArea clear (length file) text → place ≡ length text → take place file ≡ text → ClearText file clear (drop place file)
-begins_so law clear file text place sound short before at front =
-    let rest = drop place file in
-    let left = length-drop place file in
-    let long : length rest ≡ before.area = omega (arith, left, before.long, at) in
-    let spelled = law clear rest sound short (subst (λ n. IsAreaLength n) (sym long) before.blocks) (omega (arith, long, before.few)) in
-    let is : clear_text clear (length rest) ++ rest ≡ file = ap (λ n. clear_text clear n ++ rest) long ∙ ap (λ t. t ++ rest) (sym before.is ∙ sym front) ∙ take-append-drop place file in
-    subst (λ f. ClearText f clear rest) is spelled
+-- the same of what a comparison returned
+pub found_so : {X : Type 0} (view : X → List ℕ) (found : Option X) → SpellsEach → (clear : ClearPart) (file rest : List ℕ) (n : ℕ) → IsSoundClear clear → IsShortClear clear → file ≡ before_length clear ++ rest → n + 4 ≡ length rest → 16 ≤ n → n % 16 ≡ 0 → n < 2 ^ 32
+    → IfSome found (λ x. rest ≡ number n ++ view x) → IfSome found (λ x. ClearText file clear (view x))
+found_so view None law clear file rest n sound short front left enough blocks few back = tt
+found_so view (Some x) law clear file rest n sound short front left enough blocks few back = begins_so law clear file rest (view x) n sound short front left enough blocks few back
 
 -- ---- what a text spells can be written
 

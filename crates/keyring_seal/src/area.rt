@@ -1,70 +1,30 @@
 // A file whose clear part is known already, perhaps with its items in another order. If the file begins with the
 // canonical text of this clear part, its items are read without reading the clear part again.
 
-ghost use Rattle.std.specs.Prelude.{◌≡◌, ◌≤◌, drop, length, Err, IfOk, IfSome, IsErrOf};
+ghost use Rattle.std.specs.Prelude.{◌≡◌, Err, IfOk, IfSome, IsErrOf};
 ghost use Rattle.key_derivation.specs.Kdf.{key_of, vector_of};
-ghost use Rattle.keyring_file.specs.ClearText.{ClearText};
-ghost use Rattle.keyring_file.specs.Short.{IsShortClear};
-ghost use Rattle.keyring_file.specs.Sound.{IsSoundClear};
-ghost use Rattle.keyring_seal.specs.Told.{HasSorted, IsBeforeArea};
+ghost use Rattle.keyring_seal.specs.Told.{HasSorted};
 ghost use Rattle.keyring_seal.specs.Whole.{IsFileOf, opened};
 ghost use Rattle.keyring_file.specs.declared.fault.AreaFault.{AreaFault as Fault};
 ghost use Rattle.keyring_seal.specs.declared.opening.OpenFault.TheVariants as open_fault;
 
+use crate::comparing::hidden_after;
 use crate::opening::decrypted_copy;
 use key_derivation::Derived;
 use keyring_file::{
-    AreaFault, Clear, FullItem, a_canonical_clear_part_is_spelled_so,
-    a_file_that_is_spelled_so_is_read, an_area_that_is_read_is_spelled_so, known_clear,
-    known_clear_items, read_area, write_clear,
+    AreaFault, Clear, FullItem, a_file_that_is_spelled_so_is_read,
+    an_area_that_is_read_is_spelled_so, known_clear, known_clear_items, read_area,
 };
-use keyring_text::{ReadRefused, known_bytes, put_number};
-use kr_base::OutOfMemory;
+use keyring_text::{ReadRefused, known_bytes};
 use std::alloc::Global;
 
-/// The canonical text of a clear part, in a file of this length. None if no area is so long as the rest
-/// of the file.
-fn text_in(alloc: Global, clear: &Clear, length: usize) -> Result<Option<Vec<u8>>, OutOfMemory>
-    requires { IsShortClear clear.now }
-    ensures { IfOk result (λ text. IfSome text (λ text.
-        IsBeforeArea clear.now length text.items)) }
-{
-    let mut text = write_clear(alloc, clear, 0)?;
-    let Some(area_length) = length.checked_sub(text.len()) else {
-        return Ok(None);
-    };
-    if area_length < 16 || area_length % 16 != 0 || area_length > 0xffff_ffff {
-        return Ok(None);
-    }
-    // The text ends with the length of the area.
-    text.truncate(text.len().saturating_sub(4));
-    put_number(&mut text, area_length as u32)?;
-    Ok(Some(text))
-}
-
-/// Where the area begins in a file that begins with the canonical text of the clear part. None if it doesn't.
-fn area_place(alloc: Global, file: &[u8], clear: &Clear) -> Result<Option<usize>, OutOfMemory>
-    requires sound { IsSoundClear clear.now }
-    requires short { IsShortClear clear.now }
-    ensures place { IfOk result (λ found. IfSome found (λ place. place ≤ length file.now)) }
-    ensures text { IfOk result (λ found. IfSome found (λ place.
-        ClearText file.now clear.now (drop place file.now))) }
-{
-    a_canonical_clear_part_is_spelled_so();
-    let Some(text) = text_in(alloc, clear, file.len())? else {
-        return Ok(None);
-    };
-    let (front, _) = file.split_at(text.len());
-    if front != text.as_slice() {
-        return Ok(None);
-    }
-    Ok(Some(text.len()))
-}
-
-/// The items of a file whose clear part is known: the given one, perhaps with its items in another order.
-/// None unless the file begins with the canonical text of the clear part as it is given.
+/// The items of a keyring file (GNOME keyring file format) whose clear part is known: the given one, perhaps
+/// with its items in another order. None unless the file begins with the canonical text of the clear part as it
+/// is given.
 ///
-/// The fault is the one with which `open` refuses the file.
+/// A fault is the one with which `open` refuses the file. `OutOfMemory` is returned if there is no memory for a
+/// copy of the encrypted area or for the items. In addition to the file and the clear part, memory is taken for
+/// one such copy and for the items: the clear part is compared where it is.
 pub fn open_area(
     alloc: Global,
     file: &[u8],
@@ -84,10 +44,9 @@ pub fn open_area(
     known_clear_items(clear.items.as_slice());
     a_file_that_is_spelled_so_is_read();
     an_area_that_is_read_is_spelled_so();
-    let Some(place) = area_place(alloc, file, clear)? else {
+    let Some(hidden) = hidden_after(file, clear) else {
         return Ok(None);
     };
-    let (_, hidden) = file.split_at(place);
     let area = decrypted_copy(alloc, hidden, key)?;
     known_bytes(area.as_slice());
     match read_area(alloc, area.as_slice(), clear.items.len()) {

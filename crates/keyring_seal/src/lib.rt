@@ -6,6 +6,7 @@
 #![tactic(auto)]
 
 mod area;
+mod comparing;
 mod content;
 mod laws;
 mod opening;

@@ -16,6 +16,8 @@ mod files;
 #[cfg(test)]
 mod hashes;
 #[cfg(test)]
+mod known_parts;
+#[cfg(test)]
 mod two_texts;
 #[cfg(test)]
 mod vectors;

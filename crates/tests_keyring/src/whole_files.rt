@@ -20,8 +20,8 @@ use md5::{Digest, Md5};
 use std::alloc::Global;
 use std::test::Fail;
 
-// The key of a row, with this password.
-fn key_of(alloc: Global, row: &str, password: &str) -> Result<Derived, Fail> {
+/// The key of a row, with this password.
+pub fn key_of(alloc: Global, row: &str, password: &str) -> Result<Derived, Fail> {
     let password = Bytes::new(hex::decode(alloc, password)?);
     let salt = salt_of(cell(row, 1))?;
     Ok(derive(password, salt, number(cell(row, 2))?))
@@ -113,7 +113,7 @@ fn files_of_other_programs_open_item_by_item(rt: HostRuntime) -> Result<(), Fail
 }
 
 /// The content of a file, opened and sealed again.
-fn sealed_again(alloc: Global, file: &[u8], key: &Derived) -> Result<Vec<u8>, Fail> {
+pub fn sealed_again(alloc: Global, file: &[u8], key: &Derived) -> Result<Vec<u8>, Fail> {
     let content = open(alloc, file, key).ok().ok_or("open")?;
     Ok(seal(alloc, &content, key).ok().ok_or("seal")?)
 }
