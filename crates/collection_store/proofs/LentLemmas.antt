@@ -11,8 +11,7 @@ use Rattle.kr_base.proofs.IdLemmas.{AllAbove, Rises, above-head}
 use Rattle.keyring_file.specs.declared.area.FullItem.{FullItem}
 use Rattle.keyring_file.specs.declared.clear.ClearItem.{ClearItem}
 use Rattle.keyring_seal.specs.Arranged.{Row}
-use Rattle.item_store.specs.Rows.{Rows, row_at}
-use Rattle.item_store.specs.declared.rows.Row.{Row as StoreRow}
+use Rattle.item_store.specs.Rows.{Row as StoreRow, Rows, row_at}
 use Rattle.collection_store.specs.Preparing.{left_after, lent_at, looked, with_item}
 use Rattle.collection_store.specs.State.{ids_of}
 

@@ -13,8 +13,7 @@ use Rattle.kr_base.specs.declared.ids.ItemId.{ItemId}
 use Rattle.keyring_file.specs.Clear.{ClearPart, IsOfVersion}
 use Rattle.keyring_file.specs.declared.area.FullItem.{FullItem}
 use Rattle.keyring_file.specs.declared.clear.ClearItem.{ClearItem}
-use Rattle.item_store.specs.Rows.{HasJustRows, IsRising as AreRising, Rows, row_at, row_of}
-use Rattle.item_store.specs.declared.rows.Row.{Row as StoreRow}
+use Rattle.item_store.specs.Rows.{HasJustRows, IsRising as AreRising, Row as StoreRow, Rows, row_at, row_of}
 use Rattle.keyring_seal.specs.declared.content.Content.{Content}
 use Rattle.keyring_seal.specs.Arranged.{IsSealable, Row, arranged_rows, hashed_row, row_number, rows}
 use Rattle.keyring_seal.specs.Order.{by_number, entered}

@@ -14,8 +14,7 @@ use Rattle.std.proofs.lemmas.Cmp.{ranked}
 use Rattle.attribute_match.specs.Match.{matches}
 use Rattle.kr_base.specs.declared.attributes.AttrValue.{AttrValue}
 use Rattle.keyring_file.specs.declared.clear.ClearItem.{ClearItem}
-use Rattle.item_store.specs.Rows.{Rows}
-use Rattle.item_store.specs.declared.rows.Row.{Row as StoreRow}
+use Rattle.item_store.specs.Rows.{Row as StoreRow, Rows}
 use Rattle.keyring_file.specs.Clear.{ClearPart}
 use Rattle.keyring_seal.specs.Arranged.{Row, row_number}
 use Rattle.keyring_seal.proofs.RisingLemmas.{IsRising, rising_by_place}

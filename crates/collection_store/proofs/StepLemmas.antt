@@ -13,8 +13,7 @@ use Rattle.std.specs.Ordering.{nat_cmp}
 use Rattle.keyring_file.specs.declared.area.FullItem.{FullItem}
 use Rattle.keyring_file.specs.declared.clear.ClearItem.{ClearItem}
 use Rattle.keyring_seal.specs.Arranged.{Row, row_number}
-use Rattle.item_store.specs.Rows.{IsRising as AreRising, Rows, greatest_id, has_just, ids_where, last_id, most_attributes, next_id, row_at, rows_changed as items_changed, rows_without as items_without}
-use Rattle.item_store.specs.declared.rows.Row.{Row as StoreRow}
+use Rattle.item_store.specs.Rows.{IsRising as AreRising, Row as StoreRow, Rows, greatest_id, has_just, ids_where, last_id, most_attributes, next_id, row_at, rows_changed as items_changed, rows_without as items_without}
 use Rattle.item_store.specs.declared.fault.ItemFault.{ItemFault}
 use Rattle.item_store.specs.declared.fault.ItemFault.TheVariants as item_fault
 use Rattle.item_store.proofs.RowLemmas.{keys-added, keys-changed, next-last, rising-added, rising-without}

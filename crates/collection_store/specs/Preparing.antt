@@ -10,9 +10,8 @@ use Rattle.keyring_file.specs.declared.area.FullItem.{FullItem}
 use Rattle.keyring_file.specs.declared.clear.ClearItem.{ClearItem}
 use Rattle.keyring_seal.specs.Arranged.{Row}
 use Rattle.keyring_seal.specs.Whole.{most_bytes, sealed}
-use Rattle.item_store.specs.Rows.{Rows, row_at}
+use Rattle.item_store.specs.Rows.{Row as StoreRow, Rows, row_at}
 use Rattle.item_store.specs.declared.fault.ItemFault.{ItemFault}
-use Rattle.item_store.specs.declared.rows.Row.{Row as StoreRow}
 use Rattle.collection_store.specs.Changes.{content_stored, minor_made}
 use Rattle.collection_store.specs.Resting.{finished, undone}
 use Rattle.collection_store.specs.State.{IsOpened, ids_of, rows_with}

@@ -1,7 +1,6 @@
 -- The items after a change has been prepared, until the file has been replaced or hasn't.
-use Rattle.item_store.specs.Rows.{Rows, rows_changed, rows_without}
+use Rattle.item_store.specs.Rows.{Row as StoreRow, Rows, rows_changed, rows_without}
 use Rattle.item_store.specs.Swapping.{with_parts}
-use Rattle.item_store.specs.declared.rows.Row.{Row as StoreRow}
 use Rattle.collection_store.specs.declared.rest.Rest.{Rest}
 use Rattle.collection_store.specs.declared.rest.Rest.TheVariants as rest
 

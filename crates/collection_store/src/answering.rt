@@ -15,10 +15,7 @@ use kr_base::{Attributes, ItemId};
 fn last_id(items: &ItemStore) -> u32
     ensures { result ≡ last_id items.now }
 {
-    match items.rows().last_key_value() {
-        Some((number, _)) => *number,
-        None => 0,
-    }
+    items.rows().last_number()
 }
 
 /// The id of a new item. None if the greatest one is taken.

@@ -10,21 +10,18 @@ ghost use Rattle.keyring_file.specs.ClearText.{HasClear, most_iterations};
 ghost use Rattle.keyring_seal.specs.Arranged.{of_rows};
 ghost use Rattle.keyring_seal.specs.Whole.{most_bytes, opened, sealed};
 ghost use Rattle.collection_store.specs.Changes.{minor_made};
-ghost use Rattle.item_store.specs.Rows.{IsRising};
 ghost use Rattle.collection_store.specs.Preparing.{left_after, lent_at, looked};
 ghost use Rattle.collection_store.specs.State.{ids_of};
 
 use crate::sealing::image_of;
 use crate::told::Told;
-use item_store::Row;
+use item_store::RowList;
 use keyring_file::{Clear, ClearItem, FullItem};
 use keyring_seal::SealRefused;
 use kr_base::{OutOfMemory, Text};
 use kr_items::Items;
 use replace_slot::Image;
 use std::alloc::Global;
-use std::collections::BTreeMap;
-use std::collections::btree_map::Iter;
 
 /// What a change is stored with: the time, how long the file may become, and the key.
 #[derive(Clone, Copy)]
@@ -100,14 +97,6 @@ pub fn next_told(
     })
 }
 
-/// The rows in order of their numbers.
-fn in_order<'a>(rows: &'a BTreeMap<u32, Row>) -> Iter<'a, u32, Row>
-    ensures rows { result ≡ rows.now.entries }
-    ensures rising { IsRising rows.now.entries }
-{
-    rows.iter()
-}
-
 /// Appends the first of these items of the clear part together with the full item, if they have the same
 /// id, and returns the items that are left.
 fn put_lent<'a>(
@@ -136,17 +125,18 @@ fn put_lent<'a>(
 fn lent_rows<'a>(
     alloc: Global,
     items: &'a [ClearItem],
-    rows: &'a BTreeMap<u32, Row>,
+    rows: &'a RowList,
 ) -> Result<Vec<(&'a ClearItem, &'a FullItem)>, OutOfMemory>
     requires rising { IsStrictlyIncreasing (ids_of items.now) }
-    requires there { map (λ row. row.0) (looked items.now rows.now.entries) ≡ items.now }
+    requires there { map (λ row. row.0) (looked items.now rows.now) ≡ items.now }
     ensures { IfOk result (λ lent. map (λ row. (row.0.now, row.1.now)) lent.items
-        ≡ looked items.now rows.now.entries) }
+        ≡ looked items.now rows.now) }
 {
     let mut lent = Vec::with_capacity(alloc, items.len())?;
     let mut left = items;
-    for (number, row) in in_order(rows) {
-        left = put_lent(&mut lent, left, *number, &row.item)?;
+    let rows = rows.as_slice();
+    for row in rows {
+        left = put_lent(&mut lent, left, row.0.0, &row.2)?;
     }
     Ok(lent)
 }
@@ -158,24 +148,24 @@ pub fn sealed_next(
     alloc: Global,
     frame: &Frame,
     next: &Told,
-    rows: &BTreeMap<u32, Row>,
+    rows: &RowList,
 ) -> Result<Image, SealRefused>
-    requires there { map (λ row. row.0) (looked next.now.items rows.now.entries) ≡ next.now.items }
+    requires there { map (λ row. row.0) (looked next.now.items rows.now) ≡ next.now.items }
     requires hashed { AllByRecursion (λ row. row.0.hashed ≡ hashes row.1.attributes)
-        (looked next.now.items rows.now.entries) }
+        (looked next.now.items rows.now) }
     requires iterations { next.now.iterations ≤ most_iterations }
     ensures sealed { IfOk result (λ image. image ≡ sealed
-        (of_rows next.now (looked next.now.items rows.now.entries))
+        (of_rows next.now (looked next.now.items rows.now))
         frame.now.key frame.now.vector) }
     ensures opens { IfOk result (λ image. opened image frame.now.key frame.now.vector
-        ≡ Ok (of_rows next.now (looked next.now.items rows.now.entries))) }
+        ≡ Ok (of_rows next.now (looked next.now.items rows.now))) }
     ensures clear { IfOk result (λ image. HasClear image
-        (of_rows next.now (looked next.now.items rows.now.entries)).clear) }
+        (of_rows next.now (looked next.now.items rows.now)).clear) }
     ensures fits { IfOk result (λ image. length image
         ≤ min most_bytes (frame.now.longest + frame.now.room)) }
     ensures too_large { IsErrOf result SealRefused.TooLarge
         → min most_bytes (frame.now.longest + frame.now.room) < length (sealed
-        (of_rows next.now (looked next.now.items rows.now.entries))
+        (of_rows next.now (looked next.now.items rows.now))
         frame.now.key frame.now.vector) }
 {
     let clear = next.clear();

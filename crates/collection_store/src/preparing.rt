@@ -21,14 +21,13 @@ use crate::rest::{Rest, swap_back, take_out};
 use crate::told::Told;
 use crate::{Change, ChangeRefused, Changed};
 use attribute_hash::hashed;
-use item_store::{ItemFault, ItemStore, MOST_ATTRIBUTES, Row, Swap};
+use item_store::{ItemFault, ItemStore, MOST_ATTRIBUTES, RowList, Swap};
 use keyring_file::{ClearItem, FullItem};
 use keyring_seal::SealRefused;
 use kr_base::{Attributes, Bytes, ItemId, Text};
 use kr_items::Items;
 use replace_slot::Image;
 use std::alloc::Global;
-use std::collections::BTreeMap;
 use std::mem;
 
 /// A prepared change.
@@ -116,25 +115,25 @@ fn sealed_rows(
     frame: &Frame,
     told: &Told,
     edited: Vec<ClearItem>,
-    rows: &BTreeMap<u32, Row>,
+    rows: &RowList,
 ) -> Result<(Told, Image), SealRefused>
     requires rising { IsStrictlyIncreasing (ids_of edited.items) }
-    requires there { map (λ row. row.0) (looked edited.items rows.now.entries) ≡ edited.items }
-    requires hashed { AreHashed (looked edited.items rows.now.entries) }
+    requires there { map (λ row. row.0) (looked edited.items rows.now) ≡ edited.items }
+    requires hashed { AreHashed (looked edited.items rows.now) }
     requires iterations { told.now.iterations ≤ most_iterations }
     ensures next { IfOk result (λ made. made.0 ≡ next_of frame.now told.now edited.items) }
     ensures sealed { IfOk result (λ made. made.1 ≡ sealed
-        (of_rows (next_of frame.now told.now edited.items) (looked edited.items rows.now.entries))
+        (of_rows (next_of frame.now told.now edited.items) (looked edited.items rows.now))
         frame.now.key frame.now.vector) }
     ensures opens { IfOk result (λ made. opened made.1 frame.now.key frame.now.vector
         ≡ Ok (of_rows (next_of frame.now told.now edited.items)
-        (looked edited.items rows.now.entries))) }
+        (looked edited.items rows.now))) }
     ensures clear { IfOk result (λ made. HasClear made.1
         (of_rows (next_of frame.now told.now edited.items)
-        (looked edited.items rows.now.entries)).clear) }
+        (looked edited.items rows.now)).clear) }
     ensures fits { IfOk result (λ made. length made.1 ≤ most_in frame.now) }
     ensures too_large { IsErrOf result SealRefused.TooLarge → most_in frame.now < length (sealed
-        (of_rows (next_of frame.now told.now edited.items) (looked edited.items rows.now.entries))
+        (of_rows (next_of frame.now told.now edited.items) (looked edited.items rows.now))
         frame.now.key frame.now.vector) }
 {
     let clear = told.clear();

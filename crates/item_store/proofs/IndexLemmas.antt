@@ -23,8 +23,7 @@ use Rattle.attribute_match.specs.Match.{has_pair, is_equal, matches, text_of}
 use Rattle.attribute_index.specs.Entries.{IsIndexOf, Items}
 use Rattle.attribute_index.specs.Index.{Index, IsAtJust, IsFound, IsMoved, IsPut, IsSame, IsTaken, ids_at, in_each, is_own, wanted_lists}
 use Rattle.attribute_index.proofs.PairLemmas.{without-lacking}
-use Rattle.item_store.specs.declared.rows.Row.{Row}
-use Rattle.item_store.specs.Rows.{AreOf, Rows, IsIndexed, IsKept, IsRising, attributes_of, candidates, first_id, given_of, given_row, has_just, ids_where, pair_lists, passes_at, row_at, rows_changed, rows_without}
+use Rattle.item_store.specs.Rows.{AreOf, IsIndexed, IsKept, IsRising, Row, Rows, attributes_of, candidates, first_id, given_of, given_row, has_just, ids_where, pair_lists, passes_at, row_at, rows_changed, rows_without}
 use Rattle.item_store.proofs.RowLemmas.{rises-same, with-rises, without-rises, has-without, where-rises, has-where, at-without, at-changed, at-above, at-added, keys-changed, keys-without, keys-added, rising-changed, rising-without, rising-added}
 
 abbrev has : List ℕ → List ℕ → Row → Bool
@@ -45,10 +44,6 @@ same-number n = grind (arith, nat_tests)
 
 lower-number : (k n : ℕ) → k < n → (k == n) ≡ false
 lower-number k n lt = grind (arith, nat_tests)
-
-or_none-at : (b : Bool) → (b || false) ≡ b
-or_none-at true = refl
-or_none-at false = refl
 
 pub where-put : (p : Row → Bool) (rows new : Rows) (n : ℕ) (row : Row) → IsRising rows → IsRising new → row_at n rows ≡ None → ((x : ℕ) → row_at x new ≡ cond (x == n) (Some row) (row_at x rows)) → ids_where p new ≡ cond (p row) (with_id n (ids_where p rows)) (ids_where p rows)
 where-put p rows new n row rising now none at =
@@ -227,14 +222,6 @@ kept-added rows new index after n row kept below is put all =
     let here : IsPut (λ name text. has_pair name text (attributes_of row)) n index.names after.names = subst (λ o. IfSome o (λ r. IsPut (λ name text. has_pair name text (attributes_of r)) n index.names after.names)) at put in
     subst (λ rs. IsKept rs after) (sym is) (record { rising = rising-added rows n row below kept.rising; indexed = indexed-added rows index after n row kept.rising kept.indexed below here all })
 
-one-on : (done : Rows) (row : ℕ × Row) (rest : Rows) → (done ++ row ∷ []) ++ rest ≡ done ++ row ∷ rest
-one-on [] row rest = refl
-one-on (first ∷ done) row rest = ap (λ l. first ∷ l) (one-on done row rest)
-
-pub mapped-more : {A B : Type 0} (show : A → B) (xs : List A) (x : A) → map show (xs ++ x ∷ []) ≡ map show xs ++ show x ∷ []
-mapped-more show [] x = refl
-mapped-more show (y ∷ ys) x = ap (λ l. show y ∷ l) (mapped-more show ys x)
-
 -- ---- an index that is made at once
 
 any-map : {X Y : Type 0} (p : Y → Bool) (f : X → Y) (xs : List X) → list_any p (map f xs) ≡ list_any (λ x. p (f x)) xs
@@ -252,14 +239,6 @@ where-given n t x (row ∷ more) =
     (λ is. rw is (ap (λ b. (row.0 == x) && true || b) rest ∙ ap (λ b. b || has_id (ids_where (has n t) more) x) (and-true (row.0 == x))))
     (λ off. rw off (ap (λ b. (row.0 == x) && false || b) rest ∙ ap (λ b. b || has_id (ids_where (has n t) more) x) (and-false (row.0 == x))))
     (cases_Bool (has n t row.1))
-
--- the items are collected in turn: before the next one are those so far, and after it the rows that are left
-pub next-given : (done new left rest all : Rows) (items now : Items) (item : ItemId × Bor (List (List ℕ × AttrValue))) (row : ℕ × Row) → done ++ left ≡ all → left ≡ row ∷ rest → new ≡ done ++ row ∷ [] → AreOf done items → now ≡ items ++ item ∷ [] → given_of item ≡ given_row row
-    → AreOf new now × (new ++ rest ≡ all)
-next-given done new left rest all items now item row is next more are put same = (
-  ap (map given_of) put ∙ mapped-more given_of items item ∙ (λ i. are i ++ same i ∷ []) ∙ sym (mapped-more given_row done row) ∙ ap (map given_row) (sym more),
-  ap (λ l. l ++ rest) more ∙ one-on done row rest ∙ ap (λ l. done ++ l) (sym next) ∙ is,
-)
 
 pub kept-made : (rows : Rows) (items : Items) (index : Index) → IsRising rows → AreOf rows items → IsIndexOf items index → IsKept rows index
 kept-made rows items index rising are is =

@@ -9,9 +9,8 @@ use Rattle.kr_base.proofs.IdLemmas.{Rises}
 use Rattle.attribute_match.specs.Match.{has_pair}
 use Rattle.attribute_index.specs.Index.{Index, IsAtJust, IsMoved, IsPut, IsSame, IsTaken, Names, ids_in_names, is_own}
 use Rattle.attribute_index.proofs.PairLemmas.{without-lacking, without-with}
-use Rattle.item_store.specs.declared.rows.Row.{Row}
 use Rattle.item_store.specs.Moves.{IsMoving, with_attributes}
-use Rattle.item_store.specs.Rows.{IsKept, Rows, attributes_of, row_at, rows_changed}
+use Rattle.item_store.specs.Rows.{IsKept, Row, Rows, attributes_of, row_at, rows_changed}
 use Rattle.item_store.proofs.RowLemmas.{at-changed, where-rises}
 use Rattle.item_store.proofs.IndexLemmas.{at-just, kept-moved, kept-same}
 

@@ -17,18 +17,17 @@ use Rattle.keyring_file.specs.declared.area.FullItem.{FullItem}
 use Rattle.kr_base.specs.IdLists.{has_id, with_id, without_id}
 use Rattle.kr_base.proofs.IdLemmas.{Rises, AllBelow, AllAbove, all-weaker, all-lower, all-upper, above-head, has-other, other-above, rises-joined}
 use Rattle.attribute_index.proofs.FindLemmas.{has-filter}
-use Rattle.item_store.specs.declared.rows.Row.{Row}
-use Rattle.item_store.specs.Rows.{HasJustRows, Rows, IsRising, greatest_id, ids_where, last_id, next_id, passes_at, row_at, row_of, rows_changed, rows_without}
+use Rattle.item_store.specs.Rows.{HasJustRows, IsRising, Row, Rows, greatest_id, ids_where, last_id, next_id, passes_at, row_at, row_of, rows_changed, rows_without}
 
 -- ---- a rising list is determined by its ids
 
-itself : (x : ℕ) → (x == x) ≡ true
+pub itself : (x : ℕ) → (x == x) ≡ true
 itself x = grind (arith, nat_tests)
 
-apart : (x y : ℕ) → x < y → (x == y) ≡ false
+pub apart : (x y : ℕ) → x < y → (x == y) ≡ false
 apart x y lt = grind (arith, nat_tests)
 
-apart-above : (x y : ℕ) → y < x → (x == y) ≡ false
+pub apart-above : (x y : ℕ) → y < x → (x == y) ≡ false
 apart-above x y lt = grind (arith, nat_tests)
 
 has-above : (x : ℕ) (ids : List ℕ) → AllAbove x ids → has_id ids x ≡ false
@@ -106,7 +105,7 @@ where-rises p (row ∷ more) rising =
     ] in
     step (p row.1) refl
 
-turned : (x y : ℕ) → (x == y) ≡ (y == x)
+pub turned : (x y : ℕ) → (x == y) ≡ (y == x)
 turned x y = grind (arith, nat_tests)
 
 pub has-where : (p : Row → Bool) (rows : Rows) → IsRising rows → (id : ℕ) → has_id (ids_where p rows) id ≡ passes_at p (row_at id rows)
@@ -209,67 +208,27 @@ rising-changed id f rows rising = subst Rises (sym (keys-changed id f rows)) ris
 pub rising-without : (id : ℕ) (rows : Rows) → IsRising rows → IsRising (rows_without id rows)
 rising-without id rows rising = subst Rises (sym (keys-without id rows)) (without-rises id (keys_of rows) rising)
 
-rises-none : Rises []
+pub rises-none : Rises []
 unfolding IsStrictlySortedBy
 rises-none = tt
 
 pub rising-added : (rows : Rows) (n : ℕ) (row : Row) → AllBelow n (keys_of rows) → IsRising rows → IsRising (rows ++ (n, row) ∷ [])
 rising-added rows n row below rising = subst Rises (sym (keys-added rows n row)) (rises-joined (keys_of rows) n [] rising below rises-none tt)
 
--- ---- what the map does
+-- ---- what leaves the rows as they are
 
-test-is : (id k : ℕ) → is_at (nat_cmp id) k ≡ nat_eq id k
-test-is id k = grind (arith, nat_tests)
-
-pub lookup-is : (id : ℕ) (rows : Rows) → lookup (is_at (nat_cmp id)) rows ≡ row_at id rows
-lookup-is id rows = λ i. lookup (λ k. test-is id k i) rows
-
-without-above : (id : ℕ) (rows : Rows) → AllAbove id (keys_of rows) → rows_without id rows ≡ rows
+pub without-above : (id : ℕ) (rows : Rows) → AllAbove id (keys_of rows) → rows_without id rows ≡ rows
 without-above id [] above = refl
 without-above id (row ∷ more) above = let off : (row.0 == id) ≡ false = apart-above row.0 id above.0 in rw off (ap (λ t. row ∷ t) (without-above id more above.1))
 
-changed-above : (id : ℕ) (f : Row → Row) (rows : Rows) → AllAbove id (keys_of rows) → rows_changed id f rows ≡ rows
+pub changed-above : (id : ℕ) (f : Row → Row) (rows : Rows) → AllAbove id (keys_of rows) → rows_changed id f rows ≡ rows
 changed-above id f [] above = refl
 changed-above id f (row ∷ more) above = let off : (row.0 == id) ≡ false = apart-above row.0 id above.0 in rw off (ap (λ t. row ∷ t) (changed-above id f more above.1))
 
 above-this : (id : ℕ) (row : ℕ × Row) (more : Rows) → IsRising (row ∷ more) → (id == row.0) ≡ true → AllAbove id (keys_of more)
 above-this id row more rising is = subst (λ n. AllAbove n (keys_of more)) (sym (eqb-true id row.0 is)) (above-head row.0 (keys_of more) rising)
 
-removed-first : (id : ℕ) (rows : Rows) → IsRising rows → remove_entry (nat_eq id) rows ≡ rows_without id rows
-removed-first id [] rising = refl
-removed-first id (row ∷ more) rising =
-    let step : (b : Bool) → (id == row.0) ≡ b → remove_entry (nat_eq id) (row ∷ more) ≡ rows_without id (row ∷ more) =
-    elim [
-      | true ↦ λ is. let back : (row.0 == id) ≡ true = turned row.0 id ∙ is in rw (is, back) (sym (without-above id more (above-this id row more rising is)))
-      | false ↦ λ off. let back : (row.0 == id) ≡ false = turned row.0 id ∙ off in rw (off, back) (ap (λ t. row ∷ t) (removed-first id more (sorted_tail nat_cmp row.0 (keys_of more) rising)))
-    ] in
-    step (id == row.0) refl
-
-pub removed-is : (id : ℕ) (rows : Rows) → IsRising rows → remove_entry (is_at (nat_cmp id)) rows ≡ rows_without id rows
-removed-is id rows rising = (λ i. remove_entry (λ k. test-is id k i) rows) ∙ removed-first id rows rising
-
-set-first : (id : ℕ) (f : Row → Row) (rows : Rows) (row : Row) → IsRising rows → row_at id rows ≡ Some row → set_value (nat_eq id) rows (f row) ≡ rows_changed id f rows
-set-first id f [] row rising there = absurd cc
-set-first id f (r ∷ more) row rising there =
-    let step : (b : Bool) → (id == r.0) ≡ b → set_value (nat_eq id) (r ∷ more) (f row) ≡ rows_changed id f (r ∷ more) =
-    elim [
-      | true ↦ λ is.
-          let back : (r.0 == id) ≡ true = turned r.0 id ∙ is in
-          let found : Some r.1 ≡ Some row = rw is at there in
-          let same : row ≡ r.1 = cc in
-          let rest = sym (changed-above id f more (above-this id r more rising is)) in
-          rw (is, back) (λ i. (r.0, f (same i)) ∷ rest i)
-      | false ↦ λ off.
-          let back : (r.0 == id) ≡ false = turned r.0 id ∙ off in
-          let later : row_at id more ≡ Some row = rw off at there in
-          rw (off, back) (ap (λ t. r ∷ t) (set-first id f more row (sorted_tail nat_cmp r.0 (keys_of more) rising) later))
-    ] in
-    step (id == r.0) refl
-
-pub set-is : (id : ℕ) (f : Row → Row) (rows : Rows) (row : Row) → IsRising rows → lookup (is_at (nat_cmp id)) rows ≡ Some row → set_value (is_at (nat_cmp id)) rows (f row) ≡ rows_changed id f rows
-set-is id f rows row rising there = (λ i. set_value (λ k. test-is id k i) rows (f row)) ∙ set-first id f rows row rising (sym (lookup-is id rows) ∙ there)
-
-changed-none : (id : ℕ) (f : Row → Row) (rows : Rows) → row_at id rows ≡ None → rows_changed id f rows ≡ rows
+pub changed-none : (id : ℕ) (f : Row → Row) (rows : Rows) → row_at id rows ≡ None → rows_changed id f rows ≡ rows
 changed-none id f [] none = refl
 changed-none id f (row ∷ more) none =
     let step : (b : Bool) → (id == row.0) ≡ b → rows_changed id f (row ∷ more) ≡ row ∷ more =
@@ -281,9 +240,6 @@ changed-none id f (row ∷ more) none =
           rw back (ap (λ t. row ∷ t) (changed-none id f more later))
     ] in
     step (id == row.0) refl
-
-pub unset-is : (id : ℕ) (f : Row → Row) (rows : Rows) → lookup (is_at (nat_cmp id)) rows ≡ None → rows ≡ rows_changed id f rows
-unset-is id f rows none = sym (changed-none id f rows (sym (lookup-is id rows) ∙ none))
 
 pub without-none : (id : ℕ) (rows : Rows) → row_at id rows ≡ None → rows_without id rows ≡ rows
 without-none id [] none = refl
@@ -298,24 +254,7 @@ without-none id (row ∷ more) none =
     ] in
     step (id == row.0) refl
 
-greater : (n k : ℕ) → k < n → nat_cmp n k ≡ Greater
-greater n k lt = grind (arith, nat_tests)
-
-pub insert-last : (rows : Rows) (n : ℕ) (row : Row) → AllBelow n (keys_of rows) → insert_entry nat_cmp rows n row ≡ rows ++ (n, row) ∷ []
-insert-last [] n row below = refl
-insert-last (r ∷ more) n row below = rw (greater n r.0 below.0) (ap (λ t. r ∷ t) (insert-last more n row below.1))
-
--- ---- the last row
-
-last-get : (rows : Rows) (d : ℕ × Row) → 0 < length rows → last_id rows ≡ (get_or rows (length rows - 1) d).0
-last-get [] d some = absurd (omega (arith, some))
-last-get (r ∷ []) d some = refl
-last-get (r ∷ s ∷ more) d some =
-    let next : length (r ∷ s ∷ more) - 1 ≡ suc (length (s ∷ more) - 1) = omega arith in
-    rw next (last-get (s ∷ more) d (omega arith))
-
-pub last-is : (rows : Rows) (e : ℕ × Row) → 0 < length rows → slice_get rows (length rows - 1) ≡ Some e → e.0 ≡ last_id rows
-last-is rows e some at = sym (last-get rows e some ∙ ap (λ (x : ℕ × Row). x.0) (get_or_from_slice_get rows (length rows - 1) e e at))
+-- ---- the next id
 
 all-last : (rows : Rows) → IsRising rows → AllBelow (last_id rows + 1) (keys_of rows)
 all-last [] rising = tt
@@ -334,40 +273,11 @@ next-last rows n next rising =
     ] in
     step (nat_eq (last_id rows) greatest_id) refl
 
--- ---- rows that are given in any order
+-- ---- the ids of items that are given
 
-at-other : (n : ℕ) (rows : Rows) → AllByRecursion (λ y. (n == y) ≡ false) (keys_of rows) → row_at n rows ≡ None
-at-other n [] other = refl
-at-other n (row ∷ more) other = rw other.0 (at-other n more other.1)
-
--- rows with distinct numbers that are inserted in turn
-inserted : (rows : Rows) (before : ℕ → Option Row) → IsDistinct nat_eq (keys_of rows) → (id : ℕ) → update_all (eq_by_cmp nat_cmp) before rows id ≡ option_or (row_at id rows) (before id)
-unfolding IsDistinct
-inserted [] before distinct id = refl
-inserted (row ∷ more) before distinct id =
-    inserted more (λ q. cond (is_at (nat_cmp row.0) q) (Some row.1) (before q)) distinct.1 id
-    ∙ ap (λ b. option_or (row_at id more) (cond b (Some row.1) (before id))) (test-is row.0 id ∙ turned row.0 id)
-    ∙ ⊎_elim
-    (λ is.
-    let none : row_at id more ≡ None = subst (λ n. row_at n more ≡ None) (sym (eqb-true id row.0 is)) (at-other row.0 more distinct.0) in
-    rw (is, none) refl)
-    (λ off. rw off refl)
-    (cases_Bool (id == row.0))
-
-or-none : (o : Option Row) → option_or o None ≡ o
-or-none None = refl
-or-none (Some row) = refl
-
-numbers-of : (given : List (ItemId × ℕ × FullItem)) → map (λ row. row.0.0) given ≡ keys_of (map row_of given)
+pub numbers-of : (given : List (ItemId × ℕ × FullItem)) → map (λ row. row.0.0) given ≡ keys_of (map row_of given)
 numbers-of [] = refl
 numbers-of (row ∷ more) = ap (λ t. row.0.0 ∷ t) (numbers-of more)
-
--- a map of the rows of items with distinct ids
-pub gathered : (given : List (ItemId × ℕ × FullItem)) (made : BTreeMap ℕ Row) → IsDistinct nat_eq (map (λ row. row.0.0) given) → IsFromIterResult nat_cmp (map row_of given) made → HasJustRows given made.entries
-gathered given made distinct is = record {
-  rising = is.1;
-  each = λ id. sym (lookup-is id made.entries) ∙ is.0 id ∙ inserted (map row_of given) (λ _. None) (subst (IsDistinct nat_eq) (numbers-of given) distinct) id ∙ or-none (row_at id (map row_of given));
-}
 
 -- ---- rising rows are determined by the row of each id
 
@@ -439,5 +349,5 @@ changed-again id f g (r ∷ more) row rising there back =
     step (id == r.0) refl
 
 -- what brings a row back brings the rows back
-pub changed-back : (id : ℕ) (f g : Row → Row) (rows new : Rows) (row : Row) → IsRising rows → lookup (is_at (nat_cmp id)) rows ≡ Some row → new ≡ rows_changed id f rows → g (f row) ≡ row → rows_changed id g new ≡ rows
-changed-back id f g rows new row rising there set back = ap (rows_changed id g) set ∙ changed-again id f g rows row rising (sym (lookup-is id rows) ∙ there) back
+pub changed-back : (id : ℕ) (f g : Row → Row) (rows new : Rows) (row : Row) → IsRising rows → row_at id rows ≡ Some row → new ≡ rows_changed id f rows → g (f row) ≡ row → rows_changed id g new ≡ rows
+changed-back id f g rows new row rising there set back = ap (rows_changed id g) set ∙ changed-again id f g rows row rising there back

@@ -3,8 +3,7 @@ use Rattle.std.specs.Prelude.{◌≡◌, ℕ, List, true, IfSome}
 use Rattle.std.specs.Option.{is_some}
 use Rattle.attribute_index.specs.Index.{Index, IsTaken, Names, is_own}
 use Rattle.kr_base.specs.declared.attributes.AttrValue.{AttrValue}
-use Rattle.item_store.specs.declared.rows.Row.{Row}
-use Rattle.item_store.specs.Rows.{IsKept, Rows, attributes_of, row_at, rows_changed}
+use Rattle.item_store.specs.Rows.{IsKept, Row, Rows, attributes_of, row_at, rows_changed}
 
 -- the rows before the change and after it
 pub record Moves : Type 0 where

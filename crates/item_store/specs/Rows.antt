@@ -1,16 +1,21 @@
 -- The items of one collection as rows by rising id (Secret Service API, interfaces Collection and Item), and the index beside them.
 use denote.Ref.{Bor}
 use Rattle.std.specs.Prelude.{◌≡◌, ℕ, ◌+◌, Bool, false, if◌then◌else◌, List, [], ◌∷◌, Option, Some, None, map, filter, not, nat_eq}
+use Rattle.std.specs.List.{slice_get}
 use Rattle.std.specs.List.Sorted.{IsStrictlySortedBy}
 use Rattle.std.specs.Map.{keys_of, lookup}
 use Rattle.std.specs.Ordering.{nat_cmp}
 use Rattle.kr_base.specs.declared.attributes.AttrValue.{AttrValue}
 use Rattle.kr_base.specs.declared.ids.ItemId.{ItemId}
 use Rattle.keyring_file.specs.declared.area.FullItem.{FullItem}
-use Rattle.item_store.specs.declared.rows.Row.{Row}
 use Rattle.attribute_match.specs.Match.{has_pair, is_equal, text_of}
 use Rattle.attribute_index.specs.Entries.{Items}
 use Rattle.attribute_index.specs.Index.{Index, ids_at}
+
+-- an item with its type, which is kept as it was in the file
+pub record Row : Type 0 where
+  pub kind : ℕ
+  pub item : FullItem
 
 -- the greatest id that an item can have: ids have 32 bits
 abbrev pub greatest_id : ℕ
@@ -91,9 +96,19 @@ first_id (id ∷ more) = Some id
 abbrev pub pair_lists : List (List ℕ × AttrValue) → Rows → List (List ℕ)
 pair_lists wanted rows = map (λ pair. ids_where (λ row. has_pair pair.0 (text_of pair.1) (attributes_of row)) rows) wanted
 
--- the row of an item that is given with its id and its kind
+-- an item that is given with its id and its kind, without the id
+abbrev pub kept_of : ItemId × ℕ × FullItem → Row
+kept_of given = record { kind = given.1; item = given.2 }
+
+-- the row of an item that is given so
 abbrev pub row_of : ItemId × ℕ × FullItem → ℕ × Row
-row_of given = (given.0.0, record { kind = given.1; item = given.2 })
+row_of given = (given.0.0, kept_of given)
+
+-- the row of an id is at this place
+pub record IsPlaceOf (id : ℕ) (given : List (ItemId × ℕ × FullItem)) (place : ℕ) : Type 0 where
+  pub found : ItemId × ℕ × FullItem
+  pub at : slice_get given place ≡ Some found
+  pub its : found.0.0 ≡ id
 
 -- the rows are those of the given items, by rising id
 pub record HasJustRows (given : List (ItemId × ℕ × FullItem)) (rows : Rows) : Type 0 where

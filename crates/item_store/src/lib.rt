@@ -16,6 +16,6 @@ mod uncounted;
 pub use fault::ItemFault;
 pub use laws::rising_rows_are_one_list;
 pub use moving::Moving;
-pub use rows::Row;
+pub use rows::RowList;
 pub use store::{ItemStore, MOST_ATTRIBUTES};
 pub use swapping::Swap;

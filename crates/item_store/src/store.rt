@@ -6,26 +6,25 @@ ghost use Rattle.kr_base.specs.IdLists.{with_id};
 ghost use Rattle.std.specs.List.{AllByRecursion, IsDistinct};
 ghost use Rattle.std.specs.Map.{keys_of};
 ghost use Rattle.attribute_index.specs.Index.{IsAtJust, IsMoved, IsPut, IsSame};
-ghost use Rattle.item_store.specs.Rows.{HasJustRows, IsKept, IsRising, attributes_of, candidates, first_id, has_just, ids_where, most_attributes, next_id, pair_lists, row_at, rows_changed, rows_without};
+ghost use Rattle.item_store.specs.Rows.{HasJustRows, IsKept, IsRising, attributes_of, candidates, first_id, has_just, ids_where, kept_of, most_attributes, next_id, pair_lists, row_at, rows_changed, rows_without};
 ghost use Rattle.item_store.specs.Moves.{with_attributes};
 ghost use Rattle.item_store.specs.Swapping.{with_parts};
 
-use crate::loading::{by_number, index_of};
+use crate::loading::index_of;
 use crate::moving::{Moving, begin};
 use crate::uncounted::{first_equal, found};
-use crate::{ItemFault, Row, Swap, rows, swapping};
+use crate::{ItemFault, RowList, Swap, rows};
 use attribute_index::AttributeIndex;
 use keyring_file::FullItem;
 use kr_base::{Attributes, Bytes, IdList, ItemId, OutOfMemory, Steps, Text};
 use std::alloc::{AllocError, Global};
-use std::collections::BTreeMap;
 use std::marker::Model;
 use std::sync::ledger::Ledger;
 
 /// The items of one collection, by rising id. A contract sees the rows; the index always agrees with them.
 #[derive(Drop)]
 pub struct ItemStore {
-    rows: BTreeMap<u32, Row>,
+    rows: RowList,
     index: AttributeIndex,
 }
 
@@ -34,15 +33,15 @@ impl Model for ItemStore {
 
     ghost Value = { Rows };
 
-    ghost view = { λ s. s.rows.entries };
+    ghost view = { λ s. s.rows };
 
-    ghost invariant = { λ s. IsKept s.rows.entries s.index };
+    ghost invariant = { λ s. IsKept s.rows s.index };
 }
 
 /// The items with these rows and this index.
-pub fn store_of(rows: BTreeMap<u32, Row>, index: AttributeIndex) -> ItemStore
-    requires { IsKept rows.entries index }
-    ensures { result ≡ rows.entries }
+pub fn store_of(rows: RowList, index: AttributeIndex) -> ItemStore
+    requires { IsKept rows index }
+    ensures { result ≡ rows }
 {
     ItemStore { rows, index }
 }
@@ -63,7 +62,7 @@ impl ItemStore {
         ensures { result ≡ [] }
     {
         ItemStore {
-            rows: BTreeMap::new(alloc),
+            rows: RowList::new(alloc),
             index: AttributeIndex::new(alloc),
         }
     }
@@ -74,9 +73,9 @@ impl ItemStore {
         ensures { IfOk result (λ store. HasJustRows rows.items store) }
     {
         let alloc = *rows.allocator();
-        let kept = by_number(alloc, rows)?;
-        let index = index_of(alloc, &kept)?;
-        Ok(ItemStore { rows: kept, index })
+        let rows = RowList::of_items(rows);
+        let index = index_of(alloc, &rows)?;
+        Ok(ItemStore { rows, index })
     }
 
     /// Adds an item. Its id is the greatest one plus 1, or 1 if there are no items.
@@ -101,7 +100,7 @@ impl ItemStore {
         if item.attributes.len() > most() {
             return Err(ItemFault::TooManyAttributes);
         }
-        if let Err(_) = add_row(&mut self.rows, &mut self.index, number, Row { kind, item }) {
+        if let Err(_) = add_row(&mut self.rows, &mut self.index, number, kind, item) {
             return Err(ItemFault::OutOfMemory);
         }
         Ok(ItemId(number))
@@ -149,7 +148,7 @@ impl ItemStore {
             (λ row. record row { item = with_parts parts.new row.item }) self.new ≡ self.old }
         ensures unchanged { OnFalse result (parts.new ≡ parts.old) }
     {
-        swapping::swap_parts(&mut self.rows, id.0, parts)
+        rows::swap_parts(&mut self.rows, id.0, parts)
     }
 
     /// Sets the attributes of an item, and when it was changed.
@@ -219,7 +218,7 @@ impl ItemStore {
         ensures unchanged { OnErr result (self.new ≡ self.old) }
     {
         match remove_row(&mut self.rows, &mut self.index, id.0) {
-            Some(row) => Ok(row.item),
+            Some(row) => Ok(row.2),
             None => Err(ItemFault::NoItem),
         }
     }
@@ -228,15 +227,15 @@ impl ItemStore {
     pub fn item(&self, id: ItemId) -> Option<&FullItem>
         ensures { option_copied result ≡ option_map (λ row. row.item) (row_at id.0 self.now) }
     {
-        match self.rows.get(&id.0) {
-            Some(row) => Some(&row.item),
+        match self.rows.get(id.0) {
+            Some(row) => Some(&row.2),
             None => None,
         }
     }
 
     /// The rows, by rising id. A collection's file is written from them without copying an item.
-    pub fn rows(&self) -> &BTreeMap<u32, Row>
-        ensures rows { result.now.entries ≡ self.now }
+    pub fn rows(&self) -> &RowList
+        ensures rows { result.now ≡ self.now }
         ensures rising { IsRising self.now }
     {
         &self.rows
@@ -293,61 +292,59 @@ fn candidate_ids<'a>(index: &'a AttributeIndex, attributes: &Attributes) -> &'a 
 }
 
 /// Adds the id of a row to the index.
-fn add_id(
-    rows: &BTreeMap<u32, Row>,
-    index: &mut AttributeIndex,
-    number: u32,
-) -> Result<(), OutOfMemory>
-    requires there { is_some (row_at number rows.now.entries) ≡ true }
+fn add_id(rows: &RowList, index: &mut AttributeIndex, number: u32) -> Result<(), OutOfMemory>
+    requires there { is_some (row_at number rows.now) ≡ true }
     requires fresh { IsAtJust [] number index.old.names }
-    ensures put { OnOk result (IfSome (row_at number rows.now.entries)
+    ensures put { OnOk result (IfSome (row_at number rows.now)
         (λ row. IsPut (λ name text. has_pair name text (attributes_of row)) number
         index.old.names index.new.names)) }
     ensures all { OnOk result (index.new.all ≡ with_id number index.old.all) }
     ensures unchanged { OnErr result (IsSame index.old.names index.new.names) }
     ensures all_unchanged { OnErr result (index.new.all ≡ index.old.all) }
 {
-    match rows.get(&number) {
-        Some(row) => index.add(ItemId(number), &row.item.attributes),
+    match rows.get(number) {
+        Some(row) => index.add(ItemId(number), &row.2.attributes),
         None => unreachable!(),
     }
 }
 
 /// Moves the id of a row in the index from the attributes of its item to others.
 fn move_id(
-    rows: &BTreeMap<u32, Row>,
+    rows: &RowList,
     index: &mut AttributeIndex,
     number: u32,
     attributes: &Attributes,
 ) -> Result<(), OutOfMemory>
-    requires there { is_some (row_at number rows.now.entries) ≡ true }
-    requires kept { IsKept rows.now.entries index.old }
-    ensures moved { OnOk result (IfSome (row_at number rows.now.entries)
+    requires there { is_some (row_at number rows.now) ≡ true }
+    requires kept { IsKept rows.now index.old }
+    ensures moved { OnOk result (IfSome (row_at number rows.now)
         (λ row. IsMoved (attributes_of row) attributes.now number
         index.old.names index.new.names)) }
     ensures unchanged { OnErr result (IsSame index.old.names index.new.names) }
     ensures all { index.new.all ≡ index.old.all }
 {
-    match rows.get(&number) {
-        Some(row) => index.change(ItemId(number), &row.item.attributes, attributes),
+    match rows.get(number) {
+        Some(row) => index.change(ItemId(number), &row.2.attributes, attributes),
         None => unreachable!(),
     }
 }
 
 /// Adds a row after all others, and its id to the index.
 fn add_row(
-    rows: &mut BTreeMap<u32, Row>,
+    rows: &mut RowList,
     index: &mut AttributeIndex,
     number: u32,
-    row: Row,
+    kind: u32,
+    item: FullItem,
 ) -> Result<(), OutOfMemory>
-    requires kept { IsKept rows.old.entries index.old }
-    requires last { AllByRecursion (λ key. key < number) (keys_of rows.old.entries) }
-    ensures kept { IsKept rows.new.entries index.new }
-    ensures added { OnOk result (rows.new.entries ≡ rows.old.entries ++ (number, row) ∷ []) }
-    ensures unchanged { OnErr result (rows.new.entries ≡ rows.old.entries) }
+    requires kept { IsKept rows.old index.old }
+    requires last { AllByRecursion (λ key. key < number) (keys_of rows.old) }
+    ensures kept { IsKept rows.new index.new }
+    ensures added { OnOk result (rows.new
+        ≡ rows.old ++ (number, record { kind = kind; item = item }) ∷ []) }
+    ensures unchanged { OnErr result (rows.new ≡ rows.old) }
 {
-    rows::put_last(rows, number, row)?;
+    rows::put_last(rows, number, kind, item)?;
     if let Err(_) = add_id(rows, index, number) {
         rows::take_out(rows, number);
         return Err(AllocError);
@@ -356,16 +353,21 @@ fn add_row(
 }
 
 /// Takes a row out, and its id out of the index.
-fn remove_row(rows: &mut BTreeMap<u32, Row>, index: &mut AttributeIndex, number: u32) -> Option<Row>
-    requires { IsKept rows.old.entries index.old }
-    ensures kept { IsKept rows.new.entries index.new }
-    ensures value { result ≡ row_at number rows.old.entries }
-    ensures taken { rows.new.entries ≡ rows_without number rows.old.entries }
-    ensures unchanged { IfNone result (rows.new.entries ≡ rows.old.entries) }
+fn remove_row(
+    rows: &mut RowList,
+    index: &mut AttributeIndex,
+    number: u32,
+) -> Option<(ItemId, u32, FullItem)>
+    requires { IsKept rows.old index.old }
+    ensures kept { IsKept rows.new index.new }
+    ensures value { option_map kept_of result ≡ row_at number rows.old }
+    ensures id { IfSome result (λ row. row.0.0 ≡ number) }
+    ensures taken { rows.new ≡ rows_without number rows.old }
+    ensures unchanged { IfNone result (rows.new ≡ rows.old) }
 {
     match rows::take_out(rows, number) {
         Some(row) => {
-            index.take_out(ItemId(number), &row.item.attributes);
+            index.take_out(ItemId(number), &row.2.attributes);
             Some(row)
         }
         None => None,
@@ -375,19 +377,19 @@ fn remove_row(rows: &mut BTreeMap<u32, Row>, index: &mut AttributeIndex, number:
 /// Sets the attributes of a row's item, and moves its id in the index. The row is there, so it is refused
 /// only if no memory is left.
 fn move_row(
-    rows: &mut BTreeMap<u32, Row>,
+    rows: &mut RowList,
     index: &mut AttributeIndex,
     number: u32,
     attributes: Attributes,
     now: u64,
 ) -> Result<(), OutOfMemory>
-    requires kept { IsKept rows.old.entries index.old }
-    requires there { is_some (row_at number rows.old.entries) ≡ true }
-    ensures kept { IsKept rows.new.entries index.new }
-    ensures set { OnOk result (rows.new.entries ≡ rows_changed number (λ row. record row {
+    requires kept { IsKept rows.old index.old }
+    requires there { is_some (row_at number rows.old) ≡ true }
+    ensures kept { IsKept rows.new index.new }
+    ensures set { OnOk result (rows.new ≡ rows_changed number (λ row. record row {
       item = record row.item { attributes = attributes; modified = now };
-    }) rows.old.entries) }
-    ensures unchanged { OnErr result (rows.new.entries ≡ rows.old.entries) }
+    }) rows.old) }
+    ensures unchanged { OnErr result (rows.new ≡ rows.old) }
 {
     if let Err(_) = move_id(rows, index, number, &attributes) {
         return Err(AllocError);

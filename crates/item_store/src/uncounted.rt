@@ -5,11 +5,10 @@ ghost use Rattle.std.specs.Option.{option_map};
 ghost use Rattle.attribute_index.specs.Index.{IsFound};
 ghost use Rattle.item_store.specs.Rows.{first_id, has_just, passes_at, row_at};
 
-use crate::Row;
+use crate::RowList;
 use crate::rows::has_just_at;
 use attribute_index::AttributeIndex;
 use kr_base::{Attributes, IdList, ItemId, OutOfMemory, Steps};
-use std::collections::BTreeMap;
 use std::marker::Brand;
 use std::sync::ledger::{Blank, Ledger};
 
@@ -30,7 +29,7 @@ fn found_by<L: Ledger>(
 
 /// The first of the ids whose item has exactly the given attributes, with a count of its own.
 fn first_by<L: Ledger>(
-    rows: &BTreeMap<u32, Row>,
+    rows: &RowList,
     ids: &IdList,
     attributes: &Attributes,
     blank: Blank,
@@ -39,7 +38,7 @@ fn first_by<L: Ledger>(
     requires parts { blank.parts ≡ L.parts }
     requires some { 0 < L.parts }
     ensures { option_map (λ id. id.0) result ≡ first_id (filter
-        (λ id. passes_at (has_just attributes.now) (row_at id rows.now.entries)) ids.now) }
+        (λ id. passes_at (has_just attributes.now) (row_at id rows.now)) ids.now) }
 {
     let mut steps = Steps::<L>::new(blank);
     for place in 0..ids.len() {
@@ -59,13 +58,9 @@ pub fn found(index: &AttributeIndex, wanted: &Attributes) -> Result<Vec<ItemId>,
 }
 
 /// The first of the ids whose item has exactly the given attributes, as texts, without a count of the steps.
-pub fn first_equal(
-    rows: &BTreeMap<u32, Row>,
-    ids: &IdList,
-    attributes: &Attributes,
-) -> Option<ItemId>
+pub fn first_equal(rows: &RowList, ids: &IdList, attributes: &Attributes) -> Option<ItemId>
     ensures { option_map (λ id. id.0) result ≡ first_id (filter
-        (λ id. passes_at (has_just attributes.now) (row_at id rows.now.entries)) ids.now) }
+        (λ id. passes_at (has_just attributes.now) (row_at id rows.now)) ids.now) }
 {
     first_by::<Brand>(rows, ids, attributes, Blank::new(1))
 }

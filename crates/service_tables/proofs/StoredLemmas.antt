@@ -16,8 +16,7 @@ use Rattle.keyring_file.specs.Known.{IsKnownClearItem}
 use Rattle.keyring_seal.specs.Arranged.{Row, row_number, rows}
 use Rattle.keyring_seal.specs.Whole.{sealed}
 use Rattle.keyring_seal.specs.declared.content.Content.{Content}
-use Rattle.item_store.specs.declared.rows.Row.{Row as Kept}
-use Rattle.item_store.specs.Rows.{first_id, greatest_id, has_just, ids_where, last_id, most_attributes, next_id}
+use Rattle.item_store.specs.Rows.{Row as Kept, first_id, greatest_id, has_just, ids_where, last_id, most_attributes, next_id}
 use Rattle.item_store.specs.declared.fault.ItemFault.{ItemFault}
 use Rattle.item_store.specs.declared.fault.ItemFault.TheVariants as item_fault
 use Rattle.collection_store.specs.Changes.{as_content, at_item, content_changed, content_stored, equal_id, has_row, made_added, made_new, name_made, new_row, replaced, rows_changed, rows_made, rows_without, store_rows, with_secret, within_most}

@@ -6,8 +6,7 @@ use Rattle.std.proofs.lemmas.List.{length-map}
 use Rattle.kr_base.specs.Attributes.{is_name}
 use Rattle.kr_base.specs.declared.attributes.AttrValue.{AttrValue}
 use Rattle.attribute_match.specs.Match.{has_pair, text_of, texts_of}
-use Rattle.item_store.specs.Rows.{Rows, attributes_of, ids_where, pair_lists}
-use Rattle.item_store.specs.declared.rows.Row.{Row}
+use Rattle.item_store.specs.Rows.{Row, Rows, attributes_of, ids_where, pair_lists}
 use Rattle.tests_items.specs.Thousand.{IsThousand, has_texts, tenth_group, third_group, thirteenth, thousand}
 
 -- ---- a pair is looked up in the texts

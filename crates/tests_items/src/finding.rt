@@ -57,9 +57,9 @@ fn a_search_is_a_filter_of_the_rows(rt: HostRuntime) -> Result<(), Fail> {
 // The least id of an item with exactly the attributes of the words, read from the rows.
 fn first_equal(alloc: Global, items: &ItemStore, words: &str) -> Result<String, Fail> {
     let wanted = attributes_of(alloc, words)?;
-    for (number, row) in items.rows().iter() {
-        if is_equal(&wanted, &row.item.attributes) {
-            return decimal(alloc, *number);
+    for row in items.rows().as_slice() {
+        if is_equal(&wanted, &row.2.attributes) {
+            return decimal(alloc, row.0.0);
         }
     }
     Ok(String::from_str(alloc, "none")?)

@@ -74,8 +74,8 @@ fn many(alloc: Global) -> Result<ItemStore, Fail> {
 // The items' attributes, with their ids.
 fn given(alloc: Global, items: &ItemStore) -> Result<Vec<(ItemId, &Attributes)>, OutOfMemory> {
     let mut given = Vec::new(alloc);
-    for (number, row) in items.rows().iter() {
-        given.push((ItemId(*number), &row.item.attributes))?;
+    for row in items.rows().as_slice() {
+        given.push((row.0, &row.2.attributes))?;
     }
     Ok(given)
 }

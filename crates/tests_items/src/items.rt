@@ -19,8 +19,8 @@ fn row_told(alloc: Global, number: u32, kind: u32) -> Result<String, Fail> {
 // The numbers and kinds of the rows, in their order.
 fn rows_told(alloc: Global, items: &ItemStore) -> Result<String, Fail> {
     let mut told = String::new(alloc);
-    for (number, row) in items.rows().iter() {
-        told.push_str(row_told(alloc, *number, row.kind)?.as_str())?;
+    for row in items.rows().as_slice() {
+        told.push_str(row_told(alloc, row.0.0, row.1)?.as_str())?;
         told.push_str(" ")?;
     }
     Ok(told)

@@ -145,9 +145,9 @@ pub fn equal(alloc: Global, items: &ItemStore, words: &str) -> Result<String, Fa
 pub fn having(alloc: Global, items: &ItemStore, words: &str) -> Result<Vec<ItemId>, Fail> {
     let wanted = attributes_of(alloc, words)?;
     let mut ids = Vec::new(alloc);
-    for (number, row) in items.rows().iter() {
-        if matches(&wanted, &row.item.attributes) {
-            ids.push(ItemId(*number))?;
+    for row in items.rows().as_slice() {
+        if matches(&wanted, &row.2.attributes) {
+            ids.push(row.0)?;
         }
     }
     Ok(ids)

@@ -1,13 +1,13 @@
 -- What of item_store may be sent to another thread.
 use denote.Param.Send.{IsSend, sendable}
-use Rattle.std.proofs.MapsCrossing as maps
-use Rattle.item_store.specs.contracts.rows.Row as Row
+use Rattle.std.proofs.Crossing as heap
+use Rattle.item_store.specs.contracts.rows.RowList as RowList
 use Rattle.item_store.specs.contracts.store.ItemStore as ItemStore
 use Rattle.service_hub.proofs.Sends.AttributeIndex.{AttributeIndex-send}
 use Rattle.service_hub.proofs.Sends.KeyringFile.{FullItem-send}
 
-Row-send : IsSend Row.the_row
-Row-send = search (FullItem-send, sendable) depth 40
+RowList-send : IsSend RowList.the_row
+RowList-send = search (FullItem-send, sendable, heap.crosses) depth 40
 
 pub ItemStore-send : IsSend ItemStore.the_row
-ItemStore-send = search (Row-send, AttributeIndex-send, sendable, maps.crosses) depth 40
+ItemStore-send = search (RowList-send, AttributeIndex-send, sendable) depth 40

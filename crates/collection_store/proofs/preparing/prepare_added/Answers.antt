@@ -2,8 +2,7 @@ use Rattle.std.proofs.Common.{◌≡◌, ◌∙◌, ◌++◌, ◌<◌, List, [],
 use Rattle.attribute_hash.specs.Hash.{hashes}
 use Rattle.keyring_file.specs.declared.clear.ClearItem.{ClearItem}
 use Rattle.keyring_seal.specs.Arranged.{Row}
-use Rattle.item_store.specs.Rows.{most_attributes}
-use Rattle.item_store.specs.declared.rows.Row.{Row as StoreRow}
+use Rattle.item_store.specs.Rows.{Row as StoreRow, most_attributes}
 use Rattle.collection_store.specs.Changes.{made_new}
 use Rattle.collection_store.specs.Preparing.{AreHashed, looked, next_of}
 use Rattle.collection_store.specs.State.{rows_with}

@@ -6,8 +6,7 @@ use Rattle.attribute_hash.specs.Hash.{hashes}
 use Rattle.keyring_file.specs.declared.clear.ClearItem.{ClearItem}
 use Rattle.keyring_seal.specs.Arranged.{Row}
 use Rattle.item_store.specs.Moves.{with_attributes as item_with_attributes}
-use Rattle.item_store.specs.Rows.{Rows, rows_changed as items_changed}
-use Rattle.item_store.specs.declared.rows.Row.{Row as StoreRow}
+use Rattle.item_store.specs.Rows.{Row as StoreRow, Rows, rows_changed as items_changed}
 use Rattle.collection_store.specs.Changes.{with_attributes}
 use Rattle.collection_store.specs.Copying.{hashes_set}
 use Rattle.collection_store.specs.Preparing.{looked, next_of}
@@ -36,11 +35,11 @@ sealed_rows-requires-clause-rising c =
     let slice : c.as_slice.result.now ≡ told.items = search rules in
     let edited : c.in-Ok.edited.items ≡ map (λ (y : ClearItem). cond (nat_eq y.id.0 c.args.id.0) (record y { hashed = hashes c.args.attributes }) y) told.items = c.in-Ok.ensures ∙ ap (λ t. map (hashes_set c.args.id.0 c.args.attributes) t) slice in
     let after = items_changed c.args.id.0 (item_with_attributes c.args.attributes c.args.frame.now.time) old in
-    let entries : c.rows.result.now.entries ≡ after = search rules in
+    let entries : c.rows.result.now ≡ after = search rules in
     let same = parts_ids c.args.id.0 (λ (y : ClearItem). record y { hashed = hashes c.args.attributes }) (item_with_attributes c.args.attributes c.args.frame.now.time) (with_attributes c.args.frame.now.time c.args.attributes) (λ y r. refl) told old c.in-Ok.edited.items c.requires edited (λ y. refl) in
     let rising = subst (λ t. IsStrictlyIncreasing t) (sym same) c.clear-clear.ensures.by_id in
     let ids : ids_of c.in-Ok.edited.items ≡ keys_of after = same ∙ c.requires.ids ∙ sym (keys_stay _ _ old) in
-    let now : ids_of c.in-Ok.edited.items ≡ keys_of c.rows.result.now.entries = ids ∙ sym (ap (λ (t : Rows). keys_of t) entries) in
+    let now : ids_of c.in-Ok.edited.items ≡ keys_of c.rows.result.now = ids ∙ sym (ap (λ (t : Rows). keys_of t) entries) in
     let all_hashed = parts_hashed c.args.id.0 (λ (y : ClearItem). record y { hashed = hashes c.args.attributes }) (item_with_attributes c.args.attributes c.args.frame.now.time) (with_attributes c.args.frame.now.time c.args.attributes) (λ y r. refl) told old c.in-Ok.edited.items c.requires edited (λ row is. refl) in
     rising
 
@@ -51,13 +50,13 @@ sealed_rows-requires-clause-there c =
     let slice : c.as_slice.result.now ≡ told.items = search rules in
     let edited : c.in-Ok.edited.items ≡ map (λ (y : ClearItem). cond (nat_eq y.id.0 c.args.id.0) (record y { hashed = hashes c.args.attributes }) y) told.items = c.in-Ok.ensures ∙ ap (λ t. map (hashes_set c.args.id.0 c.args.attributes) t) slice in
     let after = items_changed c.args.id.0 (item_with_attributes c.args.attributes c.args.frame.now.time) old in
-    let entries : c.rows.result.now.entries ≡ after = search rules in
+    let entries : c.rows.result.now ≡ after = search rules in
     let same = parts_ids c.args.id.0 (λ (y : ClearItem). record y { hashed = hashes c.args.attributes }) (item_with_attributes c.args.attributes c.args.frame.now.time) (with_attributes c.args.frame.now.time c.args.attributes) (λ y r. refl) told old c.in-Ok.edited.items c.requires edited (λ y. refl) in
     let rising = subst (λ t. IsStrictlyIncreasing t) (sym same) c.clear-clear.ensures.by_id in
     let ids : ids_of c.in-Ok.edited.items ≡ keys_of after = same ∙ c.requires.ids ∙ sym (keys_stay _ _ old) in
-    let now : ids_of c.in-Ok.edited.items ≡ keys_of c.rows.result.now.entries = ids ∙ sym (ap (λ (t : Rows). keys_of t) entries) in
+    let now : ids_of c.in-Ok.edited.items ≡ keys_of c.rows.result.now = ids ∙ sym (ap (λ (t : Rows). keys_of t) entries) in
     let all_hashed = parts_hashed c.args.id.0 (λ (y : ClearItem). record y { hashed = hashes c.args.attributes }) (item_with_attributes c.args.attributes c.args.frame.now.time) (with_attributes c.args.frame.now.time c.args.attributes) (λ y r. refl) told old c.in-Ok.edited.items c.requires edited (λ row is. refl) in
-    there_in c.in-Ok.edited.items c.rows.result.now.entries rising now
+    there_in c.in-Ok.edited.items c.rows.result.now rising now
 
 pub sealed_rows-requires-clause-hashed : goal.sealed_rows-requires-clause-hashed
 sealed_rows-requires-clause-hashed c =
@@ -66,13 +65,13 @@ sealed_rows-requires-clause-hashed c =
     let slice : c.as_slice.result.now ≡ told.items = search rules in
     let edited : c.in-Ok.edited.items ≡ map (λ (y : ClearItem). cond (nat_eq y.id.0 c.args.id.0) (record y { hashed = hashes c.args.attributes }) y) told.items = c.in-Ok.ensures ∙ ap (λ t. map (hashes_set c.args.id.0 c.args.attributes) t) slice in
     let after = items_changed c.args.id.0 (item_with_attributes c.args.attributes c.args.frame.now.time) old in
-    let entries : c.rows.result.now.entries ≡ after = search rules in
+    let entries : c.rows.result.now ≡ after = search rules in
     let same = parts_ids c.args.id.0 (λ (y : ClearItem). record y { hashed = hashes c.args.attributes }) (item_with_attributes c.args.attributes c.args.frame.now.time) (with_attributes c.args.frame.now.time c.args.attributes) (λ y r. refl) told old c.in-Ok.edited.items c.requires edited (λ y. refl) in
     let rising = subst (λ t. IsStrictlyIncreasing t) (sym same) c.clear-clear.ensures.by_id in
     let ids : ids_of c.in-Ok.edited.items ≡ keys_of after = same ∙ c.requires.ids ∙ sym (keys_stay _ _ old) in
-    let now : ids_of c.in-Ok.edited.items ≡ keys_of c.rows.result.now.entries = ids ∙ sym (ap (λ (t : Rows). keys_of t) entries) in
+    let now : ids_of c.in-Ok.edited.items ≡ keys_of c.rows.result.now = ids ∙ sym (ap (λ (t : Rows). keys_of t) entries) in
     let all_hashed = parts_hashed c.args.id.0 (λ (y : ClearItem). record y { hashed = hashes c.args.attributes }) (item_with_attributes c.args.attributes c.args.frame.now.time) (with_attributes c.args.frame.now.time c.args.attributes) (λ y r. refl) told old c.in-Ok.edited.items c.requires edited (λ row is. refl) in
-    hashed_in c.in-Ok.edited.items c.rows.result.now.entries rising now (rw entries all_hashed)
+    hashed_in c.in-Ok.edited.items c.rows.result.now rising now (rw entries all_hashed)
 
 pub returns-in-Ok-sealed_rows-clause-prepared : goal.returns-in-Ok-sealed_rows-clause-prepared
 returns-in-Ok-sealed_rows-clause-prepared c =
@@ -81,18 +80,18 @@ returns-in-Ok-sealed_rows-clause-prepared c =
     let slice : c.as_slice.result.now ≡ told.items = search rules in
     let edited : c.in-Ok.edited.items ≡ map (λ (y : ClearItem). cond (nat_eq y.id.0 c.args.id.0) (record y { hashed = hashes c.args.attributes }) y) told.items = c.in-Ok.ensures ∙ ap (λ t. map (hashes_set c.args.id.0 c.args.attributes) t) slice in
     let after = items_changed c.args.id.0 (item_with_attributes c.args.attributes c.args.frame.now.time) old in
-    let entries : c.rows.result.now.entries ≡ after = search rules in
+    let entries : c.rows.result.now ≡ after = search rules in
     let same = parts_ids c.args.id.0 (λ (y : ClearItem). record y { hashed = hashes c.args.attributes }) (item_with_attributes c.args.attributes c.args.frame.now.time) (with_attributes c.args.frame.now.time c.args.attributes) (λ y r. refl) told old c.in-Ok.edited.items c.requires edited (λ y. refl) in
     let rising = subst (λ t. IsStrictlyIncreasing t) (sym same) c.clear-clear.ensures.by_id in
     let ids : ids_of c.in-Ok.edited.items ≡ keys_of after = same ∙ c.requires.ids ∙ sym (keys_stay _ _ old) in
-    let now : ids_of c.in-Ok.edited.items ≡ keys_of c.rows.result.now.entries = ids ∙ sym (ap (λ (t : Rows). keys_of t) entries) in
+    let now : ids_of c.in-Ok.edited.items ≡ keys_of c.rows.result.now = ids ∙ sym (ap (λ (t : Rows). keys_of t) entries) in
     let all_hashed = parts_hashed c.args.id.0 (λ (y : ClearItem). record y { hashed = hashes c.args.attributes }) (item_with_attributes c.args.attributes c.args.frame.now.time) (with_attributes c.args.frame.now.time c.args.attributes) (λ y r. refl) told old c.in-Ok.edited.items c.requires edited (λ row is. refl) in
     let these = zip c.in-Ok.edited.items (map (λ (row : ℕ × StoreRow). row.1.item) after) in
-    let rows : ◌≡◌ {A = List Row} (zip c.in-Ok.edited.items (map (λ (row : ℕ × StoreRow). row.1.item) c.rows.result.now.entries)) these = ap (λ (t : Rows). zip c.in-Ok.edited.items (map (λ (row : ℕ × StoreRow). row.1.item) t)) entries in
+    let rows : ◌≡◌ {A = List Row} (zip c.in-Ok.edited.items (map (λ (row : ℕ × StoreRow). row.1.item) c.rows.result.now)) these = ap (λ (t : Rows). zip c.in-Ok.edited.items (map (λ (row : ℕ × StoreRow). row.1.item) t)) entries in
     let made = within_at c.args.id.0 told old c.args.attributes _ c.requires (sym c.has_item.ensures ∙ c.if-not-has_item.false) (sym c.are_too_many.ensures ∙ c.if-are_too_many.false) ∙ ap (λ (t : List Row). made_as t (changed.Changed c.args.id)) (sym (parts_rows c.args.id.0 (λ (y : ClearItem). record y { hashed = hashes c.args.attributes }) (item_with_attributes c.args.attributes c.args.frame.now.time) (with_attributes c.args.frame.now.time c.args.attributes) (λ y r. refl) told old c.in-Ok.edited.items c.requires edited)) in
-    let lent = looked_in c.in-Ok.edited.items c.rows.result.now.entries rising now ∙ rows in
+    let lent = looked_in c.in-Ok.edited.items c.rows.result.now rising now ∙ rows in
     let after_is : c.in-Ok-begin_attributes.moving.after ≡ after = search rules in
-    prepared c.args.frame.now told _ these (looked c.in-Ok.edited.items c.rows.result.now.entries) c.in-Ok-sealed_rows.next (next_of c.args.frame.now told c.in-Ok.edited.items) (changed.Changed c.args.id) old _ (rest.Moved c.in-Ok-begin_attributes.moving) c.in-Ok-sealed_rows.image
+    prepared c.args.frame.now told _ these (looked c.in-Ok.edited.items c.rows.result.now) c.in-Ok-sealed_rows.next (next_of c.args.frame.now told c.in-Ok.edited.items) (changed.Changed c.args.id) old _ (rest.Moved c.in-Ok-begin_attributes.moving) c.in-Ok-sealed_rows.image
     made c.in-Ok-sealed_rows.ensures.next (next_is c.args.frame.now.time told c.in-Ok.edited.items these (firsts_zip c.in-Ok.edited.items after ids))
     lent (ap (λ (t : Rows). zip c.in-Ok.edited.items (map (λ (row : ℕ × StoreRow). row.1.item) t)) after_is) (ids ∙ sym (ap (λ (t : Rows). keys_of t) after_is)) all_hashed rising (search rules)
     c.in-Ok-sealed_rows.ensures.sealed c.in-Ok-sealed_rows.ensures.opens c.in-Ok-sealed_rows.ensures.clear c.in-Ok-sealed_rows.ensures.fits
@@ -104,15 +103,15 @@ returns-in-Err-TooLarge-clause-refused c =
     let slice : c.as_slice.result.now ≡ told.items = search rules in
     let edited : c.in-Ok.edited.items ≡ map (λ (y : ClearItem). cond (nat_eq y.id.0 c.args.id.0) (record y { hashed = hashes c.args.attributes }) y) told.items = c.in-Ok.ensures ∙ ap (λ t. map (hashes_set c.args.id.0 c.args.attributes) t) slice in
     let after = items_changed c.args.id.0 (item_with_attributes c.args.attributes c.args.frame.now.time) old in
-    let entries : c.rows.result.now.entries ≡ after = search rules in
+    let entries : c.rows.result.now ≡ after = search rules in
     let same = parts_ids c.args.id.0 (λ (y : ClearItem). record y { hashed = hashes c.args.attributes }) (item_with_attributes c.args.attributes c.args.frame.now.time) (with_attributes c.args.frame.now.time c.args.attributes) (λ y r. refl) told old c.in-Ok.edited.items c.requires edited (λ y. refl) in
     let rising = subst (λ t. IsStrictlyIncreasing t) (sym same) c.clear-clear.ensures.by_id in
     let ids : ids_of c.in-Ok.edited.items ≡ keys_of after = same ∙ c.requires.ids ∙ sym (keys_stay _ _ old) in
-    let now : ids_of c.in-Ok.edited.items ≡ keys_of c.rows.result.now.entries = ids ∙ sym (ap (λ (t : Rows). keys_of t) entries) in
+    let now : ids_of c.in-Ok.edited.items ≡ keys_of c.rows.result.now = ids ∙ sym (ap (λ (t : Rows). keys_of t) entries) in
     let all_hashed = parts_hashed c.args.id.0 (λ (y : ClearItem). record y { hashed = hashes c.args.attributes }) (item_with_attributes c.args.attributes c.args.frame.now.time) (with_attributes c.args.frame.now.time c.args.attributes) (λ y r. refl) told old c.in-Ok.edited.items c.requires edited (λ row is. refl) in
     let these = zip c.in-Ok.edited.items (map (λ (row : ℕ × StoreRow). row.1.item) after) in
-    let rows : ◌≡◌ {A = List Row} (zip c.in-Ok.edited.items (map (λ (row : ℕ × StoreRow). row.1.item) c.rows.result.now.entries)) these = ap (λ (t : Rows). zip c.in-Ok.edited.items (map (λ (row : ℕ × StoreRow). row.1.item) t)) entries in
+    let rows : ◌≡◌ {A = List Row} (zip c.in-Ok.edited.items (map (λ (row : ℕ × StoreRow). row.1.item) c.rows.result.now)) these = ap (λ (t : Rows). zip c.in-Ok.edited.items (map (λ (row : ℕ × StoreRow). row.1.item) t)) entries in
     let made = within_at c.args.id.0 told old c.args.attributes _ c.requires (sym c.has_item.ensures ∙ c.if-not-has_item.false) (sym c.are_too_many.ensures ∙ c.if-are_too_many.false) ∙ ap (λ (t : List Row). made_as t (changed.Changed c.args.id)) (sym (parts_rows c.args.id.0 (λ (y : ClearItem). record y { hashed = hashes c.args.attributes }) (item_with_attributes c.args.attributes c.args.frame.now.time) (with_attributes c.args.frame.now.time c.args.attributes) (λ y r. refl) told old c.in-Ok.edited.items c.requires edited)) in
-    let lent = looked_in c.in-Ok.edited.items c.rows.result.now.entries rising now ∙ rows in
-    over c.args.frame.now told _ these (looked c.in-Ok.edited.items c.rows.result.now.entries) (next_of c.args.frame.now told c.in-Ok.edited.items) (changed.Changed c.args.id)
+    let lent = looked_in c.in-Ok.edited.items c.rows.result.now rising now ∙ rows in
+    over c.args.frame.now told _ these (looked c.in-Ok.edited.items c.rows.result.now) (next_of c.args.frame.now told c.in-Ok.edited.items) (changed.Changed c.args.id)
     made (next_is c.args.frame.now.time told c.in-Ok.edited.items these (firsts_zip c.in-Ok.edited.items after ids)) lent (c.in-Err-TooLarge.ensures.too_large (ap (λ r. Err r) c.in-Err-TooLarge.field-0-is))

@@ -3,7 +3,7 @@ use Rattle.std.specs.Prelude.{IfErr}
 use Rattle.std.specs.List.Sorted.{IsStrictlyIncreasing}
 use Rattle.keyring_file.specs.declared.clear.ClearItem.{ClearItem}
 use Rattle.item_store.specs.Swapping.{with_parts}
-use Rattle.item_store.specs.declared.rows.Row.{Row as StoreRow}
+use Rattle.item_store.specs.Rows.{Row as StoreRow}
 use Rattle.collection_store.specs.Changes.{with_label}
 use Rattle.collection_store.specs.Preparing.{IsPrepared, MayRefuse}
 use Rattle.collection_store.specs.declared.change.Changed.TheVariants as changed

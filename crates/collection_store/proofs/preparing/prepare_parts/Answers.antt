@@ -2,9 +2,8 @@ use Rattle.std.proofs.Common.{◌≡◌, Err, ℕ, List, map, ap, refl, sym, ◌
 use Rattle.std.specs.List.{zip}
 use Rattle.std.specs.Map.{keys_of}
 use Rattle.keyring_seal.specs.Arranged.{Row}
-use Rattle.item_store.specs.Rows.{Rows, rows_changed as items_changed}
+use Rattle.item_store.specs.Rows.{Row as StoreRow, Rows, rows_changed as items_changed}
 use Rattle.item_store.specs.Swapping.{with_parts}
-use Rattle.item_store.specs.declared.rows.Row.{Row as StoreRow}
 use Rattle.collection_store.specs.Preparing.{looked, next_of}
 use Rattle.collection_store.specs.State.{ids_of}
 use Rattle.collection_store.specs.declared.change.Changed.TheVariants as changed

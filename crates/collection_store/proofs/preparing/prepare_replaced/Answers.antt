@@ -4,7 +4,7 @@ use Rattle.std.specs.List.Sorted.{IsStrictlyIncreasing}
 use Rattle.keyring_file.specs.declared.clear.ClearItem.{ClearItem}
 use Rattle.keyring_seal.specs.Arranged.{Row}
 use Rattle.item_store.specs.Swapping.{with_parts}
-use Rattle.item_store.specs.declared.rows.Row.{Row as StoreRow}
+use Rattle.item_store.specs.Rows.{Row as StoreRow}
 use Rattle.collection_store.specs.Changes.{replaced}
 use Rattle.collection_store.specs.Preparing.{IsPrepared, MayRefuse}
 use Rattle.collection_store.specs.declared.change.Changed.TheVariants as changed

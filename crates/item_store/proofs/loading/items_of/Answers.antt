@@ -1,10 +1,11 @@
-use Rattle.std.proofs.Common.{map, refl}
-use Rattle.std.specs.Map.Iter.{deref_pair}
-use Rattle.item_store.proofs.IndexLemmas.{mapped-more, next-given}
+use Rattle.std.proofs.Common.{◌≡◌, [], drop, map, sym, ◌∙◌, arith}
+use Rattle.std.proofs.lemmas.List.{append-nil, drop_all}
+use Rattle.item_store.specs.Rows.{given_of}
+use Rattle.item_store.proofs.PlaceLemmas.{by-row}
 use Rattle.item_store.proofs.loading.items_of.Goals as goal
 
-pub loop-number-preserved : goal.loop-number-preserved
-loop-number-preserved c =
-    let (are, left) = c.loop-number.invariant in
-    next-given (map deref_pair c.loop-number.yielded) _ c.loop-number.number-iterator c.next.new.self c.args.rows.now.entries c.loop-number.items.items _ _ (c.in-Some.number.now, c.in-Some.row.now) left c.in-Some.ensures.steps
-    (mapped-more deref_pair c.loop-number.yielded (c.in-Some.number, c.in-Some.row)) are c.in_ok-push.ensures.items refl
+pub returns : goal.returns
+returns c =
+    let none : drop c.loop-row.row-index c.args.rows.now ≡ [] = drop_all c.loop-row.row-index c.args.rows.now (omega arith) in
+    let all = rw none at c.loop-row.invariant in
+    sym (append-nil (map given_of c.loop-row.items.items)) ∙ all ∙ by-row c.args.rows.now

@@ -1,10 +1,7 @@
-use Rattle.std.proofs.Common.{◌≡◌, ◌++◌, map}
-use Rattle.std.specs.Map.Iter.{deref_pair}
-use Rattle.item_store.specs.Rows.{AreOf}
+use Rattle.std.proofs.Common.{◌≡◌, ◌++◌, drop, map}
+use Rattle.item_store.specs.Rows.{given_of, given_row, row_of}
 use Rattle.item_store.proofs.loading.items_of.Given as goal
 
--- the items of the rows so far, and the rows that are left
-abbrev pub invariant-loop-number : goal.invariant-loop-number
-invariant-loop-number l =
-    AreOf (map deref_pair l.yielded) l.items.items ×
-    (map deref_pair l.yielded ++ l.number-iterator ≡ l.rows.entries)
+-- what was appended, and what is left
+abbrev pub invariant-loop-row : goal.invariant-loop-row
+invariant-loop-row l = map given_of l.items.items ++ map (λ row. given_row (row_of row)) (drop l.row-index l.rows) ≡ map (λ row. given_row (row_of row)) l.rows
