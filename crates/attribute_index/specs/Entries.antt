@@ -66,14 +66,14 @@ pub record IsMadeOf (entries : List Noted) (names : Names) : Type 0 where
 abbrev pub HasSame : Names → List Noted → Names → List Noted → Type 0
 HasSame new left old entries = (name text : List ℕ) (id : ℕ) → (has_id (ids_in_names new name text) id || is_noted left name text id) ≡ (has_id (ids_in_names old name text) id || is_noted entries name text id)
 
--- the id was put at the pair, and what holds of pairs holds of them still
+-- the id was put at the pair, and what is true of the pairs of an index stays true
 pub record IsPutAt (name text : List ℕ) (id : ℕ) (old new : Names) : Type 0 where
   pub sorted : IsSorted new
   pub put : IsPut (is_this name text) id old new
   pub rise : AllRise old → AllRise new
   pub lean : IsLean old → IsLean new
 
--- what holds of the pairs of an index
+-- what is true of the pairs of an index
 pub record IsKept (names : Names) : Type 0 where
   pub sorted : IsSorted names
   pub rise : AllRise names
@@ -87,6 +87,6 @@ own_pairs branches = map (λ b. ((b.value.name, b.value.text), b.value.ids)) bra
 abbrev pub chained : List (Box Branch Global) → Box Branch Global → Names
 chained done last = own_pairs done ++ ((last.value.name, last.value.text), last.value.ids) ∷ []
 
--- as many pairs as this fill a tree of the height, but for its lowest level
+-- as many pairs as this fill a tree of the height, except for its lowest level
 abbrev pub Fill : ℕ → ℕ → Type 0
 Fill count height = (count < 2 ^ height) × (2 ^ height ≤ 2 * count + 1)

@@ -64,8 +64,11 @@ impl AttributeIndex {
         }
     }
 
-    /// The index of many items, each given with its id. It is made at once, from their sorted attributes: to
-    /// add one item after the other takes several times as long.
+    /// The index of many items, each given with its id, in any order. It is made at once, from their sorted
+    /// attributes: to add one item after the other takes several times as long. Until it returns, it also takes
+    /// 16 bytes for each attribute.
+    ///
+    /// Refused if no memory is left.
     pub fn of_items(
         alloc: Global,
         items: &[(ItemId, &Attributes)],
