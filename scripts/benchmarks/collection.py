@@ -3,7 +3,7 @@ is added and removed, against AES and MD5 of the area by aes_cbc and md5, and a 
 the same bytes and syncs the folder; the collection is unlocked, against AES, MD5 and reading the area; 10,000 items with
 two pairs each are searched while they are locked, for a pair that one has and for one that all have, against comparing
 each of them; and the memory of an open collection, and of the index of hashes."""
-import os, resource, shutil, sys
+import os, resource, shutil, statistics, sys
 
 from benchmarks.shared import c_program, keyring_file, lines_of, rattle_program, run
 
@@ -508,13 +508,27 @@ def changes(program, peer):
             print(f"    ({user * 1e3:.3f} and {whole * 1e3:.3f} ms); {times:.2f} of the time among the number of items before this one")
 
 
+def in_turns(program, name, rounds, turns=30):
+    """The seconds of one round of reading the area, and of unlocking and locking, with the system's work: the medians of
+    short runs of each in turns. What both do beside AES waits for memory, and takes longer while other programs run."""
+    ways = ("part", "read"), ("disk", "unlock")
+    more, none = ({way: [] for way in ways} for _ in range(2))
+    for _ in range(turns):
+        for way in ways:
+            more[way].append(timed(program.words(*way, rounds, name), rounds=1)[1])
+            none[way].append(timed(program.words(*way, 0, name), rounds=1)[1])
+    return [(statistics.median(more[way]) - statistics.median(none[way])) / rounds for way in ways]
+
+
 def unlocking(program):
     small = None
     for name in "200", "2000", "10000":
         items = int(name)
-        rounds = 300000 // items
-        read = program.spent("part", "read", rounds, name)[1]
-        both = program.spent("disk", "unlock", rounds, name, rounds)[1]
+        rounds = 40000 // items
+        printed = run(program.words("disk", "unlock", rounds, name)).strip()
+        if printed != str(rounds):
+            sys.exit(f"scripts/bench: unlocking {name} items prints {printed}, and not {rounds}")
+        read, both = in_turns(program, name, rounds)
         small = small or both / items
         print(f"collection_store, {items} items locked and unlocked: {both / read:.2f} of AES, MD5 and reading the area ({read * 1e3:.3f} ms);")
         print(f"  for each item {both / items / small:.2f} of among 200")
