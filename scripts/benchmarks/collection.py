@@ -546,7 +546,7 @@ def searches(program):
 
 def memory(program):
     size, (start, base) = program.sizes["10000"], program.held("part", "file", 0, "none")
-    cases = (("find_one", 0, "locked"), ("unlock", 0, "unlocked"), ("secret", 1, "after a change"), ("secret", 20, "after 20 changes"))
+    cases = (("find_one", 0, "locked"), ("unlock", 0, "unlocked"), ("secret", 1, "after a change"), ("secret", 20, "after 20 changes"), ("add", 1, "after an item was added and removed"))
     for what, count, told in cases:
         held, most = program.held("disk", what, count, "10000")
         print(f"collection_store, memory of 10,000 items in {size} bytes {told}: {(held - start) / size:.2f} times the file, and the most at once {(most - base) / size:.2f}")
