@@ -2,20 +2,20 @@
 use Rattle.std.proofs.Common.{◌≡◌, ℕ, cond, List, [], ◌∷◌, length, refl, sym, ◌∙◌, ap, subst, arith}
 use Rattle.std.proofs.lemmas.Bool.{lt-ltb}
 use Rattle.kr_base.specs.declared.ids.ConnId.{ConnId}
-use Rattle.secret_calls.specs.declared.out.Out.{Out}
-use Rattle.secret_calls.specs.declared.work.Work.{Work}
-use Rattle.service_tables.specs.Sound.{IsSound}
-use Rattle.service_tables.specs.State.{State}
-use Rattle.service_tables.specs.Connections.{changed, delivered, emptied, sent_to}
-use Rattle.service_events.specs.Step.{Fits, finished, put_out, puts_out, served, step}
-use Rattle.service_events.proofs.AloneLemmas.{arrived-connections, delivered-alone, waiting_row}
-use Rattle.service_events.proofs.SoundLemmas.{sound_replay, sound_step}
-use Rattle.service_events.specs.declared.event.Event.{Event}
-use Rattle.service_events.specs.declared.event.Event.TheVariants as event
-use Rattle.service_events.specs.Replay.{replay}
+use Rattle.service_desk.specs.secret_calls.specs.declared.out.Out.{Out}
+use Rattle.service_desk.specs.secret_calls.specs.declared.work.Work.{Work}
+use Rattle.service_desk.specs.service_tables.specs.Sound.{IsSound}
+use Rattle.service_desk.specs.service_tables.specs.State.{State}
+use Rattle.service_desk.specs.service_tables.specs.Connections.{changed, delivered, emptied, sent_to}
+use Rattle.service_desk.specs.service_events.specs.Step.{Fits, finished, put_out, puts_out, served, step}
+use Rattle.service_desk.specs.service_events.proofs.AloneLemmas.{arrived-connections, delivered-alone, waiting_row}
+use Rattle.service_desk.specs.service_events.proofs.SoundLemmas.{sound_replay, sound_step}
+use Rattle.service_desk.specs.service_events.specs.declared.event.Event.{Event}
+use Rattle.service_desk.specs.service_events.specs.declared.event.Event.TheVariants as event
+use Rattle.service_desk.specs.service_events.specs.Replay.{replay}
 use Rattle.service_desk.specs.Places.{Told, Place}
 use Rattle.service_desk.proofs.RecordLemmas.{own-legal, own-state}
-use Rattle.service_events.specs.Single.{TimedKey, TimedRequest, recorded_of, arrival, derivation, taking}
+use Rattle.service_desk.specs.service_events.specs.Single.{TimedKey, TimedRequest, recorded_of, arrival, derivation, taking}
 use Rattle.connection_worker.specs.Serving.{IsOwed, owed, HasGiven}
 use Rattle.connection_worker.proofs.ServingLemmas.{same}
 use Rattle.connection_worker.proofs.KeyLemmas.{derivation_of, derived-connections, key-together}

@@ -1,11 +1,11 @@
 -- One method call, from its message to what is written for it.
 use Rattle.std.proofs.Common.{◌≡◌, ℕ, ◌+◌, false, true, List, [], ◌∷◌, ◌++◌, length, length-append, Option, Some, None, Result, Ok, Err, refl, sym, ◌∙◌, ap, subst, arith}
 use Rattle.std.specs.Option.{is_some}
-use Rattle.secret_calls.specs.declared.call.Request.{Request}
-use Rattle.secret_calls.specs.declared.work.Work.{Work}
-use Rattle.service_tables.specs.Sound.{IsSound}
-use Rattle.service_tables.specs.State.{State}
-use Rattle.service_tables.specs.Connections.{waiting_for}
+use Rattle.service_desk.specs.secret_calls.specs.declared.call.Request.{Request}
+use Rattle.service_desk.specs.secret_calls.specs.declared.work.Work.{Work}
+use Rattle.service_desk.specs.service_tables.specs.Sound.{IsSound}
+use Rattle.service_desk.specs.service_tables.specs.State.{State}
+use Rattle.service_desk.specs.service_tables.specs.Connections.{waiting_for}
 use Rattle.service_desk.specs.Places.{Told, Place}
 use Rattle.service_desk.proofs.RecordLemmas.{own-legal, own-state}
 use Rattle.dbus_framing.specs.Messages.{Parts}
@@ -13,10 +13,10 @@ use Rattle.call_wire.specs.CallOf.{CallOf}
 use Rattle.connection_worker.specs.declared.ending.End.{End}
 use Rattle.connection_worker.specs.declared.ending.End.TheVariants as end
 use Rattle.connection_worker.specs.Streams.{Output, GaveFront}
-use Rattle.service_events.specs.Replay.{replay}
-use Rattle.service_events.specs.Single.{MayBeFinished, TimedKey, TimedRequest, arrival, asking, derivation, turns, work_for}
-use Rattle.service_events.specs.Step.{Fits, step}
-use Rattle.service_events.proofs.AloneLemmas.{waiting_row}
+use Rattle.service_desk.specs.service_events.specs.Replay.{replay}
+use Rattle.service_desk.specs.service_events.specs.Single.{MayBeFinished, TimedKey, TimedRequest, arrival, asking, derivation, turns, work_for}
+use Rattle.service_desk.specs.service_events.specs.Step.{Fits, step}
+use Rattle.service_desk.specs.service_events.proofs.AloneLemmas.{waiting_row}
 use Rattle.connection_worker.specs.Written.{given_by, spelled_behind}
 use Rattle.connection_worker.specs.Serving.{World, place_of, IsOwed, owed, Asks, Brings, HasArrived, HasBrought, HasGiven, Gives}
 use Rattle.connection_worker.specs.Answering.{AnswersCall}

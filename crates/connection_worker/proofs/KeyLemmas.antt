@@ -9,36 +9,36 @@ use Rattle.prompt_state.specs.declared.row.PromptKind.{PromptKind}
 use Rattle.prompt_state.specs.declared.row.PromptKind.TheVariants as kind
 use Rattle.prompt_state.specs.declared.row.PromptRow.{PromptRow}
 use Rattle.prompt_state.specs.declared.targets.Target.{Target}
-use Rattle.secret_calls.specs.declared.out.Body.TheVariants as body
-use Rattle.secret_calls.specs.declared.out.ErrorName.TheVariants as name
-use Rattle.secret_calls.specs.declared.work.Work.{Work}
-use Rattle.secret_calls.specs.Outs.{most_waiting}
-use Rattle.service_tables.specs.Aliases.{are_doubtful, asked_aliases}
-use Rattle.service_tables.specs.Connections.{delivered, sent_to, size_waiting}
-use Rattle.service_tables.specs.Opened.{contents_of}
-use Rattle.service_tables.specs.Reading.{asked_collections}
-use Rattle.service_tables.specs.Sound.{CanWait, IsSound}
-use Rattle.service_tables.specs.State.{State}
-use Rattle.service_tables.specs.Storing.{Brought}
-use Rattle.service_tables.specs.declared.fate.Fate.{Fate}
-use Rattle.service_tables.specs.declared.fate.Fate.TheVariants as fate
-use Rattle.service_tables.specs.declared.rows.ConnRows.{ConnRows}
-use Rattle.service_tables.specs.declared.rows.Sent.{Sent}
-use Rattle.service_disk.specs.declared.opening.Opening.{Opening}
-use Rattle.service_disk.specs.declared.opening.Opening.TheVariants as ends
-use Rattle.service_prompts.specs.Prompting.{ask_signal_in, completed_signal}
-use Rattle.service_events.specs.declared.event.Derivation.{Derivation}
-use Rattle.service_events.specs.declared.event.Event.TheVariants as event
-use Rattle.service_events.specs.AliasCalls.{alias_settled, alias_stored, once_read}
-use Rattle.service_events.specs.CollectionCalls.{by_fate}
-use Rattle.service_events.specs.Derivation.{alias_given, can_make, completing, derived, dismissing, kind_derived, left_derived, making_ended, most_wrong_answers, opening_ended, quietly, row_derived}
-use Rattle.service_events.specs.Plan.{Ask_prompt, Asks, Clear_wrong, Count_wrong, End_prompt, Ends, After, Opens, Go_on, KeyTerms, Make, Plan, Read_aliases, Set_alias, followed, refused}
-use Rattle.service_events.specs.PromptCalls.{asks_for, completes, go_on_sent, is_over, passed_kind}
-use Rattle.service_events.specs.Run.{asked, demanded, performed, performed_all, run, sent_all, unlocked_with}
-use Rattle.service_events.specs.Single.{TimedKey}
-use Rattle.service_events.specs.Step.{Fits, brought_derived, finished, step, terms_of}
-use Rattle.service_events.proofs.RunLemmas.{connections-all, sends-limited, state-limited}
-use Rattle.service_events.proofs.SoundLemmas.{waits_step}
+use Rattle.service_desk.specs.secret_calls.specs.declared.out.Body.TheVariants as body
+use Rattle.service_desk.specs.secret_calls.specs.declared.out.ErrorName.TheVariants as name
+use Rattle.service_desk.specs.secret_calls.specs.declared.work.Work.{Work}
+use Rattle.service_desk.specs.secret_calls.specs.Outs.{most_waiting}
+use Rattle.service_desk.specs.service_tables.specs.Aliases.{are_doubtful, asked_aliases}
+use Rattle.service_desk.specs.service_tables.specs.Connections.{delivered, sent_to, size_waiting}
+use Rattle.service_desk.specs.service_tables.specs.Opened.{contents_of}
+use Rattle.service_desk.specs.service_tables.specs.Reading.{asked_collections}
+use Rattle.service_desk.specs.service_tables.specs.Sound.{CanWait, IsSound}
+use Rattle.service_desk.specs.service_tables.specs.State.{State}
+use Rattle.service_desk.specs.service_tables.specs.Storing.{Brought}
+use Rattle.service_desk.specs.service_tables.specs.declared.fate.Fate.{Fate}
+use Rattle.service_desk.specs.service_tables.specs.declared.fate.Fate.TheVariants as fate
+use Rattle.service_desk.specs.service_tables.specs.declared.rows.ConnRows.{ConnRows}
+use Rattle.service_desk.specs.service_tables.specs.declared.rows.Sent.{Sent}
+use Rattle.service_desk.specs.service_disk.specs.declared.opening.Opening.{Opening}
+use Rattle.service_desk.specs.service_disk.specs.declared.opening.Opening.TheVariants as ends
+use Rattle.service_desk.specs.service_prompts.specs.Prompting.{ask_signal_in, completed_signal}
+use Rattle.service_desk.specs.service_events.specs.declared.event.Derivation.{Derivation}
+use Rattle.service_desk.specs.service_events.specs.declared.event.Event.TheVariants as event
+use Rattle.service_desk.specs.service_events.specs.AliasCalls.{alias_settled, alias_stored, once_read}
+use Rattle.service_desk.specs.service_events.specs.CollectionCalls.{by_fate}
+use Rattle.service_desk.specs.service_events.specs.Derivation.{alias_given, can_make, completing, derived, dismissing, kind_derived, left_derived, making_ended, most_wrong_answers, opening_ended, quietly, row_derived}
+use Rattle.service_desk.specs.service_events.specs.Plan.{Ask_prompt, Asks, Clear_wrong, Count_wrong, End_prompt, Ends, After, Opens, Go_on, KeyTerms, Make, Plan, Read_aliases, Set_alias, followed, refused}
+use Rattle.service_desk.specs.service_events.specs.PromptCalls.{asks_for, completes, go_on_sent, is_over, passed_kind}
+use Rattle.service_desk.specs.service_events.specs.Run.{asked, demanded, performed, performed_all, run, sent_all, unlocked_with}
+use Rattle.service_desk.specs.service_events.specs.Single.{TimedKey}
+use Rattle.service_desk.specs.service_events.specs.Step.{Fits, brought_derived, finished, step, terms_of}
+use Rattle.service_desk.specs.service_events.proofs.RunLemmas.{connections-all, sends-limited, state-limited}
+use Rattle.service_desk.specs.service_events.proofs.SoundLemmas.{waits_step}
 use Rattle.connection_worker.proofs.SizeLemmas.{size_sent}
 use Rattle.connection_worker.proofs.TogetherLemmas.{size-to}
 

@@ -4,9 +4,9 @@ use Rattle.std.proofs.lemmas.Bool.Decides.{nat_tests}
 use Rattle.std.proofs.lemmas.List.{map-append}
 use Rattle.std.proofs.lemmas.List.Elements.{filter-append}
 use Rattle.kr_base.specs.declared.ids.ConnId.{ConnId}
-use Rattle.secret_calls.specs.declared.call.Request.{Request}
-use Rattle.service_tables.specs.State.{State}
-use Rattle.service_events.specs.Replay.{replay}
+use Rattle.service_desk.specs.secret_calls.specs.declared.call.Request.{Request}
+use Rattle.service_desk.specs.service_tables.specs.State.{State}
+use Rattle.service_desk.specs.service_events.specs.Replay.{replay}
 use Rattle.dbus_framing.specs.Framers.{Framing}
 use Rattle.dbus_framing.specs.Messages.{Parts}
 use Rattle.dbus_framing.specs.Streams.{Cut, Stream}
@@ -15,7 +15,7 @@ use Rattle.connection_worker.specs.declared.ending.End.{End}
 use Rattle.connection_worker.specs.declared.ending.End.TheVariants as end
 use Rattle.connection_worker.specs.Arrivals.{calls_in, AreRequests, FirstRequests}
 use Rattle.connection_worker.specs.Streams.{Output, Gave}
-use Rattle.service_events.specs.Single.{AllFinished, AreFinished, TimedRequest, requests_of, turns}
+use Rattle.service_desk.specs.service_events.specs.Single.{AllFinished, AreFinished, TimedRequest, requests_of, turns}
 use Rattle.connection_worker.specs.Written.{given_by, spelled_behind, written_after}
 use Rattle.service_desk.proofs.RecordLemmas.{own-state}
 use Rattle.connection_worker.specs.Serving.{World, place_of, IsOwed, Recorded, EndsEarly}

@@ -13,17 +13,17 @@ use Rattle.dbus_framing.specs.Messages.{Parts}
 use Rattle.dbus_framing.specs.Streams.{Cut, Stream, Breaks}
 use Rattle.dbus_framing.proofs.Cuts.{cut_none, cut_then, cut_more, stream_then}
 use Rattle.call_wire.specs.CallOf.{CallOf}
-use Rattle.secret_calls.specs.declared.call.Request.{Request}
-use Rattle.secret_calls.specs.declared.taken.Refused.{Refused}
-use Rattle.secret_calls.specs.declared.taken.Refused.TheVariants as refusal
-use Rattle.secret_calls.specs.declared.work.Work.{Work}
-use Rattle.secret_calls.specs.Works.{finished}
-use Rattle.service_tables.specs.declared.fate.Fate.{Fate}
-use Rattle.service_tables.proofs.EachLemmas.{each-append}
-use Rattle.service_events.specs.declared.event.Event.TheVariants as event
-use Rattle.service_events.specs.declared.event.Output.TheVariants as output
-use Rattle.service_events.specs.Step.{IsMissing}
-use Rattle.service_events.specs.Single.{TimedRequest, arrival, derivation, moments_of, requests_of}
+use Rattle.service_desk.specs.secret_calls.specs.declared.call.Request.{Request}
+use Rattle.service_desk.specs.secret_calls.specs.declared.taken.Refused.{Refused}
+use Rattle.service_desk.specs.secret_calls.specs.declared.taken.Refused.TheVariants as refusal
+use Rattle.service_desk.specs.secret_calls.specs.declared.work.Work.{Work}
+use Rattle.service_desk.specs.secret_calls.specs.Works.{finished}
+use Rattle.service_desk.specs.service_tables.specs.declared.fate.Fate.{Fate}
+use Rattle.service_desk.specs.service_tables.proofs.EachLemmas.{each-append}
+use Rattle.service_desk.specs.service_events.specs.declared.event.Event.TheVariants as event
+use Rattle.service_desk.specs.service_events.specs.declared.event.Output.TheVariants as output
+use Rattle.service_desk.specs.service_events.specs.Step.{IsMissing}
+use Rattle.service_desk.specs.service_events.specs.Single.{TimedRequest, arrival, derivation, moments_of, requests_of}
 use Rattle.service_desk.specs.Calls.{Arrives, Finishes, IsRefusal, IsToldOf, Leaves}
 use Rattle.service_desk.specs.Places.{Told, Place, Looks, Extends}
 use Rattle.service_desk.specs.Records.{Seen, Own, Records}

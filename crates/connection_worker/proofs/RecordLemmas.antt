@@ -7,21 +7,21 @@ use Rattle.std.proofs.lemmas.Bool.{lt-ltb}
 use Rattle.std.proofs.lemmas.List.{map-append}
 use Rattle.kr_base.specs.declared.ids.ConnId.{ConnId}
 use Rattle.kr_outside.specs.Clock.{GivesFirst}
-use Rattle.secret_calls.specs.declared.out.Out.{Out}
-use Rattle.secret_calls.specs.declared.work.Work.{Work}
-use Rattle.service_tables.specs.State.{State}
-use Rattle.service_events.specs.declared.event.Event.{Event}
-use Rattle.service_events.specs.declared.event.Event.TheVariants as event
-use Rattle.service_events.specs.Fates.{IsFaultless}
-use Rattle.service_tables.specs.Connections.{waiting_for}
-use Rattle.service_events.specs.Step.{step}
-use Rattle.service_events.specs.Replay.{replay}
-use Rattle.service_events.proofs.ReplayLemmas.{replay-append}
+use Rattle.service_desk.specs.secret_calls.specs.declared.out.Out.{Out}
+use Rattle.service_desk.specs.secret_calls.specs.declared.work.Work.{Work}
+use Rattle.service_desk.specs.service_tables.specs.State.{State}
+use Rattle.service_desk.specs.service_events.specs.declared.event.Event.{Event}
+use Rattle.service_desk.specs.service_events.specs.declared.event.Event.TheVariants as event
+use Rattle.service_desk.specs.service_events.specs.Fates.{IsFaultless}
+use Rattle.service_desk.specs.service_tables.specs.Connections.{waiting_for}
+use Rattle.service_desk.specs.service_events.specs.Step.{step}
+use Rattle.service_desk.specs.service_events.specs.Replay.{replay}
+use Rattle.service_desk.specs.service_events.proofs.ReplayLemmas.{replay-append}
 use Rattle.service_desk.specs.Places.{Place}
 use Rattle.service_desk.specs.Records.{Records, of_own}
 use Rattle.service_desk.proofs.RecordLemmas.{own-append, own-state, records-none, records-more}
 use Rattle.connection_worker.specs.Salts.{Salting}
-use Rattle.service_events.specs.Single.{TimedKey, TimedRequest, AllFaultless, AllFinished, AreFinished, IsFinished, IsKeyFaultless, MayBeFinished, arrival, asking, derivation, finishing, is_owed, moments_of, taking, turn, turns, work_for}
+use Rattle.service_desk.specs.service_events.specs.Single.{TimedKey, TimedRequest, AllFaultless, AllFinished, AreFinished, IsFinished, IsKeyFaultless, MayBeFinished, arrival, asking, derivation, finishing, is_owed, moments_of, taking, turn, turns, work_for}
 use Rattle.connection_worker.specs.Serving.{World, place_of, GivesMoments, GivesSalts, behind_salt, Recorded, HasArrived, HasAsked, HasBrought, HasLost, HasGiven}
 use Rattle.connection_worker.specs.Written.{given, given_by}
 use Rattle.connection_worker.proofs.ServingLemmas.{same}

@@ -3,21 +3,21 @@ use Rattle.std.proofs.Common.{◌≡◌, ℕ, ◌+◌, cond, List, [], ◌∷◌
 use Rattle.std.proofs.lemmas.Bool.{lt-ltb}
 use Rattle.std.proofs.lemmas.List.Elements.{filter-append}
 use Rattle.kr_base.specs.declared.ids.ConnId.{ConnId}
-use Rattle.secret_calls.specs.declared.out.Out.{Out}
-use Rattle.secret_calls.specs.declared.work.Work.{Work}
-use Rattle.service_events.specs.declared.event.Event.{Event}
-use Rattle.service_events.specs.declared.event.Event.TheVariants as event
-use Rattle.service_tables.specs.State.{State}
-use Rattle.service_tables.specs.Connections.{waiting_for}
-use Rattle.service_events.specs.Step.{step, Fits}
-use Rattle.service_events.specs.Replay.{replay, Legal}
-use Rattle.service_events.proofs.AloneLemmas.{waiting_row}
-use Rattle.service_events.proofs.ReplayLemmas.{replay-append}
+use Rattle.service_desk.specs.secret_calls.specs.declared.out.Out.{Out}
+use Rattle.service_desk.specs.secret_calls.specs.declared.work.Work.{Work}
+use Rattle.service_desk.specs.service_events.specs.declared.event.Event.{Event}
+use Rattle.service_desk.specs.service_events.specs.declared.event.Event.TheVariants as event
+use Rattle.service_desk.specs.service_tables.specs.State.{State}
+use Rattle.service_desk.specs.service_tables.specs.Connections.{waiting_for}
+use Rattle.service_desk.specs.service_events.specs.Step.{step, Fits}
+use Rattle.service_desk.specs.service_events.specs.Replay.{replay, Legal}
+use Rattle.service_desk.specs.service_events.proofs.AloneLemmas.{waiting_row}
+use Rattle.service_desk.specs.service_events.proofs.ReplayLemmas.{replay-append}
 use Rattle.service_desk.specs.Places.{Told, Place}
 use Rattle.service_desk.proofs.RecordLemmas.{own-own, own-answered, own-events, own-length, faultless-own}
 use Rattle.connection_worker.specs.Replies.{is_reply, key_outputs, outputs_of, outputs_to, reply_to, replies_to}
 use Rattle.connection_worker.specs.Serving.{IsOwed, owed, HasGiven}
-use Rattle.service_events.specs.Single.{TimedKey, TimedRequest, recorded_of, arrival, asking, derivation, finishing, taking, turn, turns, single, work_for}
+use Rattle.service_desk.specs.service_events.specs.Single.{TimedKey, TimedRequest, recorded_of, arrival, asking, derivation, finishing, taking, turn, turns, single, work_for}
 use Rattle.connection_worker.specs.Written.{given_by}
 use Rattle.connection_worker.proofs.AnswerLemmas.{arrived-rows, arrived-owed, derived-owed, derived-rows, given-idle, put_to}
 use Rattle.connection_worker.proofs.SentLemmas.{key-replies, ran-replies}

@@ -1,9 +1,9 @@
 -- Outputs as messages, with their serials in order.
 use Rattle.std.proofs.Common.{◌≡◌, ℕ, ◌+◌, ◌%◌, List, [], ◌∷◌, ◌++◌, length, sym, ◌∙◌, ap, arith, append_assoc, append-nil}
 use Rattle.std.proofs.lemmas.List.{length_push}
-use Rattle.secret_calls.specs.declared.out.Out.{Out}
-use Rattle.secret_calls.specs.Outs.{spelled}
-use Rattle.secret_calls.specs.Serials.{last_serial}
+use Rattle.service_desk.specs.secret_calls.specs.declared.out.Out.{Out}
+use Rattle.service_desk.specs.secret_calls.specs.Outs.{spelled}
+use Rattle.service_desk.specs.secret_calls.specs.Serials.{last_serial}
 use Rattle.connection_worker.specs.Written.{serial_behind, spelled_behind}
 use Rattle.connection_worker.specs.Sending.{Spells}
 

@@ -4,37 +4,37 @@ use Rattle.std.specs.List.{AllByRecursion, cons_option, filter_map}
 use Rattle.std.specs.Option.{option_and_then, option_map}
 use Rattle.kr_base.specs.declared.ids.ConnId.{ConnId}
 use Rattle.kr_base.specs.declared.ids.PromptId.{PromptId}
-use Rattle.collection_table.specs.Rows.{Rows}
+use Rattle.service_desk.specs.collection_table.specs.Rows.{Rows}
 use Rattle.prompt_state.specs.Prompts.{ask_at, asked_again, asks, ended_row, registered, row_at}
 use Rattle.prompt_state.specs.declared.row.Ask.{Ask}
 use Rattle.prompt_state.specs.declared.row.PromptRow.{PromptRow}
 use Rattle.prompt_state.specs.declared.row.Prompts.{Prompts}
-use Rattle.secret_calls.specs.declared.out.Body.{Body}
-use Rattle.secret_calls.specs.declared.out.ErrorName.{ErrorName}
-use Rattle.secret_calls.specs.declared.out.Out.{Out}
-use Rattle.secret_calls.specs.declared.serial.Serial.{Serial}
-use Rattle.secret_calls.specs.declared.work.Work.{Work}
-use Rattle.service_tables.specs.Connections.{sent_to}
-use Rattle.service_tables.specs.Questions.{CollectionQuestions}
-use Rattle.service_tables.specs.State.{State}
-use Rattle.service_tables.specs.Storing.{Brought}
-use Rattle.service_tables.specs.declared.fate.Fate.{Fate}
-use Rattle.service_tables.specs.declared.rows.Sent.{Sent}
-use Rattle.service_tables.proofs.EachLemmas.{each-append}
-use Rattle.service_prompts.specs.Prompting.{ask_sent, ask_signal, ask_signal_in, completed_sent, completed_signal}
-use Rattle.service_events.specs.declared.event.Derivation.{Derivation}
-use Rattle.service_events.specs.declared.event.Recorded.{Recorded}
-use Rattle.service_events.specs.Derivation.{derived}
-use Rattle.service_events.specs.PromptCalls.{asks_for, completes, go_on_sent, is_over, passed_kind}
-use Rattle.service_events.specs.Single.{TimedKey}
-use Rattle.service_events.specs.Plan.{Change, Open_session, Close_session, Lock_collection, Begin_prompt, Ask_prompt, Derive_key, Count_wrong, Clear_wrong, Go_on, Finish_target, Drop_target, End_prompt, Become_agent, Leave_agent, Plan, Ends, After, Asks, Opens}
-use Rattle.service_events.specs.Run.{asked, demanded, led, performed, performed_all, run, sent_all, sent_by, unlocked_with}
-use Rattle.service_events.specs.Step.{brought_by, brought_derived, finished, message_of, put_out, served, terms_of}
-use Rattle.service_events.proofs.RunLemmas.{plan_for}
+use Rattle.service_desk.specs.secret_calls.specs.declared.out.Body.{Body}
+use Rattle.service_desk.specs.secret_calls.specs.declared.out.ErrorName.{ErrorName}
+use Rattle.service_desk.specs.secret_calls.specs.declared.out.Out.{Out}
+use Rattle.service_desk.specs.secret_calls.specs.declared.serial.Serial.{Serial}
+use Rattle.service_desk.specs.secret_calls.specs.declared.work.Work.{Work}
+use Rattle.service_desk.specs.service_tables.specs.Connections.{sent_to}
+use Rattle.service_desk.specs.service_tables.specs.Questions.{CollectionQuestions}
+use Rattle.service_desk.specs.service_tables.specs.State.{State}
+use Rattle.service_desk.specs.service_tables.specs.Storing.{Brought}
+use Rattle.service_desk.specs.service_tables.specs.declared.fate.Fate.{Fate}
+use Rattle.service_desk.specs.service_tables.specs.declared.rows.Sent.{Sent}
+use Rattle.service_desk.specs.service_tables.proofs.EachLemmas.{each-append}
+use Rattle.service_desk.specs.service_prompts.specs.Prompting.{ask_sent, ask_signal, ask_signal_in, completed_sent, completed_signal}
+use Rattle.service_desk.specs.service_events.specs.declared.event.Derivation.{Derivation}
+use Rattle.service_desk.specs.service_events.specs.declared.event.Recorded.{Recorded}
+use Rattle.service_desk.specs.service_events.specs.Derivation.{derived}
+use Rattle.service_desk.specs.service_events.specs.PromptCalls.{asks_for, completes, go_on_sent, is_over, passed_kind}
+use Rattle.service_desk.specs.service_events.specs.Single.{TimedKey}
+use Rattle.service_desk.specs.service_events.specs.Plan.{Change, Open_session, Close_session, Lock_collection, Begin_prompt, Ask_prompt, Derive_key, Count_wrong, Clear_wrong, Go_on, Finish_target, Drop_target, End_prompt, Become_agent, Leave_agent, Plan, Ends, After, Asks, Opens}
+use Rattle.service_desk.specs.service_events.specs.Run.{asked, demanded, led, performed, performed_all, run, sent_all, sent_by, unlocked_with}
+use Rattle.service_desk.specs.service_events.specs.Step.{brought_by, brought_derived, finished, message_of, put_out, served, terms_of}
+use Rattle.service_desk.specs.service_events.proofs.RunLemmas.{plan_for}
 use Rattle.connection_worker.specs.Replies.{is_reply, key_outputs}
 use Rattle.connection_worker.proofs.ServingLemmas.{same}
-use Rattle.service_tables.specs.Opened.{contents_of}
-use Rattle.service_tables.specs.Reading.{asked_collections}
+use Rattle.service_desk.specs.service_tables.specs.Opened.{contents_of}
+use Rattle.service_desk.specs.service_tables.specs.Reading.{asked_collections}
 
 -- each of them is a signal
 abbrev AreSignals : List Sent → Type 0

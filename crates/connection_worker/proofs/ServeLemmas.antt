@@ -15,8 +15,8 @@ use Rattle.connection_worker.specs.declared.ending.End.TheVariants as end
 use Rattle.connection_worker.specs.Arrivals.{calls_in, AllRequests, FirstRequests}
 use Rattle.connection_worker.specs.Streams.{Input, Output, Took, IsStill, Gave}
 use Rattle.kr_base.specs.declared.ids.ConnId.{ConnId}
-use Rattle.service_tables.specs.State.{State}
-use Rattle.service_events.specs.Single.{AllFinished, AreFinished, TimedRequest, requests_of, turns}
+use Rattle.service_desk.specs.service_tables.specs.State.{State}
+use Rattle.service_desk.specs.service_events.specs.Single.{AllFinished, AreFinished, TimedRequest, requests_of, turns}
 use Rattle.connection_worker.specs.Written.{written_after}
 use Rattle.connection_worker.specs.Serving.{World, IsOwed, EndsEarly}
 use Rattle.connection_worker.specs.Answering.{IsEarly, MayRefuse, ServedPrefix, AnswersEarly, AnswersAll}

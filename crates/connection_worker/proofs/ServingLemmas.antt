@@ -1,22 +1,22 @@
 -- What the calls of a desk that is alone change.
 use Rattle.std.proofs.Common.{◌≡◌, ℕ, ◌≤◌, IsTrue, true, false, List, [], ◌∷◌, length, Option, Some, refl, ap, ◌∙◌, subst, arith, rules, nat_lt, ◌==◌}
 use Rattle.kr_outside.specs.Clock.{GivesFirst}
-use Rattle.secret_calls.specs.declared.out.Out.{Out}
-use Rattle.secret_calls.specs.declared.work.Work.{Work}
-use Rattle.secret_calls.specs.Works.{finished}
-use Rattle.service_events.specs.declared.event.Derivation.{Derivation}
-use Rattle.service_events.specs.declared.event.Event.TheVariants as event
-use Rattle.service_events.specs.declared.event.Output.TheVariants as output
-use Rattle.service_events.specs.Incoming.{IsBroughtBy}
-use Rattle.service_events.specs.Replay.{replay}
-use Rattle.service_events.specs.Step.{output_of}
-use Rattle.service_tables.specs.Connections.{has, desk_of}
-use Rattle.service_tables.specs.Limits.{most_events}
+use Rattle.service_desk.specs.secret_calls.specs.declared.out.Out.{Out}
+use Rattle.service_desk.specs.secret_calls.specs.declared.work.Work.{Work}
+use Rattle.service_desk.specs.secret_calls.specs.Works.{finished}
+use Rattle.service_desk.specs.service_events.specs.declared.event.Derivation.{Derivation}
+use Rattle.service_desk.specs.service_events.specs.declared.event.Event.TheVariants as event
+use Rattle.service_desk.specs.service_events.specs.declared.event.Output.TheVariants as output
+use Rattle.service_desk.specs.service_events.specs.Incoming.{IsBroughtBy}
+use Rattle.service_desk.specs.service_events.specs.Replay.{replay}
+use Rattle.service_desk.specs.service_events.specs.Step.{output_of}
+use Rattle.service_desk.specs.service_tables.specs.Connections.{has, desk_of}
+use Rattle.service_desk.specs.service_tables.specs.Limits.{most_events}
 use Rattle.service_desk.specs.Places.{Told, Place, Looks, Extends}
 use Rattle.service_desk.specs.Calls.{Finishes}
 use Rattle.service_desk.proofs.RecordLemmas.{alone-looks, alone-extends}
 use Rattle.connection_worker.specs.Salts.{Salting, words_at}
-use Rattle.service_events.specs.Single.{TimedKey, TimedRequest, arrival, derivation, work_for, work_in}
+use Rattle.service_desk.specs.service_events.specs.Single.{TimedKey, TimedRequest, arrival, derivation, work_for, work_in}
 use Rattle.connection_worker.specs.Serving.{IsOwed, behind_salt, HasArrived, HasAsked, HasBrought, HasLost}
 
 -- a number is itself

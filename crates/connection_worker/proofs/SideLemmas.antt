@@ -1,11 +1,11 @@
 -- What several calls of a desk recorded of its own, among the events of others.
 use Rattle.std.proofs.Common.{◌≡◌, ◌<◌, List, [], ◌∷◌, ◌++◌, refl, sym, ◌∙◌, ap, subst}
-use Rattle.secret_calls.specs.declared.taken.Refused.{Refused}
-use Rattle.secret_calls.specs.declared.taken.Refused.TheVariants as refusal
-use Rattle.service_tables.specs.Limits.{most_events, IsSpent}
-use Rattle.service_events.specs.declared.event.Event.{Event}
-use Rattle.service_events.specs.declared.event.Output.{Output}
-use Rattle.service_events.specs.Step.{IsMissing}
+use Rattle.service_desk.specs.secret_calls.specs.declared.taken.Refused.{Refused}
+use Rattle.service_desk.specs.secret_calls.specs.declared.taken.Refused.TheVariants as refusal
+use Rattle.service_desk.specs.service_tables.specs.Limits.{most_events, IsSpent}
+use Rattle.service_desk.specs.service_events.specs.declared.event.Event.{Event}
+use Rattle.service_desk.specs.service_events.specs.declared.event.Output.{Output}
+use Rattle.service_desk.specs.service_events.specs.Step.{IsMissing}
 use Rattle.service_desk.specs.Calls.{IsRefusal}
 use Rattle.service_desk.specs.Places.{Place, Looks, Extends}
 use Rattle.service_desk.specs.Records.{Seen, Others, Own, Records, of_others}

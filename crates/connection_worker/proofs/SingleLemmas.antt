@@ -5,12 +5,12 @@ use Rattle.dbus_auth.specs.Handshake as shaking
 use Rattle.dbus_auth.specs.Conversation.{continued}
 use Rattle.dbus_auth.proofs.HandshakeLemmas.{handshake-nothing, handshake-append}
 use Rattle.dbus_framing.specs.Framers.{Framing}
-use Rattle.service_tables.specs.Sound.{IsSound}
-use Rattle.service_tables.specs.State.{State}
-use Rattle.service_events.specs.declared.event.Event.TheVariants as event
-use Rattle.service_events.specs.declared.event.Output.TheVariants as output
-use Rattle.service_tables.specs.Connections.{has}
-use Rattle.service_events.specs.Replay.{replay}
+use Rattle.service_desk.specs.service_tables.specs.Sound.{IsSound}
+use Rattle.service_desk.specs.service_tables.specs.State.{State}
+use Rattle.service_desk.specs.service_events.specs.declared.event.Event.TheVariants as event
+use Rattle.service_desk.specs.service_events.specs.declared.event.Output.TheVariants as output
+use Rattle.service_desk.specs.service_tables.specs.Connections.{has}
+use Rattle.service_desk.specs.service_events.specs.Replay.{replay}
 use Rattle.service_desk.specs.Places.{Told, Place}
 use Rattle.service_desk.specs.Records.{Records, of_own}
 use Rattle.service_desk.specs.Calls.{Goes}
@@ -21,7 +21,7 @@ use Rattle.connection_worker.specs.Causes.{AllServed, FirstServed, HasCause, Has
 use Rattle.connection_worker.specs.Handshakes.{IsRefusedFor, EndsFor, HandshakeOutcome}
 use Rattle.connection_worker.specs.Streams.{Input, Output, IsStill, Gave}
 use Rattle.kr_base.specs.declared.ids.ConnId.{ConnId}
-use Rattle.service_events.specs.Single.{AreFinished, TimedRequest, turns, single}
+use Rattle.service_desk.specs.service_events.specs.Single.{AreFinished, TimedRequest, turns, single}
 use Rattle.connection_worker.specs.Written.{given_by, spelled_behind, written_after, taken_by, written}
 use Rattle.connection_worker.specs.Serving.{World, place_of, HasJoined, IsOwed, Recorded}
 use Rattle.connection_worker.specs.ServingOn.{ServesOn}

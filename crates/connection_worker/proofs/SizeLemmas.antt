@@ -13,7 +13,7 @@ use Rattle.dbus_marshal.specs.Spelling.{all_spelled, first_at}
 use Rattle.dbus_marshal.specs.Wire.{behind, number_bytes, padding, start_of, zeros}
 use Rattle.dbus_marshal.proofs.WritingLemmas.{zeros_long}
 use Rattle.dbus_sending.specs.Sent as sending
-use Rattle.collection_table.specs.Rows.{Rows}
+use Rattle.service_desk.specs.collection_table.specs.Rows.{Rows}
 use Rattle.prompt_state.specs.Prompts.{ask_in, ask_to, asks_of, row_at}
 use Rattle.prompt_state.specs.declared.row.Ask.{Ask}
 use Rattle.prompt_state.specs.declared.row.Ended.{Ended}
@@ -24,20 +24,20 @@ use Rattle.prompt_state.specs.declared.row.Prompts.{Prompts}
 use Rattle.prompt_state.specs.declared.row.Stage.{Stage}
 use Rattle.prompt_state.specs.declared.row.Stage.TheVariants.{Made, Asked, Deriving}
 use Rattle.prompt_state.specs.declared.targets.Target.{Target}
-use Rattle.secret_calls.specs.Outs.{kind_text, path_values, paths_value, prompt_path, shown_label, signal_values, sent, spelled_body}
-use Rattle.secret_calls.specs.declared.out.Out.TheVariants as out
-use Rattle.secret_calls.specs.declared.signal.AskKind.{AskKind}
-use Rattle.secret_calls.specs.declared.signal.AskKind.TheVariants as kind
-use Rattle.secret_calls.specs.declared.signal.Completion.{Completion}
-use Rattle.secret_calls.specs.declared.signal.Signal.{Signal}
-use Rattle.secret_calls.specs.declared.signal.Signal.TheVariants as signal
-use Rattle.secret_calls.proofs.LengthLemmas.{AllAtMost, AtMost, array-most, byte-most, end-most, long-most, more-most, path-most, text-most, word-most}
-use Rattle.secret_calls.proofs.SizeLemmas.{completed-values, fields-most, label-short, prompt-short, result_body}
-use Rattle.service_tables.specs.Connections.{size_of}
-use Rattle.service_tables.specs.Targets.{weight, weight_of}
-use Rattle.service_tables.specs.declared.rows.Sent.{Sent}
-use Rattle.service_prompts.specs.Prompting.{ask_signal, ask_signal_in, asks_sent, completed_signal, completion_of, label_asked, purpose_of}
-use Rattle.service_prompts.specs.Unlocking.{given_of}
+use Rattle.service_desk.specs.secret_calls.specs.Outs.{kind_text, path_values, paths_value, prompt_path, shown_label, signal_values, sent, spelled_body}
+use Rattle.service_desk.specs.secret_calls.specs.declared.out.Out.TheVariants as out
+use Rattle.service_desk.specs.secret_calls.specs.declared.signal.AskKind.{AskKind}
+use Rattle.service_desk.specs.secret_calls.specs.declared.signal.AskKind.TheVariants as kind
+use Rattle.service_desk.specs.secret_calls.specs.declared.signal.Completion.{Completion}
+use Rattle.service_desk.specs.secret_calls.specs.declared.signal.Signal.{Signal}
+use Rattle.service_desk.specs.secret_calls.specs.declared.signal.Signal.TheVariants as signal
+use Rattle.service_desk.specs.secret_calls.proofs.LengthLemmas.{AllAtMost, AtMost, array-most, byte-most, end-most, long-most, more-most, path-most, text-most, word-most}
+use Rattle.service_desk.specs.secret_calls.proofs.SizeLemmas.{completed-values, fields-most, label-short, prompt-short, result_body}
+use Rattle.service_desk.specs.service_tables.specs.Connections.{size_of}
+use Rattle.service_desk.specs.service_tables.specs.Targets.{weight, weight_of}
+use Rattle.service_desk.specs.service_tables.specs.declared.rows.Sent.{Sent}
+use Rattle.service_desk.specs.service_prompts.specs.Prompting.{ask_signal, ask_signal_in, asks_sent, completed_signal, completion_of, label_asked, purpose_of}
+use Rattle.service_desk.specs.service_prompts.specs.Unlocking.{given_of}
 
 -- how many bytes outputs on their way have
 abbrev pub size_sent : List Sent → ℕ

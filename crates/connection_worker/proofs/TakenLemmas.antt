@@ -1,13 +1,13 @@
 -- What events give to the connection is what its takes returned.
 use Rattle.std.proofs.Common.{◌≡◌, Bool, true, false, cond, List, [], ◌∷◌, ◌++◌, Option, Some, None, refl, sym, ◌∙◌, ap, append_assoc}
 use Rattle.kr_base.specs.declared.ids.ConnId.{ConnId}
-use Rattle.secret_calls.specs.declared.work.Work.{Work}
-use Rattle.service_tables.specs.State.{State}
-use Rattle.service_events.specs.declared.event.Event.{Event}
-use Rattle.service_events.specs.declared.event.Event.TheVariants as event
-use Rattle.service_events.specs.Step.{step}
-use Rattle.service_events.specs.Replay.{replay}
-use Rattle.service_events.specs.Single.{TimedKey, TimedRequest, arrival, asking, derivation, finishing, is_owed, taking, turn, turns, single, work_for}
+use Rattle.service_desk.specs.secret_calls.specs.declared.work.Work.{Work}
+use Rattle.service_desk.specs.service_tables.specs.State.{State}
+use Rattle.service_desk.specs.service_events.specs.declared.event.Event.{Event}
+use Rattle.service_desk.specs.service_events.specs.declared.event.Event.TheVariants as event
+use Rattle.service_desk.specs.service_events.specs.Step.{step}
+use Rattle.service_desk.specs.service_events.specs.Replay.{replay}
+use Rattle.service_desk.specs.service_events.specs.Single.{TimedKey, TimedRequest, arrival, asking, derivation, finishing, is_owed, taking, turn, turns, single, work_for}
 use Rattle.service_desk.specs.Records as records
 use Rattle.service_desk.proofs.RecordLemmas.{own-append}
 use Rattle.connection_worker.specs.Written.{given_by}

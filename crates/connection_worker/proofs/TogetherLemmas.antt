@@ -9,8 +9,8 @@ use Rattle.kr_base.specs.declared.ids.ConnId.{ConnId}
 use Rattle.kr_base.specs.declared.ids.ItemId.{ItemId}
 use Rattle.kr_base.specs.declared.ids.PromptId.{PromptId}
 use Rattle.kr_base.specs.declared.ids.SessionId.{SessionId}
-use Rattle.collection_table.specs.Rows.{Rows, has as has_collection, has_item, is_open}
-use Rattle.folder_store.specs.Limits.{the_limits}
+use Rattle.service_desk.specs.collection_table.specs.Rows.{Rows, has as has_collection, has_item, is_open}
+use Rattle.service_desk.specs.folder_store.specs.Limits.{the_limits}
 use Rattle.prompt_state.specs.Prompts.{ended_row, is_agent, is_made, is_of, is_taken, last_round, owns, refusal, registered, round_of, row_at}
 use Rattle.prompt_state.specs.Targets.{all_left}
 use Rattle.prompt_state.specs.declared.row.PromptKind.{PromptKind}
@@ -18,49 +18,49 @@ use Rattle.prompt_state.specs.declared.row.PromptKind.TheVariants as kind
 use Rattle.prompt_state.specs.declared.row.PromptRow.{PromptRow}
 use Rattle.prompt_state.specs.declared.table.PromptRefused.{PromptRefused}
 use Rattle.prompt_state.specs.declared.targets.Target.{Target}
-use Rattle.secret_calls.specs.declared.call.Call.{Call}
-use Rattle.secret_calls.specs.declared.call.Call.TheVariants as call
-use Rattle.secret_calls.specs.declared.call.CallFault.{CallFault}
-use Rattle.secret_calls.specs.declared.call.Request.{Request}
-use Rattle.secret_calls.specs.declared.out.Body.{Body}
-use Rattle.secret_calls.specs.declared.out.Body.TheVariants as body
-use Rattle.secret_calls.specs.declared.out.ErrorName.{ErrorName}
-use Rattle.secret_calls.specs.declared.out.ErrorName.TheVariants as name
-use Rattle.secret_calls.specs.Outs.{most_waiting}
-use Rattle.secret_calls.proofs.SizeLemmas.{return-short}
-use Rattle.service_tables.specs.Connections.{has, size_of, size_waiting, sent_to}
-use Rattle.service_tables.specs.Limits.{most_content, most_weight}
-use Rattle.service_tables.specs.Objects.{alias_target, collection_named}
-use Rattle.service_tables.specs.Opened.{contents_of}
-use Rattle.service_tables.specs.Questions.{CollectionQuestions}
-use Rattle.service_tables.specs.Reading.{asked_collections}
-use Rattle.service_tables.specs.Sound.{IsSound, IsSoundKind, IsSoundPrompt}
-use Rattle.service_tables.specs.State.{State}
-use Rattle.service_tables.specs.Storing.{Add_item, Brought, Edit, Remove_item, Set_secret}
-use Rattle.service_tables.specs.Targets.{are_light, weight, weight_of}
-use Rattle.service_tables.specs.declared.fate.Fate.{Fate}
-use Rattle.service_tables.specs.declared.fate.Fate.TheVariants as fate
-use Rattle.service_tables.specs.declared.rows.ConnRow.{ConnRow}
-use Rattle.service_tables.specs.declared.rows.Sent.{Sent}
-use Rattle.service_tables.proofs.EachLemmas.{each-weaker}
-use Rattle.service_prompts.specs.Prompting.{completed_signal}
-use Rattle.service_prompts.specs.Unlocking.{targets_of, unlocked_there}
-use Rattle.service_prompts.proofs.SignalLemmas.{found-row}
-use Rattle.service_events.specs.declared.event.Recorded.{Recorded}
-use Rattle.service_events.specs.AgentCalls.{refuse, unless_refused}
-use Rattle.service_events.specs.AliasCalls.{alias_settled, alias_stored, on_target, once_read}
-use Rattle.service_events.specs.AnswerCalls.{answer_prompt, deriving_key, going_on, kind_answered, left_answered, row_answered, target_answered}
-use Rattle.service_events.specs.CollectionCalls.{by_fate, if_open, made, no_prompt, on_collection, secret_stored, storing, storing_secret}
-use Rattle.service_events.specs.Plan.{Become_agent, Begin_prompt, End_prompt, Go_on, Leave_agent, Demand, Store, Erase, Set_alias, Read_aliases, Read_collection, Plan, Ends, After, Asks, Opens, Questions, answered, refused}
-use Rattle.service_events.specs.PromptCalls.{advance_sent, asks_for, completes, first_advance, go_on_sent, is_over, passed, passed_kind, row_advance}
-use Rattle.service_events.specs.Run.{Ran, asked, demanded, led, run, sent_all}
-use Rattle.service_events.specs.ServiceCalls.{answered_if_small, creating, is_small, next_prompt, no_collection, there_already, unlocking, with_new_prompt}
-use Rattle.service_events.specs.SessionCalls.{with_session}
-use Rattle.service_events.specs.Step.{brought_by, message_of, plan_of, put_out, replies, row_of, served}
-use Rattle.service_events.specs.Stored.{IsPlain}
-use Rattle.service_events.proofs.RunLemmas.{EndsSilently, plain-row, plan_for, silent-all}
-use Rattle.service_events.proofs.SendLemmas.{advance-sends}
-use Rattle.service_events.proofs.SmallLemmas.{reply-small}
+use Rattle.service_desk.specs.secret_calls.specs.declared.call.Call.{Call}
+use Rattle.service_desk.specs.secret_calls.specs.declared.call.Call.TheVariants as call
+use Rattle.service_desk.specs.secret_calls.specs.declared.call.CallFault.{CallFault}
+use Rattle.service_desk.specs.secret_calls.specs.declared.call.Request.{Request}
+use Rattle.service_desk.specs.secret_calls.specs.declared.out.Body.{Body}
+use Rattle.service_desk.specs.secret_calls.specs.declared.out.Body.TheVariants as body
+use Rattle.service_desk.specs.secret_calls.specs.declared.out.ErrorName.{ErrorName}
+use Rattle.service_desk.specs.secret_calls.specs.declared.out.ErrorName.TheVariants as name
+use Rattle.service_desk.specs.secret_calls.specs.Outs.{most_waiting}
+use Rattle.service_desk.specs.secret_calls.proofs.SizeLemmas.{return-short}
+use Rattle.service_desk.specs.service_tables.specs.Connections.{has, size_of, size_waiting, sent_to}
+use Rattle.service_desk.specs.service_tables.specs.Limits.{most_content, most_weight}
+use Rattle.service_desk.specs.service_tables.specs.Objects.{alias_target, collection_named}
+use Rattle.service_desk.specs.service_tables.specs.Opened.{contents_of}
+use Rattle.service_desk.specs.service_tables.specs.Questions.{CollectionQuestions}
+use Rattle.service_desk.specs.service_tables.specs.Reading.{asked_collections}
+use Rattle.service_desk.specs.service_tables.specs.Sound.{IsSound, IsSoundKind, IsSoundPrompt}
+use Rattle.service_desk.specs.service_tables.specs.State.{State}
+use Rattle.service_desk.specs.service_tables.specs.Storing.{Add_item, Brought, Edit, Remove_item, Set_secret}
+use Rattle.service_desk.specs.service_tables.specs.Targets.{are_light, weight, weight_of}
+use Rattle.service_desk.specs.service_tables.specs.declared.fate.Fate.{Fate}
+use Rattle.service_desk.specs.service_tables.specs.declared.fate.Fate.TheVariants as fate
+use Rattle.service_desk.specs.service_tables.specs.declared.rows.ConnRow.{ConnRow}
+use Rattle.service_desk.specs.service_tables.specs.declared.rows.Sent.{Sent}
+use Rattle.service_desk.specs.service_tables.proofs.EachLemmas.{each-weaker}
+use Rattle.service_desk.specs.service_prompts.specs.Prompting.{completed_signal}
+use Rattle.service_desk.specs.service_prompts.specs.Unlocking.{targets_of, unlocked_there}
+use Rattle.service_desk.specs.service_prompts.proofs.SignalLemmas.{found-row}
+use Rattle.service_desk.specs.service_events.specs.declared.event.Recorded.{Recorded}
+use Rattle.service_desk.specs.service_events.specs.AgentCalls.{refuse, unless_refused}
+use Rattle.service_desk.specs.service_events.specs.AliasCalls.{alias_settled, alias_stored, on_target, once_read}
+use Rattle.service_desk.specs.service_events.specs.AnswerCalls.{answer_prompt, deriving_key, going_on, kind_answered, left_answered, row_answered, target_answered}
+use Rattle.service_desk.specs.service_events.specs.CollectionCalls.{by_fate, if_open, made, no_prompt, on_collection, secret_stored, storing, storing_secret}
+use Rattle.service_desk.specs.service_events.specs.Plan.{Become_agent, Begin_prompt, End_prompt, Go_on, Leave_agent, Demand, Store, Erase, Set_alias, Read_aliases, Read_collection, Plan, Ends, After, Asks, Opens, Questions, answered, refused}
+use Rattle.service_desk.specs.service_events.specs.PromptCalls.{advance_sent, asks_for, completes, first_advance, go_on_sent, is_over, passed, passed_kind, row_advance}
+use Rattle.service_desk.specs.service_events.specs.Run.{Ran, asked, demanded, led, run, sent_all}
+use Rattle.service_desk.specs.service_events.specs.ServiceCalls.{answered_if_small, creating, is_small, next_prompt, no_collection, there_already, unlocking, with_new_prompt}
+use Rattle.service_desk.specs.service_events.specs.SessionCalls.{with_session}
+use Rattle.service_desk.specs.service_events.specs.Step.{brought_by, message_of, plan_of, put_out, replies, row_of, served}
+use Rattle.service_desk.specs.service_events.specs.Stored.{IsPlain}
+use Rattle.service_desk.specs.service_events.proofs.RunLemmas.{EndsSilently, plain-row, plan_for, silent-all}
+use Rattle.service_desk.specs.service_events.proofs.SendLemmas.{advance-sends}
+use Rattle.service_desk.specs.service_events.proofs.SmallLemmas.{reply-small}
 use Rattle.connection_worker.proofs.SizeLemmas.{asks-size, done_weight, one-ask, one-completed, size_sent}
 
 -- nothing is sent beside the reply; or the reply is empty, and what is sent is short enough to wait beside it

@@ -7,7 +7,7 @@ use Rattle.dbus_framing.specs.declared.violation.Violation.TheVariants as violat
 use Rattle.dbus_framing.specs.Messages.{Parts}
 use Rattle.dbus_framing.specs.Streams.{Stream, Breaks, early, late}
 use Rattle.dbus_framing.proofs.Cuts.{cut_none, cut_more, breaks_stay, breaks_none, one_stream, stream_then}
-use Rattle.secret_calls.specs.declared.call.Request.{Request}
+use Rattle.service_desk.specs.secret_calls.specs.declared.call.Request.{Request}
 use Rattle.connection_worker.specs.declared.ending.End.{End}
 use Rattle.connection_worker.specs.declared.ending.End.TheVariants as end
 use Rattle.connection_worker.specs.Causes.{IsViolated}

@@ -2,16 +2,16 @@
 use Rattle.std.proofs.Common.{◌≡◌, ℕ, ◌+◌, ◌≤◌, ◌⊎◌, Bool, true, false, inl, inr, List, [], ◌∷◌, ◌++◌, length, map, Result, Ok, Err, refl, sym, ◌∙◌, ap, arith, subst, append_assoc, append-nil, length-append}
 use Rattle.std.proofs.lemmas.List.{map-append}
 use Rattle.kr_base.specs.declared.ids.ConnId.{ConnId}
-use Rattle.secret_calls.specs.declared.out.Out.{Out}
-use Rattle.secret_calls.specs.declared.taken.Taken.{Taken}
-use Rattle.secret_calls.specs.declared.taken.Taken.TheVariants as taken
-use Rattle.service_tables.specs.State.{State}
-use Rattle.service_events.specs.declared.event.Event.{Event}
-use Rattle.service_events.specs.declared.event.Event.TheVariants as event
-use Rattle.service_events.specs.declared.event.Output.TheVariants as output
-use Rattle.service_events.specs.Replay.{replay}
-use Rattle.service_events.specs.Step.{IsMissing}
-use Rattle.service_events.proofs.ReplayLemmas.{replay-append}
+use Rattle.service_desk.specs.secret_calls.specs.declared.out.Out.{Out}
+use Rattle.service_desk.specs.secret_calls.specs.declared.taken.Taken.{Taken}
+use Rattle.service_desk.specs.secret_calls.specs.declared.taken.Taken.TheVariants as taken
+use Rattle.service_desk.specs.service_tables.specs.State.{State}
+use Rattle.service_desk.specs.service_events.specs.declared.event.Event.{Event}
+use Rattle.service_desk.specs.service_events.specs.declared.event.Event.TheVariants as event
+use Rattle.service_desk.specs.service_events.specs.declared.event.Output.TheVariants as output
+use Rattle.service_desk.specs.service_events.specs.Replay.{replay}
+use Rattle.service_desk.specs.service_events.specs.Step.{IsMissing}
+use Rattle.service_desk.specs.service_events.proofs.ReplayLemmas.{replay-append}
 use Rattle.service_desk.specs.Calls.{IsToldOf, Takes, Goes}
 use Rattle.service_desk.specs.Places.{Told, Place, Looks, Extends}
 use Rattle.service_desk.specs.Records.{Seen, Own, Records, event_of, events_of, of_others, given}

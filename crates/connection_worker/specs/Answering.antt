@@ -9,7 +9,7 @@ use Rattle.connection_worker.specs.declared.ending.End.TheVariants as end
 use Rattle.connection_worker.specs.Arrivals.{calls_in, AreRequests, FirstRequests}
 use Rattle.connection_worker.specs.Sending.{AreBehind}
 use Rattle.connection_worker.specs.Serving.{World, IsOwed, Recorded, EndsEarly}
-use Rattle.service_events.specs.Single.{AllFinished, AreFinished, TimedRequest, requests_of, turns}
+use Rattle.service_desk.specs.service_events.specs.Single.{AllFinished, AreFinished, TimedRequest, requests_of, turns}
 use Rattle.connection_worker.specs.Streams.{Output, StaysAsOpen, Gave}
 use Rattle.connection_worker.specs.Written.{given_by, written_after}
 

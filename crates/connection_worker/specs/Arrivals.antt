@@ -1,6 +1,6 @@
 -- The requests in the bytes of a connection.
 use Rattle.std.specs.Prelude.{ℕ, ◌==◌, List, [], ◌∷◌, ◌++◌, filter}
-use Rattle.secret_calls.specs.declared.call.Request.{Request}
+use Rattle.service_desk.specs.secret_calls.specs.declared.call.Request.{Request}
 use Rattle.call_wire.specs.CallOf.{CallOf}
 use Rattle.dbus_framing.specs.Messages.{Parts}
 use Rattle.dbus_framing.specs.Streams.{Cut, Stream}

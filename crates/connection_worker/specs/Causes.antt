@@ -6,14 +6,14 @@ use Rattle.dbus_auth.specs.Handshake as shaking
 use Rattle.dbus_framing.specs.declared.violation.Violation.{Violation}
 use Rattle.dbus_framing.specs.declared.violation.Violation.TheVariants as violation
 use Rattle.dbus_framing.specs.Streams.{Breaks}
-use Rattle.service_tables.specs.Limits.{IsSpent}
+use Rattle.service_desk.specs.service_tables.specs.Limits.{IsSpent}
 use Rattle.connection_worker.specs.declared.ending.End.{End}
 use Rattle.connection_worker.specs.declared.ending.End.TheVariants as end
 use Rattle.connection_worker.specs.Arrivals.{AllRequests, FirstRequests}
 use Rattle.connection_worker.specs.Handshakes.{most_bytes, Awaits, IsRefusedFor}
 use Rattle.kr_base.specs.declared.ids.ConnId.{ConnId}
-use Rattle.service_tables.specs.State.{State}
-use Rattle.service_events.specs.Single.{AllFinished, AreFinished, TimedRequest, requests_of}
+use Rattle.service_desk.specs.service_tables.specs.State.{State}
+use Rattle.service_desk.specs.service_events.specs.Single.{AllFinished, AreFinished, TimedRequest, requests_of}
 use Rattle.connection_worker.specs.Streams.{Input, Output, IsStill, Gave, GaveFront}
 
 -- all complete requests after the handshake were recorded, and the rest is this one

@@ -1,3 +1,6 @@
+pub use Rattle.call_wire
+pub use Rattle.service_desk
+pub use Rattle.service_desk.specs.service_events
 pub mod Answering
 pub mod Arrivals
 pub mod Causes

@@ -6,7 +6,7 @@ use Rattle.service_desk.specs.Records.{Records, of_own}
 use Rattle.connection_worker.specs.declared.ending.End.{End}
 use Rattle.connection_worker.specs.Causes.{HasCause, HasFinished, HasWritten, HasRefused}
 use Rattle.connection_worker.specs.Serving.{World, place_of, GivesMoments, GivesSalts}
-use Rattle.service_events.specs.Single.{TimedRequest, AllFaultless, moments_of, turns, single}
+use Rattle.service_desk.specs.service_events.specs.Single.{TimedRequest, AllFaultless, moments_of, turns, single}
 use Rattle.connection_worker.specs.Streams.{Input, Output, Took}
 use Rattle.connection_worker.specs.Written.{written}
 

@@ -8,15 +8,15 @@ use Rattle.kr_outside.specs.Faults.{Rose}
 use Rattle.dbus_framing.specs.Framers.{Framing}
 use Rattle.dbus_framing.specs.Messages.{Parts}
 use Rattle.dbus_framing.specs.Streams.{Cut, Stream, Breaks}
-use Rattle.secret_calls.specs.declared.call.Request.{Request}
-use Rattle.secret_calls.specs.declared.taken.Refused.{Refused}
-use Rattle.secret_calls.specs.declared.taken.Refused.TheVariants as refusal
-use Rattle.secret_calls.specs.declared.work.Work.{Work}
-use Rattle.service_tables.specs.State.{State}
-use Rattle.service_events.specs.declared.event.Event.TheVariants as event
-use Rattle.service_events.specs.declared.event.Output.TheVariants as output
-use Rattle.service_events.specs.Single.{TimedKey, TimedRequest, arrival, derivation, moments_of, requests_of}
-use Rattle.service_events.specs.Step.{IsMissing}
+use Rattle.service_desk.specs.secret_calls.specs.declared.call.Request.{Request}
+use Rattle.service_desk.specs.secret_calls.specs.declared.taken.Refused.{Refused}
+use Rattle.service_desk.specs.secret_calls.specs.declared.taken.Refused.TheVariants as refusal
+use Rattle.service_desk.specs.secret_calls.specs.declared.work.Work.{Work}
+use Rattle.service_desk.specs.service_tables.specs.State.{State}
+use Rattle.service_desk.specs.service_events.specs.declared.event.Event.TheVariants as event
+use Rattle.service_desk.specs.service_events.specs.declared.event.Output.TheVariants as output
+use Rattle.service_desk.specs.service_events.specs.Single.{TimedKey, TimedRequest, arrival, derivation, moments_of, requests_of}
+use Rattle.service_desk.specs.service_events.specs.Step.{IsMissing}
 use Rattle.service_desk.specs.Calls.{IsRefusal, IsToldOf}
 use Rattle.service_desk.specs.Places.{Told}
 use Rattle.service_desk.specs.Records.{Seen, Own, Records}

@@ -1,14 +1,14 @@
 -- The outputs of the requests of one connection whose requests are served on one thread, and the replies among them.
 use Rattle.std.specs.Prelude.{Bool, true, false, if◌then◌else◌, List, [], ◌∷◌, ◌++◌, Option, None, Some}
 use Rattle.kr_base.specs.declared.ids.ConnId.{ConnId}
-use Rattle.secret_calls.specs.declared.out.Out.{Out}
-use Rattle.secret_calls.specs.declared.out.Out.TheVariants as out
-use Rattle.secret_calls.specs.declared.work.Work.{Work}
-use Rattle.service_tables.specs.State.{State}
-use Rattle.service_tables.specs.Connections.{sent_to}
-use Rattle.service_events.specs.Step.{message_of, puts_out, served}
-use Rattle.service_events.specs.Replay.{replay}
-use Rattle.service_events.specs.Single.{TimedKey, TimedRequest, arrival, asking, derivation, recorded_of, turn, work_for}
+use Rattle.service_desk.specs.secret_calls.specs.declared.out.Out.{Out}
+use Rattle.service_desk.specs.secret_calls.specs.declared.out.Out.TheVariants as out
+use Rattle.service_desk.specs.secret_calls.specs.declared.work.Work.{Work}
+use Rattle.service_desk.specs.service_tables.specs.State.{State}
+use Rattle.service_desk.specs.service_tables.specs.Connections.{sent_to}
+use Rattle.service_desk.specs.service_events.specs.Step.{message_of, puts_out, served}
+use Rattle.service_desk.specs.service_events.specs.Replay.{replay}
+use Rattle.service_desk.specs.service_events.specs.Single.{TimedKey, TimedRequest, arrival, asking, derivation, recorded_of, turn, work_for}
 
 -- the outputs of the key of work for its connection, if it was recorded: the signals that it sends
 abbrev pub key_outputs : ConnId → State → Option Work → Option TimedKey → List Out

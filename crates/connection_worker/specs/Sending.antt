@@ -1,8 +1,8 @@
 -- Outputs that were taken, made into bytes and written.
 use Rattle.std.specs.Prelude.{◌≡◌, ℕ, ◌+◌, ◌%◌, List, length, Result, Ok, Err}
 use Rattle.kr_outside.specs.Faults.{Rose}
-use Rattle.secret_calls.specs.declared.out.Out.{Out}
-use Rattle.secret_calls.specs.Serials.{last_serial}
+use Rattle.service_desk.specs.secret_calls.specs.declared.out.Out.{Out}
+use Rattle.service_desk.specs.secret_calls.specs.Serials.{last_serial}
 use Rattle.connection_worker.specs.declared.ending.End.{End}
 use Rattle.connection_worker.specs.declared.ending.End.TheVariants as end
 use Rattle.connection_worker.specs.Streams.{Output, StaysAsOpen, Gave, GaveFront}

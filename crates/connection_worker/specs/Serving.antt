@@ -2,12 +2,12 @@
 use Rattle.std.specs.Prelude.{◌≡◌, ℕ, ◌+◌, ◌%◌, ◌^◌, false, List, [], ◌∷◌, ◌++◌, length, map, Option, None, Result, Ok, Err}
 use Rattle.kr_outside.specs.Clock.{GivesFirst}
 use Rattle.kr_outside.specs.Faults.{Rose}
-use Rattle.service_tables.specs.Connections.{new_row, waiting_for}
-use Rattle.service_tables.specs.Limits.{IsSpent}
-use Rattle.service_tables.specs.Sound.{IsSound}
-use Rattle.secret_calls.specs.declared.call.Request.{Request}
-use Rattle.secret_calls.specs.declared.out.Out.{Out}
-use Rattle.secret_calls.specs.declared.work.Work.{Work}
+use Rattle.service_desk.specs.service_tables.specs.Connections.{new_row, waiting_for}
+use Rattle.service_desk.specs.service_tables.specs.Limits.{IsSpent}
+use Rattle.service_desk.specs.service_tables.specs.Sound.{IsSound}
+use Rattle.service_desk.specs.secret_calls.specs.declared.call.Request.{Request}
+use Rattle.service_desk.specs.secret_calls.specs.declared.out.Out.{Out}
+use Rattle.service_desk.specs.secret_calls.specs.declared.work.Work.{Work}
 use Rattle.service_desk.specs.Places.{Told, Place}
 use Rattle.service_desk.specs.Records.{Records, of_own}
 use Rattle.service_desk.specs.Views.{View}
@@ -15,7 +15,7 @@ use Rattle.connection_worker.specs.declared.ending.End.{End}
 use Rattle.connection_worker.specs.declared.ending.End.TheVariants as end
 use Rattle.connection_worker.specs.Salts.{Salting, words_at}
 use Rattle.connection_worker.specs.Sending.{AreBehind}
-use Rattle.service_events.specs.Single.{TimedKey, TimedRequest, arrival, derivation, moments_of, taking, turns, work_for}
+use Rattle.service_desk.specs.service_events.specs.Single.{TimedKey, TimedRequest, arrival, derivation, moments_of, taking, turns, work_for}
 use Rattle.connection_worker.specs.Written.{spelled_behind}
 use Rattle.connection_worker.specs.Streams.{Output, StaysAsOpen, Gave, GaveFront}
 

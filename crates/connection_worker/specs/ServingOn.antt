@@ -11,7 +11,7 @@ use Rattle.connection_worker.specs.declared.ending.End.TheVariants as end
 use Rattle.connection_worker.specs.Answering.{ServedPrefix}
 use Rattle.connection_worker.specs.Causes.{HasCause, HasFinished, HasWritten, HasRefused}
 use Rattle.connection_worker.specs.Serving.{World, IsOwed, Recorded}
-use Rattle.service_events.specs.Single.{TimedRequest, turns}
+use Rattle.service_desk.specs.service_events.specs.Single.{TimedRequest, turns}
 use Rattle.connection_worker.specs.Streams.{Input, Output, Took, IsStill}
 use Rattle.connection_worker.specs.Written.{written_after}
 

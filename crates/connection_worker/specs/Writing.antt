@@ -2,13 +2,13 @@
 use Rattle.std.specs.Prelude.{◌≡◌, ℕ, ◌⊎◌, Bool, false, true, List, [], ◌∷◌, ◌++◌, length, map, Result, Err}
 use Rattle.kr_base.specs.declared.ids.ConnId.{ConnId}
 use Rattle.kr_outside.specs.Faults.{Rose}
-use Rattle.secret_calls.specs.declared.out.Out.{Out}
-use Rattle.secret_calls.specs.declared.taken.Taken.{Taken}
-use Rattle.secret_calls.specs.declared.taken.Taken.TheVariants as taken
-use Rattle.service_tables.specs.State.{State}
-use Rattle.service_events.specs.declared.event.Event.TheVariants as event
-use Rattle.service_events.specs.declared.event.Output.TheVariants as output
-use Rattle.service_events.specs.Step.{IsMissing}
+use Rattle.service_desk.specs.secret_calls.specs.declared.out.Out.{Out}
+use Rattle.service_desk.specs.secret_calls.specs.declared.taken.Taken.{Taken}
+use Rattle.service_desk.specs.secret_calls.specs.declared.taken.Taken.TheVariants as taken
+use Rattle.service_desk.specs.service_tables.specs.State.{State}
+use Rattle.service_desk.specs.service_events.specs.declared.event.Event.TheVariants as event
+use Rattle.service_desk.specs.service_events.specs.declared.event.Output.TheVariants as output
+use Rattle.service_desk.specs.service_events.specs.Step.{IsMissing}
 use Rattle.service_desk.specs.Calls.{IsToldOf, Takes}
 use Rattle.service_desk.specs.Places.{Told, Place}
 use Rattle.service_desk.specs.Records.{Seen, Own, Records, given}

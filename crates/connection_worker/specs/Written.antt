@@ -1,15 +1,15 @@
 -- What is written for the outputs that a connection takes.
 use Rattle.std.specs.Prelude.{ℕ, ◌+◌, ◌%◌, ◌==◌, if◌then◌else◌, List, [], ◌∷◌, ◌++◌}
 use Rattle.kr_base.specs.declared.ids.ConnId.{ConnId}
-use Rattle.secret_calls.specs.declared.out.Out.{Out}
-use Rattle.secret_calls.specs.Outs.{spelled}
-use Rattle.secret_calls.specs.Serials.{last_serial}
-use Rattle.service_tables.specs.State.{State}
-use Rattle.service_tables.specs.declared.rows.ConnRow.{ConnRow}
-use Rattle.service_events.specs.declared.event.Event.{Event}
-use Rattle.service_events.specs.declared.event.Event.TheVariants as event
-use Rattle.service_tables.specs.Connections.{is_row, waiting_for}
-use Rattle.service_events.specs.Step.{step}
+use Rattle.service_desk.specs.secret_calls.specs.declared.out.Out.{Out}
+use Rattle.service_desk.specs.secret_calls.specs.Outs.{spelled}
+use Rattle.service_desk.specs.secret_calls.specs.Serials.{last_serial}
+use Rattle.service_desk.specs.service_tables.specs.State.{State}
+use Rattle.service_desk.specs.service_tables.specs.declared.rows.ConnRow.{ConnRow}
+use Rattle.service_desk.specs.service_events.specs.declared.event.Event.{Event}
+use Rattle.service_desk.specs.service_events.specs.declared.event.Event.TheVariants as event
+use Rattle.service_desk.specs.service_tables.specs.Connections.{is_row, waiting_for}
+use Rattle.service_desk.specs.service_events.specs.Step.{step}
 
 -- what an event gives to the connection
 abbrev pub given : ConnId → State → Event → List Out

@@ -3,19 +3,19 @@ ghost use Rattle.std.specs.Prelude.{◌≡◌, ◌++◌, ℕ, List, [], filter, 
 ghost use Rattle.dbus_framing.specs.Messages.{Parts};
 ghost use Rattle.dbus_framing.specs.Streams.{Stream};
 ghost use Rattle.kr_outside.specs.Faults.{StandsStill};
-ghost use Rattle.secret_calls.specs.declared.call.Request.{Request};
+ghost use Rattle.service_desk.specs.secret_calls.specs.declared.call.Request.{Request};
 ghost use Rattle.connection_worker.specs.declared.ending.End.{End};
 ghost use Rattle.connection_worker.specs.Handshakes.{most_bytes};
 ghost use Rattle.connection_worker.specs.Reading.{ReadFor, IsWholeEnd};
 ghost use Rattle.connection_worker.specs.Streams.{Input, Took};
 ghost use Rattle.kr_base.specs.declared.ids.ConnId.{ConnId};
-ghost use Rattle.service_tables.specs.State.{State};
+ghost use Rattle.service_desk.specs.service_tables.specs.State.{State};
 ghost use Rattle.service_desk.specs.Places.{Told};
 ghost use Rattle.service_desk.specs.Records as records;
 ghost use Rattle.connection_worker.specs.Replies.{is_reply, outputs_to, replies_to};
 ghost use Rattle.connection_worker.specs.Serving.{IsOwed};
-ghost use Rattle.service_events.specs.Replay.{Legal};
-ghost use Rattle.service_events.specs.Single.{TimedRequest, single};
+ghost use Rattle.service_desk.specs.service_events.specs.Replay.{Legal};
+ghost use Rattle.service_desk.specs.service_events.specs.Single.{TimedRequest, single};
 ghost use Rattle.connection_worker.specs.Written.{given_by};
 
 /// What the only connection is given is the outputs of its requests, in order, and nothing else: of each

@@ -20,6 +20,7 @@ mod serving;
 mod single;
 mod writing;
 
+pub use call_wire;
 pub use ending::End;
 pub use laws::{
     complete_messages_are_read_to_their_end, each_request_has_one_reply,
@@ -28,5 +29,6 @@ pub use laws::{
 pub use opening::handshake;
 pub use reading::read_side;
 pub use salts::{Salts, next_cells};
+pub use service_desk;
 pub use single::one_thread;
 pub use writing::write_side;

@@ -8,7 +8,7 @@ use crate::serials::Serials;
 use call_wire::message_of;
 use kr_base::OutOfMemory;
 use kr_outside::{Failed, Sink, write_all};
-use secret_calls::Out;
+use service_desk::secret_calls::Out;
 use std::alloc::Global;
 
 // Bytes, and a message after them. The first message isn't copied.

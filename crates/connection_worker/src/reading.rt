@@ -14,8 +14,8 @@ use call_wire::call_of;
 use dbus_framing::{FrameRefused, Framer};
 use dbus_types::Message;
 use kr_outside::{Clock, Source};
-use secret_calls::{Refused, Request};
 use service_desk::ReadDesk;
+use service_desk::secret_calls::{Refused, Request};
 use std::alloc::{AllocGlobal, Global};
 use std::sync::Wait;
 

@@ -1,5 +1,5 @@
 ghost use Rattle.std.specs.Prelude.{◌≡◌, ◌≢◌, ◌+◌, ◌%◌};
-ghost use Rattle.secret_calls.specs.Serials.{last_serial};
+ghost use Rattle.service_desk.specs.secret_calls.specs.Serials.{last_serial};
 
 use std::marker::Model;
 
@@ -15,7 +15,7 @@ pub struct Serials {
 
 impl Model for Serials {
     ghost use Rattle.std.specs.Prelude.{ℕ, ◌<◌};
-    ghost use Rattle.secret_calls.specs.Serials.{last_serial};
+    ghost use Rattle.service_desk.specs.secret_calls.specs.Serials.{last_serial};
 
     ghost Value = { ℕ };
 

@@ -18,7 +18,7 @@ use call_wire::call_of;
 use dbus_framing::{FrameRefused, Framer, Violation};
 use dbus_types::Message;
 use kr_outside::{Clock, Failed, Sink, Source};
-use secret_calls::{Refused, Request, Taken, Work};
+use service_desk::secret_calls::{Refused, Request, Taken, Work};
 use service_desk::{ReadDesk, WriteDesk};
 use std::alloc::{AllocGlobal, Global};
 use std::sync::Wait;

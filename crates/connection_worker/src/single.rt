@@ -1,6 +1,6 @@
 // One connection on one thread.
 ghost use Rattle.std.specs.Prelude.{◌≡◌, IsTrue, IsFalse};
-ghost use Rattle.service_tables.specs.Sound.{IsSound};
+ghost use Rattle.service_desk.specs.service_tables.specs.Sound.{IsSound};
 ghost use Rattle.connection_worker.specs.OneThread.{IsServed};
 ghost use Rattle.connection_worker.specs.Serving.{world, HasJoined};
 ghost use Rattle.connection_worker.specs.Streams.{input_of, output_of};

@@ -8,8 +8,8 @@ use crate::ending::End;
 use crate::outs::send;
 use crate::serials::Serials;
 use kr_outside::Sink;
-use secret_calls::Taken;
 use service_desk::WriteDesk;
+use service_desk::secret_calls::Taken;
 use std::alloc::{AllocGlobal, Global};
 use std::sync::Wait;
 

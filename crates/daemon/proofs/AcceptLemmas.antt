@@ -7,8 +7,8 @@ use Rattle.atomic_table.specs.Seated.{TableId}
 use Rattle.kr_base.specs.declared.ids.ConnId.{ConnId}
 use Rattle.dbus_auth.specs.Exchange.{Exchange}
 use Rattle.dbus_auth.specs.Table.{fresh}
-use Rattle.service_desk.specs.Places.{Told}
-use Rattle.service_desk.specs.Views.{View}
+use Rattle.connection_worker.specs.service_desk.specs.Places.{Told}
+use Rattle.connection_worker.specs.service_desk.specs.Views.{View}
 use Rattle.connection_worker.specs.Salts.{Salting}
 use Rattle.daemon.specs.declared.job.Served.{Served}
 use Rattle.daemon.specs.declared.accepting.LoopEnd.{LoopEnd}

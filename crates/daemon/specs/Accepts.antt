@@ -6,10 +6,10 @@ use Rattle.kr_outside.specs.Faults.{last_count, Rose}
 use Rattle.kr_outside.specs.Host.{GivesOne}
 use Rattle.kr_outside.specs.Listener.{LinkReport, GivesNext, IsNewEnd}
 use Rattle.dbus_auth.specs.Table.{fresh}
-use Rattle.service_events.specs.declared.event.JoinRefused.{JoinRefused}
-use Rattle.service_desk.specs.Calls.{Goes}
-use Rattle.service_desk.specs.Places.{Told, place}
-use Rattle.service_desk.specs.Views.{View}
+use Rattle.connection_worker.specs.service_events.specs.declared.event.JoinRefused.{JoinRefused}
+use Rattle.connection_worker.specs.service_desk.specs.Calls.{Goes}
+use Rattle.connection_worker.specs.service_desk.specs.Places.{Told, place}
+use Rattle.connection_worker.specs.service_desk.specs.Views.{View}
 use Rattle.daemon.specs.declared.accepting.LoopEnd.{LoopEnd}
 use Rattle.daemon.specs.declared.accepting.LoopEnd.TheVariants as loop
 use Rattle.daemon.specs.declared.accepting.Next.{Next}

@@ -4,14 +4,14 @@ use Rattle.atomic_table.specs.Seated.{TableId}
 use Rattle.rand_chacha.specs.ChaCha.{key_of}
 use Rattle.kr_base.specs.declared.ids.ConnId.{ConnId}
 use Rattle.kr_outside.specs.Host.{GivesOne}
-use Rattle.service_events.specs.declared.event.Event.{Event}
-use Rattle.service_events.specs.declared.event.Event.TheVariants as event
-use Rattle.service_events.specs.declared.event.JoinRefused.{JoinRefused}
-use Rattle.service_events.specs.declared.event.Output.TheVariants as output
-use Rattle.service_events.specs.Replay.{replay, Legal}
-use Rattle.service_events.specs.Step.{Fits, output_of}
-use Rattle.service_desk.specs.Places.{Told}
-use Rattle.service_desk.specs.Views.{View, state_of, HasCause, with_others, with_own}
+use Rattle.connection_worker.specs.service_events.specs.declared.event.Event.{Event}
+use Rattle.connection_worker.specs.service_events.specs.declared.event.Event.TheVariants as event
+use Rattle.connection_worker.specs.service_events.specs.declared.event.JoinRefused.{JoinRefused}
+use Rattle.connection_worker.specs.service_events.specs.declared.event.Output.TheVariants as output
+use Rattle.connection_worker.specs.service_events.specs.Replay.{replay, Legal}
+use Rattle.connection_worker.specs.service_events.specs.Step.{Fits, output_of}
+use Rattle.connection_worker.specs.service_desk.specs.Places.{Told}
+use Rattle.connection_worker.specs.service_desk.specs.Views.{View, state_of, HasCause, with_others, with_own}
 use Rattle.connection_worker.specs.Salts.{Salting}
 
 -- The hub saw events of others, and after them recorded that this connection joined, which is what the step at that place answers.

@@ -3,9 +3,9 @@ use Rattle.std.specs.Prelude.{◌≡◌, ℕ, Bool, true, List, Option, Result, 
 use Rattle.kr_base.specs.declared.ids.ConnId.{ConnId}
 use Rattle.dbus_auth.specs.Exchange.{Exchange}
 use Rattle.dbus_framing.specs.Framers.{Framing}
-use Rattle.service_desk.specs.Calls.{Goes}
-use Rattle.service_desk.specs.Places.{Told, place}
-use Rattle.service_desk.specs.Views.{View}
+use Rattle.connection_worker.specs.service_desk.specs.Calls.{Goes}
+use Rattle.connection_worker.specs.service_desk.specs.Places.{Told, place}
+use Rattle.connection_worker.specs.service_desk.specs.Views.{View}
 use Rattle.connection_worker.specs.declared.ending.End.{End}
 use Rattle.connection_worker.specs.Handshakes.{Both, HandshakeOutcome}
 use Rattle.connection_worker.specs.Reading.{ReaderEnds}

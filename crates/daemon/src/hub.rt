@@ -1,14 +1,14 @@
 ghost use Rattle.std.specs.Prelude.{◌≡◌, ℕ, Bool, List, Option, IsTrue, OnOk, IfOk, IfErr};
 ghost use Rattle.atomic_table.specs.Seated.{TableId};
 ghost use Rattle.dbus_auth.specs.Table.{fresh};
-ghost use Rattle.service_desk.specs.Views.{View};
+ghost use Rattle.connection_worker.specs.service_desk.specs.Views.{View};
 ghost use Rattle.daemon.specs.Hubs.{Joins, IsDeskOf, IsNotJoined, CountsRefused, salts_of};
 
 use connection_worker::Salts;
+use connection_worker::service_desk::{JoinRefused, ReadDesk, WriteDesk};
 use dbus_auth::Auth;
 use kr_base::ConnId;
 use kr_outside::Clock;
-use service_desk::{JoinRefused, ReadDesk, WriteDesk};
 
 /// Where links become connections of the service.
 pub trait Hub {

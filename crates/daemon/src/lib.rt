@@ -13,6 +13,8 @@ mod spawner;
 mod started;
 
 pub use accepting::{LoopEnd, ServedBy, accept_loop};
+pub use connection_worker;
+pub use connection_worker::call_wire;
 pub use hub::Hub;
 pub use job::{LinkJob, Served, Serving, serve_link};
 pub use spawner::{ServingSpawner, Spawner};

@@ -3,8 +3,8 @@ ghost use Rattle.daemon.specs.Jobs.{Serves};
 ghost use Rattle.daemon.specs.Spawners.{HandsBack};
 
 use crate::job::{LinkJob, Served, serve_link};
+use connection_worker::service_desk::{ReadDesk, WriteDesk};
 use kr_outside::{Clock, Sink, Source};
-use service_desk::{ReadDesk, WriteDesk};
 use std::alloc::{AllocGlobal, Global};
 use std::marker::Model;
 use std::snapshot::Snapshot;

@@ -8,14 +8,14 @@ use Rattle.dbus_auth.specs.Handshake.{End, waiting, refused, opened, Run}
 use Rattle.dbus_auth.proofs.HandshakeLemmas.{handshake-nothing, handshake-append}
 use Rattle.dbus_framing.specs.Streams.{Stream}
 use Rattle.dbus_framing.proofs.Cuts.{cut_more}
-use Rattle.connection_worker.specs.Arrivals.{FirstRequests}
-use Rattle.connection_worker.specs.Handshakes.{most_bytes, Awaits, IsRefusedFor}
-use Rattle.connection_worker.specs.declared.ending.End as ending
-use Rattle.connection_worker.specs.declared.ending.End.TheVariants as end
-use Rattle.connection_worker.specs.Causes.{AllServed, FirstServed, HasCause}
-use Rattle.service_events.specs.Single.{TimedRequest, requests_of}
-use Rattle.connection_worker.specs.Streams.{Input, Output}
-use Rattle.connection_worker.proofs.WholeLemmas.{still, front-of, at-end, never-violated}
+use Rattle.service_hub.specs.connection_worker.specs.Arrivals.{FirstRequests}
+use Rattle.service_hub.specs.connection_worker.specs.Handshakes.{most_bytes, Awaits, IsRefusedFor}
+use Rattle.service_hub.specs.connection_worker.specs.declared.ending.End as ending
+use Rattle.service_hub.specs.connection_worker.specs.declared.ending.End.TheVariants as end
+use Rattle.service_hub.specs.connection_worker.specs.Causes.{AllServed, FirstServed, HasCause}
+use Rattle.lone_desk.specs.service_events.specs.Single.{TimedRequest, requests_of}
+use Rattle.service_hub.specs.connection_worker.specs.Streams.{Input, Output}
+use Rattle.service_hub.specs.connection_worker.proofs.WholeLemmas.{still, front-of, at-end, never-violated}
 use Rattle.keyring_program.specs.Events.{events_until, events_of, the_connection}
 use Rattle.keyring_program.specs.ServerNumber.{guid}
 use Rattle.keyring_program.specs.Serves.{Serves, handshake_run}
@@ -23,9 +23,9 @@ use Rattle.keyring_program.specs.WholeInput.{IsWholeInput}
 use Rattle.keyring_program.specs.declared.status.Status.{Status}
 use Rattle.keyring_program.specs.declared.status.Status.TheVariants as status
 use Rattle.keyring_program.specs.Status.{IsStdioStatus, status_of}
-use Rattle.service_events.specs.declared.event.Event.TheVariants as event
-use Rattle.service_tables.specs.Limits.{most_events}
-use Rattle.service_tables.specs.Opened.{Contents}
+use Rattle.lone_desk.specs.service_events.specs.declared.event.Event.TheVariants as event
+use Rattle.lone_desk.specs.service_tables.specs.Limits.{most_events}
+use Rattle.lone_desk.specs.service_tables.specs.Opened.{Contents}
 
 -- ---- the handshake
 

@@ -2,8 +2,8 @@
 use Rattle.std.proofs.Common.{◌≡◌, ℕ, ◌⊎◌, inl, inr, Bool, Option, refl, arith}
 use Rattle.std.specs.Prelude.{IsTrue}
 use Rattle.kr_outside.specs.Faults.{KeepsSteady, IsBelowLast, Rose}
-use Rattle.daemon.specs.declared.accepting.LoopEnd.{LoopEnd}
-use Rattle.daemon.specs.declared.accepting.LoopEnd.TheVariants as loop
+use Rattle.service_hub.specs.daemon.specs.declared.accepting.LoopEnd.{LoopEnd}
+use Rattle.service_hub.specs.daemon.specs.declared.accepting.LoopEnd.TheVariants as loop
 use Rattle.service_hub.specs.Loop.{HasLoopCause}
 use Rattle.keyring_program.specs.Doors.{IsServed}
 use Rattle.keyring_program.specs.Status.{IsServeStatus, status_of_loop}

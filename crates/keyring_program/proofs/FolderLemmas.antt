@@ -2,9 +2,9 @@
 use Rattle.std.proofs.Common.{◌≡◌, ℕ, List, Option, Some, None, ◌∙◌, ap}
 use Rattle.kr_outside.specs.Folder.{AreTold}
 use Rattle.kr_outside.specs.RenameDisk.{Image}
-use Rattle.folder_store.specs.Limits.{the_limits}
-use Rattle.folder_store.specs.Opened.{Opening, Opened}
-use Rattle.folder_store.proofs.OpenedLemmas.{opened_same}
+use Rattle.lone_desk.specs.folder_store.specs.Limits.{the_limits}
+use Rattle.lone_desk.specs.folder_store.specs.Opened.{Opening, Opened}
+use Rattle.lone_desk.specs.folder_store.proofs.OpenedLemmas.{opened_same}
 use Rattle.keyring_program.specs.Folder.{IsOpened}
 
 -- the images that were reported are these

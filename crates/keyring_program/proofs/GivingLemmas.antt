@@ -3,9 +3,9 @@ use Rattle.std.proofs.Common.{◌≡◌, ℕ, ◌+◌, ◌*◌, ◌%◌, ◌^◌
 use Rattle.std.proofs.lemmas.List.Concat.{flat_map-append}
 use Rattle.rand_chacha.specs.ChaCha.{key_of}
 use Rattle.kr_outside.specs.Clock.{GivesFirst}
-use Rattle.connection_worker.specs.Salts.{Salting, words_at, salt_of}
-use Rattle.connection_worker.specs.Serving.{GivesMoments, GivesSalts, behind_salt}
-use Rattle.service_events.specs.Single.{TimedRequest, moments_of, moments_with}
+use Rattle.service_hub.specs.connection_worker.specs.Salts.{Salting, words_at, salt_of}
+use Rattle.service_hub.specs.connection_worker.specs.Serving.{GivesMoments, GivesSalts, behind_salt}
+use Rattle.lone_desk.specs.service_events.specs.Single.{TimedRequest, moments_of, moments_with}
 use Rattle.keyring_program.specs.Events.{the_connection, AreGivenFrom, HaveMoments, HaveSalts}
 
 -- a moment, and those after it

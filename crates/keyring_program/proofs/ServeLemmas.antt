@@ -5,26 +5,26 @@ use Rattle.std.proofs.KnownBytes.{Appends-nil, Consumes-nil}
 use Rattle.rand_chacha.specs.ChaCha.{key_of}
 use Rattle.kr_base.specs.declared.ids.ConnId.{ConnId}
 use Rattle.kr_base.proofs.AttributeLemmas.{IsInOrder-nil}
-use Rattle.collection_table.specs.Rows.{CollectionRow}
+use Rattle.lone_desk.specs.collection_table.specs.Rows.{CollectionRow}
 use Rattle.kr_outside.proofs.FaultLemmas.{KeepsSteady-none}
 use Rattle.dbus_auth.specs.Handshake.{Run}
-use Rattle.service_tables.specs.State.{State}
-use Rattle.service_events.specs.declared.event.Event.TheVariants as event
-use Rattle.service_tables.specs.Connections.{has, new_row}
-use Rattle.service_events.specs.Step.{Fits}
-use Rattle.service_tables.specs.Opened.{Contents, opened_state}
-use Rattle.service_tables.specs.Sound.{AreSoundContents}
-use Rattle.service_events.specs.Replay.{Legal, replay}
-use Rattle.service_desk.specs.Places.{Told}
-use Rattle.service_desk.proofs.RecordLemmas.{own-legal}
-use Rattle.connection_worker.specs.declared.ending.End.{End}
-use Rattle.connection_worker.specs.declared.ending.End.TheVariants as end
-use Rattle.connection_worker.specs.Causes.{HasCause, HasFinished, HasWritten}
-use Rattle.connection_worker.specs.OneThread.{IsServed}
-use Rattle.connection_worker.specs.Serving.{World, HasJoined, GivesSalts}
-use Rattle.service_events.specs.Single.{AreFinished, TimedRequest, turn, turns, single}
-use Rattle.connection_worker.specs.Streams.{Input, Output}
-use Rattle.connection_worker.specs.Written.{written}
+use Rattle.lone_desk.specs.service_tables.specs.State.{State}
+use Rattle.lone_desk.specs.service_events.specs.declared.event.Event.TheVariants as event
+use Rattle.lone_desk.specs.service_tables.specs.Connections.{has, new_row}
+use Rattle.lone_desk.specs.service_events.specs.Step.{Fits}
+use Rattle.lone_desk.specs.service_tables.specs.Opened.{Contents, opened_state}
+use Rattle.lone_desk.specs.service_tables.specs.Sound.{AreSoundContents}
+use Rattle.lone_desk.specs.service_events.specs.Replay.{Legal, replay}
+use Rattle.lone_desk.specs.service_desk.specs.Places.{Told}
+use Rattle.lone_desk.specs.service_desk.proofs.RecordLemmas.{own-legal}
+use Rattle.service_hub.specs.connection_worker.specs.declared.ending.End.{End}
+use Rattle.service_hub.specs.connection_worker.specs.declared.ending.End.TheVariants as end
+use Rattle.service_hub.specs.connection_worker.specs.Causes.{HasCause, HasFinished, HasWritten}
+use Rattle.service_hub.specs.connection_worker.specs.OneThread.{IsServed}
+use Rattle.service_hub.specs.connection_worker.specs.Serving.{World, HasJoined, GivesSalts}
+use Rattle.lone_desk.specs.service_events.specs.Single.{AreFinished, TimedRequest, turn, turns, single}
+use Rattle.service_hub.specs.connection_worker.specs.Streams.{Input, Output}
+use Rattle.service_hub.specs.connection_worker.specs.Written.{written}
 use Rattle.keyring_program.specs.Events.{the_connection, joined, events_until, text_of, HaveMoments}
 use Rattle.keyring_program.specs.ServerNumber.{guid}
 use Rattle.keyring_program.specs.Serves.{Serves, handshake_run}

@@ -2,35 +2,35 @@
 use Rattle.std.proofs.Common.{◌≡◌, ℕ, ◌+◌, Bool, true, false, cond, List, [], ◌∷◌, ◌++◌, map, Option, Some, None, refl, sym, ◌∙◌, ap, subst, append_assoc, append-nil}
 use Rattle.std.specs.List.{concat}
 use Rattle.std.specs.Option.{is_some}
-use Rattle.secret_calls.specs.declared.call.Request.{Request}
-use Rattle.secret_calls.specs.declared.work.Work.{Work}
-use Rattle.secret_calls.proofs.SerialLemmas.{one_serial}
+use Rattle.lone_desk.specs.secret_calls.specs.declared.call.Request.{Request}
+use Rattle.lone_desk.specs.secret_calls.specs.declared.work.Work.{Work}
+use Rattle.lone_desk.specs.secret_calls.proofs.SerialLemmas.{one_serial}
 use Rattle.dbus_auth.specs.Handshake.{Run}
 use Rattle.dbus_framing.specs.Messages.{Parts}
 use Rattle.dbus_framing.specs.Streams.{Stream}
 use Rattle.dbus_framing.proofs.Cuts.{one_stream}
-use Rattle.call_wire.specs.CallOf.{CallOf}
-use Rattle.service_tables.specs.State.{State}
-use Rattle.service_events.specs.declared.event.Derivation.{Derivation}
-use Rattle.service_events.specs.declared.event.Event.{Event}
-use Rattle.service_events.specs.declared.event.Event.TheVariants as event
-use Rattle.service_events.specs.declared.event.Recorded.{Recorded}
-use Rattle.service_tables.specs.Opened.{Contents, opened_state}
-use Rattle.service_tables.specs.Sound.{AreSoundContents}
-use Rattle.service_events.specs.Fates.{IsCertain}
-use Rattle.service_events.specs.Run.{Ran, ran}
-use Rattle.service_events.specs.Step.{step, AreAlike, Fits, brought_with, plan_of, served, work_of}
-use Rattle.service_events.specs.Replay.{replay, Legal}
-use Rattle.service_events.proofs.AlikeLemmas.{moment-alike, step_alike}
-use Rattle.service_events.proofs.CertainLemmas.{step_certain}
-use Rattle.service_events.proofs.FateLemmas.{fates_alike, key_fates}
-use Rattle.service_events.proofs.ReplayLemmas.{replay-append}
-use Rattle.connection_worker.specs.Arrivals.{calls_in, AreRequests}
-use Rattle.connection_worker.specs.Handshakes.{most_bytes}
-use Rattle.connection_worker.specs.Salts.{salt_of}
-use Rattle.connection_worker.specs.Causes.{AllServed}
-use Rattle.service_events.specs.Single.{AllFaultless, AllFinished, IsKeyFaultless, TimedKey, TimedRequest, arrival, derivation, finishing, is_owed, recorded_of, requests_of, taking, turn, turns, work_for}
-use Rattle.connection_worker.specs.Written.{given, given_by, spelled_behind}
+use Rattle.service_hub.specs.call_wire.specs.CallOf.{CallOf}
+use Rattle.lone_desk.specs.service_tables.specs.State.{State}
+use Rattle.lone_desk.specs.service_events.specs.declared.event.Derivation.{Derivation}
+use Rattle.lone_desk.specs.service_events.specs.declared.event.Event.{Event}
+use Rattle.lone_desk.specs.service_events.specs.declared.event.Event.TheVariants as event
+use Rattle.lone_desk.specs.service_events.specs.declared.event.Recorded.{Recorded}
+use Rattle.lone_desk.specs.service_tables.specs.Opened.{Contents, opened_state}
+use Rattle.lone_desk.specs.service_tables.specs.Sound.{AreSoundContents}
+use Rattle.lone_desk.specs.service_events.specs.Fates.{IsCertain}
+use Rattle.lone_desk.specs.service_events.specs.Run.{Ran, ran}
+use Rattle.lone_desk.specs.service_events.specs.Step.{step, AreAlike, Fits, brought_with, plan_of, served, work_of}
+use Rattle.lone_desk.specs.service_events.specs.Replay.{replay, Legal}
+use Rattle.lone_desk.specs.service_events.proofs.AlikeLemmas.{moment-alike, step_alike}
+use Rattle.lone_desk.specs.service_events.proofs.CertainLemmas.{step_certain}
+use Rattle.lone_desk.specs.service_events.proofs.FateLemmas.{fates_alike, key_fates}
+use Rattle.lone_desk.specs.service_events.proofs.ReplayLemmas.{replay-append}
+use Rattle.service_hub.specs.connection_worker.specs.Arrivals.{calls_in, AreRequests}
+use Rattle.service_hub.specs.connection_worker.specs.Handshakes.{most_bytes}
+use Rattle.service_hub.specs.connection_worker.specs.Salts.{salt_of}
+use Rattle.service_hub.specs.connection_worker.specs.Causes.{AllServed}
+use Rattle.lone_desk.specs.service_events.specs.Single.{AllFaultless, AllFinished, IsKeyFaultless, TimedKey, TimedRequest, arrival, derivation, finishing, is_owed, recorded_of, requests_of, taking, turn, turns, work_for}
+use Rattle.service_hub.specs.connection_worker.specs.Written.{given, given_by, spelled_behind}
 use Rattle.keyring_program.specs.Events.{the_connection, joined, events_of, text_of, AreGivenFrom, HasSameKeyFates, HasSameMoment, HaveSalts, HaveSameMoments, HaveSameFates}
 
 -- each message is one request

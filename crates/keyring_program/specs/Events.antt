@@ -4,14 +4,14 @@ use Rattle.std.specs.Prelude.{◌≡◌, ℕ, ◌+◌, List, [], ◌∷◌, ◌+
 use Rattle.std.specs.List.{concat}
 use Rattle.kr_base.specs.declared.ids.ConnId.{ConnId}
 use Rattle.dbus_auth.specs.Handshake.{Run}
-use Rattle.service_events.specs.declared.event.Event.{Event}
-use Rattle.service_events.specs.declared.event.Event.TheVariants as event
-use Rattle.service_tables.specs.Opened.{Contents, opened_state}
-use Rattle.service_tables.specs.State.{State}
-use Rattle.service_events.specs.Step.{step, TakesMoment}
-use Rattle.connection_worker.specs.Salts.{salt_of}
-use Rattle.service_events.specs.Single.{TimedKey, TimedRequest, moments_of, turns}
-use Rattle.connection_worker.specs.Written.{written}
+use Rattle.lone_desk.specs.service_events.specs.declared.event.Event.{Event}
+use Rattle.lone_desk.specs.service_events.specs.declared.event.Event.TheVariants as event
+use Rattle.lone_desk.specs.service_tables.specs.Opened.{Contents, opened_state}
+use Rattle.lone_desk.specs.service_tables.specs.State.{State}
+use Rattle.lone_desk.specs.service_events.specs.Step.{step, TakesMoment}
+use Rattle.service_hub.specs.connection_worker.specs.Salts.{salt_of}
+use Rattle.lone_desk.specs.service_events.specs.Single.{TimedKey, TimedRequest, moments_of, turns}
+use Rattle.service_hub.specs.connection_worker.specs.Written.{written}
 
 -- the connection of the standard streams
 abbrev pub the_connection : ConnId

@@ -1,13 +1,13 @@
 -- The folder of a run.
 use Rattle.std.specs.Prelude.{◌≡◌, ℕ, List}
 use Rattle.kr_outside.specs.RenameDisk.{Image}
-use Rattle.folder_store.specs.Aliases.{pairs_in}
-use Rattle.folder_store.specs.declared.loading.Loaded.{Loaded}
-use Rattle.folder_store.specs.Limits.{the_limits}
-use Rattle.folder_store.specs.Loads.{opening_of}
-use Rattle.folder_store.specs.Opened.{Opening, Opened}
-use Rattle.service_tables.specs.Disk.{contents_from}
-use Rattle.service_tables.specs.Opened.{Contents}
+use Rattle.lone_desk.specs.folder_store.specs.Aliases.{pairs_in}
+use Rattle.lone_desk.specs.folder_store.specs.declared.loading.Loaded.{Loaded}
+use Rattle.lone_desk.specs.folder_store.specs.Limits.{the_limits}
+use Rattle.lone_desk.specs.folder_store.specs.Loads.{opening_of}
+use Rattle.lone_desk.specs.folder_store.specs.Opened.{Opening, Opened}
+use Rattle.lone_desk.specs.service_tables.specs.Disk.{contents_from}
+use Rattle.lone_desk.specs.service_tables.specs.Opened.{Contents}
 use Rattle.keyring_program.specs.declared.status.Status.{Status}
 use Rattle.keyring_program.specs.declared.status.Status.TheVariants as status
 

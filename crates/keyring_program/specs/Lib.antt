@@ -1,3 +1,4 @@
+pub use Rattle.service_hub
 pub mod Commands
 pub mod Doors
 pub mod Events

@@ -2,7 +2,7 @@
 use Rattle.std.specs.Prelude.{ℕ, List, ◌++◌}
 use Rattle.hex.specs.Hex.{encode_lower}
 use Rattle.rand_chacha.specs.ChaCha.{key_of}
-use Rattle.connection_worker.specs.Salts.{word_of}
+use Rattle.service_hub.specs.connection_worker.specs.Salts.{word_of}
 
 -- the first four words of ChaCha20's stream 0 under the seed as its key, the least significant byte of each first
 abbrev pub first_words : List ℕ → List ℕ

@@ -1,13 +1,13 @@
 -- One run over the standard streams: what was read, recorded and written, and why it ended.
 use Rattle.std.specs.Prelude.{◌≡◌, ℕ, Bool, IsTrue, List, [], Option, length}
 use Rattle.dbus_auth.specs.Handshake.{Run, handshake}
-use Rattle.service_tables.specs.Opened.{Contents, opened_state}
-use Rattle.service_tables.specs.Sound.{AreSoundContents}
-use Rattle.service_events.specs.Replay.{Legal}
-use Rattle.connection_worker.specs.declared.ending.End.{End}
-use Rattle.connection_worker.specs.Causes.{HasCause, HasFinished, HasWritten}
-use Rattle.service_events.specs.Single.{TimedRequest, AllFaultless}
-use Rattle.connection_worker.specs.Streams.{Input, Output, Took}
+use Rattle.lone_desk.specs.service_tables.specs.Opened.{Contents, opened_state}
+use Rattle.lone_desk.specs.service_tables.specs.Sound.{AreSoundContents}
+use Rattle.lone_desk.specs.service_events.specs.Replay.{Legal}
+use Rattle.service_hub.specs.connection_worker.specs.declared.ending.End.{End}
+use Rattle.service_hub.specs.connection_worker.specs.Causes.{HasCause, HasFinished, HasWritten}
+use Rattle.lone_desk.specs.service_events.specs.Single.{TimedRequest, AllFaultless}
+use Rattle.service_hub.specs.connection_worker.specs.Streams.{Input, Output, Took}
 use Rattle.keyring_program.specs.Events.{events_until, events_of, joined, text_of, the_connection, HaveMoments, HaveSalts}
 use Rattle.keyring_program.specs.ServerNumber.{guid}
 use Rattle.keyring_program.specs.Status.{status_of}

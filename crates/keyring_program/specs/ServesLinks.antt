@@ -3,17 +3,17 @@ use Rattle.std.specs.Prelude.{◌≡◌, ℕ, Bool, List, [], ◌++◌, Option}
 use Rattle.kr_outside.specs.Host.{ShutDoors, TakesBack}
 use Rattle.kr_outside.specs.Listener.{LinkReport}
 use Rattle.atomic_table.specs.Seated.{TableId}
-use Rattle.service_tables.specs.Opened.{Contents, opened_state}
-use Rattle.service_tables.specs.Sound.{AreSoundContents}
-use Rattle.service_events.specs.declared.event.Event.{Event}
-use Rattle.service_events.specs.Replay.{replay, Legal}
-use Rattle.service_history.specs.History.{History}
-use Rattle.service_history.specs.Windows.{first_window}
-use Rattle.shared_service.specs.declared.desk.SharedDesk.{SharedDesk}
-use Rattle.shared_service.specs.Passes.{opened}
-use Rattle.daemon.specs.declared.accepting.LoopEnd.{LoopEnd}
-use Rattle.daemon.specs.Jobs.{Job}
-use Rattle.daemon.specs.Spawners.{Spawning}
+use Rattle.lone_desk.specs.service_tables.specs.Opened.{Contents, opened_state}
+use Rattle.lone_desk.specs.service_tables.specs.Sound.{AreSoundContents}
+use Rattle.lone_desk.specs.service_events.specs.declared.event.Event.{Event}
+use Rattle.lone_desk.specs.service_events.specs.Replay.{replay, Legal}
+use Rattle.lone_desk.specs.service_history.specs.History.{History}
+use Rattle.lone_desk.specs.service_history.specs.Windows.{first_window}
+use Rattle.service_hub.specs.shared_service.specs.declared.desk.SharedDesk.{SharedDesk}
+use Rattle.service_hub.specs.shared_service.specs.Passes.{opened}
+use Rattle.service_hub.specs.daemon.specs.declared.accepting.LoopEnd.{LoopEnd}
+use Rattle.service_hub.specs.daemon.specs.Jobs.{Job}
+use Rattle.service_hub.specs.daemon.specs.Spawners.{Spawning}
 use Rattle.service_hub.specs.Links as links
 use Rattle.keyring_program.specs.ServerNumber.{guid}
 use Rattle.keyring_program.specs.Status.{IsUnservedStatus, status_of_loop}

@@ -1,9 +1,9 @@
 -- How the program ends (docs/DECISIONS.md, "Numbers and texts of the ends").
 use Rattle.std.specs.Prelude.{ℕ}
-use Rattle.connection_worker.specs.declared.ending.End.{End}
-use Rattle.connection_worker.specs.declared.ending.End.TheVariants as end
-use Rattle.daemon.specs.declared.accepting.LoopEnd.{LoopEnd}
-use Rattle.daemon.specs.declared.accepting.LoopEnd.TheVariants as loop
+use Rattle.service_hub.specs.connection_worker.specs.declared.ending.End.{End}
+use Rattle.service_hub.specs.connection_worker.specs.declared.ending.End.TheVariants as end
+use Rattle.service_hub.specs.daemon.specs.declared.accepting.LoopEnd.{LoopEnd}
+use Rattle.service_hub.specs.daemon.specs.declared.accepting.LoopEnd.TheVariants as loop
 use Rattle.keyring_program.specs.declared.status.Status.{Status}
 use Rattle.keyring_program.specs.declared.status.Status.TheVariants as status
 

@@ -3,11 +3,11 @@ use Rattle.std.specs.Prelude.{◌≡◌, ℕ, ◌<◌, List, [], length}
 use Rattle.dbus_auth.specs.Handshake as shaking
 use Rattle.dbus_framing.specs.Messages.{Parts}
 use Rattle.dbus_framing.specs.Streams.{Stream}
-use Rattle.service_tables.specs.Limits.{most_events}
-use Rattle.service_tables.specs.Opened.{Contents}
-use Rattle.connection_worker.specs.Arrivals.{FirstRequests}
-use Rattle.connection_worker.specs.Handshakes.{most_bytes}
-use Rattle.service_events.specs.Single.{TimedRequest, requests_of}
+use Rattle.lone_desk.specs.service_tables.specs.Limits.{most_events}
+use Rattle.lone_desk.specs.service_tables.specs.Opened.{Contents}
+use Rattle.service_hub.specs.connection_worker.specs.Arrivals.{FirstRequests}
+use Rattle.service_hub.specs.connection_worker.specs.Handshakes.{most_bytes}
+use Rattle.lone_desk.specs.service_events.specs.Single.{TimedRequest, requests_of}
 use Rattle.keyring_program.specs.Events.{events_of}
 use Rattle.keyring_program.specs.Serves.{handshake_run}
 

@@ -1,20 +1,20 @@
 // The connection of the standard streams.
 ghost use Rattle.std.specs.Prelude.{◌≡◌, IsFalse};
-ghost use Rattle.connection_worker.specs.Streams.{input_of, output_of};
-ghost use Rattle.service_history.specs.History.{opened_history};
-ghost use Rattle.service_tables.specs.Opened.{IsOpened, contents_of};
-ghost use Rattle.service_tables.specs.Sound.{AreSoundContents};
-ghost use Rattle.service_events.specs.Fates.{is_steady};
+ghost use Rattle.service_hub.specs.connection_worker.specs.Streams.{input_of, output_of};
+ghost use Rattle.lone_desk.specs.service_history.specs.History.{opened_history};
+ghost use Rattle.lone_desk.specs.service_tables.specs.Opened.{IsOpened, contents_of};
+ghost use Rattle.lone_desk.specs.service_tables.specs.Sound.{AreSoundContents};
+ghost use Rattle.lone_desk.specs.service_events.specs.Fates.{is_steady};
 ghost use Rattle.keyring_program.specs.Serves.{Serves};
 
 use crate::server_number::guid_of;
 use crate::status::Status;
-use connection_worker::{Salts, one_thread};
 use dbus_auth::Auth;
 use kr_outside::{Clock, Folder, Sink, Source};
 use lone_desk::LoneDesk;
-use service_desk::{Desk, JoinRefused};
-use service_history::Service;
+use lone_desk::service_desk::{Desk, JoinRefused};
+use lone_desk::service_history::Service;
+use service_hub::connection_worker::{Salts, one_thread};
 use std::alloc::AllocGlobal;
 use std::sync::Wait;
 

@@ -3,15 +3,15 @@ ghost use Rattle.std.specs.Prelude.{◌≡◌, ◌≤◌, ◌⊎◌, IsTrue, IsE
 ghost use Rattle.kr_outside.specs.Faults.{KeepsSteady, Rose};
 ghost use Rattle.kr_outside.specs.Host.{GivesOne, GivesOneAtMost};
 ghost use Rattle.kr_outside.specs.RenameDisk.{Image};
-ghost use Rattle.service_history.specs.History.{opened_history};
-ghost use Rattle.service_tables.specs.Opened.{IsOpened, contents_of};
-ghost use Rattle.service_tables.specs.Sound.{AreSoundContents};
-ghost use Rattle.service_events.specs.Fates.{is_steady};
+ghost use Rattle.lone_desk.specs.service_history.specs.History.{opened_history};
+ghost use Rattle.lone_desk.specs.service_tables.specs.Opened.{IsOpened, contents_of};
+ghost use Rattle.lone_desk.specs.service_tables.specs.Sound.{AreSoundContents};
+ghost use Rattle.lone_desk.specs.service_events.specs.Fates.{is_steady};
 ghost use Rattle.keyring_program.specs.Folder.{HasOpened};
 
 use kr_outside::{Host, OutsideRefused};
-use service_history::Service;
-use service_machine::OpenRefused;
+use lone_desk::service_history::Service;
+use lone_desk::service_machine::OpenRefused;
 use std::alloc::Global;
 
 /// Opens a service over the folder at this path. The host is asked for no other folder.

@@ -3,19 +3,21 @@
 ghost use Rattle.std.specs.Prelude.{◌≡◌, ◌++◌, ℕ, List, false, filter};
 ghost use Rattle.std.specs.List.{concat};
 ghost use Rattle.dbus_auth.specs.Handshake.{Run};
-ghost use Rattle.connection_worker.specs.Causes.{AllServed};
-ghost use Rattle.connection_worker.specs.Replies.{is_reply, outputs_to, replies_to};
-ghost use Rattle.service_events.specs.Single.{AllFaultless, AllFinished, TimedRequest};
-ghost use Rattle.connection_worker.specs.Written.{spelled_behind};
+ghost use Rattle.service_hub.specs.connection_worker.specs.Causes.{AllServed};
+ghost use Rattle.service_hub.specs.connection_worker.specs.Replies.{is_reply, outputs_to, replies_to};
+ghost use Rattle.lone_desk.specs.service_events.specs.Single.{AllFaultless, AllFinished, TimedRequest};
+ghost use Rattle.service_hub.specs.connection_worker.specs.Written.{spelled_behind};
 ghost use Rattle.keyring_program.specs.Events.{the_connection, joined, events_of, text_of, HaveSalts, HaveSameMoments, HaveSameFates};
-ghost use Rattle.service_events.specs.Replay.{Legal};
-ghost use Rattle.service_tables.specs.Opened.{Contents, opened_state};
-ghost use Rattle.service_tables.specs.Sound.{AreSoundContents};
+ghost use Rattle.lone_desk.specs.service_events.specs.Replay.{Legal};
+ghost use Rattle.lone_desk.specs.service_tables.specs.Opened.{Contents, opened_state};
+ghost use Rattle.lone_desk.specs.service_tables.specs.Sound.{AreSoundContents};
 ghost use Rattle.keyring_program.specs.Serves.{handshake_run};
 
-use call_wire::a_message_is_one_request;
-use connection_worker::{each_request_has_one_reply, each_request_is_answered_at_once};
-use service_machine::steps_keep_the_rows_sound;
+use lone_desk::service_machine::steps_keep_the_rows_sound;
+use service_hub::call_wire::a_message_is_one_request;
+use service_hub::connection_worker::{
+    each_request_has_one_reply, each_request_is_answered_at_once,
+};
 
 /// What is written for the calls that were read is determined by the bytes that were read, the user,
 /// the seed, what the service starts with, and how each storing of a file ended: runs over the same

@@ -19,5 +19,6 @@ mod words;
 pub use laws::{each_request_has_its_reply, what_is_written_is_one};
 pub use program::run;
 pub use serve::HostSpawner;
+pub use service_hub::daemon;
 pub use status::Status;
 pub use words::words_of;

@@ -4,11 +4,11 @@ ghost use Rattle.command_words.specs.CommandLines.{IsCommandLine, IsNoCommandLin
 ghost use Rattle.kr_outside.specs.Faults.{KeepsSteady, Rose, StandsStill};
 ghost use Rattle.kr_outside.specs.Host.{GivesOne, GivesOneAtMost};
 ghost use Rattle.kr_outside.specs.RenameDisk.{Image};
-ghost use Rattle.connection_worker.specs.Streams.{input_of, output_of};
+ghost use Rattle.service_hub.specs.connection_worker.specs.Streams.{input_of, output_of};
 ghost use Rattle.keyring_program.specs.Commands.{IsUnbuilt};
 ghost use Rattle.keyring_program.specs.Doors.{HasServed, TakesBackOneAtMost};
 ghost use Rattle.keyring_program.specs.Folder.{IsOpened, HadFolder, HasOpened};
-ghost use Rattle.service_tables.specs.Opened.{Contents};
+ghost use Rattle.lone_desk.specs.service_tables.specs.Opened.{Contents};
 ghost use Rattle.keyring_program.specs.Serves.{Serves};
 ghost use Rattle.keyring_program.specs.ServesLinks.{IsUnserved, ServesDoor};
 ghost use Rattle.keyring_program.specs.Status.{IsServeStatus, IsStdioStatus};

@@ -2,8 +2,8 @@
 ghost use Rattle.std.specs.Prelude.{◌≡◌};
 ghost use Rattle.keyring_program.specs.ServerNumber.{first_words, guid};
 
-use connection_worker::Salts;
 use kr_base::ConnId;
+use service_hub::connection_worker::Salts;
 
 // The first four words of stream 0 under this key. Connections are numbered from 1 on, so no connection
 // has its salts from this stream.

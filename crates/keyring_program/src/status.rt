@@ -2,10 +2,10 @@
 ghost use Rattle.std.specs.Prelude.{◌≡◌};
 ghost use Rattle.keyring_program.specs.Status.{IsOnlyEnd, status_of, status_of_loop};
 
-use connection_worker::End;
-use daemon::LoopEnd;
 use dbus_auth::AuthFault;
 use dbus_framing::Violation;
+use service_hub::connection_worker::End;
+use service_hub::daemon::LoopEnd;
 use std::fmt;
 
 /// How the program ended. It is displayed as the text that is printed on standard error.

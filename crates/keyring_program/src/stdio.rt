@@ -3,9 +3,9 @@ ghost use Rattle.std.specs.Prelude.{◌≡◌, ◌≤◌, ◌⊎◌, ℕ, IsTrue
 ghost use Rattle.kr_outside.specs.Faults.{KeepsSteady, Rose, StandsStill};
 ghost use Rattle.kr_outside.specs.Host.{GivesOne, GivesOneAtMost};
 ghost use Rattle.kr_outside.specs.RenameDisk.{Image};
-ghost use Rattle.connection_worker.specs.Streams.{input_of, output_of};
+ghost use Rattle.service_hub.specs.connection_worker.specs.Streams.{input_of, output_of};
 ghost use Rattle.keyring_program.specs.Folder.{IsOpened, HadFolder, HasOpened};
-ghost use Rattle.service_tables.specs.Opened.{Contents};
+ghost use Rattle.lone_desk.specs.service_tables.specs.Opened.{Contents};
 ghost use Rattle.keyring_program.specs.Serves.{Serves};
 ghost use Rattle.keyring_program.specs.Status.{IsStdioStatus};
 ghost use Rattle.keyring_program.specs.WholeInput.{IsWholeInput};
@@ -14,7 +14,7 @@ use crate::connection::serve_client;
 use crate::folder::open_service;
 use crate::status::Status;
 use kr_outside::{Host, Sink, Source};
-use service_machine::OpenRefused;
+use lone_desk::service_machine::OpenRefused;
 use std::alloc::AllocGlobal;
 use std::sync::Wait;
 

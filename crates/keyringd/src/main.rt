@@ -12,7 +12,7 @@ ghost use Rattle.std.specs.Prelude.{◌≡◌, IsFalse};
 ghost use Rattle.std.specs.Process.{exit_status};
 ghost use Rattle.keyring_program.specs.Status.{number_of};
 
-use daemon::Spawner;
+use keyring_program::daemon::Spawner;
 use keyring_program::{Status, run, words_of};
 use kr_base::Text;
 use kr_outside::{Folder, Host, Listener, Sink, Source};

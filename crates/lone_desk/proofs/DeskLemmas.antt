@@ -2,21 +2,21 @@
 use Rattle.std.proofs.Common.{◌≡◌, ◌+◌, ◌<◌, ◌≤◌, Bool, true, false, [], Option, Some, None, Result, Ok, Err, IfOk, OnOk, IsTrue, refl, ap, ◌∙◌, sym, subst, arith, inl, inr}
 use Rattle.std.proofs.lemmas.List.{length_push}
 use Rattle.kr_base.specs.declared.ids.ConnId.{ConnId}
-use Rattle.service_tables.specs.declared.rows.DeskRow.{DeskRow}
-use Rattle.service_events.specs.declared.event.Event.{Event}
-use Rattle.service_events.specs.declared.event.Event.TheVariants as event
-use Rattle.service_events.specs.declared.event.Output.{Output}
-use Rattle.service_events.specs.declared.event.Output.TheVariants as output
-use Rattle.service_tables.specs.Connections.{desk_of}
-use Rattle.service_tables.specs.Limits.{most_events}
-use Rattle.service_tables.proofs.FitLemmas.{has-told, has-none}
-use Rattle.service_events.specs.Fates.{with_fates, IsFaultless}
-use Rattle.service_events.specs.Step.{step, output_of, Fits}
-use Rattle.service_events.specs.declared.event.Arrival.{Arrival}
-use Rattle.service_events.specs.declared.event.BroughtKey.{BroughtKey}
-use Rattle.secret_calls.specs.declared.work.Work.{Work}
-use Rattle.secret_calls.specs.declared.taken.Refused.{Refused}
-use Rattle.secret_calls.specs.declared.taken.Refused.TheVariants as refused
+use Rattle.service_desk.specs.service_tables.specs.declared.rows.DeskRow.{DeskRow}
+use Rattle.service_desk.specs.service_events.specs.declared.event.Event.{Event}
+use Rattle.service_desk.specs.service_events.specs.declared.event.Event.TheVariants as event
+use Rattle.service_desk.specs.service_events.specs.declared.event.Output.{Output}
+use Rattle.service_desk.specs.service_events.specs.declared.event.Output.TheVariants as output
+use Rattle.service_desk.specs.service_tables.specs.Connections.{desk_of}
+use Rattle.service_desk.specs.service_tables.specs.Limits.{most_events}
+use Rattle.service_desk.specs.service_tables.proofs.FitLemmas.{has-told, has-none}
+use Rattle.service_desk.specs.service_events.specs.Fates.{with_fates, IsFaultless}
+use Rattle.service_desk.specs.service_events.specs.Step.{step, output_of, Fits}
+use Rattle.service_desk.specs.service_events.specs.declared.event.Arrival.{Arrival}
+use Rattle.service_desk.specs.service_events.specs.declared.event.BroughtKey.{BroughtKey}
+use Rattle.service_desk.specs.secret_calls.specs.declared.work.Work.{Work}
+use Rattle.service_desk.specs.secret_calls.specs.declared.taken.Refused.{Refused}
+use Rattle.service_desk.specs.secret_calls.specs.declared.taken.Refused.TheVariants as refused
 use Rattle.service_history.specs.History.{History, cut_where_due, with_event, Stores, StoresKey, StoresRequest, given_for, taken_by, left_by, gone_by}
 use Rattle.service_history.specs.Windows.{total, is_due}
 use Rattle.service_desk.specs.Places.{Place, Looks, Extends}

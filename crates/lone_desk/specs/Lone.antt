@@ -1,6 +1,6 @@
 -- The desk over a service of one thread, as contracts see it.
 use Rattle.std.specs.Prelude.{Bool, true, false, None}
-use Rattle.service_events.specs.Fates.{is_steady}
+use Rattle.service_desk.specs.service_events.specs.Fates.{is_steady}
 use Rattle.service_history.specs.Windows.{total}
 use Rattle.service_desk.specs.Places.{Told}
 use Rattle.service_desk.specs.Views.{View, IsView}

@@ -6,3 +6,6 @@
 mod lone;
 
 pub use lone::LoneDesk;
+pub use service_desk;
+pub use service_history;
+pub use service_history::service_machine;

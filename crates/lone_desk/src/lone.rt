@@ -1,15 +1,15 @@
 ghost use Rattle.std.specs.Prelude.{◌≡◌, ◌≢◌, ◌≤◌, ◌+◌, Err, IfOk, IsErrOf};
-ghost use Rattle.service_events.specs.Step.{step, CanJoin, IsCrowded, Fits};
-ghost use Rattle.service_tables.specs.Limits.{IsSpent};
-ghost use Rattle.service_tables.specs.Sound.{IsSound};
+ghost use Rattle.service_desk.specs.service_events.specs.Step.{step, CanJoin, IsCrowded, Fits};
+ghost use Rattle.service_desk.specs.service_tables.specs.Limits.{IsSpent};
+ghost use Rattle.service_desk.specs.service_tables.specs.Sound.{IsSound};
 ghost use Rattle.service_history.specs.Windows.{total};
 
 use kr_base::ConnId;
 use kr_outside::Folder;
-use secret_calls::{Finished, Refused, Request, Taken, Work};
+use service_desk::secret_calls::{Finished, Refused, Request, Taken, Work};
 use service_desk::{Desk, JoinRefused, ReadDesk, WriteDesk};
 use service_history::Service;
-use service_machine::{Arrival, BroughtKey, Event};
+use service_history::service_machine::{Arrival, BroughtKey, Event};
 
 /// A connection's desk over a service that is its own.
 #[derive(Drop)]

@@ -7,7 +7,7 @@ use Rattle.kr_base.specs.declared.ids.ConnId.{ConnId}
 use Rattle.kr_base.specs.declared.ids.ItemId.{ItemId}
 use Rattle.kr_base.specs.declared.ids.PromptId.{PromptId}
 use Rattle.kr_base.specs.declared.ids.SessionId.{SessionId}
-use Rattle.collection_table.specs.Rows.{Rows}
+use Rattle.service_events.specs.collection_table.specs.Rows.{Rows}
 use Rattle.prompt_state.specs.Prompts.{ask_in, ask_of, ask_to, asked_again, asks, ended, ended_row, is_deriving_in, last_round, registered, row_at}
 use Rattle.prompt_state.specs.declared.row.Ask.{Ask}
 use Rattle.prompt_state.specs.declared.row.PromptKind.{PromptKind}
@@ -18,32 +18,32 @@ use Rattle.prompt_state.specs.declared.row.Stage.{Stage}
 use Rattle.prompt_state.specs.declared.row.Stage.TheVariants.{Made, Asked, Deriving}
 use Rattle.prompt_state.specs.declared.table.PromptRefused.{PromptRefused}
 use Rattle.prompt_state.specs.declared.targets.Target.{Target}
-use Rattle.secret_calls.specs.declared.call.Call.{Call}
-use Rattle.secret_calls.specs.declared.call.Call.TheVariants as call
-use Rattle.secret_calls.specs.declared.call.CallFault.{CallFault}
-use Rattle.secret_calls.specs.declared.call.Request.{Request}
-use Rattle.secret_calls.specs.declared.out.Body.{Body}
-use Rattle.secret_calls.specs.declared.out.Body.TheVariants as body
-use Rattle.secret_calls.specs.declared.out.ErrorName.{ErrorName}
-use Rattle.secret_calls.specs.declared.out.ErrorName.TheVariants as name
-use Rattle.service_disk.specs.declared.opening.Opening.{Opening}
-use Rattle.service_disk.specs.declared.opening.Opening.TheVariants as ends
-use Rattle.service_prompts.specs.Prompting.{ask_signal, ask_signal_in, asks_sent, completed_signal}
-use Rattle.service_prompts.specs.Unlocking.{targets_of, unlocked_there}
-use Rattle.service_tables.specs.Limits.{most_content}
-use Rattle.service_tables.specs.Objects.{alias_target, collection_around, collection_named, is_there, once, paths_of}
-use Rattle.service_tables.specs.Targets.{are_light}
-use Rattle.service_tables.specs.Opened.{contents_of}
-use Rattle.service_tables.specs.Questions.{CollectionQuestions}
-use Rattle.service_tables.specs.Reading.{asked_collections}
-use Rattle.service_tables.specs.State.{State}
-use Rattle.service_tables.specs.Storing.{Brought, Edit, Remove_item, Set_secret}
-use Rattle.service_tables.specs.declared.fate.Fate.{Fate}
-use Rattle.service_tables.specs.declared.fate.Fate.TheVariants as fate
-use Rattle.service_tables.specs.declared.rows.Sent.{Sent}
-use Rattle.service_tables.proofs.EachLemmas.{each-append}
+use Rattle.service_events.specs.secret_calls.specs.declared.call.Call.{Call}
+use Rattle.service_events.specs.secret_calls.specs.declared.call.Call.TheVariants as call
+use Rattle.service_events.specs.secret_calls.specs.declared.call.CallFault.{CallFault}
+use Rattle.service_events.specs.secret_calls.specs.declared.call.Request.{Request}
+use Rattle.service_events.specs.secret_calls.specs.declared.out.Body.{Body}
+use Rattle.service_events.specs.secret_calls.specs.declared.out.Body.TheVariants as body
+use Rattle.service_events.specs.secret_calls.specs.declared.out.ErrorName.{ErrorName}
+use Rattle.service_events.specs.secret_calls.specs.declared.out.ErrorName.TheVariants as name
+use Rattle.service_events.specs.service_disk.specs.declared.opening.Opening.{Opening}
+use Rattle.service_events.specs.service_disk.specs.declared.opening.Opening.TheVariants as ends
+use Rattle.service_events.specs.service_prompts.specs.Prompting.{ask_signal, ask_signal_in, asks_sent, completed_signal}
+use Rattle.service_events.specs.service_prompts.specs.Unlocking.{targets_of, unlocked_there}
+use Rattle.service_events.specs.service_tables.specs.Limits.{most_content}
+use Rattle.service_events.specs.service_tables.specs.Objects.{alias_target, collection_around, collection_named, is_there, once, paths_of}
+use Rattle.service_events.specs.service_tables.specs.Targets.{are_light}
+use Rattle.service_events.specs.service_tables.specs.Opened.{contents_of}
+use Rattle.service_events.specs.service_tables.specs.Questions.{CollectionQuestions}
+use Rattle.service_events.specs.service_tables.specs.Reading.{asked_collections}
+use Rattle.service_events.specs.service_tables.specs.State.{State}
+use Rattle.service_events.specs.service_tables.specs.Storing.{Brought, Edit, Remove_item, Set_secret}
+use Rattle.service_events.specs.service_tables.specs.declared.fate.Fate.{Fate}
+use Rattle.service_events.specs.service_tables.specs.declared.fate.Fate.TheVariants as fate
+use Rattle.service_events.specs.service_tables.specs.declared.rows.Sent.{Sent}
+use Rattle.service_events.specs.service_tables.proofs.EachLemmas.{each-append}
 use Rattle.service_events.specs.Plan.{KeyTerms, Questions, Change, Open_session, Close_session, Lock_collection, Begin_prompt, Ask_prompt, Derive_key, Count_wrong, Clear_wrong, Go_on, Finish_target, Drop_target, End_prompt, Become_agent, Leave_agent, Plan, Ends, After, Asks, Opens, Secret_of, answered, followed, given, refused}
-use Rattle.folder_store.specs.Limits.{the_limits}
+use Rattle.service_events.specs.folder_store.specs.Limits.{the_limits}
 use Rattle.service_events.specs.AgentCalls.{in_round, unless_refused}
 use Rattle.service_events.specs.AliasCalls.{alias_settled, alias_stored, on_target, once_read}
 use Rattle.service_events.specs.AnswerCalls.{deriving_key, going_on, kind_answered, left_answered, row_answered, target_answered}

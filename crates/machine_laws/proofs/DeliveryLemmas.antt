@@ -4,17 +4,17 @@ use Rattle.std.specs.List.{AllByRecursion}
 use Rattle.std.proofs.lemmas.Bool.{eqb-true}
 use Rattle.std.proofs.lemmas.List.Elements.{All-contains, All-contains_itself, All-from_recursion, recursion_from_All}
 use Rattle.kr_base.specs.declared.ids.ConnId.{ConnId}
-use Rattle.secret_calls.specs.declared.out.Out.{Out}
-use Rattle.secret_calls.specs.Outs.{most_waiting}
-use Rattle.service_tables.specs.Connections.{changed, delivered, emptied, is_row, left, new_row, size_of, size_waiting, waiting_for, with_out}
-use Rattle.service_tables.specs.Opened.{Contents, opened_state}
-use Rattle.service_tables.specs.State.{State}
-use Rattle.service_tables.specs.Storing.{Brought}
-use Rattle.service_tables.specs.declared.fate.Fate.{Fate}
-use Rattle.service_tables.specs.declared.rows.ConnRow.{ConnRow}
-use Rattle.service_tables.specs.declared.rows.ConnRows.{ConnRows}
-use Rattle.service_tables.specs.declared.rows.Sent.{Sent}
-use Rattle.service_tables.proofs.EachLemmas.{each-append, each-filter}
+use Rattle.service_events.specs.secret_calls.specs.declared.out.Out.{Out}
+use Rattle.service_events.specs.secret_calls.specs.Outs.{most_waiting}
+use Rattle.service_events.specs.service_tables.specs.Connections.{changed, delivered, emptied, is_row, left, new_row, size_of, size_waiting, waiting_for, with_out}
+use Rattle.service_events.specs.service_tables.specs.Opened.{Contents, opened_state}
+use Rattle.service_events.specs.service_tables.specs.State.{State}
+use Rattle.service_events.specs.service_tables.specs.Storing.{Brought}
+use Rattle.service_events.specs.service_tables.specs.declared.fate.Fate.{Fate}
+use Rattle.service_events.specs.service_tables.specs.declared.rows.ConnRow.{ConnRow}
+use Rattle.service_events.specs.service_tables.specs.declared.rows.ConnRows.{ConnRows}
+use Rattle.service_events.specs.service_tables.specs.declared.rows.Sent.{Sent}
+use Rattle.service_events.specs.service_tables.proofs.EachLemmas.{each-append, each-filter}
 use Rattle.service_events.specs.declared.event.Derivation.{Derivation}
 use Rattle.service_events.specs.declared.event.Event.{Event}
 use Rattle.service_events.specs.declared.event.Event.TheVariants as event

@@ -5,22 +5,22 @@ use Rattle.std.specs.Option.{option_map}
 use Rattle.std.proofs.lemmas.Bool.Decides.{nat_tests}
 use Rattle.kr_base.specs.declared.ids.ConnId.{ConnId}
 use Rattle.kr_base.specs.declared.ids.PromptId.{PromptId}
-use Rattle.collection_table.specs.Rows.{Rows}
+use Rattle.service_events.specs.collection_table.specs.Rows.{Rows}
 use Rattle.prompt_state.specs.Prompts.{AreRising, abandoned, asked_again, asks, begun, changed, ended, ended_row, is_agent, is_of, is_prompt, registered, row_at, unanswered_row, unregistered, without}
 use Rattle.prompt_state.specs.declared.row.PromptKind.{PromptKind}
 use Rattle.prompt_state.specs.declared.row.PromptRow.{PromptRow}
 use Rattle.prompt_state.specs.declared.row.Prompts.{Prompts}
-use Rattle.service_prompts.specs.Prompting.{ask_sent, asks_sent, completed_sent, completed_signal}
-use Rattle.service_prompts.proofs.SignalLemmas.{found-row}
-use Rattle.service_tables.specs.Opened.{contents_of}
-use Rattle.service_tables.specs.Questions.{CollectionQuestions}
-use Rattle.service_tables.specs.Reading.{asked_collections}
-use Rattle.service_tables.specs.Sound.{IsSound}
-use Rattle.service_tables.specs.State.{State}
-use Rattle.service_tables.specs.Storing.{Brought}
-use Rattle.service_tables.specs.declared.fate.Fate.{Fate}
-use Rattle.service_tables.specs.declared.rows.Sent.{Sent}
-use Rattle.service_tables.proofs.EachLemmas.{each-append, each-filter}
+use Rattle.service_events.specs.service_prompts.specs.Prompting.{ask_sent, asks_sent, completed_sent, completed_signal}
+use Rattle.service_events.specs.service_prompts.proofs.SignalLemmas.{found-row}
+use Rattle.service_events.specs.service_tables.specs.Opened.{contents_of}
+use Rattle.service_events.specs.service_tables.specs.Questions.{CollectionQuestions}
+use Rattle.service_events.specs.service_tables.specs.Reading.{asked_collections}
+use Rattle.service_events.specs.service_tables.specs.Sound.{IsSound}
+use Rattle.service_events.specs.service_tables.specs.State.{State}
+use Rattle.service_events.specs.service_tables.specs.Storing.{Brought}
+use Rattle.service_events.specs.service_tables.specs.declared.fate.Fate.{Fate}
+use Rattle.service_events.specs.service_tables.specs.declared.rows.Sent.{Sent}
+use Rattle.service_events.specs.service_tables.proofs.EachLemmas.{each-append, each-filter}
 use Rattle.service_events.specs.Derivation.{derived}
 use Rattle.service_events.specs.Plan.{Change, Open_session, Close_session, Lock_collection, Begin_prompt, Ask_prompt, Derive_key, Count_wrong, Clear_wrong, Go_on, Finish_target, Drop_target, End_prompt, Become_agent, Leave_agent, Plan, Ends, After, Asks, Opens}
 use Rattle.service_events.specs.PromptCalls.{go_on_sent, gone_on, is_over_row, passed_over, passed_row}

@@ -13,9 +13,9 @@ use Rattle.kr_base.specs.declared.ids.SessionId.{SessionId}
 use Rattle.kr_names.specs.declared.object_name.ObjectName.{ObjectName}
 use Rattle.kr_names.specs.declared.object_name.ObjectName.TheVariants as object
 use Rattle.kr_names.specs.Path.{path_text}
-use Rattle.collection_store.specs.Reading.{content_at, item_at}
-use Rattle.collection_store.specs.State.{Held}
-use Rattle.collection_table.specs.Rows.{CollectionRow, Rows, has_item, is_open, is_unlocked}
+use Rattle.service_events.specs.collection_store.specs.Reading.{content_at, item_at}
+use Rattle.service_events.specs.collection_store.specs.State.{Held}
+use Rattle.service_events.specs.collection_table.specs.Rows.{CollectionRow, Rows, has_item, is_open, is_unlocked}
 use Rattle.keyring_file.specs.declared.area.FullItem.{FullItem}
 use Rattle.prompt_state.specs.Prompts.{ask_at, asked_again, asks, registered, row_at, ended_row, last_round}
 use Rattle.prompt_state.specs.declared.row.Ask.{Ask}
@@ -25,30 +25,30 @@ use Rattle.prompt_state.specs.declared.row.PromptRow.{PromptRow}
 use Rattle.prompt_state.specs.declared.row.Prompts.{Prompts}
 use Rattle.prompt_state.specs.declared.table.PromptRefused.{PromptRefused}
 use Rattle.prompt_state.specs.declared.targets.Target.{Target}
-use Rattle.secret_calls.specs.declared.call.Call.{Call}
-use Rattle.secret_calls.specs.declared.call.Call.TheVariants as call
-use Rattle.secret_calls.specs.declared.call.CallFault.{CallFault}
-use Rattle.secret_calls.specs.declared.out.Body.{Body}
-use Rattle.secret_calls.specs.declared.out.Body.TheVariants as body
-use Rattle.secret_calls.specs.declared.out.ErrorName.{ErrorName}
-use Rattle.secret_calls.specs.declared.out.ErrorName.TheVariants as name
-use Rattle.secret_calls.specs.declared.out.Out.{Out}
-use Rattle.secret_calls.specs.declared.out.Out.TheVariants as out
-use Rattle.secret_calls.specs.declared.secret.ItemSecret.{ItemSecret}
-use Rattle.secret_calls.specs.declared.secret.ReturnedSecret.{ReturnedSecret}
-use Rattle.secret_calls.specs.declared.serial.Serial.{Serial}
-use Rattle.secret_calls.specs.Outs.{spelled_body}
+use Rattle.service_events.specs.secret_calls.specs.declared.call.Call.{Call}
+use Rattle.service_events.specs.secret_calls.specs.declared.call.Call.TheVariants as call
+use Rattle.service_events.specs.secret_calls.specs.declared.call.CallFault.{CallFault}
+use Rattle.service_events.specs.secret_calls.specs.declared.out.Body.{Body}
+use Rattle.service_events.specs.secret_calls.specs.declared.out.Body.TheVariants as body
+use Rattle.service_events.specs.secret_calls.specs.declared.out.ErrorName.{ErrorName}
+use Rattle.service_events.specs.secret_calls.specs.declared.out.ErrorName.TheVariants as name
+use Rattle.service_events.specs.secret_calls.specs.declared.out.Out.{Out}
+use Rattle.service_events.specs.secret_calls.specs.declared.out.Out.TheVariants as out
+use Rattle.service_events.specs.secret_calls.specs.declared.secret.ItemSecret.{ItemSecret}
+use Rattle.service_events.specs.secret_calls.specs.declared.secret.ReturnedSecret.{ReturnedSecret}
+use Rattle.service_events.specs.secret_calls.specs.declared.serial.Serial.{Serial}
+use Rattle.service_events.specs.secret_calls.specs.Outs.{spelled_body}
 use Rattle.session_table.specs.Sessions.{owns}
-use Rattle.service_prompts.specs.Prompting.{ask_signal, ask_signal_in, completed_signal}
-use Rattle.service_tables.specs.declared.fate.Fate.{Fate}
-use Rattle.service_tables.specs.declared.fate.Fate.TheVariants as fate
-use Rattle.service_tables.specs.declared.rows.Sent.{Sent}
-use Rattle.service_tables.specs.Limits.{most_body, most_content}
-use Rattle.service_tables.specs.Objects.{is_open_item, once, alias_target, collection_named, is_there, item_paths, paths_of}
-use Rattle.service_tables.specs.Reading.{item_secret, secret_of, asked_collections}
-use Rattle.service_tables.specs.State.{State}
-use Rattle.service_tables.specs.Storing.{Brought, Edit, Add_item, Set_secret, Remove_item}
-use Rattle.service_tables.proofs.EachLemmas.{each-append, each-weaker}
+use Rattle.service_events.specs.service_prompts.specs.Prompting.{ask_signal, ask_signal_in, completed_signal}
+use Rattle.service_events.specs.service_tables.specs.declared.fate.Fate.{Fate}
+use Rattle.service_events.specs.service_tables.specs.declared.fate.Fate.TheVariants as fate
+use Rattle.service_events.specs.service_tables.specs.declared.rows.Sent.{Sent}
+use Rattle.service_events.specs.service_tables.specs.Limits.{most_body, most_content}
+use Rattle.service_events.specs.service_tables.specs.Objects.{is_open_item, once, alias_target, collection_named, is_there, item_paths, paths_of}
+use Rattle.service_events.specs.service_tables.specs.Reading.{item_secret, secret_of, asked_collections}
+use Rattle.service_events.specs.service_tables.specs.State.{State}
+use Rattle.service_events.specs.service_tables.specs.Storing.{Brought, Edit, Add_item, Set_secret, Remove_item}
+use Rattle.service_events.specs.service_tables.proofs.EachLemmas.{each-append, each-weaker}
 use Rattle.service_events.specs.declared.event.Event.{Event}
 use Rattle.service_events.specs.declared.event.Event.TheVariants as event
 use Rattle.service_events.specs.declared.event.Recorded.{Recorded}
@@ -65,11 +65,11 @@ use Rattle.service_events.specs.Step.{brought_by, brought_derived, finished, mes
 use Rattle.service_events.specs.Derivation.{derived}
 use Rattle.service_events.proofs.RunLemmas.{sends-limited}
 use Rattle.machine_laws.specs.Secrets.{IsOfOpenItem, IsReturnOf, Shows, ShowsAt, item_asked, item_called, secrets_in, state_at}
-use Rattle.folder_store.specs.Limits.{the_limits}
+use Rattle.service_events.specs.folder_store.specs.Limits.{the_limits}
 use Rattle.service_events.specs.ItemCalls.{get_secret, secret_if_open}
-use Rattle.service_tables.specs.Questions.{CollectionQuestions}
-use Rattle.service_tables.specs.Opened.{contents_of}
-use Rattle.service_prompts.specs.Unlocking.{targets_of, unlocked_there}
+use Rattle.service_events.specs.service_tables.specs.Questions.{CollectionQuestions}
+use Rattle.service_events.specs.service_tables.specs.Opened.{contents_of}
+use Rattle.service_events.specs.service_prompts.specs.Unlocking.{targets_of, unlocked_there}
 
 -- ---- plans that give no secret
 

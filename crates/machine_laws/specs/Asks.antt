@@ -2,11 +2,11 @@
 use Rattle.std.specs.Prelude.{◌≡◌, Bool, false, true, IsTrue, List, Option, Some}
 use Rattle.std.specs.List.{AllByRecursion}
 use Rattle.kr_base.specs.declared.ids.ConnId.{ConnId}
-use Rattle.secret_calls.specs.declared.out.Out.{Out}
-use Rattle.secret_calls.specs.declared.out.Out.TheVariants as out
-use Rattle.secret_calls.specs.declared.signal.Signal.{Signal}
-use Rattle.secret_calls.specs.declared.signal.Signal.TheVariants as signal
-use Rattle.service_tables.specs.declared.rows.Sent.{Sent}
+use Rattle.service_events.specs.secret_calls.specs.declared.out.Out.{Out}
+use Rattle.service_events.specs.secret_calls.specs.declared.out.Out.TheVariants as out
+use Rattle.service_events.specs.secret_calls.specs.declared.signal.Signal.{Signal}
+use Rattle.service_events.specs.secret_calls.specs.declared.signal.Signal.TheVariants as signal
+use Rattle.service_events.specs.service_tables.specs.declared.rows.Sent.{Sent}
 
 -- whether a signal is Ask
 abbrev pub is_ask_signal : Signal → Bool

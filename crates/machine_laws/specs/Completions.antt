@@ -6,14 +6,14 @@ use Rattle.kr_base.specs.declared.ids.ConnId.{ConnId}
 use Rattle.kr_base.specs.declared.ids.PromptId.{PromptId}
 use Rattle.prompt_state.specs.Prompts.{row_at}
 use Rattle.prompt_state.specs.declared.row.Prompts.{Prompts}
-use Rattle.secret_calls.specs.declared.out.Out.{Out}
-use Rattle.secret_calls.specs.declared.out.Out.TheVariants as out
-use Rattle.secret_calls.specs.declared.signal.Signal.{Signal}
-use Rattle.secret_calls.specs.declared.signal.Signal.TheVariants as signal
+use Rattle.service_events.specs.secret_calls.specs.declared.out.Out.{Out}
+use Rattle.service_events.specs.secret_calls.specs.declared.out.Out.TheVariants as out
+use Rattle.service_events.specs.secret_calls.specs.declared.signal.Signal.{Signal}
+use Rattle.service_events.specs.secret_calls.specs.declared.signal.Signal.TheVariants as signal
 use Rattle.service_events.specs.Step.{puts_out, step}
 use Rattle.service_events.specs.declared.event.Event.{Event}
-use Rattle.service_tables.specs.State.{State}
-use Rattle.service_tables.specs.declared.rows.Sent.{Sent}
+use Rattle.service_events.specs.service_tables.specs.State.{State}
+use Rattle.service_events.specs.service_tables.specs.declared.rows.Sent.{Sent}
 
 -- whether a signal is Completed of the prompt
 abbrev pub is_completed : PromptId → Signal → Bool

@@ -1,9 +1,9 @@
 -- Which event of a list put out a message: what waits for a connection, and is taken, comes from there.
 use Rattle.std.specs.Prelude.{ℕ, IsSomeAnd, List, Contains, slice_get}
 use Rattle.kr_base.specs.declared.ids.ConnId.{ConnId}
-use Rattle.secret_calls.specs.declared.out.Out.{Out}
-use Rattle.service_tables.specs.declared.rows.Sent.{Sent}
-use Rattle.service_tables.specs.State.{State}
+use Rattle.service_events.specs.secret_calls.specs.declared.out.Out.{Out}
+use Rattle.service_events.specs.service_tables.specs.declared.rows.Sent.{Sent}
+use Rattle.service_events.specs.service_tables.specs.State.{State}
 use Rattle.service_events.specs.declared.event.Event.{Event}
 use Rattle.service_events.specs.Step.{puts_out}
 use Rattle.machine_laws.specs.Secrets.{state_at}

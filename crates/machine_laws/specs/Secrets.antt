@@ -5,18 +5,18 @@ use Rattle.std.specs.Prelude.{◌≡◌, ℕ, IsSomeAnd, IsTrue, List, [], ◌�
 use Rattle.kr_base.specs.declared.ids.ItemId.{ItemId}
 use Rattle.kr_names.specs.declared.object_name.ObjectName.TheVariants as object
 use Rattle.kr_names.specs.Path.{path_text}
-use Rattle.collection_table.specs.Rows.{Rows, is_open}
-use Rattle.secret_calls.specs.declared.call.Call.{Call}
-use Rattle.secret_calls.specs.declared.call.Call.TheVariants as call
-use Rattle.secret_calls.specs.declared.call.CallFault.{CallFault}
-use Rattle.secret_calls.specs.declared.out.Body.TheVariants as body
-use Rattle.secret_calls.specs.declared.out.Out.{Out}
-use Rattle.secret_calls.specs.declared.out.Out.TheVariants as out
-use Rattle.secret_calls.specs.declared.secret.ItemSecret.{ItemSecret}
-use Rattle.secret_calls.specs.declared.serial.Serial.{Serial}
-use Rattle.service_tables.specs.declared.rows.Sent.{Sent}
-use Rattle.service_tables.specs.Reading.{secret_of}
-use Rattle.service_tables.specs.State.{State}
+use Rattle.service_events.specs.collection_table.specs.Rows.{Rows, is_open}
+use Rattle.service_events.specs.secret_calls.specs.declared.call.Call.{Call}
+use Rattle.service_events.specs.secret_calls.specs.declared.call.Call.TheVariants as call
+use Rattle.service_events.specs.secret_calls.specs.declared.call.CallFault.{CallFault}
+use Rattle.service_events.specs.secret_calls.specs.declared.out.Body.TheVariants as body
+use Rattle.service_events.specs.secret_calls.specs.declared.out.Out.{Out}
+use Rattle.service_events.specs.secret_calls.specs.declared.out.Out.TheVariants as out
+use Rattle.service_events.specs.secret_calls.specs.declared.secret.ItemSecret.{ItemSecret}
+use Rattle.service_events.specs.secret_calls.specs.declared.serial.Serial.{Serial}
+use Rattle.service_events.specs.service_tables.specs.declared.rows.Sent.{Sent}
+use Rattle.service_events.specs.service_tables.specs.Reading.{secret_of}
+use Rattle.service_events.specs.service_tables.specs.State.{State}
 use Rattle.service_events.specs.declared.event.Event.{Event}
 use Rattle.service_events.specs.declared.event.Event.TheVariants as event
 use Rattle.service_events.specs.Replay.{replay}

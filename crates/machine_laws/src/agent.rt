@@ -2,7 +2,7 @@
 ghost use Rattle.machine_laws.specs.Asks.{AreForAgent};
 ghost use Rattle.service_events.specs.Step.{puts_out, step};
 ghost use Rattle.service_events.specs.declared.event.Event.{Event};
-ghost use Rattle.service_tables.specs.State.{State};
+ghost use Rattle.service_events.specs.service_tables.specs.State.{State};
 
 /// Ask goes to the agent alone: each Ask that an event puts out is for the connection that is the agent
 /// after that event, whether the event fits or not; without an agent there is no Ask.

@@ -2,9 +2,9 @@
 // does nothing.
 ghost use Rattle.std.specs.Prelude.{List, Contains};
 ghost use Rattle.kr_base.specs.declared.ids.ConnId.{ConnId};
-ghost use Rattle.secret_calls.specs.declared.out.Out.{Out};
-ghost use Rattle.service_tables.specs.Connections.{waiting_for};
-ghost use Rattle.service_tables.specs.Opened.{Contents, opened_state};
+ghost use Rattle.service_events.specs.secret_calls.specs.declared.out.Out.{Out};
+ghost use Rattle.service_events.specs.service_tables.specs.Connections.{waiting_for};
+ghost use Rattle.service_events.specs.service_tables.specs.Opened.{Contents, opened_state};
 ghost use Rattle.service_events.specs.declared.event.Event.{Event};
 ghost use Rattle.service_events.specs.Replay.{replay};
 ghost use Rattle.machine_laws.specs.Delivery.{WasPutOut};

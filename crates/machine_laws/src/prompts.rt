@@ -10,8 +10,8 @@ ghost use Rattle.service_events.specs.Step.{puts_out, step};
 ghost use Rattle.service_events.specs.declared.event.Derivation.{Derivation};
 ghost use Rattle.service_events.specs.declared.event.Event.{Event};
 ghost use Rattle.service_events.specs.declared.event.Event.TheVariants as Event;
-ghost use Rattle.service_tables.specs.Sound.{IsSound};
-ghost use Rattle.service_tables.specs.State.{State};
+ghost use Rattle.service_events.specs.service_tables.specs.Sound.{IsSound};
+ghost use Rattle.service_events.specs.service_tables.specs.State.{State};
 
 /// A prompt completes at most once (Secret Service API draft 0.2, interface Prompt): of all that events
 /// put out from a sound state on, whether each of them fits or not, one output at most is Completed of

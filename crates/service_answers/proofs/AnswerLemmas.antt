@@ -11,8 +11,8 @@ use Rattle.kr_base.specs.Attributes.{is_name, value_at}
 use Rattle.kr_base.specs.declared.ids.ConnId.{ConnId}
 use Rattle.kr_base.specs.declared.ids.PromptId.{PromptId}
 use Rattle.kr_outside.specs.RenameDisk.{Image}
-use Rattle.collection_table.specs.Entries.{changed, without}
-use Rattle.collection_table.specs.Rows.{CollectionRow, Rows, has, is_open, is_unlocked}
+use Rattle.service_calls.specs.collection_table.specs.Entries.{changed, without}
+use Rattle.service_calls.specs.collection_table.specs.Rows.{CollectionRow, Rows, has, is_open, is_unlocked}
 use Rattle.prompt_state.specs.Prompts.{first_of_kind, first_of_row, is_agent, is_asked_in, last_round, next_round, refusal, refusal_of, round_of, row_at}
 use Rattle.prompt_state.specs.Targets.{first_of}
 use Rattle.prompt_state.specs.declared.row.PromptKind.{PromptKind}
@@ -24,36 +24,36 @@ use Rattle.prompt_state.specs.declared.row.Stage.TheVariants.{Made, Asked, Deriv
 use Rattle.prompt_state.specs.declared.table.PromptRefused.{PromptRefused}
 use Rattle.prompt_state.specs.declared.table.PromptRefused.TheVariants as refused_by
 use Rattle.prompt_state.specs.declared.targets.Target.{Target}
-use Rattle.secret_calls.specs.declared.out.Body.TheVariants as body
-use Rattle.secret_calls.specs.declared.out.ErrorName.TheVariants as name
-use Rattle.secret_calls.specs.declared.out.Out.TheVariants as out
-use Rattle.secret_calls.specs.declared.signal.Signal.TheVariants as signal
-use Rattle.secret_calls.specs.Outs.{shown_label, spelled_body}
-use Rattle.service_disk.specs.Resolving.{is_doubtful, row_resolved, rows_resolved, stays}
-use Rattle.service_disk.proofs.ResolvingLemmas.{resolved-goes, resolved-stays}
-use Rattle.service_prompts.specs.Prompting.{label_asked, purpose_of}
-use Rattle.service_tables.specs.Aliases.{is_doubt}
-use Rattle.service_tables.specs.Connections.{HasRoom}
-use Rattle.service_tables.specs.Desks.{Table}
-use Rattle.service_tables.specs.Disk.{DiskState}
-use Rattle.service_tables.specs.Limits.{most_body}
-use Rattle.service_tables.specs.Opened.{Contents, contents_of}
-use Rattle.service_tables.specs.Questions.{CollectionQuestions}
-use Rattle.service_tables.specs.Reading.{asked_collections, label_of}
-use Rattle.service_tables.specs.Slots.{StoresAt, file_at}
-use Rattle.service_tables.specs.State.{State}
-use Rattle.service_tables.specs.Storing.{Brought, IsResolve}
-use Rattle.service_tables.specs.declared.fate.Fate.{Fate}
-use Rattle.service_tables.specs.declared.fate.Fate.TheVariants as fate
-use Rattle.service_tables.specs.declared.rows.Sent.{Sent}
-use Rattle.service_tables.proofs.DiskLemmas.{without-apart, without-here}
-use Rattle.service_events.specs.AliasCalls.{once_read}
-use Rattle.service_events.specs.AnswerCalls.{creates, creates_row, deriving_key, going_on, kind_answered, left_answered, row_answered, target_answered, target_settled}
-use Rattle.service_events.specs.Fates.{fates_of}
-use Rattle.service_events.specs.Plan.{Plan, Questions, After, Asks, End_prompt, Go_on, Read_collection, answered, refused}
-use Rattle.service_events.specs.PromptCalls.{advance_sent, completes, go_on_sent, is_over, passed, passed_kind}
-use Rattle.service_events.specs.Run.{AreFates, asked, demanded, led, run, sent_by}
-use Rattle.service_events.specs.Stored.{StoresOf}
+use Rattle.service_calls.specs.secret_calls.specs.declared.out.Body.TheVariants as body
+use Rattle.service_calls.specs.secret_calls.specs.declared.out.ErrorName.TheVariants as name
+use Rattle.service_calls.specs.secret_calls.specs.declared.out.Out.TheVariants as out
+use Rattle.service_calls.specs.secret_calls.specs.declared.signal.Signal.TheVariants as signal
+use Rattle.service_calls.specs.secret_calls.specs.Outs.{shown_label, spelled_body}
+use Rattle.service_calls.specs.service_disk.specs.Resolving.{is_doubtful, row_resolved, rows_resolved, stays}
+use Rattle.service_calls.specs.service_disk.proofs.ResolvingLemmas.{resolved-goes, resolved-stays}
+use Rattle.service_calls.specs.service_prompts.specs.Prompting.{label_asked, purpose_of}
+use Rattle.service_calls.specs.service_tables.specs.Aliases.{is_doubt}
+use Rattle.service_calls.specs.service_tables.specs.Connections.{HasRoom}
+use Rattle.service_calls.specs.service_tables.specs.Desks.{Table}
+use Rattle.service_calls.specs.service_tables.specs.Disk.{DiskState}
+use Rattle.service_calls.specs.service_tables.specs.Limits.{most_body}
+use Rattle.service_calls.specs.service_tables.specs.Opened.{Contents, contents_of}
+use Rattle.service_calls.specs.service_tables.specs.Questions.{CollectionQuestions}
+use Rattle.service_calls.specs.service_tables.specs.Reading.{asked_collections, label_of}
+use Rattle.service_calls.specs.service_tables.specs.Slots.{StoresAt, file_at}
+use Rattle.service_calls.specs.service_tables.specs.State.{State}
+use Rattle.service_calls.specs.service_tables.specs.Storing.{Brought, IsResolve}
+use Rattle.service_calls.specs.service_tables.specs.declared.fate.Fate.{Fate}
+use Rattle.service_calls.specs.service_tables.specs.declared.fate.Fate.TheVariants as fate
+use Rattle.service_calls.specs.service_tables.specs.declared.rows.Sent.{Sent}
+use Rattle.service_calls.specs.service_tables.proofs.DiskLemmas.{without-apart, without-here}
+use Rattle.service_calls.specs.service_events.specs.AliasCalls.{once_read}
+use Rattle.service_calls.specs.service_events.specs.AnswerCalls.{creates, creates_row, deriving_key, going_on, kind_answered, left_answered, row_answered, target_answered, target_settled}
+use Rattle.service_calls.specs.service_events.specs.Fates.{fates_of}
+use Rattle.service_calls.specs.service_events.specs.Plan.{Plan, Questions, After, Asks, End_prompt, Go_on, Read_collection, answered, refused}
+use Rattle.service_calls.specs.service_events.specs.PromptCalls.{advance_sent, completes, go_on_sent, is_over, passed, passed_kind}
+use Rattle.service_calls.specs.service_events.specs.Run.{AreFates, asked, demanded, led, run, sent_by}
+use Rattle.service_calls.specs.service_events.specs.Stored.{StoresOf}
 use Rattle.service_calls.specs.Done.{HasRoomToReply, Leads, fates_in}
 use Rattle.service_calls.specs.declared.storing.Done.{Done}
 use Rattle.service_calls.proofs.LeadsLemmas.{room-silent}

@@ -8,10 +8,10 @@ use Rattle.kr_base.specs.declared.ids.ConnId.{ConnId}
 use Rattle.kr_base.specs.declared.ids.PromptId.{PromptId}
 use Rattle.kr_names.specs.Path.{IsAliasName}
 use Rattle.key_derivation.specs.Kdf.{Inputs}
-use Rattle.collection_store.specs.State.{Held}
-use Rattle.collection_table.specs.Entries.{changed}
-use Rattle.collection_table.specs.Rows.{CollectionRow, Rows, locked}
-use Rattle.collection_table.proofs.EntryLemmas.{unchanged_none}
+use Rattle.service_calls.specs.collection_store.specs.State.{Held}
+use Rattle.service_calls.specs.collection_table.specs.Entries.{changed}
+use Rattle.service_calls.specs.collection_table.specs.Rows.{CollectionRow, Rows, locked}
+use Rattle.service_calls.specs.collection_table.proofs.EntryLemmas.{unchanged_none}
 use Rattle.prompt_state.specs.Prompts as prompts
 use Rattle.prompt_state.specs.Prompts.{last_round, next_round, one_more, row_at}
 use Rattle.prompt_state.specs.Targets.{first_left, first_of}
@@ -22,38 +22,38 @@ use Rattle.prompt_state.specs.declared.row.Prompts.{Prompts}
 use Rattle.prompt_state.specs.declared.row.Stage.{Stage}
 use Rattle.prompt_state.specs.declared.row.Stage.TheVariants as stage
 use Rattle.prompt_state.specs.declared.targets.Target.{Target}
-use Rattle.service_disk.specs.Making.{MakesAt}
-use Rattle.service_disk.specs.Opening.{opening_file, opening_in, opening_of, row_by, row_opened, rows_opened}
-use Rattle.service_disk.specs.declared.opening.Opening.{Opening}
-use Rattle.service_disk.specs.declared.opening.Opening.TheVariants as ends
-use Rattle.service_disk.proofs.OpeningLemmas.{row-stays}
+use Rattle.service_calls.specs.service_disk.specs.Making.{MakesAt}
+use Rattle.service_calls.specs.service_disk.specs.Opening.{opening_file, opening_in, opening_of, row_by, row_opened, rows_opened}
+use Rattle.service_calls.specs.service_disk.specs.declared.opening.Opening.{Opening}
+use Rattle.service_calls.specs.service_disk.specs.declared.opening.Opening.TheVariants as ends
+use Rattle.service_calls.specs.service_disk.proofs.OpeningLemmas.{row-stays}
 use Rattle.kr_outside.specs.RenameDisk.{Image}
-use Rattle.secret_calls.specs.declared.out.Body.{Body}
-use Rattle.secret_calls.specs.declared.out.Body.TheVariants as body
-use Rattle.service_tables.specs.Disk.{DiskState}
-use Rattle.service_tables.specs.Opened.{contents_of}
-use Rattle.service_tables.specs.Reading.{asked_collections}
-use Rattle.service_tables.specs.State.{State}
-use Rattle.service_tables.specs.Sound.{IsSoundKind, IsSoundPrompt}
-use Rattle.service_tables.specs.Storing.{Brought, IsStoring}
-use Rattle.service_tables.specs.declared.fate.Fate.{Fate}
-use Rattle.service_tables.specs.declared.fate.Fate.TheVariants as fate
-use Rattle.service_tables.specs.declared.rows.Sent.{Sent}
-use Rattle.service_tables.proofs.AliasLemmas.{is-alias}
-use Rattle.service_tables.proofs.DiskLemmas.{changed-as, changed-back}
-use Rattle.service_events.specs.Derivation.{collection_made, kind_derived, left_derived, making_ended, opening_ended, quietly, row_derived}
+use Rattle.service_calls.specs.secret_calls.specs.declared.out.Body.{Body}
+use Rattle.service_calls.specs.secret_calls.specs.declared.out.Body.TheVariants as body
+use Rattle.service_calls.specs.service_tables.specs.Disk.{DiskState}
+use Rattle.service_calls.specs.service_tables.specs.Opened.{contents_of}
+use Rattle.service_calls.specs.service_tables.specs.Reading.{asked_collections}
+use Rattle.service_calls.specs.service_tables.specs.State.{State}
+use Rattle.service_calls.specs.service_tables.specs.Sound.{IsSoundKind, IsSoundPrompt}
+use Rattle.service_calls.specs.service_tables.specs.Storing.{Brought, IsStoring}
+use Rattle.service_calls.specs.service_tables.specs.declared.fate.Fate.{Fate}
+use Rattle.service_calls.specs.service_tables.specs.declared.fate.Fate.TheVariants as fate
+use Rattle.service_calls.specs.service_tables.specs.declared.rows.Sent.{Sent}
+use Rattle.service_calls.specs.service_tables.proofs.AliasLemmas.{is-alias}
+use Rattle.service_calls.specs.service_tables.proofs.DiskLemmas.{changed-as, changed-back}
+use Rattle.service_calls.specs.service_events.specs.Derivation.{collection_made, kind_derived, left_derived, making_ended, opening_ended, quietly, row_derived}
 use Rattle.service_answers.specs.Purposes.{IsPurposeOf, purpose_of}
 use Rattle.service_answers.specs.declared.derived_key.Purpose.TheVariants as purpose
 use Rattle.service_answers.specs.declared.derived_key.Settled.{Settled}
 use Rattle.service_calls.specs.declared.storing.Done.{Done}
-use Rattle.service_events.specs.Plan.{Ask_prompt, Asks, Change, Clear_wrong, Count_wrong, Go_on, KeyTerms, Make, Opens, Plan, Questions, answered}
-use Rattle.service_events.specs.PromptCalls.{advance_sent, asks_for, go_on_sent, passed_kind}
-use Rattle.service_events.specs.Run.{demanded, sent_all, unlocked_with}
-use Rattle.service_events.specs.Stored.{KeepsSlotOrAll}
+use Rattle.service_calls.specs.service_events.specs.Plan.{Ask_prompt, Asks, Change, Clear_wrong, Count_wrong, Go_on, KeyTerms, Make, Opens, Plan, Questions, answered}
+use Rattle.service_calls.specs.service_events.specs.PromptCalls.{advance_sent, asks_for, go_on_sent, passed_kind}
+use Rattle.service_calls.specs.service_events.specs.Run.{demanded, sent_all, unlocked_with}
+use Rattle.service_calls.specs.service_events.specs.Stored.{KeepsSlotOrAll}
 use Rattle.service_calls.specs.Done.{Leads}
 use Rattle.service_answers.specs.Settled.{Settles}
-use Rattle.service_events.proofs.AdvanceLemmas.{KeepsPrompt, row-changed}
-use Rattle.service_events.proofs.SendLemmas.{ask-sends}
+use Rattle.service_calls.specs.service_events.proofs.AdvanceLemmas.{KeepsPrompt, row-changed}
+use Rattle.service_calls.specs.service_events.proofs.SendLemmas.{ask-sends}
 
 -- ---- a collection that a key opens, or doesn't
 

@@ -2,17 +2,17 @@
 use Rattle.std.proofs.Common.{◌≡◌, ℕ, Bool, List, [], ◌∷◌, ◌++◌, refl, ap, sym, subst, ◌∙◌, append_assoc}
 use Rattle.kr_base.specs.declared.ids.ConnId.{ConnId}
 use Rattle.kr_outside.specs.RenameDisk.{Image}
-use Rattle.service_tables.specs.Disk.{DiskState}
-use Rattle.service_tables.specs.State.{State}
-use Rattle.service_tables.specs.Storing.{Brought}
-use Rattle.service_tables.specs.declared.fate.Fate.{Fate}
-use Rattle.service_tables.specs.declared.rows.Sent.{Sent}
+use Rattle.service_calls.specs.service_tables.specs.Disk.{DiskState}
+use Rattle.service_calls.specs.service_tables.specs.State.{State}
+use Rattle.service_calls.specs.service_tables.specs.Storing.{Brought}
+use Rattle.service_calls.specs.service_tables.specs.declared.fate.Fate.{Fate}
+use Rattle.service_calls.specs.service_tables.specs.declared.rows.Sent.{Sent}
 use Rattle.service_calls.specs.declared.storing.Done.{Done}
-use Rattle.service_events.specs.Plan.{Change, Plan, Ends, After, Asks, Opens, followed}
-use Rattle.service_events.specs.Run.{AreFates, asked, demanded, performed, performed_all, run, sent_all, sent_by, unlocked_with}
-use Rattle.service_events.specs.Stored.{StoresOf}
+use Rattle.service_calls.specs.service_events.specs.Plan.{Change, Plan, Ends, After, Asks, Opens, followed}
+use Rattle.service_calls.specs.service_events.specs.Run.{AreFates, asked, demanded, performed, performed_all, run, sent_all, sent_by, unlocked_with}
+use Rattle.service_calls.specs.service_events.specs.Stored.{StoresOf}
 use Rattle.service_calls.specs.Done.{Leads, fates_in}
-use Rattle.service_events.proofs.RunLemmas.{sends-limited, state-limited}
+use Rattle.service_calls.specs.service_events.proofs.RunLemmas.{sends-limited, state-limited}
 
 -- ---- changes after others
 

@@ -15,34 +15,34 @@ use Rattle.kr_base.specs.declared.ids.ConnId.{ConnId}
 use Rattle.kr_base.specs.declared.ids.PromptId.{PromptId}
 use Rattle.kr_base.proofs.OrderedLemmas.{is_equal}
 use Rattle.kr_outside.specs.RenameDisk.{Image}
-use Rattle.alias_table.specs.Table.{AliasRows, Change as AliasChange}
-use Rattle.folder_store.specs.Limits.{the_limits}
-use Rattle.collection_table.specs.Entries.{inserted}
-use Rattle.collection_table.specs.Rows.{CollectionRow, Rows, has}
+use Rattle.service_calls.specs.alias_table.specs.Table.{AliasRows, Change as AliasChange}
+use Rattle.service_calls.specs.folder_store.specs.Limits.{the_limits}
+use Rattle.service_calls.specs.collection_table.specs.Entries.{inserted}
+use Rattle.service_calls.specs.collection_table.specs.Rows.{CollectionRow, Rows, has}
 use Rattle.prompt_state.specs.Prompts as prompts
 use Rattle.prompt_state.specs.Prompts.{row_at}
 use Rattle.prompt_state.specs.declared.row.PromptRow.{PromptRow}
 use Rattle.prompt_state.specs.declared.row.Prompts.{Prompts}
-use Rattle.secret_calls.specs.declared.out.Body.TheVariants as body
-use Rattle.secret_calls.specs.declared.out.Out.{Out}
+use Rattle.service_calls.specs.secret_calls.specs.declared.out.Body.TheVariants as body
+use Rattle.service_calls.specs.secret_calls.specs.declared.out.Out.{Out}
 use Rattle.stem_choice.specs.UsedStems.{is_used}
-use Rattle.service_prompts.specs.Prompting.{completed_sent, completed_signal}
-use Rattle.service_disk.specs.Making.{AreFree}
-use Rattle.service_tables.specs.Aliases.{IsPreparedFor, IsPreparedIn}
-use Rattle.service_tables.specs.Connections.{HasRoom, Rooms}
-use Rattle.service_tables.specs.Disk.{DiskState}
-use Rattle.service_tables.specs.Opened.{contents_of}
-use Rattle.service_tables.specs.State.{State}
-use Rattle.service_tables.specs.Storing.{Brought}
-use Rattle.service_tables.specs.declared.fate.Fate.{Fate}
-use Rattle.service_tables.specs.declared.fate.Fate.TheVariants as fate
-use Rattle.service_tables.specs.declared.rows.Sent.{Sent}
-use Rattle.service_events.specs.AliasCalls.{alias_settled}
-use Rattle.service_events.specs.Derivation.{alias_given, are_terms, can_make, collection_made, completing, dismissing, making_ended, new_iterations, quietly}
-use Rattle.service_events.specs.Plan.{After, Asks, KeyTerms, Make, Plan, Questions, followed}
+use Rattle.service_calls.specs.service_prompts.specs.Prompting.{completed_sent, completed_signal}
+use Rattle.service_calls.specs.service_disk.specs.Making.{AreFree}
+use Rattle.service_calls.specs.service_tables.specs.Aliases.{IsPreparedFor, IsPreparedIn}
+use Rattle.service_calls.specs.service_tables.specs.Connections.{HasRoom, Rooms}
+use Rattle.service_calls.specs.service_tables.specs.Disk.{DiskState}
+use Rattle.service_calls.specs.service_tables.specs.Opened.{contents_of}
+use Rattle.service_calls.specs.service_tables.specs.State.{State}
+use Rattle.service_calls.specs.service_tables.specs.Storing.{Brought}
+use Rattle.service_calls.specs.service_tables.specs.declared.fate.Fate.{Fate}
+use Rattle.service_calls.specs.service_tables.specs.declared.fate.Fate.TheVariants as fate
+use Rattle.service_calls.specs.service_tables.specs.declared.rows.Sent.{Sent}
+use Rattle.service_calls.specs.service_events.specs.AliasCalls.{alias_settled}
+use Rattle.service_calls.specs.service_events.specs.Derivation.{alias_given, are_terms, can_make, collection_made, completing, dismissing, making_ended, new_iterations, quietly}
+use Rattle.service_calls.specs.service_events.specs.Plan.{After, Asks, KeyTerms, Make, Plan, Questions, followed}
 use Rattle.service_answers.specs.Purposes.{SetsAlias}
-use Rattle.service_events.specs.Run.{AreFates, asked, run, sent_all}
-use Rattle.service_events.specs.Stored.{StoresOf}
+use Rattle.service_calls.specs.service_events.specs.Run.{AreFates, asked, run, sent_all}
+use Rattle.service_calls.specs.service_events.specs.Stored.{StoresOf}
 use Rattle.service_calls.specs.Done.{HasRoomToReply, Leads, fates_in}
 use Rattle.service_answers.specs.Settled.{Settles}
 use Rattle.service_calls.specs.declared.storing.Done.{Done}

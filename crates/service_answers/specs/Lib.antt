@@ -1,2 +1,11 @@
+pub use Rattle.service_calls.specs.alias_table
+pub use Rattle.service_calls.specs.collection_store
+pub use Rattle.service_calls.specs.collection_table
+pub use Rattle.service_calls.specs.folder_store
+pub use Rattle.service_calls.specs.secret_calls
+pub use Rattle.service_calls
+pub use Rattle.service_calls.specs.service_disk
+pub use Rattle.service_calls.specs.service_events
+pub use Rattle.service_calls.specs.service_tables
 pub mod Purposes
 pub mod Settled

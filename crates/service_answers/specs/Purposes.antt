@@ -1,14 +1,14 @@
 -- What a prompt is for, as far as a derived key needs it.
 use Rattle.std.specs.Prelude.{◌≡◌, ◌⊎◌, ℕ, List, [], Option, Some, None}
 use Rattle.std.specs.Option.{option_map}
-use Rattle.alias_table.specs.Table.{AliasRows, Change}
-use Rattle.collection_table.specs.Rows.{Rows}
+use Rattle.service_calls.specs.alias_table.specs.Table.{AliasRows, Change}
+use Rattle.service_calls.specs.collection_table.specs.Rows.{Rows}
 use Rattle.prompt_state.specs.Targets.{first_left}
 use Rattle.prompt_state.specs.declared.row.PromptKind.{PromptKind}
 use Rattle.prompt_state.specs.declared.row.PromptKind.TheVariants as kind
 use Rattle.prompt_state.specs.declared.row.PromptRow.{PromptRow}
 use Rattle.prompt_state.specs.declared.targets.Target.{Target}
-use Rattle.service_tables.specs.Aliases.{IsPreparedIn}
+use Rattle.service_calls.specs.service_tables.specs.Aliases.{IsPreparedIn}
 use Rattle.service_answers.specs.declared.derived_key.Purpose.{Purpose}
 use Rattle.service_answers.specs.declared.derived_key.Purpose.TheVariants as purpose
 

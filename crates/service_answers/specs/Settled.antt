@@ -2,16 +2,16 @@
 use Rattle.std.specs.Prelude.{◌≡◌, ℕ, Bool, List, ◌++◌}
 use Rattle.kr_base.specs.declared.ids.ConnId.{ConnId}
 use Rattle.kr_outside.specs.RenameDisk.{Image}
-use Rattle.service_tables.specs.declared.fate.Fate.{Fate}
-use Rattle.service_tables.specs.Disk.{DiskState}
-use Rattle.service_tables.specs.State.{State}
-use Rattle.service_tables.specs.Storing.{Brought}
+use Rattle.service_calls.specs.service_tables.specs.declared.fate.Fate.{Fate}
+use Rattle.service_calls.specs.service_tables.specs.Disk.{DiskState}
+use Rattle.service_calls.specs.service_tables.specs.State.{State}
+use Rattle.service_calls.specs.service_tables.specs.Storing.{Brought}
 use Rattle.service_answers.specs.declared.derived_key.Settled.{Settled}
-use Rattle.service_events.specs.CollectionCalls.{made}
-use Rattle.service_events.specs.Fates.{fates_of}
-use Rattle.service_events.specs.Plan.{Plan}
-use Rattle.service_events.specs.Run.{AreFates, led}
-use Rattle.service_events.specs.Stored.{StoresOf}
+use Rattle.service_calls.specs.service_events.specs.CollectionCalls.{made}
+use Rattle.service_calls.specs.service_events.specs.Fates.{fates_of}
+use Rattle.service_calls.specs.service_events.specs.Plan.{Plan}
+use Rattle.service_calls.specs.service_events.specs.Run.{AreFates, led}
+use Rattle.service_calls.specs.service_events.specs.Stored.{StoresOf}
 use Rattle.service_calls.specs.Done.{fates_in}
 
 -- what a derived key led to, in order: the making of a collection, then a resolve of the file of the aliases, then its storing

@@ -2,32 +2,32 @@
 ghost use Rattle.std.specs.Prelude.{◌≡◌, ℕ, ◌<◌, ◌≤◌, List, [], None, Some, Ok, true, false, IfOk, OnErr};
 ghost use Rattle.std.specs.Option.{is_some, option_map};
 ghost use Rattle.kr_base.specs.Attributes.{is_name, value_at};
-ghost use Rattle.collection_table.specs.Entries.{without};
-ghost use Rattle.collection_table.specs.Rows.{has, is_open};
+ghost use Rattle.service_calls.specs.collection_table.specs.Entries.{without};
+ghost use Rattle.service_calls.specs.collection_table.specs.Rows.{has, is_open};
 ghost use Rattle.prompt_state.specs.Prompts.{first_of_row, last_round, next_round, refusal, row_at};
-ghost use Rattle.service_disk.specs.Resolving.{is_doubtful};
-ghost use Rattle.service_events.specs.AnswerCalls.{answer_prompt, creates_row, deriving_key, going_on, row_answered, target_answered, target_settled};
-ghost use Rattle.service_events.specs.Plan.{Go_on};
-ghost use Rattle.service_events.specs.PromptCalls.{go_on_sent, passed, passed_kind};
+ghost use Rattle.service_calls.specs.service_disk.specs.Resolving.{is_doubtful};
+ghost use Rattle.service_calls.specs.service_events.specs.AnswerCalls.{answer_prompt, creates_row, deriving_key, going_on, row_answered, target_answered, target_settled};
+ghost use Rattle.service_calls.specs.service_events.specs.Plan.{Go_on};
+ghost use Rattle.service_calls.specs.service_events.specs.PromptCalls.{go_on_sent, passed, passed_kind};
 ghost use Rattle.service_calls.specs.Rows.{disk_of, rows_of};
-ghost use Rattle.service_events.specs.Run.{asked, performed, sent_by};
-ghost use Rattle.service_events.specs.Step.{answer_work, file_terms, password_in, prompt_work, row_terms, terms_for, work_of};
+ghost use Rattle.service_calls.specs.service_events.specs.Run.{asked, performed, sent_by};
+ghost use Rattle.service_calls.specs.service_events.specs.Step.{answer_work, file_terms, password_in, prompt_work, row_terms, terms_for, work_of};
 ghost use Rattle.service_calls.specs.Done.{HasRoomToReply, Leads};
-ghost use Rattle.service_tables.specs.Connections.{HasRoom};
-ghost use Rattle.service_tables.specs.Disk.{contents_in};
-ghost use Rattle.service_tables.specs.Opened.{contents_of};
-ghost use Rattle.service_tables.specs.Reading.{asked_collections};
-ghost use Rattle.service_tables.specs.Storing.{Brought};
+ghost use Rattle.service_calls.specs.service_tables.specs.Connections.{HasRoom};
+ghost use Rattle.service_calls.specs.service_tables.specs.Disk.{contents_in};
+ghost use Rattle.service_calls.specs.service_tables.specs.Opened.{contents_of};
+ghost use Rattle.service_calls.specs.service_tables.specs.Reading.{asked_collections};
+ghost use Rattle.service_calls.specs.service_tables.specs.Storing.{Brought};
 
 use kr_base::{Bytes, ConnId, OutOfMemory, PromptId, Stem};
 use kr_outside::Folder;
 use prompt_state::{PromptKind, Targets};
-use secret_calls::{Body, Call, Request, Work};
+use service_calls::secret_calls::{Body, Call, Request, Work};
+use service_calls::service_disk::{is_doubtful, prepare_resolve, resolve};
+use service_calls::service_tables::{Disk, Fate, Sent};
 use service_calls::{
     Answer, Done, Tables, error_for, pass_kind, refused, sending, unread, unstored,
 };
-use service_disk::{is_doubtful, prepare_resolve, resolve};
-use service_tables::{Disk, Fate, Sent};
 use std::cmp::Ordering;
 
 /// An answer in this round ends its prompt.

@@ -10,3 +10,5 @@ mod derived_key;
 
 pub use answering::{answer_prompt, password_in, work_of};
 pub use derived_key::{Settled, settle};
+pub use service_calls;
+pub use service_calls::{collection_store, secret_calls, service_events, service_tables};

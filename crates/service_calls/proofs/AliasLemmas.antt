@@ -2,17 +2,17 @@
 use Rattle.std.proofs.Common.{◌≡◌, ℕ, Bool, true, false, cond, List, Option, Some, None, ap, subst}
 use Rattle.kr_base.specs.declared.ids.ConnId.{ConnId}
 use Rattle.kr_outside.specs.RenameDisk.{Image}
-use Rattle.alias_table.specs.Table.{AliasRows, Change}
-use Rattle.secret_calls.specs.declared.out.Body.TheVariants as body
-use Rattle.secret_calls.specs.declared.out.ErrorName.TheVariants as name
-use Rattle.service_tables.specs.declared.fate.Fate.{Fate}
-use Rattle.service_tables.specs.Aliases.{IsForAliases, IsPreparedFor, IsPreparedIn, are_doubtful, asked_aliases}
-use Rattle.service_tables.specs.Disk.{DiskState}
-use Rattle.service_tables.specs.Opened.{Contents, contents_of}
-use Rattle.service_tables.specs.Slots.{StoresAliases}
-use Rattle.service_tables.specs.State.{State}
-use Rattle.service_tables.specs.Storing.{Brought}
-use Rattle.collection_table.specs.Rows.{Rows}
+use Rattle.service_events.specs.alias_table.specs.Table.{AliasRows, Change}
+use Rattle.service_events.specs.secret_calls.specs.declared.out.Body.TheVariants as body
+use Rattle.service_events.specs.secret_calls.specs.declared.out.ErrorName.TheVariants as name
+use Rattle.service_events.specs.service_tables.specs.declared.fate.Fate.{Fate}
+use Rattle.service_events.specs.service_tables.specs.Aliases.{IsForAliases, IsPreparedFor, IsPreparedIn, are_doubtful, asked_aliases}
+use Rattle.service_events.specs.service_tables.specs.Disk.{DiskState}
+use Rattle.service_events.specs.service_tables.specs.Opened.{Contents, contents_of}
+use Rattle.service_events.specs.service_tables.specs.Slots.{StoresAliases}
+use Rattle.service_events.specs.service_tables.specs.State.{State}
+use Rattle.service_events.specs.service_tables.specs.Storing.{Brought}
+use Rattle.service_events.specs.collection_table.specs.Rows.{Rows}
 use Rattle.service_events.specs.AliasCalls.{alias_settled, alias_stored, once_read}
 use Rattle.service_events.specs.CollectionCalls.{by_fate}
 use Rattle.service_events.specs.Plan.{Asks, Set_alias, Read_aliases, refused}

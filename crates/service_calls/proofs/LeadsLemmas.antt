@@ -4,29 +4,29 @@ use Rattle.std.proofs.lemmas.Bool.{le-leb, leb-true}
 use Rattle.kr_base.specs.declared.ids.ConnId.{ConnId}
 use Rattle.kr_base.specs.declared.ids.ItemId.{ItemId}
 use Rattle.kr_outside.specs.RenameDisk.{Image}
-use Rattle.collection_table.specs.Rows.{Rows}
+use Rattle.service_events.specs.collection_table.specs.Rows.{Rows}
 use Rattle.prompt_state.specs.Targets.{all_left}
 use Rattle.prompt_state.specs.declared.row.PromptKind.TheVariants as kind
 use Rattle.prompt_state.specs.declared.targets.Target.{Target}
-use Rattle.secret_calls.specs.declared.call.Call.{Call}
-use Rattle.secret_calls.specs.declared.out.Body.{Body}
-use Rattle.secret_calls.specs.declared.out.Body.TheVariants as body
-use Rattle.secret_calls.specs.declared.out.ErrorName.{ErrorName}
-use Rattle.secret_calls.specs.declared.out.ErrorName.TheVariants as name
-use Rattle.service_tables.specs.declared.fate.Fate.{Fate}
-use Rattle.service_tables.specs.declared.fate.Fate.TheVariants as fate
-use Rattle.secret_calls.specs.Outs.{spelled_body}
-use Rattle.secret_calls.specs.declared.out.Out.{Out}
-use Rattle.service_tables.specs.declared.rows.Sent.{Sent}
-use Rattle.service_tables.specs.Connections.{HasRoom, HasRoomFor, Rooms, has, sent_to}
-use Rattle.service_tables.proofs.RoomLemmas.{first-room, room-less, room-same, room-zero}
-use Rattle.service_tables.specs.Limits.{most_body}
-use Rattle.service_tables.specs.Disk.{DiskState}
-use Rattle.service_tables.specs.Opened.{contents_of}
-use Rattle.service_tables.specs.Slots.{IsFault, StoresAt}
-use Rattle.service_tables.specs.State.{State}
-use Rattle.service_tables.specs.Targets.{are_light}
-use Rattle.service_tables.specs.Storing.{Brought, Edit, IsResolve}
+use Rattle.service_events.specs.secret_calls.specs.declared.call.Call.{Call}
+use Rattle.service_events.specs.secret_calls.specs.declared.out.Body.{Body}
+use Rattle.service_events.specs.secret_calls.specs.declared.out.Body.TheVariants as body
+use Rattle.service_events.specs.secret_calls.specs.declared.out.ErrorName.{ErrorName}
+use Rattle.service_events.specs.secret_calls.specs.declared.out.ErrorName.TheVariants as name
+use Rattle.service_events.specs.service_tables.specs.declared.fate.Fate.{Fate}
+use Rattle.service_events.specs.service_tables.specs.declared.fate.Fate.TheVariants as fate
+use Rattle.service_events.specs.secret_calls.specs.Outs.{spelled_body}
+use Rattle.service_events.specs.secret_calls.specs.declared.out.Out.{Out}
+use Rattle.service_events.specs.service_tables.specs.declared.rows.Sent.{Sent}
+use Rattle.service_events.specs.service_tables.specs.Connections.{HasRoom, HasRoomFor, Rooms, has, sent_to}
+use Rattle.service_events.specs.service_tables.proofs.RoomLemmas.{first-room, room-less, room-same, room-zero}
+use Rattle.service_events.specs.service_tables.specs.Limits.{most_body}
+use Rattle.service_events.specs.service_tables.specs.Disk.{DiskState}
+use Rattle.service_events.specs.service_tables.specs.Opened.{contents_of}
+use Rattle.service_events.specs.service_tables.specs.Slots.{IsFault, StoresAt}
+use Rattle.service_events.specs.service_tables.specs.State.{State}
+use Rattle.service_events.specs.service_tables.specs.Targets.{are_light}
+use Rattle.service_events.specs.service_tables.specs.Storing.{Brought, Edit, IsResolve}
 use Rattle.service_events.specs.declared.event.Arrival.{Arrival}
 use Rattle.service_events.specs.declared.event.Output.TheVariants as output
 use Rattle.service_calls.specs.declared.storing.Done.{Done}

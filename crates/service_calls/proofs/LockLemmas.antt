@@ -4,17 +4,17 @@ use Rattle.std.proofs.Common.{◌≡◌, ℕ, Bool, true, false, cond, List, [],
 use Rattle.std.specs.List.{filter_map}
 use Rattle.kr_base.specs.declared.ids.ConnId.{ConnId}
 use Rattle.kr_names.specs.declared.object_name.ObjectName.{ObjectName}
-use Rattle.secret_calls.specs.declared.out.Body.{Body}
-use Rattle.secret_calls.specs.declared.out.Body.TheVariants as body
-use Rattle.secret_calls.specs.declared.out.ErrorName.TheVariants as name
-use Rattle.service_tables.specs.Objects.{collection_around, is_there, once, paths_of}
-use Rattle.service_tables.specs.Opened.{contents_of}
-use Rattle.service_tables.specs.Reading.{asked_collections}
+use Rattle.service_events.specs.secret_calls.specs.declared.out.Body.{Body}
+use Rattle.service_events.specs.secret_calls.specs.declared.out.Body.TheVariants as body
+use Rattle.service_events.specs.secret_calls.specs.declared.out.ErrorName.TheVariants as name
+use Rattle.service_events.specs.service_tables.specs.Objects.{collection_around, is_there, once, paths_of}
+use Rattle.service_events.specs.service_tables.specs.Opened.{contents_of}
+use Rattle.service_events.specs.service_tables.specs.Reading.{asked_collections}
 use Rattle.service_events.specs.Plan.{Change, Lock_collection, answered, refused}
-use Rattle.service_tables.specs.Storing.{Brought}
+use Rattle.service_events.specs.service_tables.specs.Storing.{Brought}
 use Rattle.service_events.specs.Run.{Ran, asked, limited, performed_all, ran, run}
 use Rattle.service_events.specs.ServiceCalls.{is_small, lock, locks}
-use Rattle.service_tables.specs.State.{State}
+use Rattle.service_events.specs.service_tables.specs.State.{State}
 use Rattle.service_events.proofs.RunLemmas.{state-limited}
 
 -- a return that isn't too large is answered, whether or not anything changes

@@ -11,10 +11,10 @@ use Rattle.prompt_state.specs.declared.row.PromptKind.TheVariants.{Unlock, Creat
 use Rattle.prompt_state.specs.declared.row.PromptRow.{PromptRow}
 use Rattle.prompt_state.specs.declared.row.Prompts.{Prompts}
 use Rattle.prompt_state.specs.declared.targets.Target.{Target}
-use Rattle.service_tables.specs.Opened.{contents_of}
-use Rattle.service_tables.specs.Reading.{asked_collections}
-use Rattle.service_tables.specs.State.{State}
-use Rattle.service_tables.specs.Questions.{CollectionQuestions}
+use Rattle.service_events.specs.service_tables.specs.Opened.{contents_of}
+use Rattle.service_events.specs.service_tables.specs.Reading.{asked_collections}
+use Rattle.service_events.specs.service_tables.specs.State.{State}
+use Rattle.service_events.specs.service_tables.specs.Questions.{CollectionQuestions}
 use Rattle.service_events.specs.PromptCalls.{passed, passed_kind, passed_over, passed_row}
 use Rattle.service_events.proofs.AdvanceLemmas.{KeepsPrompt}
 

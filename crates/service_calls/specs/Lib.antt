@@ -1,2 +1,11 @@
+pub use Rattle.service_events.specs.alias_table
+pub use Rattle.service_events.specs.collection_store
+pub use Rattle.service_events.specs.collection_table
+pub use Rattle.service_events.specs.folder_store
+pub use Rattle.service_events.specs.secret_calls
+pub use Rattle.service_events.specs.service_disk
+pub use Rattle.service_events
+pub use Rattle.service_events.specs.service_prompts
+pub use Rattle.service_events.specs.service_tables
 pub mod Done
 pub mod Rows

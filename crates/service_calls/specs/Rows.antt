@@ -1,15 +1,15 @@
 -- The state that the tables are in, and their disk.
 use Rattle.std.specs.Prelude.{ℕ, List, Option}
-use Rattle.alias_table.specs.Table.{AliasRows}
-use Rattle.collection_table.specs.Entries.{rows_of as collections_of}
-use Rattle.collection_table.specs.Rows.{Rows}
+use Rattle.service_events.specs.alias_table.specs.Table.{AliasRows}
+use Rattle.service_events.specs.collection_table.specs.Entries.{rows_of as collections_of}
+use Rattle.service_events.specs.collection_table.specs.Rows.{Rows}
 use Rattle.prompt_state.specs.declared.row.Prompts.{Prompts}
 use Rattle.session_table.specs.declared.row.Sessions.{Sessions}
 use Rattle.service_calls.specs.declared.tables.Tables.{Tables}
-use Rattle.service_tables.specs.Aliases.{rows_in}
-use Rattle.service_tables.specs.Desks.{Table}
-use Rattle.service_tables.specs.Disk.{DiskState, disk_state}
-use Rattle.service_tables.specs.State.{State}
+use Rattle.service_events.specs.service_tables.specs.Aliases.{rows_in}
+use Rattle.service_events.specs.service_tables.specs.Desks.{Table}
+use Rattle.service_events.specs.service_tables.specs.Disk.{DiskState, disk_state}
+use Rattle.service_events.specs.service_tables.specs.State.{State}
 
 -- the rows that the tables have
 abbrev pub rows_from : Table → Sessions → Prompts → Rows → Option AliasRows → List (List ℕ) → State

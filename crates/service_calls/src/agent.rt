@@ -5,16 +5,16 @@ ghost use Rattle.service_events.specs.AgentCalls.{error_for, refuse, register, u
 ghost use Rattle.service_calls.specs.Rows.{disk_of, rows_of};
 ghost use Rattle.service_events.specs.Run.{asked};
 ghost use Rattle.service_calls.specs.Done.{HasRoomToReply, Leads};
-ghost use Rattle.service_tables.specs.Connections.{HasRoom};
-ghost use Rattle.service_tables.specs.Storing.{Brought};
+ghost use Rattle.service_events.specs.service_tables.specs.Connections.{HasRoom};
+ghost use Rattle.service_events.specs.service_tables.specs.Storing.{Brought};
 
 use crate::Tables;
 use crate::storing::{Done, refused, sending, unstored};
 use kr_base::{ConnId, OutOfMemory, PromptId};
 use kr_outside::Folder;
 use prompt_state::PromptRefused;
-use secret_calls::{Body, ErrorName};
-use service_prompts::asks_sent_to;
+use service_events::secret_calls::{Body, ErrorName};
+use service_events::service_prompts::asks_sent_to;
 
 /// The error for what the agent says about a prompt that doesn't wait for it.
 pub fn error_for(why: PromptRefused) -> ErrorName

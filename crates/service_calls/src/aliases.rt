@@ -5,20 +5,20 @@ ghost use Rattle.service_events.specs.AliasCalls.{alias_body, alias_settled, ali
 ghost use Rattle.service_calls.specs.Rows.{disk_of, rows_of};
 ghost use Rattle.service_events.specs.Run.{asked, ran};
 ghost use Rattle.service_calls.specs.Done.{Leads};
-ghost use Rattle.service_tables.specs.Aliases.{IsForAliases, IsPreparedFor, are_doubtful};
-ghost use Rattle.service_tables.specs.Opened.{contents_of};
-ghost use Rattle.service_tables.specs.Reading.{alias_of};
-ghost use Rattle.service_tables.specs.Storing.{Brought};
+ghost use Rattle.service_events.specs.service_tables.specs.Aliases.{IsForAliases, IsPreparedFor, are_doubtful};
+ghost use Rattle.service_events.specs.service_tables.specs.Opened.{contents_of};
+ghost use Rattle.service_events.specs.service_tables.specs.Reading.{alias_of};
+ghost use Rattle.service_events.specs.service_tables.specs.Storing.{Brought};
 
 use crate::Tables;
 use crate::answer::{Answer, bounded};
 use crate::storing::{Done, ended, refused, unread};
-use alias_table::AliasChange;
 use kr_base::{ConnId, OutOfMemory, Text};
 use kr_names::{ObjectName, path_of};
 use kr_outside::Folder;
-use secret_calls::{AliasName, Body, ErrorName};
-use service_tables::collection_path;
+use service_events::alias_table::AliasChange;
+use service_events::secret_calls::{AliasName, Body, ErrorName};
+use service_events::service_tables::collection_path;
 
 impl<F: Folder> Tables<F> {
     // The return for an alias.

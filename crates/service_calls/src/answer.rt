@@ -3,7 +3,7 @@ ghost use Rattle.std.specs.Prelude.{◌≡◌};
 ghost use Rattle.service_events.specs.Run.{bounded};
 ghost use Rattle.service_events.specs.ServiceCalls.{is_small};
 
-use secret_calls::{Body, ErrorName, body_size};
+use service_events::secret_calls::{Body, ErrorName, body_size};
 
 /// The most bytes that the body of a return may have on a call that changes nothing.
 const MOST_BODY: u64 = 8_388_608;

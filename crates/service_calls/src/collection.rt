@@ -4,7 +4,7 @@ ghost use Rattle.kr_base.specs.declared.ids.ConnId.{ConnId};
 ghost use Rattle.service_events.specs.CollectionCalls.{search_collection};
 ghost use Rattle.service_events.specs.Plan.{Lock_collection};
 ghost use Rattle.service_calls.specs.Rows.{rows_of, disk_of};
-ghost use Rattle.service_tables.specs.Storing.{Brought};
+ghost use Rattle.service_events.specs.service_tables.specs.Storing.{Brought};
 ghost use Rattle.service_events.specs.Run.{performed, performed_all, ran};
 
 use crate::Tables;
@@ -13,8 +13,8 @@ use kr_base::{Attributes, ConnId, OutOfMemory, Stem};
 use kr_items::Items;
 use kr_names::ObjectName;
 use kr_outside::Folder;
-use secret_calls::{Body, ErrorName};
-use service_tables::item_paths;
+use service_events::secret_calls::{Body, ErrorName};
+use service_events::service_tables::item_paths;
 
 impl<F: Folder> Tables<F> {
     /// Performs the row of SearchItems.

@@ -6,20 +6,20 @@ ghost use Rattle.service_calls.specs.Rows.{disk_of, rows_of};
 ghost use Rattle.service_events.specs.Run.{asked};
 ghost use Rattle.service_events.specs.ServiceCalls.{create_collection, creating};
 ghost use Rattle.service_calls.specs.Done.{Leads};
-ghost use Rattle.service_tables.specs.Opened.{contents_of};
-ghost use Rattle.service_tables.specs.Reading.{asked_collections};
-ghost use Rattle.service_tables.specs.Storing.{Brought};
+ghost use Rattle.service_events.specs.service_tables.specs.Opened.{contents_of};
+ghost use Rattle.service_events.specs.service_tables.specs.Reading.{asked_collections};
+ghost use Rattle.service_events.specs.service_tables.specs.Storing.{Brought};
 
 use crate::Tables;
 use crate::answer::bounded;
 use crate::storing::{Done, refused, unstored};
-use folder_store::LIMITS;
 use kr_base::{ConnId, OutOfMemory, Stem, Text};
 use kr_names::{ObjectName, path_of};
 use kr_outside::Folder;
 use prompt_state::PromptKind;
-use secret_calls::{AliasName, Body, ErrorName, no_label};
-use service_tables::collection_path;
+use service_events::folder_store::LIMITS;
+use service_events::secret_calls::{AliasName, Body, ErrorName, no_label};
+use service_events::service_tables::collection_path;
 
 impl<F: Folder> Tables<F> {
     // The collection that an alias stands for, if one is given and it is there.

@@ -2,14 +2,14 @@
 ghost use Rattle.std.specs.Prelude.{◌≡◌, [], IfOk};
 ghost use Rattle.service_events.specs.ItemCalls.{get_secret};
 ghost use Rattle.service_calls.specs.Rows.{rows_of};
-ghost use Rattle.service_tables.specs.Storing.{Brought};
+ghost use Rattle.service_events.specs.service_tables.specs.Storing.{Brought};
 ghost use Rattle.service_events.specs.Run.{ran, secret_returned};
 
 use crate::Tables;
 use crate::answer::{Answer, bounded};
 use kr_base::{ConnId, ItemId, OutOfMemory, SessionId, Stem};
 use kr_outside::Folder;
-use secret_calls::{Body, ErrorName, ReturnedSecret};
+use service_events::secret_calls::{Body, ErrorName, ReturnedSecret};
 
 // The return with a secret.
 fn secret_returned(secret: Option<ReturnedSecret>) -> Answer

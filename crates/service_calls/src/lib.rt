@@ -21,5 +21,10 @@ mod unlocking;
 pub use agent::error_for;
 pub use answer::{Answer, bounded};
 pub use prompt::pass_kind;
+pub use service_events;
+pub use service_events::{
+    alias_table, collection_store, folder_store, secret_calls, service_disk, service_prompts,
+    service_tables,
+};
 pub use storing::{Done, refused, sending, unread, unstored};
 pub use tables::Tables;

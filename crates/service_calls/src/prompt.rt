@@ -3,21 +3,21 @@ ghost use Rattle.std.specs.Prelude.{◌≡◌, ◌+◌, ◌∷◌, ◌≤◌, []
 ghost use Rattle.std.specs.Option.{is_some, option_copied};
 ghost use Rattle.kr_base.specs.declared.ids.ConnId.{ConnId};
 ghost use Rattle.kr_base.specs.declared.ids.PromptId.{PromptId};
-ghost use Rattle.collection_table.specs.Rows.{has, is_open};
+ghost use Rattle.service_events.specs.collection_table.specs.Rows.{has, is_open};
 ghost use Rattle.prompt_state.specs.Prompts.{AreSound, first_of_row, last_round, next_round, round_of, row_at};
-ghost use Rattle.secret_calls.specs.declared.out.Body.{Body};
-ghost use Rattle.secret_calls.specs.declared.out.Body.TheVariants as body;
+ghost use Rattle.service_events.specs.secret_calls.specs.declared.out.Body.{Body};
+ghost use Rattle.service_events.specs.secret_calls.specs.declared.out.Body.TheVariants as body;
 ghost use Rattle.service_events.specs.Plan.{End_prompt, answered};
 ghost use Rattle.service_events.specs.PromptCalls.{advance_sent, are_none, call_prompt, dismiss, is_made_row, is_over, is_over_row, passed, passed_kind, passed_over, row_advance};
 ghost use Rattle.service_calls.specs.Rows.{disk_of, rows_of};
 ghost use Rattle.service_events.specs.Run.{asked, performed_all, sent_all};
 ghost use Rattle.service_events.specs.ServiceCalls.{next_prompt, with_new_prompt};
 ghost use Rattle.service_calls.specs.Done.{HasRoomToReply, Leads};
-ghost use Rattle.service_tables.specs.Connections.{HasRoom};
-ghost use Rattle.service_tables.specs.Disk.{contents_in};
-ghost use Rattle.service_tables.specs.Opened.{contents_of};
-ghost use Rattle.service_tables.specs.Reading.{asked_collections};
-ghost use Rattle.service_tables.specs.Storing.{Brought};
+ghost use Rattle.service_events.specs.service_tables.specs.Connections.{HasRoom};
+ghost use Rattle.service_events.specs.service_tables.specs.Disk.{contents_in};
+ghost use Rattle.service_events.specs.service_tables.specs.Opened.{contents_of};
+ghost use Rattle.service_events.specs.service_tables.specs.Reading.{asked_collections};
+ghost use Rattle.service_events.specs.service_tables.specs.Storing.{Brought};
 
 use crate::Tables;
 use crate::answer::is_small;
@@ -25,9 +25,9 @@ use crate::storing::{Done, refused, sending, unstored};
 use kr_base::{ConnId, OutOfMemory, PromptId, Stem};
 use kr_outside::Folder;
 use prompt_state::{Ask, PromptKind, PromptRefused, PromptRow, PromptState, Target, Targets};
-use secret_calls::{Body, ErrorName};
-use service_prompts::{ask_signal, completed_sent, completed_signal};
-use service_tables::{Disk, Sent};
+use service_events::secret_calls::{Body, ErrorName};
+use service_events::service_prompts::{ask_signal, completed_sent, completed_signal};
+use service_events::service_tables::{Disk, Sent};
 use std::alloc::AllocError;
 
 // The first target of a prompt that is left. Shows that no two prompts have one number.

@@ -1,7 +1,7 @@
 // The calls of the interface Service.
 ghost use Rattle.std.specs.Prelude.{◌≡◌, [], IfOk, OnOk, OnErr};
 ghost use Rattle.service_calls.specs.Rows.{rows_of, disk_of};
-ghost use Rattle.service_tables.specs.Storing.{Brought};
+ghost use Rattle.service_events.specs.service_tables.specs.Storing.{Brought};
 ghost use Rattle.service_events.specs.Run.{ran};
 ghost use Rattle.service_events.specs.ServiceCalls.{is_plain, open_session, search_items, lock, get_secrets};
 
@@ -11,8 +11,8 @@ use kr_base::{Attributes, ConnId, OutOfMemory, SessionId, Text};
 use kr_items::Items;
 use kr_names::ObjectName;
 use kr_outside::Folder;
-use secret_calls::{Body, ErrorName};
-use service_tables::{locked_paths, unlocked_paths};
+use service_events::secret_calls::{Body, ErrorName};
+use service_events::service_tables::{locked_paths, unlocked_paths};
 use session_table::SessionRefused;
 use std::alloc::AllocError;
 

@@ -1,7 +1,7 @@
 // The calls of the interface Session.
 ghost use Rattle.std.specs.Prelude.{◌≡◌, []};
 ghost use Rattle.service_calls.specs.Rows.{rows_of, disk_of};
-ghost use Rattle.service_tables.specs.Storing.{Brought};
+ghost use Rattle.service_events.specs.service_tables.specs.Storing.{Brought};
 ghost use Rattle.service_events.specs.Run.{ran};
 ghost use Rattle.service_events.specs.SessionCalls.{close_session};
 
@@ -9,7 +9,7 @@ use crate::Tables;
 use crate::answer::Answer;
 use kr_base::{ConnId, SessionId};
 use kr_outside::Folder;
-use secret_calls::{Body, ErrorName};
+use service_events::secret_calls::{Body, ErrorName};
 
 impl<F: Folder> Tables<F> {
     /// Performs the row of Close.

@@ -1,9 +1,9 @@
 // Calls that store something: each edits a collection, or removes one, and is answered by how that ended.
 ghost use Rattle.std.specs.Prelude.{◌≡◌, ℕ, List, [], None, Some, IfOk, OnErr, Err, Ok};
-ghost use Rattle.secret_calls.specs.declared.out.Body.TheVariants as body;
+ghost use Rattle.service_events.specs.secret_calls.specs.declared.out.Body.TheVariants as body;
 ghost use Rattle.kr_base.specs.declared.ids.ConnId.{ConnId};
-ghost use Rattle.secret_calls.specs.declared.out.ErrorName.TheVariants.{IOError};
-ghost use Rattle.service_tables.specs.Storing.{Add_item, Brought, Edit, change_of, storable_at};
+ghost use Rattle.service_events.specs.secret_calls.specs.declared.out.ErrorName.TheVariants.{IOError};
+ghost use Rattle.service_events.specs.service_tables.specs.Storing.{Add_item, Brought, Edit, change_of, storable_at};
 ghost use Rattle.service_events.specs.CollectionCalls.{create_item, delete_collection, secret_stored, storing};
 ghost use Rattle.service_events.specs.ItemCalls.{delete_item, set_secret};
 ghost use Rattle.service_calls.specs.Rows.{disk_of, rows_of};
@@ -12,13 +12,13 @@ ghost use Rattle.service_calls.specs.Done.{Leads, answer_by, body_of};
 
 use crate::Tables;
 use crate::answer::{Answer, is_small};
-use collection_store::Change;
 use kr_base::{Attributes, ConnId, ItemId, OutOfMemory, SessionId, Stem, Text};
 use kr_items::Items;
 use kr_names::{ObjectName, path_of};
 use kr_outside::Folder;
-use secret_calls::{Body, ErrorName, Secret};
-use service_tables::{Fate, Sent, item_path};
+use service_events::collection_store::Change;
+use service_events::secret_calls::{Body, ErrorName, Secret};
+use service_events::service_tables::{Fate, Sent, item_path};
 use std::alloc::Global;
 
 /// The most bytes that the content type of a secret may have.

@@ -1,6 +1,6 @@
 use kr_outside::Folder;
 use prompt_state::PromptState;
-use service_tables::{Connections, Disk};
+use service_events::service_tables::{Connections, Disk};
 use session_table::SessionTable;
 use std::alloc::Global;
 

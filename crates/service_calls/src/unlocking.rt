@@ -5,8 +5,8 @@ ghost use Rattle.service_calls.specs.Rows.{disk_of, rows_of};
 ghost use Rattle.service_events.specs.Run.{asked};
 ghost use Rattle.service_events.specs.ServiceCalls.{answered_if_small, unlock};
 ghost use Rattle.service_calls.specs.Done.{Leads};
-ghost use Rattle.service_tables.specs.Disk.{DiskState};
-ghost use Rattle.service_tables.specs.Storing.{Brought};
+ghost use Rattle.service_events.specs.service_tables.specs.Disk.{DiskState};
+ghost use Rattle.service_events.specs.service_tables.specs.Storing.{Brought};
 
 use crate::Tables;
 use crate::answer::bounded;
@@ -17,8 +17,8 @@ use kr_items::Items;
 use kr_names::ObjectName;
 use kr_outside::Folder;
 use prompt_state::{PromptKind, Targets};
-use secret_calls::Body;
-use service_prompts::{are_light, targets_of, unlocked_there};
+use service_events::secret_calls::Body;
+use service_events::service_prompts::{are_light, targets_of, unlocked_there};
 
 impl<F: Folder> Tables<F> {
     // The return of a call that changes nothing, if it isn't too large.

@@ -2,14 +2,14 @@
 use Rattle.std.proofs.Common.{◌≡◌, ◌+◌, IsTrue, List, [], ◌∷◌, ◌++◌, length, refl, ap, ◌∙◌, sym, subst, arith, length-append, append_assoc}
 use Rattle.std.specs.List.{AllByRecursion}
 use Rattle.std.proofs.lemmas.List.{map-append, length-map}
-use Rattle.service_tables.specs.State.{State}
+use Rattle.service_events.specs.service_tables.specs.State.{State}
 use Rattle.service_events.specs.declared.event.Event.{Event}
 use Rattle.service_events.specs.declared.event.Output.{Output}
 use Rattle.service_events.specs.Fates.{IsFaultless}
 use Rattle.service_events.specs.Step.{step, output_of}
 use Rattle.service_events.specs.Replay.{replay, Legal}
 use Rattle.service_events.proofs.ReplayLemmas.{replay-append}
-use Rattle.service_tables.proofs.EachLemmas.{each-append}
+use Rattle.service_events.specs.service_tables.proofs.EachLemmas.{each-append}
 use Rattle.service_desk.specs.Places.{Told, Place, IsSame, Looks, Extends}
 use Rattle.service_desk.specs.Views.{View, with_others, with_own}
 use Rattle.service_desk.specs.Records.{Seen, Others, Own, event_of, events_of, IsOwn, IsOwnFaultless, AreAnswered, with_seen, Records, of_others, of_own}

@@ -1,7 +1,7 @@
 -- Views continue: after events of others, and after those of their own.
 use Rattle.std.proofs.Common.{◌≡◌, ℕ, ◌+◌, ◌≤◌, List, [], ◌∷◌, ◌++◌, length, refl, ap, ◌∙◌, sym, arith, length-append, append-nil}
 use Rattle.std.proofs.lemmas.List.{length_push}
-use Rattle.service_tables.specs.State.{State}
+use Rattle.service_events.specs.service_tables.specs.State.{State}
 use Rattle.service_events.specs.declared.event.Event.{Event}
 use Rattle.service_events.specs.Step.{step, output_of, Fits}
 use Rattle.service_events.specs.Replay.{replay, Legal, outputs}

@@ -1,21 +1,21 @@
 -- What each call of a desk returns, and what it records. Each result has its cause in the state that the desk has seen.
 use Rattle.std.specs.Prelude.{◌≡◌, ◌<◌, ◌≤◌, ◌⊎◌, Bool, false, true, List, Option, Some}
 use Rattle.kr_base.specs.declared.ids.ConnId.{ConnId}
-use Rattle.secret_calls.specs.declared.taken.Refused.{Refused}
-use Rattle.secret_calls.specs.declared.taken.Refused.TheVariants as refused
-use Rattle.secret_calls.specs.declared.taken.Taken.{Taken}
-use Rattle.secret_calls.specs.declared.taken.Taken.TheVariants as taken
-use Rattle.service_tables.specs.State.{State}
-use Rattle.secret_calls.specs.declared.work.Work.{Work}
+use Rattle.service_events.specs.secret_calls.specs.declared.taken.Refused.{Refused}
+use Rattle.service_events.specs.secret_calls.specs.declared.taken.Refused.TheVariants as refused
+use Rattle.service_events.specs.secret_calls.specs.declared.taken.Taken.{Taken}
+use Rattle.service_events.specs.secret_calls.specs.declared.taken.Taken.TheVariants as taken
+use Rattle.service_events.specs.service_tables.specs.State.{State}
+use Rattle.service_events.specs.secret_calls.specs.declared.work.Work.{Work}
 use Rattle.service_events.specs.declared.event.Arrival.{Arrival}
 use Rattle.service_events.specs.declared.event.BroughtKey.{BroughtKey}
 use Rattle.service_events.specs.declared.event.Derivation.{Derivation}
 use Rattle.service_events.specs.declared.event.Event.TheVariants as event
-use Rattle.service_tables.specs.declared.fate.Fate.{Fate}
+use Rattle.service_events.specs.service_tables.specs.declared.fate.Fate.{Fate}
 use Rattle.service_events.specs.declared.event.Output.TheVariants as output
 use Rattle.service_events.specs.Fates.{with_fates}
-use Rattle.service_tables.specs.Connections.{desk_of}
-use Rattle.service_tables.specs.Limits.{most_events, IsSpent}
+use Rattle.service_events.specs.service_tables.specs.Connections.{desk_of}
+use Rattle.service_events.specs.service_tables.specs.Limits.{most_events, IsSpent}
 use Rattle.service_events.specs.Incoming.{IsBroughtBy}
 use Rattle.service_events.specs.Step.{IsMissing}
 use Rattle.service_desk.specs.Places.{Told, Place, Looks, Extends}

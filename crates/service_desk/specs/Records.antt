@@ -1,8 +1,8 @@
 -- What the calls of a desk recorded, one after another: events of its own, each with its answer, among events of others.
 use Rattle.std.specs.Prelude.{◌≡◌, ◌+◌, IsTrue, List, [], ◌∷◌, ◌++◌, length, map}
 use Rattle.std.specs.List.{AllByRecursion}
-use Rattle.secret_calls.specs.declared.out.Out.{Out}
-use Rattle.service_tables.specs.State.{State}
+use Rattle.service_events.specs.secret_calls.specs.declared.out.Out.{Out}
+use Rattle.service_events.specs.service_tables.specs.State.{State}
 use Rattle.service_events.specs.declared.event.Event.{Event}
 use Rattle.service_events.specs.declared.event.Output.{Output}
 use Rattle.service_events.specs.declared.event.Output.TheVariants as output

@@ -1,7 +1,7 @@
 -- What a desk has seen of the service's history: from a start, the events since then, and which of them are its own.
 use Rattle.std.specs.Prelude.{◌≡◌, ℕ, ◌+◌, ◌≤◌, List, [], ◌∷◌, ◌++◌, length}
-use Rattle.service_tables.specs.Limits.{IsSpent}
-use Rattle.service_tables.specs.State.{State}
+use Rattle.service_events.specs.service_tables.specs.Limits.{IsSpent}
+use Rattle.service_events.specs.service_tables.specs.State.{State}
 use Rattle.service_events.specs.declared.event.Event.{Event}
 use Rattle.service_events.specs.declared.event.JoinRefused.{JoinRefused}
 use Rattle.service_events.specs.declared.event.JoinRefused.TheVariants as join

@@ -1,7 +1,7 @@
 // What the definitions of views and places say together. Each law is the contract of a function that
 // does nothing.
 ghost use Rattle.std.specs.Prelude.{◌≡◌, ◌+◌, ◌++◌, ◌∷◌, [], ℕ, List, length};
-ghost use Rattle.service_tables.specs.State.{State};
+ghost use Rattle.service_events.specs.service_tables.specs.State.{State};
 ghost use Rattle.service_events.specs.declared.event.Event.{Event};
 ghost use Rattle.service_events.specs.Step.{step, output_of, Fits};
 ghost use Rattle.service_events.specs.Replay.{replay, Legal, outputs};

@@ -11,5 +11,5 @@ mod sides;
 
 pub use desk::Desk;
 pub use laws::{an_answer_stands_at_its_place, calls_compose, views_go_on};
-pub use service_events::JoinRefused;
+pub use service_events::{JoinRefused, secret_calls};
 pub use sides::{ReadDesk, WriteDesk};

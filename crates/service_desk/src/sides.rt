@@ -3,7 +3,7 @@ ghost use Rattle.service_desk.specs.Places.{place, Looks};
 ghost use Rattle.service_desk.specs.Calls.{Arrives, Finishes, IsRefusal, Leaves, Takes, Goes};
 
 use crate::Desk;
-use secret_calls::{Finished, Refused, Request, Taken, Work};
+use service_events::secret_calls::{Finished, Refused, Request, Taken, Work};
 
 /// The desk of a connection's reader.
 pub trait ReadDesk: Desk {

@@ -6,12 +6,12 @@ use Rattle.kr_outside.specs.Faults.{IsBelowLast}
 use Rattle.kr_outside.specs.Moments.{LeavesOnly}
 use Rattle.kr_outside.specs.RenameDisk.{Image}
 use Rattle.kr_outside.specs.Slot.{KeepsNature}
-use Rattle.keyring_seal.specs.Whole.{sealed}
-use Rattle.keyring_seal.specs.declared.content.Content.{Content}
-use Rattle.collection_store.specs.Outcomes.{IsOldOrSealed}
+use Rattle.service_tables.specs.keyring_seal.specs.Whole.{sealed}
+use Rattle.service_tables.specs.keyring_seal.specs.declared.content.Content.{Content}
+use Rattle.service_tables.specs.collection_store.specs.Outcomes.{IsOldOrSealed}
 use Rattle.replace_slot.specs.Cell.{File, Known, Doubt, IsOneOf}
-use Rattle.collection_table.specs.Entries.{inserted}
-use Rattle.collection_table.specs.Rows.{CollectionRow, Rows, has}
+use Rattle.service_tables.specs.collection_table.specs.Entries.{inserted}
+use Rattle.service_tables.specs.collection_table.specs.Rows.{CollectionRow, Rows, has}
 use Rattle.service_tables.specs.Slots.{StoresIn, file_at}
 use Rattle.service_tables.specs.declared.fate.Fate.{Fate}
 use Rattle.service_tables.specs.declared.fate.Fate.TheVariants as fate

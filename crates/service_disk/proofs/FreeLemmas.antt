@@ -4,12 +4,12 @@ use Rattle.std.specs.List.{list_all}
 use Rattle.std.specs.Option.{is_some, option_map, option_or}
 use Rattle.kr_base.specs.Attributes.{is_name, value_at}
 use Rattle.kr_outside.specs.RenameDisk.{Image, Only}
-use Rattle.folder_store.specs.Loads.{IsFree}
-use Rattle.folder_store.specs.Names.{IsRingName}
-use Rattle.collection_store.specs.State.{CollectionState}
-use Rattle.collection_table.specs.Entries.{Entries, row_of, rows_of, slots_of}
-use Rattle.collection_table.specs.Rows.{has}
-use Rattle.collection_table.proofs.RowLemmas.{value-rows}
+use Rattle.service_tables.specs.folder_store.specs.Loads.{IsFree}
+use Rattle.service_tables.specs.folder_store.specs.Names.{IsRingName}
+use Rattle.service_tables.specs.collection_store.specs.State.{CollectionState}
+use Rattle.service_tables.specs.collection_table.specs.Entries.{Entries, row_of, rows_of, slots_of}
+use Rattle.service_tables.specs.collection_table.specs.Rows.{has}
+use Rattle.service_tables.specs.collection_table.proofs.RowLemmas.{value-rows}
 use Rattle.stem_choice.specs.UsedStems.{is_used, with_stem}
 use Rattle.service_tables.specs.Disk.{DiskState}
 use Rattle.service_tables.specs.Slots.{slot_at}

@@ -9,7 +9,7 @@ use Rattle.std.specs.Ordering.{is_eq, is_lt, nat_cmp, ordering_reverse}
 use Rattle.std.proofs.lemmas.List.Folds.{list_all-append}
 use Rattle.std.proofs.lemmas.Option.{none-some}
 use Rattle.kr_base.specs.Attributes.{is_name, value_at}
-use Rattle.collection_table.specs.Entries.{inserted}
+use Rattle.service_tables.specs.collection_table.specs.Entries.{inserted}
 use Rattle.service_disk.proofs.TakingLemmas.{itself, names-one}
 
 abbrev by_bytes : List ℕ → List ℕ → Ordering

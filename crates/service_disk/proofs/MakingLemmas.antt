@@ -7,12 +7,12 @@ use Rattle.keyring_file.specs.Canonical.{front_text, zeros}
 use Rattle.keyring_file.specs.Clear.{ClearPart}
 use Rattle.keyring_file.specs.ClearText.{magic, version}
 use Rattle.key_derivation.specs.Kdf.{key_of, vector_of}
-use Rattle.keyring_seal.specs.Room.{measure}
-use Rattle.keyring_seal.specs.Whole.{most_bytes, sealed}
-use Rattle.keyring_seal.specs.declared.content.Content.{Content}
-use Rattle.keyring_seal.proofs.RoomLemmas.{length_number, length_time}
-use Rattle.keyring_seal.proofs.SealLemmas.{length-sealed}
-use Rattle.collection_table.specs.Rows.{Rows, room_in}
+use Rattle.service_tables.specs.keyring_seal.specs.Room.{measure}
+use Rattle.service_tables.specs.keyring_seal.specs.Whole.{most_bytes, sealed}
+use Rattle.service_tables.specs.keyring_seal.specs.declared.content.Content.{Content}
+use Rattle.service_tables.specs.keyring_seal.proofs.RoomLemmas.{length_number, length_time}
+use Rattle.service_tables.specs.keyring_seal.proofs.SealLemmas.{length-sealed}
+use Rattle.service_tables.specs.collection_table.specs.Rows.{Rows, room_in}
 use Rattle.service_disk.specs.Making.{Plan, content_of, file_of, has_room}
 
 -- what comes before the number of items

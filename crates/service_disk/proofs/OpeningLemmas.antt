@@ -13,19 +13,19 @@ use Rattle.key_derivation.specs.Kdf.{Inputs, key_of, vector_of}
 use Rattle.keyring_file.specs.Clear.{ClearPart}
 use Rattle.keyring_file.specs.declared.fault.AreaFault.{AreaFault}
 use Rattle.keyring_file.specs.declared.fault.AreaFault.TheVariants as area
-use Rattle.keyring_seal.specs.Arranged.{arranged_rows}
-use Rattle.keyring_seal.specs.Whole.{opened}
-use Rattle.keyring_seal.specs.declared.content.Content.{Content}
-use Rattle.keyring_seal.specs.declared.opening.OpenFault.{OpenFault}
-use Rattle.keyring_seal.specs.declared.opening.OpenFault.TheVariants as fault
+use Rattle.service_tables.specs.keyring_seal.specs.Arranged.{arranged_rows}
+use Rattle.service_tables.specs.keyring_seal.specs.Whole.{opened}
+use Rattle.service_tables.specs.keyring_seal.specs.declared.content.Content.{Content}
+use Rattle.service_tables.specs.keyring_seal.specs.declared.opening.OpenFault.{OpenFault}
+use Rattle.service_tables.specs.keyring_seal.specs.declared.opening.OpenFault.TheVariants as fault
 use Rattle.replace_slot.specs.Cell.{File, Known, Doubt, IsKnownFile}
-use Rattle.collection_store.specs.Reading.{Fits, Opens, Unlocks}
-use Rattle.collection_store.specs.State.{CollectionState, Held}
-use Rattle.collection_store.specs.declared.refused.UnlockRefused.{UnlockRefused}
-use Rattle.collection_store.specs.declared.refused.UnlockRefused.TheVariants as refused
-use Rattle.collection_table.specs.Entries.{Entries, changed, row_of, rows_of}
-use Rattle.collection_table.specs.Rows.{CollectionRow}
-use Rattle.collection_table.proofs.RowLemmas.{value-rows}
+use Rattle.service_tables.specs.collection_store.specs.Reading.{Fits, Opens, Unlocks}
+use Rattle.service_tables.specs.collection_store.specs.State.{CollectionState, Held}
+use Rattle.service_tables.specs.collection_store.specs.declared.refused.UnlockRefused.{UnlockRefused}
+use Rattle.service_tables.specs.collection_store.specs.declared.refused.UnlockRefused.TheVariants as refused
+use Rattle.service_tables.specs.collection_table.specs.Entries.{Entries, changed, row_of, rows_of}
+use Rattle.service_tables.specs.collection_table.specs.Rows.{CollectionRow}
+use Rattle.service_tables.specs.collection_table.proofs.RowLemmas.{value-rows}
 use Rattle.service_disk.specs.Opening.{held_by, is_fit, opening_by, opening_file, opening_in, opening_of, row_by, row_opened, rows_opened}
 use Rattle.service_disk.specs.declared.opening.Opening.{Opening}
 use Rattle.service_disk.specs.declared.opening.Opening.TheVariants as ends

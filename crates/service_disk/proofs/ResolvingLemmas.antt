@@ -10,10 +10,10 @@ use Rattle.replace_slot.specs.Cell.{File, Known, Doubt, IsKnown, longest_of, old
 use Rattle.replace_slot.specs.Found.{found_file}
 use Rattle.replace_slot.specs.declared.images.Found.{Found}
 use Rattle.replace_slot.specs.declared.images.Found.TheVariants as image
-use Rattle.collection_store.specs.State.{CollectionState, Shows, shown_image}
-use Rattle.collection_table.specs.Entries.{Entries, changed, row_of, rows_of, without}
-use Rattle.collection_table.specs.Rows.{CollectionRow, Rows}
-use Rattle.collection_table.proofs.RowLemmas.{value-rows}
+use Rattle.service_tables.specs.collection_store.specs.State.{CollectionState, Shows, shown_image}
+use Rattle.service_tables.specs.collection_table.specs.Entries.{Entries, changed, row_of, rows_of, without}
+use Rattle.service_tables.specs.collection_table.specs.Rows.{CollectionRow, Rows}
+use Rattle.service_tables.specs.collection_table.proofs.RowLemmas.{value-rows}
 use Rattle.service_tables.specs.Aliases.{is_doubt}
 use Rattle.service_tables.specs.Slots.{StoresIn, file_at}
 use Rattle.service_tables.specs.declared.fate.Fate.{Fate}

@@ -4,15 +4,15 @@ use Rattle.kr_base.specs.Attributes.{is_name}
 use Rattle.kr_outside.specs.Folder.{Stays}
 use Rattle.kr_outside.specs.RenameDisk.{Image, Only}
 use Rattle.key_derivation.specs.Kdf.{Inputs, key_of, vector_of}
-use Rattle.keyring_seal.specs.Whole.{sealed}
-use Rattle.keyring_seal.specs.declared.content.Content.{Content}
+use Rattle.service_tables.specs.keyring_seal.specs.Whole.{sealed}
+use Rattle.service_tables.specs.keyring_seal.specs.declared.content.Content.{Content}
 use Rattle.replace_slot.specs.Cell.{Known, Doubt}
-use Rattle.folder_store.specs.Loads.{IsFree}
-use Rattle.folder_store.specs.Names.{IsRingName}
-use Rattle.collection_store.specs.Changes.{content_created}
-use Rattle.collection_store.specs.Outcomes.{most_for}
-use Rattle.collection_table.specs.Entries.{inserted}
-use Rattle.collection_table.specs.Rows.{CollectionRow, Rows, room_in, stored}
+use Rattle.service_tables.specs.folder_store.specs.Loads.{IsFree}
+use Rattle.service_tables.specs.folder_store.specs.Names.{IsRingName}
+use Rattle.service_tables.specs.collection_store.specs.Changes.{content_created}
+use Rattle.service_tables.specs.collection_store.specs.Outcomes.{most_for}
+use Rattle.service_tables.specs.collection_table.specs.Entries.{inserted}
+use Rattle.service_tables.specs.collection_table.specs.Rows.{CollectionRow, Rows, room_in, stored}
 use Rattle.stem_choice.specs.UsedStems.{with_stem}
 use Rattle.service_tables.specs.Disk.{DiskState}
 use Rattle.service_tables.specs.Slots.{StoresIn, are_steady, file_at, slot_at}

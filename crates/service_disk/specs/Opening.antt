@@ -5,15 +5,15 @@ use Rattle.kr_base.specs.Attributes.{is_name, value_at}
 use Rattle.key_derivation.specs.Kdf.{Inputs, key_of, vector_of}
 use Rattle.keyring_file.specs.Clear.{ClearPart}
 use Rattle.keyring_file.specs.declared.fault.AreaFault.TheVariants as area
-use Rattle.keyring_seal.specs.Arranged.{arranged_rows}
-use Rattle.keyring_seal.specs.Whole.{opened}
-use Rattle.keyring_seal.specs.declared.content.Content.{Content}
-use Rattle.keyring_seal.specs.declared.opening.OpenFault.{OpenFault}
-use Rattle.keyring_seal.specs.declared.opening.OpenFault.TheVariants as fault
+use Rattle.service_tables.specs.keyring_seal.specs.Arranged.{arranged_rows}
+use Rattle.service_tables.specs.keyring_seal.specs.Whole.{opened}
+use Rattle.service_tables.specs.keyring_seal.specs.declared.content.Content.{Content}
+use Rattle.service_tables.specs.keyring_seal.specs.declared.opening.OpenFault.{OpenFault}
+use Rattle.service_tables.specs.keyring_seal.specs.declared.opening.OpenFault.TheVariants as fault
 use Rattle.replace_slot.specs.Cell.{File, Known, Doubt}
-use Rattle.collection_store.specs.State.{Held}
-use Rattle.collection_table.specs.Entries.{changed}
-use Rattle.collection_table.specs.Rows.{CollectionRow, Rows, is_unlocked}
+use Rattle.service_tables.specs.collection_store.specs.State.{Held}
+use Rattle.service_tables.specs.collection_table.specs.Entries.{changed}
+use Rattle.service_tables.specs.collection_table.specs.Rows.{CollectionRow, Rows, is_unlocked}
 use Rattle.service_disk.specs.declared.opening.Opening.{Opening}
 use Rattle.service_disk.specs.declared.opening.Opening.TheVariants as ends
 

@@ -6,9 +6,9 @@ use Rattle.replace_slot.specs.Cell.{File, old_image}
 use Rattle.replace_slot.specs.Found.{found_file}
 use Rattle.replace_slot.specs.declared.images.Found.{Found}
 use Rattle.replace_slot.specs.declared.images.Found.TheVariants as image
-use Rattle.collection_store.specs.State.{told_after}
-use Rattle.collection_table.specs.Entries.{changed, without}
-use Rattle.collection_table.specs.Rows.{CollectionRow, Rows}
+use Rattle.service_tables.specs.collection_store.specs.State.{told_after}
+use Rattle.service_tables.specs.collection_table.specs.Entries.{changed, without}
+use Rattle.service_tables.specs.collection_table.specs.Rows.{CollectionRow, Rows}
 use Rattle.service_tables.specs.Aliases.{is_doubt}
 use Rattle.service_tables.specs.Slots.{file_at}
 use Rattle.service_tables.specs.declared.fate.Fate.{Fate}

@@ -1,21 +1,21 @@
 // A collection is made under a stem that isn't used.
 ghost use Rattle.std.specs.Prelude.{◌≡◌, ◌+◌, ◌<◌, ◌≤◌, ℕ, false, true, Contains, IfOk, OnErr, OnOk, length, min, nat_le, string_bytes, vec_capacity, vec_len};
-ghost use Rattle.folder_store.specs.Names.{IsRingName};
+ghost use Rattle.service_tables.specs.folder_store.specs.Names.{IsRingName};
 ghost use Rattle.key_derivation.specs.Kdf.{Inputs};
 ghost use Rattle.keyring_file.specs.ClearText.{most_iterations};
-ghost use Rattle.collection_table.specs.Rows.{has};
-ghost use Rattle.keyring_seal.specs.Whole.{most_bytes};
+ghost use Rattle.service_tables.specs.collection_table.specs.Rows.{has};
+ghost use Rattle.service_tables.specs.keyring_seal.specs.Whole.{most_bytes};
 ghost use Rattle.service_disk.specs.Making.{AreFree, KeepsSlot, MakesAt, has_room, rows_made};
 ghost use Rattle.stem_choice.specs.UsedStems.{with_stem};
 ghost use Rattle.service_tables.specs.Disk.{contents_in, disk_state};
 ghost use Rattle.service_tables.specs.Storing.{IsStoring};
 
 use crate::taking::{keep, keep_used, list, take_cell};
-use collection_store::{Collection, CreateRefused};
 use key_derivation::Derived;
 use keyring_file::FILE_LIMIT;
 use kr_base::{OutOfMemory, Stem, Text};
 use kr_outside::Folder;
+use service_tables::collection_store::{Collection, CreateRefused};
 use service_tables::{Disk, Fate};
 use std::alloc::{AllocError, Global};
 
@@ -42,7 +42,7 @@ pub fn has_room<F: Folder>(disk: &Disk<F>, label: &Text) -> bool
 }
 
 /// The name of the file of a stem.
-#[tactic(auto, unfolding(folder_store::specs::Names::ending))]
+#[tactic(auto, unfolding(service_tables::specs::folder_store::specs::Names::ending))]
 fn file_name(alloc: Global, stem: &Stem) -> Result<String, OutOfMemory>
     ensures { IfOk result (λ name. IsRingName (string_bytes name) stem.now) }
 {

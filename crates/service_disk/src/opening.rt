@@ -1,14 +1,14 @@
 // A locked collection is unlocked with a key that was derived outside the service.
 ghost use Rattle.std.specs.Prelude.{◌≡◌, IfOk, OnErr, OnOk};
-ghost use Rattle.collection_table.specs.Entries.{row_of};
+ghost use Rattle.service_tables.specs.collection_table.specs.Entries.{row_of};
 ghost use Rattle.service_disk.specs.Opening.{opening_in, opening_of, row_opened, rows_opened};
 ghost use Rattle.service_tables.specs.Disk.{contents_in, disk_state};
 
-use collection_store::{Collection, UnlockRefused};
 use key_derivation::Derived;
 use kr_base::{OutOfMemory, Stem};
 use kr_outside::{Folder, Slot};
 use service_tables::Disk;
+use service_tables::collection_store::{Collection, UnlockRefused};
 use std::alloc::AllocError;
 
 /// How an attempt to unlock a collection ended.

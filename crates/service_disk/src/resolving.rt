@@ -1,17 +1,17 @@
 // The file of a collection in doubt is read again.
 ghost use Rattle.std.specs.Prelude.{◌≡◌, ◌<◌, true, IfOk, OnOk, length, vec_capacity, vec_len};
 ghost use Rattle.std.specs.Option.{is_some};
-ghost use Rattle.collection_table.specs.Entries.{row_of};
+ghost use Rattle.service_tables.specs.collection_table.specs.Entries.{row_of};
 ghost use Rattle.replace_slot.specs.Cell.{IsKnown, longest_of, old_image};
 ghost use Rattle.service_disk.specs.Resolving.{fate_in, is_doubtful, is_left, row_resolved, rows_resolved, stays};
 ghost use Rattle.service_tables.specs.Disk.{contents_in, disk_state};
 ghost use Rattle.service_tables.specs.Slots.{StoresAt, StoresIn, file_at};
 ghost use Rattle.service_tables.specs.Storing.{IsResolve};
 
-use collection_store::Collection;
 use kr_base::{OutOfMemory, Stem};
 use kr_outside::{Folder, Slot};
 use replace_slot::Found;
+use service_tables::collection_store::Collection;
 use service_tables::{Disk, Fate};
 use std::alloc::{AllocError, Global};
 

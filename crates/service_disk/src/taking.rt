@@ -1,10 +1,10 @@
 // The slot of a new collection: the one that was kept for its stem, or the first one of its name. It is taken from
 // the disk or made of the folder, and put among the others again.
 ghost use Rattle.std.specs.Prelude.{◌≡◌, ◌-◌, ◌<◌, ◌≤◌, ◌∷◌, ℕ, false, Contains, IfNone, IfOk, IfSome, List, None, OnErr, vec_capacity, vec_len};
-ghost use Rattle.collection_table.specs.Entries.{inserted, row_of};
-ghost use Rattle.collection_table.specs.Rows.{has};
-ghost use Rattle.folder_store.specs.Loads.{IsFree};
-ghost use Rattle.folder_store.specs.Names.{IsRingName};
+ghost use Rattle.service_tables.specs.collection_table.specs.Entries.{inserted, row_of};
+ghost use Rattle.service_tables.specs.collection_table.specs.Rows.{has};
+ghost use Rattle.service_tables.specs.folder_store.specs.Loads.{IsFree};
+ghost use Rattle.service_tables.specs.folder_store.specs.Names.{IsRingName};
 ghost use Rattle.kr_base.specs.Attributes.{is_name, value_at};
 ghost use Rattle.replace_slot.specs.Cell.{Known};
 ghost use Rattle.service_disk.specs.Making.{IsFreeStem, KeepsFolder};
@@ -12,10 +12,10 @@ ghost use Rattle.service_disk.specs.Taking.{IsFirstOf, RefusesSlot, TakesNew, Ta
 ghost use Rattle.service_tables.specs.Disk.{contents_in, disk_state};
 ghost use Rattle.stem_choice.specs.UsedStems.{with_stem};
 
-use collection_store::Collection;
 use kr_base::{OutOfMemory, Stem};
 use kr_outside::{Folder, Slot};
 use replace_slot::FileCell;
+use service_tables::collection_store::Collection;
 use service_tables::{Disk, KeptSlot};
 use stem_choice::{a_used_stem_is_in_the_list, adding_a_stem_uses_it_alone};
 

@@ -4,7 +4,7 @@ use Rattle.std.specs.Option.{is_some, option_map}
 use Rattle.std.proofs.lemmas.Bool.{eqb-true}
 use Rattle.kr_base.specs.declared.ids.ConnId.{ConnId}
 use Rattle.kr_base.specs.declared.ids.PromptId.{PromptId}
-use Rattle.collection_table.specs.Rows.{has, is_open}
+use Rattle.service_prompts.specs.collection_table.specs.Rows.{has, is_open}
 use Rattle.prompt_state.specs.Prompts.{changed, first_of_kind, first_of_row, is_prompt, kind_with, next_round, row_at, targeted}
 use Rattle.prompt_state.specs.Targets.{TargetLists, first_done, first_dropped, first_of, rest_of}
 use Rattle.prompt_state.specs.declared.row.PromptKind.{PromptKind}
@@ -12,10 +12,10 @@ use Rattle.prompt_state.specs.declared.row.PromptKind.TheVariants.{Unlock, Creat
 use Rattle.prompt_state.specs.declared.row.PromptRow.{PromptRow}
 use Rattle.prompt_state.specs.declared.row.Prompts.{Prompts}
 use Rattle.prompt_state.specs.declared.targets.Target.{Target}
-use Rattle.service_tables.specs.Opened.{contents_of}
-use Rattle.service_tables.specs.Questions.{CollectionQuestions}
-use Rattle.service_tables.specs.Reading.{asked_collections}
-use Rattle.service_tables.specs.State.{State}
+use Rattle.service_prompts.specs.service_tables.specs.Opened.{contents_of}
+use Rattle.service_prompts.specs.service_tables.specs.Questions.{CollectionQuestions}
+use Rattle.service_prompts.specs.service_tables.specs.Reading.{asked_collections}
+use Rattle.service_prompts.specs.service_tables.specs.State.{State}
 use Rattle.service_events.specs.Plan.{Change, Ask_prompt, Drop_target, End_prompt, Finish_target}
 use Rattle.service_events.specs.PromptCalls.{advance, are_none, is_over, is_over_row, left_in, left_in_row, row_advance, target_changes}
 use Rattle.service_events.specs.Run.{performed, performed_all}

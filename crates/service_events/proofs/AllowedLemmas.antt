@@ -13,41 +13,41 @@ use Rattle.prompt_state.specs.declared.row.PromptRow.{PromptRow}
 use Rattle.prompt_state.specs.declared.row.Prompts.{Prompts}
 use Rattle.prompt_state.specs.declared.row.Stage.{Stage}
 use Rattle.prompt_state.specs.declared.row.Stage.TheVariants.{Made, Asked, Deriving}
-use Rattle.collection_table.specs.Rows.{locked}
-use Rattle.secret_calls.specs.declared.out.Body.{Body}
-use Rattle.secret_calls.specs.declared.out.ErrorName.{ErrorName}
-use Rattle.secret_calls.specs.declared.out.ErrorName.TheVariants as name
-use Rattle.secret_calls.specs.Outs.{spelled_body, AreTyped}
+use Rattle.service_prompts.specs.collection_table.specs.Rows.{locked}
+use Rattle.service_prompts.specs.secret_calls.specs.declared.out.Body.{Body}
+use Rattle.service_prompts.specs.secret_calls.specs.declared.out.ErrorName.{ErrorName}
+use Rattle.service_prompts.specs.secret_calls.specs.declared.out.ErrorName.TheVariants as name
+use Rattle.service_prompts.specs.secret_calls.specs.Outs.{spelled_body, AreTyped}
 use Rattle.session_table.specs.Sessions.{is_of, rows_of, is_full, most_sessions, last_session}
-use Rattle.service_tables.specs.State.{State}
-use Rattle.service_tables.specs.declared.rows.ConnRows.{ConnRows}
-use Rattle.service_tables.specs.Connections.{has}
-use Rattle.service_tables.specs.Limits.{most_body}
+use Rattle.service_prompts.specs.service_tables.specs.State.{State}
+use Rattle.service_prompts.specs.service_tables.specs.declared.rows.ConnRows.{ConnRows}
+use Rattle.service_prompts.specs.service_tables.specs.Connections.{has}
+use Rattle.service_prompts.specs.service_tables.specs.Limits.{most_body}
 use Rattle.service_events.specs.CollectionCalls.{made}
-use Rattle.service_tables.specs.Opened.{contents_of}
-use Rattle.service_tables.specs.Reading.{asked_collections}
+use Rattle.service_prompts.specs.service_tables.specs.Opened.{contents_of}
+use Rattle.service_prompts.specs.service_tables.specs.Reading.{asked_collections}
 use Rattle.service_events.specs.Plan.{Change, Open_session, Close_session, Lock_collection, Begin_prompt, Ask_prompt, Derive_key, Count_wrong, Clear_wrong, Go_on, Finish_target, Drop_target, End_prompt, Become_agent, Leave_agent, Demand, Store, Erase, Set_alias, Read_aliases, Read_collection, Make, KeyTerms, Plan, Ends, After, Asks, Opens}
 use Rattle.service_events.specs.PromptCalls.{gone_on}
 use Rattle.service_events.specs.Run.{key_with, made_of, asked, demanded, performed, performed_all, sent_all, sent_by, filled, Ran, run, bounded, limited, unlocked_with}
 use Rattle.service_events.specs.Step.{AreByteFiles}
-use Rattle.service_tables.specs.Storing.{AreEditTypes, Brought, change_of, row_changed}
-use Rattle.service_tables.specs.declared.fate.Fate.{Fate}
-use Rattle.service_tables.specs.Sound.{AreSoundPrompts, CanWait, HasLeft, IsSoundKind, IsTypedText, IsSound}
-use Rattle.service_tables.proofs.CollectionLemmas.{sound-locked}
+use Rattle.service_prompts.specs.service_tables.specs.Storing.{AreEditTypes, Brought, change_of, row_changed}
+use Rattle.service_prompts.specs.service_tables.specs.declared.fate.Fate.{Fate}
+use Rattle.service_prompts.specs.service_tables.specs.Sound.{AreSoundPrompts, CanWait, HasLeft, IsSoundKind, IsTypedText, IsSound}
+use Rattle.service_prompts.specs.service_tables.proofs.CollectionLemmas.{sound-locked}
 use Rattle.service_prompts.proofs.PromptLemmas.{prompts-asked_again, prompts-begun, prompts-ended, prompts-registered, prompts-staged, prompts-targeted, prompts-wronged, prompts-cleared, prompts-unregistered, targets-done, targets-dropped}
 use Rattle.service_prompts.proofs.SignalLemmas.{ask_sent-can, asks_sent-can, completed_sent-can}
-use Rattle.service_tables.proofs.EachLemmas.{each-append}
-use Rattle.service_tables.proofs.KeptLemmas.{sound-resolved, sound-set}
-use Rattle.service_tables.proofs.StoredLemmas.{sound-erased, sound-stored}
+use Rattle.service_prompts.specs.service_tables.proofs.EachLemmas.{each-append}
+use Rattle.service_prompts.specs.service_tables.proofs.KeptLemmas.{sound-resolved, sound-set}
+use Rattle.service_prompts.specs.service_tables.proofs.StoredLemmas.{sound-erased, sound-stored}
 use Rattle.service_events.proofs.SmallLemmas.{not-full}
 use Rattle.service_events.proofs.GoneOnLemmas.{go_on-can, prompts-gone_on}
 use Rattle.service_disk.specs.Opening.{row_opened}
-use Rattle.service_tables.proofs.TypedLemmas.{text-known}
+use Rattle.service_prompts.specs.service_tables.proofs.TypedLemmas.{text-known}
 use Rattle.service_events.proofs.MadeLemmas.{sound-made, sound-reread}
 use Rattle.service_events.proofs.OpenedLemmas.{sound-opened}
 use Rattle.service_events.proofs.StemLemmas.{stems-changed, stems-erased, stems-made, stems-resolved}
 use Rattle.service_events.proofs.RunLemmas.{connections-performed, connections-all}
-use Rattle.service_tables.proofs.TableLemmas.{sessions-opened, sessions-fewer}
+use Rattle.service_prompts.specs.service_tables.proofs.TableLemmas.{sessions-opened, sessions-fewer}
 
 -- ---- a plan
 

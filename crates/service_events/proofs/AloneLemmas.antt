@@ -4,13 +4,13 @@ use Rattle.std.proofs.Common.{◌≡◌, ℕ, ◌+◌, ◌≤◌, ◌==◌, Bool
 use Rattle.std.proofs.lemmas.Bool.{eqb-true, le-leb}
 use Rattle.std.proofs.lemmas.List.Sums.{sum_by-append, sum_by-cons}
 use Rattle.kr_base.specs.declared.ids.ConnId.{ConnId}
-use Rattle.secret_calls.specs.declared.out.Out.{Out}
-use Rattle.secret_calls.specs.Outs.{most_waiting}
-use Rattle.service_tables.specs.Connections.{delivered, sent_to, size_of, size_waiting, with_out}
-use Rattle.service_tables.specs.State.{State}
-use Rattle.service_tables.specs.declared.rows.ConnRow.{ConnRow}
-use Rattle.service_tables.specs.declared.rows.ConnRows.{ConnRows}
-use Rattle.service_tables.specs.declared.rows.Sent.{Sent}
+use Rattle.service_prompts.specs.secret_calls.specs.declared.out.Out.{Out}
+use Rattle.service_prompts.specs.secret_calls.specs.Outs.{most_waiting}
+use Rattle.service_prompts.specs.service_tables.specs.Connections.{delivered, sent_to, size_of, size_waiting, with_out}
+use Rattle.service_prompts.specs.service_tables.specs.State.{State}
+use Rattle.service_prompts.specs.service_tables.specs.declared.rows.ConnRow.{ConnRow}
+use Rattle.service_prompts.specs.service_tables.specs.declared.rows.ConnRows.{ConnRows}
+use Rattle.service_prompts.specs.service_tables.specs.declared.rows.Sent.{Sent}
 use Rattle.service_events.specs.Step.{put_out, served, step}
 use Rattle.service_events.specs.declared.event.Event.TheVariants as event
 use Rattle.service_events.specs.declared.event.Recorded.{Recorded}

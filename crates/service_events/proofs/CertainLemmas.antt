@@ -6,13 +6,13 @@ use Rattle.std.specs.Ordering.{is_lt, nat_cmp}
 use Rattle.kr_base.specs.Attributes.{is_name}
 use Rattle.kr_base.specs.declared.ids.ConnId.{ConnId}
 use Rattle.key_derivation.specs.Kdf.{Inputs, key_of, vector_of}
-use Rattle.collection_store.specs.Changes.{content_changed}
-use Rattle.collection_store.specs.State.{Held}
-use Rattle.collection_store.specs.declared.change.Change as content
-use Rattle.collection_table.specs.Entries.{changed, inserted, without}
-use Rattle.collection_table.specs.Rows.{CollectionRow, Rows, locked, stored}
-use Rattle.service_tables.specs.declared.fate.Fate.{Fate}
-use Rattle.service_tables.specs.declared.fate.Fate.TheVariants as fate
+use Rattle.service_prompts.specs.collection_store.specs.Changes.{content_changed}
+use Rattle.service_prompts.specs.collection_store.specs.State.{Held}
+use Rattle.service_prompts.specs.collection_store.specs.declared.change.Change as content
+use Rattle.service_prompts.specs.collection_table.specs.Entries.{changed, inserted, without}
+use Rattle.service_prompts.specs.collection_table.specs.Rows.{CollectionRow, Rows, locked, stored}
+use Rattle.service_prompts.specs.service_tables.specs.declared.fate.Fate.{Fate}
+use Rattle.service_prompts.specs.service_tables.specs.declared.fate.Fate.TheVariants as fate
 use Rattle.service_disk.specs.declared.opening.Opening.{Opening}
 use Rattle.service_disk.specs.declared.opening.Opening.TheVariants as ends
 use Rattle.service_disk.specs.Making as making
@@ -20,14 +20,14 @@ use Rattle.service_disk.specs.Making.{content_of, rows_made}
 use Rattle.service_disk.specs.Opening.{opening_in, row_by, row_opened}
 use Rattle.service_disk.specs.Resolving.{rows_resolved}
 use Rattle.service_disk.proofs.ResolvingLemmas.{found-known}
-use Rattle.service_tables.specs.declared.rows.Sent.{Sent}
-use Rattle.service_tables.specs.Opened.{contents_of}
-use Rattle.service_tables.specs.Slots.{IsFault}
-use Rattle.service_tables.specs.Sound.{AreKnown}
-use Rattle.service_tables.specs.State.{State}
-use Rattle.service_tables.specs.Storing.{Brought, change_of, row_after, row_changed, rows_erased}
-use Rattle.service_tables.proofs.EachLemmas.{each-append, each-filter}
-use Rattle.service_tables.proofs.KeptLemmas.{certain-resolved, certain-set}
+use Rattle.service_prompts.specs.service_tables.specs.declared.rows.Sent.{Sent}
+use Rattle.service_prompts.specs.service_tables.specs.Opened.{contents_of}
+use Rattle.service_prompts.specs.service_tables.specs.Slots.{IsFault}
+use Rattle.service_prompts.specs.service_tables.specs.Sound.{AreKnown}
+use Rattle.service_prompts.specs.service_tables.specs.State.{State}
+use Rattle.service_prompts.specs.service_tables.specs.Storing.{Brought, change_of, row_after, row_changed, rows_erased}
+use Rattle.service_prompts.specs.service_tables.proofs.EachLemmas.{each-append, each-filter}
+use Rattle.service_prompts.specs.service_tables.proofs.KeptLemmas.{certain-resolved, certain-set}
 use Rattle.service_events.specs.declared.event.Event.{Event}
 use Rattle.service_events.specs.declared.event.Event.TheVariants as event
 use Rattle.service_events.specs.Fates.{AreFaultless, IsCertain, IsFaultless}

@@ -20,12 +20,12 @@ use Rattle.service_disk.specs.Opening.{opening_of}
 use Rattle.service_disk.specs.declared.opening.Opening.{Opening}
 use Rattle.service_disk.specs.declared.opening.Opening.TheVariants as ends
 use Rattle.service_prompts.proofs.SignalLemmas.{found-row}
-use Rattle.service_tables.specs.Sound.{HasLeft, IsSound, IsSoundKind, IsSoundPrompt, IsTypedAlias, IsTypedText}
-use Rattle.service_tables.specs.State.{State}
-use Rattle.service_tables.specs.Storing.{Brought}
-use Rattle.service_tables.specs.declared.fate.Fate.{Fate}
-use Rattle.service_tables.specs.declared.fate.Fate.TheVariants as fate
-use Rattle.service_tables.proofs.AliasLemmas.{is-alias}
+use Rattle.service_prompts.specs.service_tables.specs.Sound.{HasLeft, IsSound, IsSoundKind, IsSoundPrompt, IsTypedAlias, IsTypedText}
+use Rattle.service_prompts.specs.service_tables.specs.State.{State}
+use Rattle.service_prompts.specs.service_tables.specs.Storing.{Brought}
+use Rattle.service_prompts.specs.service_tables.specs.declared.fate.Fate.{Fate}
+use Rattle.service_prompts.specs.service_tables.specs.declared.fate.Fate.TheVariants as fate
+use Rattle.service_prompts.specs.service_tables.proofs.AliasLemmas.{is-alias}
 use Rattle.service_events.specs.AliasCalls.{alias_settled}
 use Rattle.service_events.specs.Derivation.{alias_given, can_make, collection_made, completing, derived, dismissing, kind_derived, left_derived, making_ended, most_wrong_answers, opening_ended, quietly, row_derived, wrong_again}
 use Rattle.service_events.specs.Plan.{Change, KeyTerms, Plan, Ends, After, Asks, Opens, Ask_prompt, Clear_wrong, Count_wrong, Go_on, Make, followed}

@@ -6,16 +6,16 @@ use Rattle.std.specs.Coded.{le_prop, →_prop}
 use Rattle.std.specs.List.{AllByRecursion-prop}
 use Rattle.std.specs.Str.{is_utf8}
 use Rattle.kr_base.specs.declared.ids.ConnId.{ConnId}
-use Rattle.collection_table.specs.Rows.{CollectionRow, Rows}
-use Rattle.secret_calls.specs.declared.call.Call.{Call}
-use Rattle.secret_calls.specs.declared.call.Call.TheVariants as call
-use Rattle.secret_calls.specs.declared.call.CallFault.{CallFault}
-use Rattle.service_tables.specs.declared.fate.Fate.{Fate}
-use Rattle.service_tables.specs.declared.fate.Fate.TheVariants as fate
-use Rattle.service_tables.specs.Sound.{IsTypedText}
-use Rattle.service_tables.specs.State.{State}
-use Rattle.service_tables.specs.Storing.{Brought, IsResolve, IsStoring}
-use Rattle.service_tables.proofs.TypedLemmas.{alias-prop, item-prop, secret-prop}
+use Rattle.service_prompts.specs.collection_table.specs.Rows.{CollectionRow, Rows}
+use Rattle.service_prompts.specs.secret_calls.specs.declared.call.Call.{Call}
+use Rattle.service_prompts.specs.secret_calls.specs.declared.call.Call.TheVariants as call
+use Rattle.service_prompts.specs.secret_calls.specs.declared.call.CallFault.{CallFault}
+use Rattle.service_prompts.specs.service_tables.specs.declared.fate.Fate.{Fate}
+use Rattle.service_prompts.specs.service_tables.specs.declared.fate.Fate.TheVariants as fate
+use Rattle.service_prompts.specs.service_tables.specs.Sound.{IsTypedText}
+use Rattle.service_prompts.specs.service_tables.specs.State.{State}
+use Rattle.service_prompts.specs.service_tables.specs.Storing.{Brought, IsResolve, IsStoring}
+use Rattle.service_prompts.specs.service_tables.proofs.TypedLemmas.{alias-prop, item-prop, secret-prop}
 use Rattle.service_events.specs.declared.event.Event.{Event}
 use Rattle.service_events.specs.declared.event.Event.TheVariants as event
 use Rattle.service_events.specs.declared.event.Recorded.{Recorded}

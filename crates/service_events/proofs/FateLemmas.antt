@@ -6,7 +6,7 @@ use Rattle.kr_base.specs.declared.ids.ConnId.{ConnId}
 use Rattle.kr_base.specs.declared.ids.ItemId.{ItemId}
 use Rattle.kr_base.specs.declared.ids.PromptId.{PromptId}
 use Rattle.kr_base.specs.declared.ids.SessionId.{SessionId}
-use Rattle.collection_table.specs.Rows.{CollectionRow, Rows, has, has_item, is_open}
+use Rattle.service_prompts.specs.collection_table.specs.Rows.{CollectionRow, Rows, has, has_item, is_open}
 use Rattle.prompt_state.specs.Prompts.{is_agent, is_deriving_in, last_round, refusal, row_at}
 use Rattle.prompt_state.specs.declared.row.PromptKind.{PromptKind}
 use Rattle.prompt_state.specs.declared.row.PromptKind.TheVariants as kind
@@ -14,30 +14,30 @@ use Rattle.prompt_state.specs.declared.row.PromptRow.{PromptRow}
 use Rattle.prompt_state.specs.declared.table.PromptRefused.{PromptRefused}
 use Rattle.prompt_state.specs.declared.targets.Target.{Target}
 use Rattle.stem_choice.specs.Choice.{chosen}
-use Rattle.secret_calls.specs.declared.call.Call.{Call}
-use Rattle.secret_calls.specs.declared.call.Call.TheVariants as call
-use Rattle.secret_calls.specs.declared.call.CallFault.{CallFault}
-use Rattle.secret_calls.specs.declared.out.Body.{Body}
-use Rattle.secret_calls.specs.declared.out.Body.TheVariants as body
-use Rattle.secret_calls.specs.declared.out.ErrorName.{ErrorName}
-use Rattle.secret_calls.specs.declared.out.ErrorName.TheVariants as name
-use Rattle.service_tables.specs.declared.fate.Fate.{Fate}
-use Rattle.service_tables.specs.declared.fate.Fate.TheVariants as fate
+use Rattle.service_prompts.specs.secret_calls.specs.declared.call.Call.{Call}
+use Rattle.service_prompts.specs.secret_calls.specs.declared.call.Call.TheVariants as call
+use Rattle.service_prompts.specs.secret_calls.specs.declared.call.CallFault.{CallFault}
+use Rattle.service_prompts.specs.secret_calls.specs.declared.out.Body.{Body}
+use Rattle.service_prompts.specs.secret_calls.specs.declared.out.Body.TheVariants as body
+use Rattle.service_prompts.specs.secret_calls.specs.declared.out.ErrorName.{ErrorName}
+use Rattle.service_prompts.specs.secret_calls.specs.declared.out.ErrorName.TheVariants as name
+use Rattle.service_prompts.specs.service_tables.specs.declared.fate.Fate.{Fate}
+use Rattle.service_prompts.specs.service_tables.specs.declared.fate.Fate.TheVariants as fate
 use Rattle.service_disk.specs.declared.opening.Opening.{Opening}
 use Rattle.service_disk.specs.declared.opening.Opening.TheVariants as ends
 use Rattle.service_disk.specs.Opening.{opening_of}
 use Rattle.service_disk.specs.Resolving.{is_doubtful}
 use Rattle.service_disk.proofs.ResolvingLemmas.{doubt-unknown}
-use Rattle.service_tables.specs.Aliases.{are_doubtful, asked_aliases}
-use Rattle.service_tables.specs.Limits.{most_content}
-use Rattle.service_tables.specs.Objects.{alias_target, collection_named}
-use Rattle.service_tables.specs.Opened.{contents_of}
-use Rattle.service_tables.specs.Reading.{asked_collections}
-use Rattle.service_tables.specs.Slots.{IsFault}
-use Rattle.service_tables.specs.Sound.{AreKnown}
-use Rattle.service_tables.specs.State.{State}
-use Rattle.service_tables.specs.Storing.{Add_item, Brought, Edit, IsStoring, Remove_item, Set_secret, storable_edit}
-use Rattle.service_tables.proofs.CollectionLemmas.{at-stem}
+use Rattle.service_prompts.specs.service_tables.specs.Aliases.{are_doubtful, asked_aliases}
+use Rattle.service_prompts.specs.service_tables.specs.Limits.{most_content}
+use Rattle.service_prompts.specs.service_tables.specs.Objects.{alias_target, collection_named}
+use Rattle.service_prompts.specs.service_tables.specs.Opened.{contents_of}
+use Rattle.service_prompts.specs.service_tables.specs.Reading.{asked_collections}
+use Rattle.service_prompts.specs.service_tables.specs.Slots.{IsFault}
+use Rattle.service_prompts.specs.service_tables.specs.Sound.{AreKnown}
+use Rattle.service_prompts.specs.service_tables.specs.State.{State}
+use Rattle.service_prompts.specs.service_tables.specs.Storing.{Add_item, Brought, Edit, IsStoring, Remove_item, Set_secret, storable_edit}
+use Rattle.service_prompts.specs.service_tables.proofs.CollectionLemmas.{at-stem}
 use Rattle.service_events.specs.declared.event.Event.TheVariants as event
 use Rattle.service_events.specs.declared.event.Recorded.{Recorded}
 use Rattle.service_events.specs.AgentCalls.{unless_refused}

@@ -12,15 +12,15 @@ use Rattle.prompt_state.specs.declared.row.PromptKind.TheVariants.{Unlock, Creat
 use Rattle.prompt_state.specs.declared.row.PromptRow.{PromptRow}
 use Rattle.prompt_state.specs.declared.row.Prompts.{Prompts}
 use Rattle.prompt_state.specs.declared.targets.Target.{Target}
-use Rattle.service_tables.specs.Limits.{most_weight}
-use Rattle.service_tables.specs.Opened.{contents_of}
-use Rattle.service_tables.specs.Questions.{CollectionQuestions}
-use Rattle.service_tables.specs.Reading.{asked_collections}
-use Rattle.service_tables.specs.Sound.{AreSoundPrompts, AreSoundTargets, CanWait, HasLeft, IsSound, IsSoundKind, IsSoundPrompt, IsSoundTarget}
-use Rattle.service_tables.specs.State.{State}
-use Rattle.service_tables.specs.Targets.{weight, weight_of}
-use Rattle.service_tables.specs.declared.rows.ConnRow.{ConnRow}
-use Rattle.service_tables.proofs.EachLemmas.{each-append}
+use Rattle.service_prompts.specs.service_tables.specs.Limits.{most_weight}
+use Rattle.service_prompts.specs.service_tables.specs.Opened.{contents_of}
+use Rattle.service_prompts.specs.service_tables.specs.Questions.{CollectionQuestions}
+use Rattle.service_prompts.specs.service_tables.specs.Reading.{asked_collections}
+use Rattle.service_prompts.specs.service_tables.specs.Sound.{AreSoundPrompts, AreSoundTargets, CanWait, HasLeft, IsSound, IsSoundKind, IsSoundPrompt, IsSoundTarget}
+use Rattle.service_prompts.specs.service_tables.specs.State.{State}
+use Rattle.service_prompts.specs.service_tables.specs.Targets.{weight, weight_of}
+use Rattle.service_prompts.specs.service_tables.specs.declared.rows.ConnRow.{ConnRow}
+use Rattle.service_prompts.specs.service_tables.proofs.EachLemmas.{each-append}
 use Rattle.service_prompts.proofs.PromptLemmas.{prompts-asked_again, prompts-changed, prompts-ended}
 use Rattle.service_prompts.proofs.SignalLemmas.{ask-can, completed-can, found-row}
 use Rattle.service_events.specs.PromptCalls.{are_none, asks_for, completes, go_on_sent, gone_on, is_over, is_over_row, passed, passed_kind, passed_over, passed_row}

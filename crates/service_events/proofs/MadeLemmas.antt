@@ -10,17 +10,17 @@ use Rattle.keyring_file.specs.Clear.{ClearPart}
 use Rattle.replace_slot.specs.declared.images.Found.{Found}
 use Rattle.replace_slot.specs.declared.images.Found.TheVariants as image
 use Rattle.key_derivation.specs.Kdf.{key_of, vector_of}
-use Rattle.collection_store.specs.State.{told_after}
-use Rattle.collection_table.specs.Entries.{changed, inserted, without}
-use Rattle.collection_table.specs.Rows.{CollectionRow, Rows, stored}
-use Rattle.collection_table.proofs.EntryLemmas.{changed_in_order, inserted_in_order, order_kept}
+use Rattle.service_prompts.specs.collection_store.specs.State.{told_after}
+use Rattle.service_prompts.specs.collection_table.specs.Entries.{changed, inserted, without}
+use Rattle.service_prompts.specs.collection_table.specs.Rows.{CollectionRow, Rows, stored}
+use Rattle.service_prompts.specs.collection_table.proofs.EntryLemmas.{changed_in_order, inserted_in_order, order_kept}
 use Rattle.service_disk.specs.Making.{Plan, content_of, perhaps_made, rows_made}
 use Rattle.service_disk.specs.Resolving.{is_file, row_found, rows_found, rows_resolved}
-use Rattle.service_tables.specs.Slots.{file_at}
-use Rattle.service_tables.specs.Sound.{AreShown, AreSoundCollections, IsSoundCollection}
-use Rattle.service_tables.specs.declared.fate.Fate.{Fate}
-use Rattle.service_tables.specs.declared.fate.Fate.TheVariants as fate
-use Rattle.service_tables.proofs.EachLemmas.{each-append, each-filter}
+use Rattle.service_prompts.specs.service_tables.specs.Slots.{file_at}
+use Rattle.service_prompts.specs.service_tables.specs.Sound.{AreShown, AreSoundCollections, IsSoundCollection}
+use Rattle.service_prompts.specs.service_tables.specs.declared.fate.Fate.{Fate}
+use Rattle.service_prompts.specs.service_tables.specs.declared.fate.Fate.TheVariants as fate
+use Rattle.service_prompts.specs.service_tables.proofs.EachLemmas.{each-append, each-filter}
 
 -- ---- a file in doubt that was read again
 

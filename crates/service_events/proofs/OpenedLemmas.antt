@@ -35,20 +35,20 @@ use Rattle.keyring_file.specs.declared.fault.AreaFault.{AreaFault}
 use Rattle.keyring_file.specs.declared.fault.ClearFault.{ClearFault}
 use Rattle.keyring_file.proofs.AreaLaws.{area_found}
 use Rattle.keyring_file.proofs.FileLaws.{file_found}
-use Rattle.keyring_seal.specs.Arranged.{Row, arranged_rows, hashed_row, row_number, rows}
-use Rattle.keyring_seal.specs.Order.{by_number}
-use Rattle.keyring_seal.specs.Whole.{in_area_part, in_clear_part, opened}
-use Rattle.keyring_seal.specs.declared.content.Content.{Content}
-use Rattle.keyring_seal.specs.declared.opening.OpenFault.{OpenFault}
-use Rattle.keyring_seal.proofs.ArrangeLemmas.{all_by_number}
+use Rattle.service_prompts.specs.keyring_seal.specs.Arranged.{Row, arranged_rows, hashed_row, row_number, rows}
+use Rattle.service_prompts.specs.keyring_seal.specs.Order.{by_number}
+use Rattle.service_prompts.specs.keyring_seal.specs.Whole.{in_area_part, in_clear_part, opened}
+use Rattle.service_prompts.specs.keyring_seal.specs.declared.content.Content.{Content}
+use Rattle.service_prompts.specs.keyring_seal.specs.declared.opening.OpenFault.{OpenFault}
+use Rattle.service_prompts.specs.keyring_seal.proofs.ArrangeLemmas.{all_by_number}
 use Rattle.replace_slot.specs.Cell.{File, Known, Doubt}
-use Rattle.collection_table.specs.Rows.{CollectionRow, Rows}
-use Rattle.collection_table.proofs.EntryLemmas.{changed_in_order, found_there}
+use Rattle.service_prompts.specs.collection_table.specs.Rows.{CollectionRow, Rows}
+use Rattle.service_prompts.specs.collection_table.proofs.EntryLemmas.{changed_in_order, found_there}
 use Rattle.service_disk.specs.Opening.{held_by, held_under, opening_in, row_by, row_opened, rows_opened}
 use Rattle.service_disk.specs.declared.opening.Opening.{Opening}
 use Rattle.service_disk.specs.declared.opening.Opening.TheVariants as ends
-use Rattle.service_tables.specs.Sound.{AreSoundCollections, AreSoundItems, IsSoundCollection, IsSoundItem}
-use Rattle.service_tables.proofs.EachLemmas.{each-mapped, each-weaker}
+use Rattle.service_prompts.specs.service_tables.specs.Sound.{AreSoundCollections, AreSoundItems, IsSoundCollection, IsSoundItem}
+use Rattle.service_prompts.specs.service_tables.proofs.EachLemmas.{each-mapped, each-weaker}
 use Rattle.service_events.specs.Step.{AreByteFiles, AreByteImages}
 
 -- ---- bytes

@@ -1,6 +1,6 @@
 -- Lists of events, one after the other.
 use Rattle.std.proofs.Common.{◌≡◌, List, [], ◌∷◌, ◌++◌, refl, ap}
-use Rattle.service_tables.specs.State.{State}
+use Rattle.service_prompts.specs.service_tables.specs.State.{State}
 use Rattle.service_events.specs.declared.event.Event.{Event}
 use Rattle.service_events.specs.Step.{step, output_of}
 use Rattle.service_events.specs.Replay.{replay, Legal, outputs}

@@ -12,7 +12,7 @@ use Rattle.kr_names.specs.declared.object_name.ObjectName.{ObjectName}
 use Rattle.kr_names.specs.declared.object_name.ObjectName.TheVariants as object
 use Rattle.kr_base.specs.Stem.{IsStem}
 use Rattle.kr_names.specs.Path.{IsAliasName, IsName, path_text}
-use Rattle.folder_store.specs.Limits.{the_limits}
+use Rattle.service_prompts.specs.folder_store.specs.Limits.{the_limits}
 use Rattle.prompt_state.specs.Prompts as prompts
 use Rattle.prompt_state.specs.Prompts.{is_agent, is_made, is_taken, kind_with, last_round, next_round, refusal, round_of, row_at, targeted}
 use Rattle.prompt_state.specs.Targets.{TargetLists, all_left, first_done, first_dropped}
@@ -25,43 +25,43 @@ use Rattle.prompt_state.specs.declared.row.Stage.TheVariants.{Made, Asked, Deriv
 use Rattle.prompt_state.specs.declared.table.PromptRefused.{PromptRefused}
 use Rattle.prompt_state.specs.declared.targets.Target.{Target}
 use Rattle.service_prompts.specs.Unlocking.{targets_of, unlocked_there}
-use Rattle.collection_table.specs.Rows.{has as has_collection, has_item, is_open}
+use Rattle.service_prompts.specs.collection_table.specs.Rows.{has as has_collection, has_item, is_open}
 use Rattle.session_table.specs.declared.row.SessionRow.{SessionRow}
-use Rattle.secret_calls.specs.declared.call.Call.{Call}
-use Rattle.secret_calls.specs.declared.call.Call.TheVariants as call
-use Rattle.secret_calls.specs.declared.call.CallFault.{CallFault}
-use Rattle.secret_calls.specs.declared.out.Body.{Body}
-use Rattle.secret_calls.specs.declared.out.Body.TheVariants as body
-use Rattle.secret_calls.specs.declared.out.ErrorName.{ErrorName}
-use Rattle.secret_calls.specs.declared.out.ErrorName.TheVariants as name
-use Rattle.secret_calls.specs.declared.secret.ReturnedSecret.{ReturnedSecret}
-use Rattle.secret_calls.specs.Outs.{ArePaths, AreTyped}
+use Rattle.service_prompts.specs.secret_calls.specs.declared.call.Call.{Call}
+use Rattle.service_prompts.specs.secret_calls.specs.declared.call.Call.TheVariants as call
+use Rattle.service_prompts.specs.secret_calls.specs.declared.call.CallFault.{CallFault}
+use Rattle.service_prompts.specs.secret_calls.specs.declared.out.Body.{Body}
+use Rattle.service_prompts.specs.secret_calls.specs.declared.out.Body.TheVariants as body
+use Rattle.service_prompts.specs.secret_calls.specs.declared.out.ErrorName.{ErrorName}
+use Rattle.service_prompts.specs.secret_calls.specs.declared.out.ErrorName.TheVariants as name
+use Rattle.service_prompts.specs.secret_calls.specs.declared.secret.ReturnedSecret.{ReturnedSecret}
+use Rattle.service_prompts.specs.secret_calls.specs.Outs.{ArePaths, AreTyped}
 use Rattle.session_table.specs.Sessions.{is_of, owns, rows_of, is_full, most_sessions, last_session}
-use Rattle.service_tables.specs.State.{State}
-use Rattle.service_tables.specs.Connections.{left}
-use Rattle.service_tables.specs.Targets.{are_light, weight}
-use Rattle.service_tables.specs.Limits.{most_content, most_weight}
+use Rattle.service_prompts.specs.service_tables.specs.State.{State}
+use Rattle.service_prompts.specs.service_tables.specs.Connections.{left}
+use Rattle.service_prompts.specs.service_tables.specs.Targets.{are_light, weight}
+use Rattle.service_prompts.specs.service_tables.specs.Limits.{most_content, most_weight}
 use Rattle.service_events.specs.AgentCalls.{refuse, unless_refused}
 use Rattle.service_events.specs.AliasCalls.{alias_body, alias_settled, alias_stored, on_target, once_read}
 use Rattle.service_events.specs.CollectionCalls.{by_fate, if_open, made, no_prompt, on_collection, secret_stored, storing, storing_secret}
 use Rattle.service_events.specs.ItemCalls.{get_secret, secret_if_open}
-use Rattle.service_tables.specs.Objects.{alias_target, collection_around, collection_named, is_open_item, is_there, item_paths, once, paths_of}
-use Rattle.service_tables.specs.Opened.{contents_of}
-use Rattle.service_tables.specs.Reading.{alias_of, asked_collections, secret_of}
+use Rattle.service_prompts.specs.service_tables.specs.Objects.{alias_target, collection_around, collection_named, is_open_item, is_there, item_paths, once, paths_of}
+use Rattle.service_prompts.specs.service_tables.specs.Opened.{contents_of}
+use Rattle.service_prompts.specs.service_tables.specs.Reading.{alias_of, asked_collections, secret_of}
 use Rattle.service_events.specs.Plan.{Change, Open_session, Close_session, Lock_collection, Begin_prompt, Ask_prompt, Derive_key, Go_on, Finish_target, Drop_target, End_prompt, Become_agent, Leave_agent, Demand, Store, Erase, Set_alias, Read_aliases, Read_collection, Secret_of, Plan, Asks, refused, answered, given}
 use Rattle.service_events.specs.PromptCalls.{advance, first_advance, target_changes}
 use Rattle.service_events.specs.Run.{asked, demanded, performed, secret_returned}
 use Rattle.service_events.specs.ServiceCalls.{answered_if_small, creating, is_plain, is_small, lock, locks, get_secrets, next_prompt, no_collection, there_already, unlocking, with_new_prompt}
 use Rattle.service_events.specs.SessionCalls.{with_session}
 use Rattle.service_events.specs.Step.{HasTypes, IsSalt, IsTypedName, plan_of, value_in}
-use Rattle.service_tables.specs.Storing.{AreEditTypes, Brought, Edit, Add_item, Set_secret, Remove_item, storable_edit}
-use Rattle.service_tables.specs.declared.fate.Fate.{Fate}
-use Rattle.service_tables.specs.declared.fate.Fate.TheVariants as fate
-use Rattle.service_tables.specs.Sound.{AreSecretTypes, HasLeft, IsSoundKind, IsSoundTarget, IsTypedAlias, IsTypedText, AreOpened, IsSound}
-use Rattle.service_tables.proofs.CollectionLemmas.{alias-named, target-stem, path-of, found-in-paths, found-locked, found-unlocked, named-paths, once-each, open-named, secret-typed, secrets-typed, there-named}
+use Rattle.service_prompts.specs.service_tables.specs.Storing.{AreEditTypes, Brought, Edit, Add_item, Set_secret, Remove_item, storable_edit}
+use Rattle.service_prompts.specs.service_tables.specs.declared.fate.Fate.{Fate}
+use Rattle.service_prompts.specs.service_tables.specs.declared.fate.Fate.TheVariants as fate
+use Rattle.service_prompts.specs.service_tables.specs.Sound.{AreSecretTypes, HasLeft, IsSoundKind, IsSoundTarget, IsTypedAlias, IsTypedText, AreOpened, IsSound}
+use Rattle.service_prompts.specs.service_tables.proofs.CollectionLemmas.{alias-named, target-stem, path-of, found-in-paths, found-locked, found-unlocked, named-paths, once-each, open-named, secret-typed, secrets-typed, there-named}
 use Rattle.service_prompts.proofs.UnlockingLemmas.{targets-sound, unlocked-paths}
-use Rattle.service_tables.proofs.AliasLemmas.{is-alias}
-use Rattle.service_tables.proofs.StoredLemmas.{storable-named}
+use Rattle.service_prompts.specs.service_tables.proofs.AliasLemmas.{is-alias}
+use Rattle.service_prompts.specs.service_tables.proofs.StoredLemmas.{storable-named}
 use Rattle.service_events.proofs.SmallLemmas.{not-full}
 use Rattle.service_events.proofs.AdvanceLemmas.{row-changed}
 use Rattle.std.proofs.Common.{nat_eq}
@@ -70,7 +70,7 @@ use Rattle.prompt_state.specs.Prompts.{IsStage, is_asked_in, refusal_of}
 use Rattle.prompt_state.specs.declared.table.PromptRefused.TheVariants as refused_by
 use Rattle.service_disk.specs.Resolving.{is_doubtful}
 use Rattle.service_prompts.proofs.SignalLemmas.{found-row}
-use Rattle.service_tables.specs.Sound.{IsSoundPrompt}
+use Rattle.service_prompts.specs.service_tables.specs.Sound.{IsSoundPrompt}
 use Rattle.service_events.specs.AnswerCalls.{answer_prompt, deriving_key, going_on, kind_answered, left_answered, row_answered, target_answered}
 use Rattle.service_events.proofs.AllowedLemmas.{AreAllowed, HasMore, IsAllowed, IsTypedAnswer, IsTypedDemand, KeepsMore, MayRun, ask-round, some-same}
 

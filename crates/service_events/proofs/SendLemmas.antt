@@ -4,7 +4,7 @@ use Rattle.std.specs.List.{cons_option}
 use Rattle.std.specs.Option.{option_and_then, option_map}
 use Rattle.kr_base.specs.declared.ids.ConnId.{ConnId}
 use Rattle.kr_base.specs.declared.ids.PromptId.{PromptId}
-use Rattle.collection_table.specs.Rows.{has, is_open}
+use Rattle.service_prompts.specs.collection_table.specs.Rows.{has, is_open}
 use Rattle.prompt_state.specs.Prompts.{ask_of, changed, ended_row, kind_with, next_round, round_of, row_at, targeted}
 use Rattle.prompt_state.specs.Targets.{first_done, first_dropped}
 use Rattle.prompt_state.specs.declared.row.Ask.{Ask}
@@ -14,9 +14,9 @@ use Rattle.prompt_state.specs.declared.row.PromptRow.{PromptRow}
 use Rattle.prompt_state.specs.declared.row.Stage.TheVariants.{Asked}
 use Rattle.prompt_state.specs.declared.targets.Target.{Target}
 use Rattle.service_prompts.specs.Prompting.{ask_signal, ask_signal_in, completed_signal}
-use Rattle.service_tables.specs.Opened.{contents_of}
-use Rattle.service_tables.specs.Reading.{asked_collections}
-use Rattle.service_tables.specs.State.{State}
+use Rattle.service_prompts.specs.service_tables.specs.Opened.{contents_of}
+use Rattle.service_prompts.specs.service_tables.specs.Reading.{asked_collections}
+use Rattle.service_prompts.specs.service_tables.specs.State.{State}
 use Rattle.service_events.specs.Plan.{Change, Ask_prompt, Drop_target, End_prompt, Finish_target}
 use Rattle.service_events.specs.PromptCalls.{advance, advance_sent, ask_for, asks_for, completes, passed, passed_kind, row_advance, target_changes}
 use Rattle.service_events.specs.Run.{sent_all}

@@ -7,9 +7,9 @@ use Rattle.kr_base.specs.declared.ids.ConnId.{ConnId}
 use Rattle.kr_base.specs.declared.ids.ItemId.{ItemId}
 use Rattle.kr_base.specs.declared.ids.PromptId.{PromptId}
 use Rattle.kr_base.specs.declared.ids.SessionId.{SessionId}
-use Rattle.collection_table.specs.Rows.{has, has_item, is_open}
+use Rattle.service_prompts.specs.collection_table.specs.Rows.{has, has_item, is_open}
 use Rattle.dbus_marshal.specs.Wire.{number_bytes}
-use Rattle.folder_store.specs.Limits.{the_limits}
+use Rattle.service_prompts.specs.folder_store.specs.Limits.{the_limits}
 use Rattle.prompt_state.specs.Prompts as prompts
 use Rattle.prompt_state.specs.Prompts.{is_agent, is_taken, last_round, refusal, row_at}
 use Rattle.prompt_state.specs.Targets.{all_left}
@@ -20,38 +20,38 @@ use Rattle.prompt_state.specs.declared.table.PromptRefused.{PromptRefused}
 use Rattle.prompt_state.specs.declared.targets.Target.{Target}
 use Rattle.service_disk.specs.Resolving.{is_doubtful}
 use Rattle.service_prompts.specs.Unlocking.{targets_of, unlocked_there}
-use Rattle.service_tables.specs.Targets.{are_light}
-use Rattle.secret_calls.specs.declared.call.Call.{Call}
-use Rattle.secret_calls.specs.declared.call.Call.TheVariants as call
-use Rattle.secret_calls.specs.declared.call.CallFault.{CallFault}
-use Rattle.secret_calls.specs.declared.call.Request.{Request}
-use Rattle.secret_calls.specs.declared.out.Body.{Body}
-use Rattle.secret_calls.specs.declared.out.Body.TheVariants as body
-use Rattle.secret_calls.specs.declared.out.ErrorName.{ErrorName}
-use Rattle.secret_calls.specs.declared.out.ErrorName.TheVariants as name
-use Rattle.secret_calls.specs.Outs.{spelled_body, most_waiting}
-use Rattle.secret_calls.proofs.SizeLemmas.{error-short, return-waits, session-short}
+use Rattle.service_prompts.specs.service_tables.specs.Targets.{are_light}
+use Rattle.service_prompts.specs.secret_calls.specs.declared.call.Call.{Call}
+use Rattle.service_prompts.specs.secret_calls.specs.declared.call.Call.TheVariants as call
+use Rattle.service_prompts.specs.secret_calls.specs.declared.call.CallFault.{CallFault}
+use Rattle.service_prompts.specs.secret_calls.specs.declared.call.Request.{Request}
+use Rattle.service_prompts.specs.secret_calls.specs.declared.out.Body.{Body}
+use Rattle.service_prompts.specs.secret_calls.specs.declared.out.Body.TheVariants as body
+use Rattle.service_prompts.specs.secret_calls.specs.declared.out.ErrorName.{ErrorName}
+use Rattle.service_prompts.specs.secret_calls.specs.declared.out.ErrorName.TheVariants as name
+use Rattle.service_prompts.specs.secret_calls.specs.Outs.{spelled_body, most_waiting}
+use Rattle.service_prompts.specs.secret_calls.proofs.SizeLemmas.{error-short, return-waits, session-short}
 use Rattle.session_table.specs.Sessions.{rows_of, is_full, owns, most_sessions, last_session}
 use Rattle.service_events.specs.declared.event.Recorded.{Recorded}
 use Rattle.service_events.specs.AgentCalls.{in_round, unless_refused}
 use Rattle.service_events.specs.AliasCalls.{alias_settled, alias_stored, on_target, once_read}
 use Rattle.service_events.specs.AnswerCalls.{deriving_key, going_on, kind_answered, left_answered, row_answered, target_answered}
 use Rattle.service_events.specs.CollectionCalls.{by_fate, if_open, made, no_prompt, on_collection, secret_stored, storing, storing_secret}
-use Rattle.service_tables.specs.Connections.{size_of}
+use Rattle.service_prompts.specs.service_tables.specs.Connections.{size_of}
 use Rattle.service_events.specs.ItemCalls.{get_secret, secret_if_open}
-use Rattle.service_tables.specs.Limits.{most_body, most_content}
-use Rattle.service_tables.specs.Objects.{alias_target, collection_named, is_there, item_paths, once, paths_of}
-use Rattle.service_tables.specs.Opened.{contents_of}
-use Rattle.service_tables.specs.Reading.{asked_collections}
-use Rattle.service_tables.specs.Storing.{Brought, Edit, Add_item, Set_secret, Remove_item, storable_edit}
-use Rattle.service_tables.specs.declared.fate.Fate.{Fate}
-use Rattle.service_tables.specs.declared.fate.Fate.TheVariants as fate
+use Rattle.service_prompts.specs.service_tables.specs.Limits.{most_body, most_content}
+use Rattle.service_prompts.specs.service_tables.specs.Objects.{alias_target, collection_named, is_there, item_paths, once, paths_of}
+use Rattle.service_prompts.specs.service_tables.specs.Opened.{contents_of}
+use Rattle.service_prompts.specs.service_tables.specs.Reading.{asked_collections}
+use Rattle.service_prompts.specs.service_tables.specs.Storing.{Brought, Edit, Add_item, Set_secret, Remove_item, storable_edit}
+use Rattle.service_prompts.specs.service_tables.specs.declared.fate.Fate.{Fate}
+use Rattle.service_prompts.specs.service_tables.specs.declared.fate.Fate.TheVariants as fate
 use Rattle.service_events.specs.Plan.{Change, Open_session, Close_session, Become_agent, Begin_prompt, End_prompt, Leave_agent, Demand, Store, Erase, Set_alias, Read_aliases, Read_collection, Secret_of, Plan, Ends, After, Asks, Opens, refused, answered, given}
 use Rattle.service_events.specs.PromptCalls.{first_advance}
 use Rattle.service_events.specs.Run.{asked, demanded, filled, led, run, bounded}
 use Rattle.service_events.specs.ServiceCalls.{answered_if_small, creating, is_plain, is_small, locks, next_prompt, no_collection, there_already, unlocking, with_new_prompt}
 use Rattle.service_events.specs.SessionCalls.{with_session}
-use Rattle.service_tables.specs.State.{State}
+use Rattle.service_prompts.specs.service_tables.specs.State.{State}
 use Rattle.service_events.specs.Step.{brought_by, plan_of, message_of, served}
 
 -- the caller can open a session: it has fewer than it may have, and a number is left

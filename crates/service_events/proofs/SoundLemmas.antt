@@ -2,28 +2,28 @@
 use Rattle.std.proofs.Common.{◌≡◌, Bool, true, false, cond, List, Result, Ok, Err, [], ◌∷◌, refl, ◌∙◌, arith}
 use Rattle.std.specs.List.{AllByRecursion}
 use Rattle.kr_base.specs.declared.ids.ConnId.{ConnId}
-use Rattle.secret_calls.specs.declared.call.Request.{Request}
-use Rattle.secret_calls.specs.declared.out.Body.{Body}
-use Rattle.secret_calls.specs.declared.out.ErrorName.{ErrorName}
-use Rattle.secret_calls.proofs.SizeLemmas.{error-fits, error-short, return-waits}
-use Rattle.secret_calls.specs.Outs.{HasSpelling}
-use Rattle.service_tables.specs.State.{State}
-use Rattle.service_tables.specs.declared.rows.ConnRow.{ConnRow}
+use Rattle.service_prompts.specs.secret_calls.specs.declared.call.Request.{Request}
+use Rattle.service_prompts.specs.secret_calls.specs.declared.out.Body.{Body}
+use Rattle.service_prompts.specs.secret_calls.specs.declared.out.ErrorName.{ErrorName}
+use Rattle.service_prompts.specs.secret_calls.proofs.SizeLemmas.{error-fits, error-short, return-waits}
+use Rattle.service_prompts.specs.secret_calls.specs.Outs.{HasSpelling}
+use Rattle.service_prompts.specs.service_tables.specs.State.{State}
+use Rattle.service_prompts.specs.service_tables.specs.declared.rows.ConnRow.{ConnRow}
 use Rattle.service_events.specs.declared.event.Event.{Event}
 use Rattle.service_events.specs.declared.event.Event.TheVariants as event
-use Rattle.service_tables.specs.Connections.{new_row, joined, has, changed, left, emptied, size_of, with_out}
-use Rattle.service_tables.specs.declared.rows.Sent.{Sent}
+use Rattle.service_prompts.specs.service_tables.specs.Connections.{new_row, joined, has, changed, left, emptied, size_of, with_out}
+use Rattle.service_prompts.specs.service_tables.specs.declared.rows.Sent.{Sent}
 use Rattle.service_events.specs.declared.event.Recorded.{Recorded}
-use Rattle.service_tables.specs.Opened.{Contents, opened_state}
+use Rattle.service_prompts.specs.service_tables.specs.Opened.{Contents, opened_state}
 use Rattle.service_events.specs.Run.{asked, run}
 use Rattle.service_events.specs.Step.{replies, with_rows, with_delivered, brought_by, message_of, served, put_out, puts_out, step, Fits, FitsRequest, finished}
 use Rattle.service_events.specs.Replay.{replay, Legal}
-use Rattle.service_tables.specs.Sound.{CanWait, WaitsWell, AreSoundContents, IsSound}
+use Rattle.service_prompts.specs.service_tables.specs.Sound.{CanWait, WaitsWell, AreSoundContents, IsSound}
 use Rattle.service_prompts.proofs.PromptLemmas.{prompts-among, prompts-gone, prompts-none}
-use Rattle.service_tables.proofs.EachLemmas.{each-append, each-weaker}
+use Rattle.service_prompts.specs.service_tables.proofs.EachLemmas.{each-append, each-weaker}
 use Rattle.service_events.proofs.SmallLemmas.{IsSmall, answer-small}
 use Rattle.service_events.proofs.RunLemmas.{plan_for, sends-limited, state-limited}
-use Rattle.service_tables.proofs.TableLemmas.{KeepsNumber, has-changed, connections-changed, sessions-among, keeps-with_out, well-with_out, has-push, connections-joined, connections-without, sessions-without}
+use Rattle.service_prompts.specs.service_tables.proofs.TableLemmas.{KeepsNumber, has-changed, connections-changed, sessions-among, keeps-with_out, well-with_out, has-push, connections-joined, connections-without, sessions-without}
 use Rattle.service_events.specs.declared.event.Derivation.{Derivation}
 use Rattle.service_events.specs.Derivation.{derived}
 use Rattle.service_events.specs.Step.{FitsDerivation, brought_derived, terms_of}

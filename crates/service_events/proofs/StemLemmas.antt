@@ -13,19 +13,19 @@ use Rattle.std.proofs.lemmas.List.Kept.{IsStrictlySortedBy-filter}
 use Rattle.std.proofs.lemmas.Map.Lookups.{exact_bytes}
 use Rattle.kr_base.specs.Attributes.{is_name}
 use Rattle.kr_base.proofs.OrderedLemmas.{is_less}
-use Rattle.collection_table.specs.Entries.{changed, inserted, without}
-use Rattle.collection_table.specs.Rows.{CollectionRow, Rows, perhaps_removed}
+use Rattle.service_prompts.specs.collection_table.specs.Entries.{changed, inserted, without}
+use Rattle.service_prompts.specs.collection_table.specs.Rows.{CollectionRow, Rows, perhaps_removed}
 use Rattle.replace_slot.specs.declared.images.Found.{Found}
 use Rattle.replace_slot.specs.declared.images.Found.TheVariants as image
 use Rattle.stem_choice.specs.UsedStems.{AreInOrder, is_used, with_stem}
 use Rattle.service_disk.specs.Making.{Plan, perhaps_made, rows_made}
 use Rattle.service_disk.specs.Resolving.{is_file, row_found, rows_found, rows_resolved}
-use Rattle.service_tables.specs.Slots.{file_at}
-use Rattle.service_tables.specs.Sound.{AreSoundStems}
-use Rattle.service_tables.specs.Storing.{rows_erased}
-use Rattle.service_tables.specs.declared.fate.Fate.{Fate}
-use Rattle.service_tables.specs.declared.fate.Fate.TheVariants as fate
-use Rattle.service_tables.proofs.EachLemmas.{each-append, each-filter, each-weaker}
+use Rattle.service_prompts.specs.service_tables.specs.Slots.{file_at}
+use Rattle.service_prompts.specs.service_tables.specs.Sound.{AreSoundStems}
+use Rattle.service_prompts.specs.service_tables.specs.Storing.{rows_erased}
+use Rattle.service_prompts.specs.service_tables.specs.declared.fate.Fate.{Fate}
+use Rattle.service_prompts.specs.service_tables.specs.declared.fate.Fate.TheVariants as fate
+use Rattle.service_prompts.specs.service_tables.proofs.EachLemmas.{each-append, each-filter, each-weaker}
 
 -- ---- the stems of the collections are used
 

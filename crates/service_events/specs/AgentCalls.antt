@@ -3,9 +3,9 @@ use Rattle.std.specs.Prelude.{ℕ, true, if◌then◌else◌, [], ◌∷◌, Opt
 use Rattle.kr_base.specs.declared.ids.PromptId.{PromptId}
 use Rattle.prompt_state.specs.declared.table.PromptRefused.{PromptRefused}
 use Rattle.prompt_state.specs.declared.table.PromptRefused.TheVariants as refusal
-use Rattle.secret_calls.specs.declared.out.Body.TheVariants as body
-use Rattle.secret_calls.specs.declared.out.ErrorName.{ErrorName}
-use Rattle.secret_calls.specs.declared.out.ErrorName.TheVariants as name
+use Rattle.service_prompts.specs.secret_calls.specs.declared.out.Body.TheVariants as body
+use Rattle.service_prompts.specs.secret_calls.specs.declared.out.ErrorName.{ErrorName}
+use Rattle.service_prompts.specs.secret_calls.specs.declared.out.ErrorName.TheVariants as name
 use Rattle.service_events.specs.Plan.{Questions, Plan, End_prompt, Become_agent, Leave_agent, refused, answered}
 
 -- Register: the caller is the agent; AgentTaken if another connection is

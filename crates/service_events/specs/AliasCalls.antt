@@ -4,12 +4,12 @@ use Rattle.std.specs.Prelude.{ℕ, if◌then◌else◌, List, [], Option, Some, 
 use Rattle.kr_names.specs.declared.object_name.ObjectName.{ObjectName}
 use Rattle.kr_names.specs.declared.object_name.ObjectName.TheVariants as object
 use Rattle.kr_names.specs.Path.{path_text}
-use Rattle.secret_calls.specs.declared.out.Body.{Body}
-use Rattle.secret_calls.specs.declared.out.Body.TheVariants as body
-use Rattle.secret_calls.specs.declared.out.ErrorName.TheVariants as name
-use Rattle.service_tables.specs.declared.fate.Fate.{Fate}
-use Rattle.service_tables.specs.declared.fate.Fate.TheVariants as fate
-use Rattle.service_tables.specs.Objects.{alias_target}
+use Rattle.service_prompts.specs.secret_calls.specs.declared.out.Body.{Body}
+use Rattle.service_prompts.specs.secret_calls.specs.declared.out.Body.TheVariants as body
+use Rattle.service_prompts.specs.secret_calls.specs.declared.out.ErrorName.TheVariants as name
+use Rattle.service_prompts.specs.service_tables.specs.declared.fate.Fate.{Fate}
+use Rattle.service_prompts.specs.service_tables.specs.declared.fate.Fate.TheVariants as fate
+use Rattle.service_prompts.specs.service_tables.specs.Objects.{alias_target}
 use Rattle.service_events.specs.CollectionCalls.{by_fate}
 use Rattle.service_events.specs.Plan.{Questions, Plan, After, Asks, Set_alias, Read_aliases, refused, answered}
 

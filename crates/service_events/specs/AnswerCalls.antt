@@ -7,8 +7,8 @@ use Rattle.prompt_state.specs.declared.row.PromptKind.TheVariants as kind
 use Rattle.prompt_state.specs.declared.row.PromptRow.{PromptRow}
 use Rattle.prompt_state.specs.declared.targets.Target.{Target}
 use Rattle.prompt_state.specs.Prompts.{last_round}
-use Rattle.secret_calls.specs.declared.out.Body.TheVariants as body
-use Rattle.secret_calls.specs.declared.out.ErrorName.TheVariants as name
+use Rattle.service_prompts.specs.secret_calls.specs.declared.out.Body.TheVariants as body
+use Rattle.service_prompts.specs.secret_calls.specs.declared.out.ErrorName.TheVariants as name
 use Rattle.service_events.specs.AgentCalls.{in_round}
 use Rattle.service_events.specs.AliasCalls.{once_read}
 use Rattle.service_events.specs.Plan.{Questions, Plan, Asks, Derive_key, End_prompt, Go_on, Read_collection, refused, answered}

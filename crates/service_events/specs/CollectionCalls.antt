@@ -7,14 +7,14 @@ use Rattle.kr_base.specs.declared.ids.SessionId.{SessionId}
 use Rattle.kr_names.specs.declared.object_name.ObjectName.{ObjectName}
 use Rattle.kr_names.specs.declared.object_name.ObjectName.TheVariants as object
 use Rattle.kr_names.specs.Path.{path_text}
-use Rattle.secret_calls.specs.declared.out.Body.{Body}
-use Rattle.secret_calls.specs.declared.out.Body.TheVariants as body
-use Rattle.secret_calls.specs.declared.out.ErrorName.TheVariants as name
-use Rattle.service_tables.specs.declared.fate.Fate.{Fate}
-use Rattle.service_tables.specs.declared.fate.Fate.TheVariants as fate
-use Rattle.service_tables.specs.Limits.{most_content}
-use Rattle.service_tables.specs.Objects.{collection_named, item_paths}
-use Rattle.service_tables.specs.Storing.{Edit}
+use Rattle.service_prompts.specs.secret_calls.specs.declared.out.Body.{Body}
+use Rattle.service_prompts.specs.secret_calls.specs.declared.out.Body.TheVariants as body
+use Rattle.service_prompts.specs.secret_calls.specs.declared.out.ErrorName.TheVariants as name
+use Rattle.service_prompts.specs.service_tables.specs.declared.fate.Fate.{Fate}
+use Rattle.service_prompts.specs.service_tables.specs.declared.fate.Fate.TheVariants as fate
+use Rattle.service_prompts.specs.service_tables.specs.Limits.{most_content}
+use Rattle.service_prompts.specs.service_tables.specs.Objects.{collection_named, item_paths}
+use Rattle.service_prompts.specs.service_tables.specs.Storing.{Edit}
 use Rattle.service_events.specs.Plan.{Questions, Plan, Asks, Store, Erase, refused, answered}
 use Rattle.service_events.specs.ServiceCalls.{is_small}
 use Rattle.service_events.specs.SessionCalls.{with_session}

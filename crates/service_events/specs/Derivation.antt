@@ -3,17 +3,17 @@
 use Rattle.std.specs.Prelude.{ℕ, ◌+◌, ◌==◌, Bool, ◌&&◌, false, true, if◌then◌else◌, nat_le, List, [], ◌∷◌, Option, Some, None}
 use Rattle.kr_base.specs.Attributes.{is_name}
 use Rattle.kr_base.specs.declared.ids.PromptId.{PromptId}
-use Rattle.folder_store.specs.Limits.{the_limits}
+use Rattle.service_prompts.specs.folder_store.specs.Limits.{the_limits}
 use Rattle.prompt_state.specs.declared.row.PromptKind.{PromptKind}
 use Rattle.prompt_state.specs.declared.row.PromptKind.TheVariants as kind
 use Rattle.prompt_state.specs.declared.row.PromptRow.{PromptRow}
 use Rattle.prompt_state.specs.declared.targets.Target.{Target}
 use Rattle.prompt_state.specs.Prompts.{is_deriving_in}
-use Rattle.secret_calls.specs.declared.out.Body.TheVariants as body
+use Rattle.service_prompts.specs.secret_calls.specs.declared.out.Body.TheVariants as body
 use Rattle.service_disk.specs.declared.opening.Opening.{Opening}
 use Rattle.service_disk.specs.declared.opening.Opening.TheVariants as ends
-use Rattle.service_tables.specs.declared.fate.Fate.{Fate}
-use Rattle.service_tables.specs.declared.fate.Fate.TheVariants as fate
+use Rattle.service_prompts.specs.service_tables.specs.declared.fate.Fate.{Fate}
+use Rattle.service_prompts.specs.service_tables.specs.declared.fate.Fate.TheVariants as fate
 use Rattle.service_events.specs.AliasCalls.{alias_settled}
 use Rattle.service_events.specs.Plan.{KeyTerms, Questions, Change, Plan, After, Asks, Opens, Ask_prompt, Clear_wrong, Count_wrong, End_prompt, Go_on, Make, answered, followed}
 

@@ -1,15 +1,15 @@
 -- How each storing and each resolve of an event ended, and what is true of them if no device fails.
 use Rattle.std.specs.Prelude.{◌≡◌, Bool, false, ◌&&◌, List, [], ◌∷◌, Option, None, Some}
 use Rattle.std.specs.List.{AllByRecursion, list_all}
-use Rattle.service_tables.specs.Aliases.{are_doubtful}
-use Rattle.service_tables.specs.Disk.{DiskState}
-use Rattle.service_tables.specs.Sound.{AreKnown}
-use Rattle.service_tables.specs.State.{State}
-use Rattle.service_tables.specs.Slots.{IsFault, are_steady}
+use Rattle.service_prompts.specs.service_tables.specs.Aliases.{are_doubtful}
+use Rattle.service_prompts.specs.service_tables.specs.Disk.{DiskState}
+use Rattle.service_prompts.specs.service_tables.specs.Sound.{AreKnown}
+use Rattle.service_prompts.specs.service_tables.specs.State.{State}
+use Rattle.service_prompts.specs.service_tables.specs.Slots.{IsFault, are_steady}
 use Rattle.service_events.specs.declared.event.Arrival.{Arrival}
 use Rattle.service_events.specs.declared.event.Event.{Event}
 use Rattle.service_events.specs.declared.event.Event.TheVariants as event
-use Rattle.service_tables.specs.declared.fate.Fate.{Fate}
+use Rattle.service_prompts.specs.service_tables.specs.declared.fate.Fate.{Fate}
 
 -- how something ended that was perhaps asked for
 abbrev pub fates_of : Option Fate → List Fate

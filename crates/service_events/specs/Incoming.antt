@@ -8,10 +8,10 @@ use Rattle.service_events.specs.declared.event.Incoming.{Incoming}
 use Rattle.service_events.specs.declared.event.Incoming.TheVariants as incoming
 use Rattle.service_events.specs.declared.event.Event.{Event}
 use Rattle.service_events.specs.declared.event.Event.TheVariants as event
-use Rattle.service_tables.specs.Connections.{desk_of}
-use Rattle.service_tables.specs.Disk.{DiskState}
-use Rattle.service_tables.specs.Sound.{IsSound}
-use Rattle.service_tables.specs.State.{State}
+use Rattle.service_prompts.specs.service_tables.specs.Connections.{desk_of}
+use Rattle.service_prompts.specs.service_tables.specs.Disk.{DiskState}
+use Rattle.service_prompts.specs.service_tables.specs.Sound.{IsSound}
+use Rattle.service_prompts.specs.service_tables.specs.State.{State}
 use Rattle.service_events.specs.Step.{IsMissing}
 
 -- what is recorded is the derived key that came, by what it was derived from

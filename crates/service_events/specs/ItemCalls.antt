@@ -3,9 +3,9 @@
 use Rattle.std.specs.Prelude.{ℕ, if◌then◌else◌, List, Option}
 use Rattle.kr_base.specs.declared.ids.ItemId.{ItemId}
 use Rattle.kr_base.specs.declared.ids.SessionId.{SessionId}
-use Rattle.secret_calls.specs.declared.out.Body.TheVariants as body
-use Rattle.secret_calls.specs.declared.out.ErrorName.TheVariants as name
-use Rattle.service_tables.specs.Storing.{Set_secret, Remove_item}
+use Rattle.service_prompts.specs.secret_calls.specs.declared.out.Body.TheVariants as body
+use Rattle.service_prompts.specs.secret_calls.specs.declared.out.ErrorName.TheVariants as name
+use Rattle.service_prompts.specs.service_tables.specs.Storing.{Set_secret, Remove_item}
 use Rattle.service_events.specs.CollectionCalls.{if_open, no_prompt, secret_stored, storing}
 use Rattle.service_events.specs.Plan.{Questions, Plan, Secret_of, refused, given}
 use Rattle.service_events.specs.SessionCalls.{with_session}

@@ -1,3 +1,12 @@
+pub use Rattle.service_prompts.specs.alias_table
+pub use Rattle.service_prompts.specs.collection_store
+pub use Rattle.service_prompts.specs.collection_table
+pub use Rattle.service_prompts.specs.folder_store
+pub use Rattle.service_prompts.specs.item_store
+pub use Rattle.service_prompts.specs.secret_calls
+pub use Rattle.service_disk
+pub use Rattle.service_prompts
+pub use Rattle.service_prompts.specs.service_tables
 pub mod AgentCalls
 pub mod AliasCalls
 pub mod AnswerCalls

@@ -8,13 +8,13 @@ use Rattle.kr_base.specs.declared.ids.PromptId.{PromptId}
 use Rattle.kr_base.specs.declared.ids.SessionId.{SessionId}
 use Rattle.kr_names.specs.declared.object_name.ObjectName.{ObjectName}
 use Rattle.prompt_state.specs.declared.row.PromptKind.{PromptKind}
-use Rattle.secret_calls.specs.declared.out.Body.{Body}
-use Rattle.secret_calls.specs.declared.out.Body.TheVariants as body
-use Rattle.secret_calls.specs.declared.out.ErrorName.{ErrorName}
+use Rattle.service_prompts.specs.secret_calls.specs.declared.out.Body.{Body}
+use Rattle.service_prompts.specs.secret_calls.specs.declared.out.Body.TheVariants as body
+use Rattle.service_prompts.specs.secret_calls.specs.declared.out.ErrorName.{ErrorName}
 use Rattle.service_disk.specs.declared.opening.Opening.{Opening}
-use Rattle.service_tables.specs.declared.fate.Fate.{Fate}
-use Rattle.service_tables.specs.Questions.{AliasQuestions, CollectionQuestions, PromptQuestions}
-use Rattle.service_tables.specs.Storing.{Edit}
+use Rattle.service_prompts.specs.service_tables.specs.declared.fate.Fate.{Fate}
+use Rattle.service_prompts.specs.service_tables.specs.Questions.{AliasQuestions, CollectionQuestions, PromptQuestions}
+use Rattle.service_prompts.specs.service_tables.specs.Storing.{Edit}
 
 -- what a row may ask of the sessions, about its caller
 pub record SessionQuestions : Type 0 where

@@ -4,7 +4,7 @@ use Rattle.std.specs.Prelude.{◌+◌, Bool, false, true, if◌then◌else◌, L
 use Rattle.std.specs.Option.{option_map_or}
 use Rattle.kr_base.specs.declared.ids.ConnId.{ConnId}
 use Rattle.kr_base.specs.declared.ids.PromptId.{PromptId}
-use Rattle.collection_table.specs.Rows.{Rows}
+use Rattle.service_prompts.specs.collection_table.specs.Rows.{Rows}
 use Rattle.prompt_state.specs.declared.row.PromptKind.{PromptKind}
 use Rattle.prompt_state.specs.declared.row.PromptKind.TheVariants as kind
 use Rattle.prompt_state.specs.declared.row.PromptRow.{PromptRow}
@@ -12,11 +12,11 @@ use Rattle.prompt_state.specs.declared.row.Prompts.{Prompts}
 use Rattle.prompt_state.specs.declared.targets.Target.{Target}
 use Rattle.prompt_state.specs.Prompts.{asked_again, changed, ended, is_made, round_of, row_at}
 use Rattle.prompt_state.specs.Targets.{TargetLists}
-use Rattle.secret_calls.specs.declared.out.Body.TheVariants as body
-use Rattle.secret_calls.specs.declared.out.ErrorName.TheVariants as name
+use Rattle.service_prompts.specs.secret_calls.specs.declared.out.Body.TheVariants as body
+use Rattle.service_prompts.specs.secret_calls.specs.declared.out.ErrorName.TheVariants as name
 use Rattle.service_prompts.specs.Prompting.{ask_signal, completed_signal}
-use Rattle.service_tables.specs.Questions.{CollectionQuestions}
-use Rattle.service_tables.specs.declared.rows.Sent.{Sent}
+use Rattle.service_prompts.specs.service_tables.specs.Questions.{CollectionQuestions}
+use Rattle.service_prompts.specs.service_tables.specs.declared.rows.Sent.{Sent}
 use Rattle.service_events.specs.Plan.{Questions, Change, Plan, Ask_prompt, Finish_target, Drop_target, End_prompt, refused, answered}
 
 -- A prompt that unlocks advances by the targets that are left: each whose collection is gone is dropped, and each whose collection is unlocked

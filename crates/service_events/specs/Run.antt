@@ -2,23 +2,23 @@
 use Rattle.std.specs.Prelude.{ℕ, nat_le, if◌then◌else◌, List, [], ◌∷◌, ◌++◌, length, Option, Some, None, Result, Ok, Err}
 use Rattle.std.specs.List.{filter_map}
 use Rattle.kr_base.specs.declared.ids.ConnId.{ConnId}
-use Rattle.alias_table.specs.Table.{AliasRows}
-use Rattle.collection_table.specs.Entries.{changed}
-use Rattle.collection_table.specs.Rows as collections
+use Rattle.service_prompts.specs.alias_table.specs.Table.{AliasRows}
+use Rattle.service_prompts.specs.collection_table.specs.Entries.{changed}
+use Rattle.service_prompts.specs.collection_table.specs.Rows as collections
 use Rattle.prompt_state.specs.Prompts.{asked_again, begun, cleared, ended, registered, row_at, staged, targeted, unregistered, wronged}
 use Rattle.prompt_state.specs.declared.row.Stage.TheVariants.{Deriving}
 use Rattle.prompt_state.specs.Targets.{first_done, first_dropped}
-use Rattle.secret_calls.specs.declared.out.Body.{Body}
-use Rattle.secret_calls.specs.declared.out.Body.TheVariants as body
-use Rattle.secret_calls.specs.declared.out.ErrorName.{ErrorName}
-use Rattle.secret_calls.specs.declared.out.ErrorName.TheVariants as name
-use Rattle.secret_calls.specs.declared.secret.ReturnedSecret.{ReturnedSecret}
-use Rattle.secret_calls.specs.Outs.{spelled_body}
+use Rattle.service_prompts.specs.secret_calls.specs.declared.out.Body.{Body}
+use Rattle.service_prompts.specs.secret_calls.specs.declared.out.Body.TheVariants as body
+use Rattle.service_prompts.specs.secret_calls.specs.declared.out.ErrorName.{ErrorName}
+use Rattle.service_prompts.specs.secret_calls.specs.declared.out.ErrorName.TheVariants as name
+use Rattle.service_prompts.specs.secret_calls.specs.declared.secret.ReturnedSecret.{ReturnedSecret}
+use Rattle.service_prompts.specs.secret_calls.specs.Outs.{spelled_body}
 use Rattle.session_table.specs.Sessions.{owns, is_full, opened, closed}
-use Rattle.service_tables.specs.declared.rows.Sent.{Sent}
-use Rattle.service_tables.specs.Limits.{most_body}
-use Rattle.service_tables.specs.Aliases.{aliases_resolved, aliases_set, asked_aliases}
-use Rattle.service_tables.specs.Opened.{Contents, contents_of}
+use Rattle.service_prompts.specs.service_tables.specs.declared.rows.Sent.{Sent}
+use Rattle.service_prompts.specs.service_tables.specs.Limits.{most_body}
+use Rattle.service_prompts.specs.service_tables.specs.Aliases.{aliases_resolved, aliases_set, asked_aliases}
+use Rattle.service_prompts.specs.service_tables.specs.Opened.{Contents, contents_of}
 use Rattle.key_derivation.specs.Kdf.{Inputs}
 use Rattle.service_disk.specs.Making as making
 use Rattle.service_disk.specs.Opening.{opening_of, rows_opened}
@@ -26,12 +26,12 @@ use Rattle.service_disk.specs.Resolving.{is_doubtful, rows_resolved}
 use Rattle.stem_choice.specs.Choice.{chosen}
 use Rattle.stem_choice.specs.UsedStems.{with_stem}
 use Rattle.service_prompts.specs.Prompting.{ask_sent, asks_sent, completed_sent}
-use Rattle.service_tables.specs.Reading.{asked_collections, asked_prompts, item_secret, secret_of}
-use Rattle.service_tables.specs.Storing.{Brought, IsResolve, IsStoring, change_of, rows_erased, rows_stored, storable_edit}
-use Rattle.service_tables.specs.declared.fate.Fate.{Fate}
+use Rattle.service_prompts.specs.service_tables.specs.Reading.{asked_collections, asked_prompts, item_secret, secret_of}
+use Rattle.service_prompts.specs.service_tables.specs.Storing.{Brought, IsResolve, IsStoring, change_of, rows_erased, rows_stored, storable_edit}
+use Rattle.service_prompts.specs.service_tables.specs.declared.fate.Fate.{Fate}
 use Rattle.service_events.specs.PromptCalls.{go_on_sent, gone_on}
 use Rattle.service_events.specs.Plan.{SessionQuestions, KeyTerms, FileQuestions, Questions, Demand, Store, Erase, Set_alias, Read_aliases, Read_collection, Make, Change, Open_session, Close_session, Lock_collection, Begin_prompt, Ask_prompt, Derive_key, Count_wrong, Clear_wrong, Go_on, Finish_target, Drop_target, End_prompt, Become_agent, Leave_agent, Gift, Secret_of, Secrets_of, Answer, Returns, Gives, Refuses, Plan, Ends, After, Asks, Opens}
-use Rattle.service_tables.specs.State.{State}
+use Rattle.service_prompts.specs.service_tables.specs.State.{State}
 
 -- ---- what is asked
 

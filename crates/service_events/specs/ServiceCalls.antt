@@ -10,18 +10,18 @@ use Rattle.kr_base.specs.declared.ids.SessionId.{SessionId}
 use Rattle.kr_names.specs.declared.object_name.ObjectName.{ObjectName}
 use Rattle.kr_names.specs.declared.object_name.ObjectName.TheVariants as object
 use Rattle.kr_names.specs.Path.{path_text}
-use Rattle.folder_store.specs.Limits.{the_limits}
+use Rattle.service_prompts.specs.folder_store.specs.Limits.{the_limits}
 use Rattle.prompt_state.specs.declared.row.PromptKind.{PromptKind}
 use Rattle.prompt_state.specs.declared.row.PromptKind.TheVariants as kind
 use Rattle.prompt_state.specs.declared.targets.Target.{Target}
 use Rattle.prompt_state.specs.Targets.{all_left}
-use Rattle.secret_calls.specs.declared.out.Body.{Body}
-use Rattle.secret_calls.specs.declared.out.Body.TheVariants as body
-use Rattle.secret_calls.specs.declared.out.ErrorName.TheVariants as name
-use Rattle.secret_calls.specs.Outs.{spelled_body}
-use Rattle.service_tables.specs.Limits.{most_body}
-use Rattle.service_tables.specs.Objects.{collection_around, is_there, is_open_item, once, paths_of, unlocked_paths, locked_paths}
-use Rattle.service_tables.specs.Targets.{are_light}
+use Rattle.service_prompts.specs.secret_calls.specs.declared.out.Body.{Body}
+use Rattle.service_prompts.specs.secret_calls.specs.declared.out.Body.TheVariants as body
+use Rattle.service_prompts.specs.secret_calls.specs.declared.out.ErrorName.TheVariants as name
+use Rattle.service_prompts.specs.secret_calls.specs.Outs.{spelled_body}
+use Rattle.service_prompts.specs.service_tables.specs.Limits.{most_body}
+use Rattle.service_prompts.specs.service_tables.specs.Objects.{collection_around, is_there, is_open_item, once, paths_of, unlocked_paths, locked_paths}
+use Rattle.service_prompts.specs.service_tables.specs.Targets.{are_light}
 use Rattle.service_prompts.specs.Unlocking.{targets_of, unlocked_there}
 use Rattle.service_events.specs.Plan.{Questions, Change, Plan, Begin_prompt, Open_session, Lock_collection, Secrets_of, refused, answered, given}
 use Rattle.service_events.specs.SessionCalls.{with_session}

@@ -2,8 +2,8 @@
 -- 0.2, "org.freedesktop.Secret.Session"), and the session that a call is given. The refusals are in their order.
 use Rattle.std.specs.Prelude.{if◌then◌else◌, [], ◌∷◌, Option, Some, None}
 use Rattle.kr_base.specs.declared.ids.SessionId.{SessionId}
-use Rattle.secret_calls.specs.declared.out.Body.TheVariants as body
-use Rattle.secret_calls.specs.declared.out.ErrorName.TheVariants as name
+use Rattle.service_prompts.specs.secret_calls.specs.declared.out.Body.TheVariants as body
+use Rattle.service_prompts.specs.secret_calls.specs.declared.out.ErrorName.TheVariants as name
 use Rattle.service_events.specs.Plan.{Questions, Plan, Close_session, refused, answered}
 
 -- Ping: an empty return, and no change

@@ -3,16 +3,16 @@ use Rattle.std.specs.Prelude.{◌≡◌, ℕ, Bool, nat_lt, if◌then◌else◌,
 use Rattle.std.specs.List.{AllByRecursion, flat_map}
 use Rattle.std.specs.Option.{is_some}
 use Rattle.kr_base.specs.declared.ids.ConnId.{ConnId}
-use Rattle.secret_calls.specs.declared.call.Request.{Request}
-use Rattle.secret_calls.specs.declared.work.Work.{Work}
-use Rattle.service_tables.specs.State.{State}
-use Rattle.service_tables.specs.declared.fate.Fate.{Fate}
+use Rattle.service_prompts.specs.secret_calls.specs.declared.call.Request.{Request}
+use Rattle.service_prompts.specs.secret_calls.specs.declared.work.Work.{Work}
+use Rattle.service_prompts.specs.service_tables.specs.State.{State}
+use Rattle.service_prompts.specs.service_tables.specs.declared.fate.Fate.{Fate}
 use Rattle.service_events.specs.declared.event.Event.{Event}
 use Rattle.service_events.specs.declared.event.Event.TheVariants as event
 use Rattle.service_events.specs.declared.event.Output.{Output}
 use Rattle.service_events.specs.declared.event.Output.TheVariants as output
 use Rattle.service_events.specs.declared.event.Recorded.{Recorded}
-use Rattle.service_tables.specs.Connections.{waiting_for}
+use Rattle.service_prompts.specs.service_tables.specs.Connections.{waiting_for}
 use Rattle.service_events.specs.Fates.{AreFaultless}
 use Rattle.service_events.specs.Step.{output_of, step}
 use Rattle.service_events.specs.Replay.{replay}

@@ -6,18 +6,18 @@ use Rattle.std.specs.Option.{option_and_then, option_map}
 use Rattle.kr_base.specs.Attributes.{value_at}
 use Rattle.kr_base.specs.declared.ids.ConnId.{ConnId}
 use Rattle.kr_base.specs.declared.ids.PromptId.{PromptId}
-use Rattle.collection_table.specs.Rows.{CollectionRow, Rows}
-use Rattle.secret_calls.specs.declared.call.Call.{Call}
-use Rattle.secret_calls.specs.declared.call.Call.TheVariants as call
-use Rattle.secret_calls.specs.declared.call.CallFault.{CallFault}
-use Rattle.secret_calls.specs.declared.call.Request.{Request}
-use Rattle.secret_calls.specs.declared.out.Body.{Body}
-use Rattle.secret_calls.specs.declared.out.ErrorName.{ErrorName}
-use Rattle.secret_calls.specs.declared.out.Out.{Out}
-use Rattle.secret_calls.specs.declared.out.Out.TheVariants as out
-use Rattle.secret_calls.specs.declared.serial.Serial.{Serial}
-use Rattle.secret_calls.specs.declared.work.Work.{Work}
-use Rattle.secret_calls.specs.Calls.{error_of}
+use Rattle.service_prompts.specs.collection_table.specs.Rows.{CollectionRow, Rows}
+use Rattle.service_prompts.specs.secret_calls.specs.declared.call.Call.{Call}
+use Rattle.service_prompts.specs.secret_calls.specs.declared.call.Call.TheVariants as call
+use Rattle.service_prompts.specs.secret_calls.specs.declared.call.CallFault.{CallFault}
+use Rattle.service_prompts.specs.secret_calls.specs.declared.call.Request.{Request}
+use Rattle.service_prompts.specs.secret_calls.specs.declared.out.Body.{Body}
+use Rattle.service_prompts.specs.secret_calls.specs.declared.out.ErrorName.{ErrorName}
+use Rattle.service_prompts.specs.secret_calls.specs.declared.out.Out.{Out}
+use Rattle.service_prompts.specs.secret_calls.specs.declared.out.Out.TheVariants as out
+use Rattle.service_prompts.specs.secret_calls.specs.declared.serial.Serial.{Serial}
+use Rattle.service_prompts.specs.secret_calls.specs.declared.work.Work.{Work}
+use Rattle.service_prompts.specs.secret_calls.specs.Calls.{error_of}
 use Rattle.keyring_text.specs.Fields.{IsBytes}
 use Rattle.prompt_state.specs.Prompts as prompts
 use Rattle.prompt_state.specs.Prompts.{derives_in, row_at}
@@ -28,9 +28,9 @@ use Rattle.prompt_state.specs.declared.row.PromptRow.{PromptRow}
 use Rattle.prompt_state.specs.declared.targets.Target.{Target}
 use Rattle.replace_slot.specs.Cell.{File, new_image, old_image}
 use Rattle.session_table.specs.Sessions.{abandoned}
-use Rattle.service_tables.specs.declared.rows.ConnRow.{ConnRow}
-use Rattle.service_tables.specs.Storing.{Add_item, Brought}
-use Rattle.service_tables.specs.Sound.{AreItemTypes, AreSecretTypes, IsTypedAlias, IsTypedText}
+use Rattle.service_prompts.specs.service_tables.specs.declared.rows.ConnRow.{ConnRow}
+use Rattle.service_prompts.specs.service_tables.specs.Storing.{Add_item, Brought}
+use Rattle.service_prompts.specs.service_tables.specs.Sound.{AreItemTypes, AreSecretTypes, IsTypedAlias, IsTypedText}
 use Rattle.service_events.specs.declared.event.Arrival.{Arrival}
 use Rattle.service_events.specs.declared.event.Derivation.{Derivation}
 use Rattle.service_events.specs.declared.event.Recorded.{Recorded}
@@ -43,16 +43,16 @@ use Rattle.service_events.specs.AliasCalls.{read_alias, set_alias}
 use Rattle.service_events.specs.AnswerCalls.{answer_prompt}
 use Rattle.service_events.specs.Derivation.{derived, new_iterations}
 use Rattle.service_events.specs.CollectionCalls.{search_collection, create_item, delete_collection}
-use Rattle.service_tables.specs.Connections.{joined, has, changed, without, left, emptied, waiting_for, desk_of, delivered}
-use Rattle.service_tables.specs.declared.rows.Sent.{Sent}
+use Rattle.service_prompts.specs.service_tables.specs.Connections.{joined, has, changed, without, left, emptied, waiting_for, desk_of, delivered}
+use Rattle.service_prompts.specs.service_tables.specs.declared.rows.Sent.{Sent}
 use Rattle.service_events.specs.ItemCalls.{get_secret, delete_item, set_secret}
-use Rattle.service_tables.specs.Limits.{most_connections, last_connection}
+use Rattle.service_prompts.specs.service_tables.specs.Limits.{most_connections, last_connection}
 use Rattle.service_events.specs.Plan.{KeyTerms, Questions, Plan, refused}
 use Rattle.service_events.specs.PromptCalls.{call_prompt, dismiss}
 use Rattle.service_events.specs.Run.{Ran, ran, AreFatesOf}
 use Rattle.service_events.specs.ServiceCalls.{open_session, create_collection, search_items, unlock, lock, get_secrets}
 use Rattle.service_events.specs.SessionCalls.{ping, close_session}
-use Rattle.service_tables.specs.State.{State}
+use Rattle.service_prompts.specs.service_tables.specs.State.{State}
 
 -- the state with other rows of connections
 abbrev pub with_rows : List ConnRow → State → State

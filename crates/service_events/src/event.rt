@@ -6,7 +6,7 @@ use crate::boxed::Boxed;
 use crate::fates::Fates;
 use kr_base::{Bytes, ConnId, PromptId};
 use kr_items::Items;
-use secret_calls::{Finished, Out, Request, Work};
+use service_prompts::secret_calls::{Finished, Out, Request, Work};
 use std::alloc::AllocError;
 use thiserror::Error;
 

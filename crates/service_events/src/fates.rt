@@ -1,7 +1,7 @@
 ghost use Rattle.std.specs.Prelude.{◌≡◌, ◌++◌, [], length};
 ghost use Rattle.service_events.specs.Fates.{fates_of};
 
-use service_tables::Fate;
+use service_prompts::service_tables::Fate;
 use std::marker::Model;
 
 /// How each storing, removal and resolve of a file ended that an event led to, in order: at most the
@@ -16,7 +16,7 @@ pub struct Fates {
 
 impl Model for Fates {
     ghost use Rattle.std.specs.Prelude.{List, ◌++◌};
-    ghost use Rattle.service_tables.specs.declared.fate.Fate.{Fate};
+    ghost use Rattle.service_prompts.specs.service_tables.specs.declared.fate.Fate.{Fate};
 
     ghost Value = { List Fate };
 

@@ -7,12 +7,12 @@ ghost use Rattle.service_events.specs.declared.event.Event.TheVariants as Event;
 ghost use Rattle.service_events.specs.declared.event.Derivation.{Derivation};
 ghost use Rattle.service_events.specs.declared.event.Recorded.{Recorded};
 ghost use Rattle.service_events.specs.Fates.{AreFaultless, IsCertain, IsFaultless};
-ghost use Rattle.service_tables.specs.declared.fate.Fate.{Fate};
+ghost use Rattle.service_prompts.specs.service_tables.specs.declared.fate.Fate.{Fate};
 ghost use Rattle.service_events.specs.Step.{step, puts_out, AreAlike, Fits};
 ghost use Rattle.service_events.specs.Replay.{replay, Legal, outputs};
-ghost use Rattle.service_tables.specs.Sound.{AreSoundContents, CanWait, IsSound};
-ghost use Rattle.service_tables.specs.Opened.{Contents, opened_state};
-ghost use Rattle.service_tables.specs.State.{State};
+ghost use Rattle.service_prompts.specs.service_tables.specs.Sound.{AreSoundContents, CanWait, IsSound};
+ghost use Rattle.service_prompts.specs.service_tables.specs.Opened.{Contents, opened_state};
+ghost use Rattle.service_prompts.specs.service_tables.specs.State.{State};
 
 /// A start with sound collections is sound, and each event that fits keeps a sound state sound.
 #[tactic(auto, using(crate::proofs::SoundLemmas::sound_start, crate::proofs::SoundLemmas::sound_step, crate::proofs::SoundLemmas::sound_replay))]

@@ -21,3 +21,8 @@ pub use laws::{
     alike_requests_lead_to_one_state, lists_of_events_go_on, outputs_can_wait,
     steps_keep_the_rows_sound,
 };
+pub use service_disk;
+pub use service_prompts;
+pub use service_prompts::{
+    alias_table, collection_store, folder_store, secret_calls, service_tables,
+};

@@ -17,36 +17,36 @@ use Rattle.kr_base.specs.Attributes.{is_name, value_at}
 use Rattle.kr_base.specs.declared.ids.ConnId.{ConnId}
 use Rattle.kr_base.proofs.OrderedLemmas.{is_equal}
 use Rattle.kr_outside.specs.RenameDisk.{Image, Only}
-use Rattle.folder_store.specs.Loads.{IsFree}
-use Rattle.folder_store.specs.Names.{IsRingName, ending}
+use Rattle.service_machine.specs.folder_store.specs.Loads.{IsFree}
+use Rattle.service_machine.specs.folder_store.specs.Names.{IsRingName, ending}
 use Rattle.replace_slot.specs.Cell.{File, Known, LeavesFile}
-use Rattle.collection_table.specs.Entries.{changed, without, inserted}
-use Rattle.collection_table.specs.Rows as collections
-use Rattle.collection_table.specs.Rows.{CollectionRow, Rows}
+use Rattle.service_machine.specs.collection_table.specs.Entries.{changed, without, inserted}
+use Rattle.service_machine.specs.collection_table.specs.Rows as collections
+use Rattle.service_machine.specs.collection_table.specs.Rows.{CollectionRow, Rows}
 use Rattle.stem_choice.specs.UsedStems.{is_used, with_stem}
-use Rattle.service_tables.specs.declared.fate.Fate.{Fate}
-use Rattle.service_tables.specs.declared.fate.Fate.TheVariants as fate
-use Rattle.service_tables.specs.Disk.{DiskState}
-use Rattle.service_tables.specs.Opened.{contents_of}
-use Rattle.service_tables.specs.Slots.{StoresAt, file_at, slot_at}
-use Rattle.service_tables.specs.Sound.{AreSoundStems}
-use Rattle.service_tables.specs.State.{State}
-use Rattle.service_tables.specs.Storing.{Brought, change_of, row_changed, rows_erased}
-use Rattle.service_disk.specs.Making as making
-use Rattle.service_disk.specs.Making.{AreFree, IsFreeStem, MakesAt, rows_made}
-use Rattle.service_disk.specs.Opening.{row_opened}
-use Rattle.service_disk.specs.Resolving.{is_file, row_found, rows_found, rows_resolved}
+use Rattle.service_machine.specs.service_tables.specs.declared.fate.Fate.{Fate}
+use Rattle.service_machine.specs.service_tables.specs.declared.fate.Fate.TheVariants as fate
+use Rattle.service_machine.specs.service_tables.specs.Disk.{DiskState}
+use Rattle.service_machine.specs.service_tables.specs.Opened.{contents_of}
+use Rattle.service_machine.specs.service_tables.specs.Slots.{StoresAt, file_at, slot_at}
+use Rattle.service_machine.specs.service_tables.specs.Sound.{AreSoundStems}
+use Rattle.service_machine.specs.service_tables.specs.State.{State}
+use Rattle.service_machine.specs.service_tables.specs.Storing.{Brought, change_of, row_changed, rows_erased}
+use Rattle.service_machine.specs.service_disk.specs.Making as making
+use Rattle.service_machine.specs.service_disk.specs.Making.{AreFree, IsFreeStem, MakesAt, rows_made}
+use Rattle.service_machine.specs.service_disk.specs.Opening.{row_opened}
+use Rattle.service_machine.specs.service_disk.specs.Resolving.{is_file, row_found, rows_found, rows_resolved}
 use Rattle.replace_slot.specs.declared.images.Found.{Found}
 use Rattle.replace_slot.specs.declared.images.Found.TheVariants as image
-use Rattle.service_events.specs.declared.event.Arrival.{Arrival}
-use Rattle.service_events.specs.declared.event.Event.{Event}
-use Rattle.service_events.specs.declared.event.Event.TheVariants as event
-use Rattle.service_events.specs.declared.event.Incoming.TheVariants as incoming
-use Rattle.service_events.specs.Incoming.{Records}
-use Rattle.service_events.specs.Plan.{Change, Lock_collection, Demand, Store, Erase, Set_alias, Read_aliases, Read_collection, Make, Plan, Ends, After, Asks, Opens}
-use Rattle.service_events.specs.Run.{asked, demanded, key_with, made_of, performed, performed_all, unlocked_with}
-use Rattle.service_events.specs.Stored.{StoresDemand, StoresEvent, StoresOf}
-use Rattle.service_events.specs.Step.{brought_by, plan_of}
+use Rattle.service_machine.specs.service_events.specs.declared.event.Arrival.{Arrival}
+use Rattle.service_machine.specs.service_events.specs.declared.event.Event.{Event}
+use Rattle.service_machine.specs.service_events.specs.declared.event.Event.TheVariants as event
+use Rattle.service_machine.specs.service_events.specs.declared.event.Incoming.TheVariants as incoming
+use Rattle.service_machine.specs.service_events.specs.Incoming.{Records}
+use Rattle.service_machine.specs.service_events.specs.Plan.{Change, Lock_collection, Demand, Store, Erase, Set_alias, Read_aliases, Read_collection, Make, Plan, Ends, After, Asks, Opens}
+use Rattle.service_machine.specs.service_events.specs.Run.{asked, demanded, key_with, made_of, performed, performed_all, unlocked_with}
+use Rattle.service_machine.specs.service_events.specs.Stored.{StoresDemand, StoresEvent, StoresOf}
+use Rattle.service_machine.specs.service_events.specs.Step.{brought_by, plan_of}
 
 -- ---- what isn't in a list
 

@@ -1,21 +1,21 @@
 -- One more event of a history, and a cut.
 use Rattle.std.proofs.Common.{◌≡◌, ◌+◌, ◌≤◌, Bool, IsTrue, List, [], ◌∷◌, Option, ap, ◌∙◌, subst, sym, arith}
 use Rattle.std.proofs.lemmas.List.{length_push}
-use Rattle.service_tables.specs.State.{State}
-use Rattle.service_tables.specs.declared.fate.Fate.{Fate}
-use Rattle.secret_calls.specs.declared.work.Work.{Work}
-use Rattle.service_events.specs.declared.event.Arrival.{Arrival}
-use Rattle.service_events.specs.declared.event.BroughtKey.{BroughtKey}
-use Rattle.service_events.specs.declared.event.Event.{Event}
-use Rattle.service_events.specs.declared.event.Event.TheVariants as event
-use Rattle.service_events.specs.declared.event.Incoming.TheVariants as incoming
-use Rattle.service_events.specs.declared.event.Output.TheVariants as output
-use Rattle.service_events.specs.Fates.{IsFaultless, with_fates}
-use Rattle.service_events.specs.Incoming.{Records}
-use Rattle.service_events.specs.Step.{step, output_of, Fits}
-use Rattle.service_tables.specs.Sound.{IsSound}
-use Rattle.service_events.proofs.ReplayLemmas.{replay-append, Legal-append}
-use Rattle.service_events.proofs.SoundLemmas.{sound_step, sound_replay}
+use Rattle.service_machine.specs.service_tables.specs.State.{State}
+use Rattle.service_machine.specs.service_tables.specs.declared.fate.Fate.{Fate}
+use Rattle.service_machine.specs.secret_calls.specs.declared.work.Work.{Work}
+use Rattle.service_machine.specs.service_events.specs.declared.event.Arrival.{Arrival}
+use Rattle.service_machine.specs.service_events.specs.declared.event.BroughtKey.{BroughtKey}
+use Rattle.service_machine.specs.service_events.specs.declared.event.Event.{Event}
+use Rattle.service_machine.specs.service_events.specs.declared.event.Event.TheVariants as event
+use Rattle.service_machine.specs.service_events.specs.declared.event.Incoming.TheVariants as incoming
+use Rattle.service_machine.specs.service_events.specs.declared.event.Output.TheVariants as output
+use Rattle.service_machine.specs.service_events.specs.Fates.{IsFaultless, with_fates}
+use Rattle.service_machine.specs.service_events.specs.Incoming.{Records}
+use Rattle.service_machine.specs.service_events.specs.Step.{step, output_of, Fits}
+use Rattle.service_machine.specs.service_tables.specs.Sound.{IsSound}
+use Rattle.service_machine.specs.service_events.proofs.ReplayLemmas.{replay-append, Legal-append}
+use Rattle.service_machine.specs.service_events.proofs.SoundLemmas.{sound_step, sound_replay}
 use Rattle.service_history.specs.Limits.{most_counted}
 use Rattle.service_history.specs.History.{History, IsHistory, Stores, StoresKey, StoresRequest, cut, cut_where_due, with_event}
 use Rattle.service_history.specs.Windows.{total}

@@ -1,17 +1,17 @@
 -- What a service keeps, at its start and after one more event.
 use Rattle.std.proofs.Common.{◌≡◌, ◌+◌, ◌<◌, ◌≤◌, true, false, cond, Option, Some, None, refl, ap, ◌∙◌, sym, subst, arith}
 use Rattle.kr_base.specs.declared.ids.ConnId.{ConnId}
-use Rattle.service_events.specs.declared.event.Event.{Event}
-use Rattle.service_events.specs.declared.event.Event.TheVariants as event
-use Rattle.service_tables.specs.declared.rows.DeskRow.{DeskRow}
-use Rattle.service_tables.specs.State.{State}
-use Rattle.service_tables.specs.Connections.{left, emptied, desk_of}
-use Rattle.service_tables.specs.Limits.{most_events}
-use Rattle.service_tables.specs.Opened.{IsOpened, contents_of}
-use Rattle.service_tables.specs.Sound.{AreSoundContents}
-use Rattle.service_events.specs.Step.{step, Fits}
-use Rattle.service_tables.proofs.FitLemmas.{has-told}
-use Rattle.service_events.proofs.SoundLemmas.{sound_start}
+use Rattle.service_machine.specs.service_events.specs.declared.event.Event.{Event}
+use Rattle.service_machine.specs.service_events.specs.declared.event.Event.TheVariants as event
+use Rattle.service_machine.specs.service_tables.specs.declared.rows.DeskRow.{DeskRow}
+use Rattle.service_machine.specs.service_tables.specs.State.{State}
+use Rattle.service_machine.specs.service_tables.specs.Connections.{left, emptied, desk_of}
+use Rattle.service_machine.specs.service_tables.specs.Limits.{most_events}
+use Rattle.service_machine.specs.service_tables.specs.Opened.{IsOpened, contents_of}
+use Rattle.service_machine.specs.service_tables.specs.Sound.{AreSoundContents}
+use Rattle.service_machine.specs.service_events.specs.Step.{step, Fits}
+use Rattle.service_machine.specs.service_tables.proofs.FitLemmas.{has-told}
+use Rattle.service_machine.specs.service_events.proofs.SoundLemmas.{sound_start}
 use Rattle.service_history.specs.Limits.{most_counted}
 use Rattle.service_history.specs.History.{IsHistory, cut, cut_where_due, with_event}
 use Rattle.service_history.specs.Inside.{Held, IsReady, chosen, in_window, IsKept}

@@ -3,13 +3,13 @@ use Rattle.std.proofs.Common.{◌≡◌, ◌+◌, ◌<◌, ◌==◌, inl, inr, B
 use Rattle.std.specs.List.{list_any}
 use Rattle.std.proofs.lemmas.Bool.Decides.{nat_tests}
 use Rattle.kr_base.specs.declared.ids.ConnId.{ConnId}
-use Rattle.service_tables.specs.declared.rows.DeskRow.{DeskRow}
-use Rattle.service_events.specs.declared.event.Event.{Event}
-use Rattle.service_events.specs.declared.event.Event.TheVariants as event
-use Rattle.service_events.specs.declared.event.Incoming.{Incoming}
-use Rattle.service_events.specs.declared.event.Output.{Output}
-use Rattle.service_events.specs.Replay.{Legal, cost}
-use Rattle.service_tables.specs.State.{State}
+use Rattle.service_machine.specs.service_tables.specs.declared.rows.DeskRow.{DeskRow}
+use Rattle.service_machine.specs.service_events.specs.declared.event.Event.{Event}
+use Rattle.service_machine.specs.service_events.specs.declared.event.Event.TheVariants as event
+use Rattle.service_machine.specs.service_events.specs.declared.event.Incoming.{Incoming}
+use Rattle.service_machine.specs.service_events.specs.declared.event.Output.{Output}
+use Rattle.service_machine.specs.service_events.specs.Replay.{Legal, cost}
+use Rattle.service_machine.specs.service_tables.specs.State.{State}
 use Rattle.service_history.specs.History.{History, opened_history, cut_where_due, with_event, Stores, IsRecorded, taken_by, left_by, gone_by}
 use Rattle.service_history.specs.Limits.{most_stored, most_cost}
 use Rattle.service_history.specs.Runs.{GoesOn, Follows, AreCalls, windows_of}

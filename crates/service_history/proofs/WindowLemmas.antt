@@ -1,11 +1,11 @@
 -- The windows of a run, one after the other, are one list of events.
 use Rattle.std.proofs.Common.{◌≡◌, ◌+◌, List, [], ◌∷◌, ◌++◌, length, refl, ap, ◌∙◌, sym, arith, length-append}
 use Rattle.std.proofs.lemmas.List.{append-nil}
-use Rattle.service_events.specs.declared.event.Output.{Output}
-use Rattle.service_events.specs.declared.event.Incoming.{Incoming}
-use Rattle.service_events.specs.Step.{output_of}
-use Rattle.service_events.specs.Replay.{replay, Legal, outputs}
-use Rattle.service_events.proofs.ReplayLemmas.{replay-append, Legal-append, outputs-append}
+use Rattle.service_machine.specs.service_events.specs.declared.event.Output.{Output}
+use Rattle.service_machine.specs.service_events.specs.declared.event.Incoming.{Incoming}
+use Rattle.service_machine.specs.service_events.specs.Step.{output_of}
+use Rattle.service_machine.specs.service_events.specs.Replay.{replay, Legal, outputs}
+use Rattle.service_machine.specs.service_events.proofs.ReplayLemmas.{replay-append, Legal-append, outputs-append}
 use Rattle.service_history.specs.History.{History, IsHistory, IsAppended}
 use Rattle.service_history.specs.Windows.{Window, next_window, AreInRow, history_of, window_behind}
 

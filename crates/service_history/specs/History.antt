@@ -2,29 +2,29 @@
 use Rattle.std.specs.Prelude.{◌≡◌, ℕ, ◌+◌, ◌≤◌, Bool, ◌&&◌, not, if◌then◌else◌, IsTrue, List, Option, Some, None}
 use Rattle.kr_base.specs.declared.ids.ConnId.{ConnId}
 use Rattle.kr_outside.specs.RenameDisk.{Image}
-use Rattle.secret_calls.specs.declared.work.Work.{Work}
-use Rattle.secret_calls.specs.declared.taken.Taken.{Taken}
-use Rattle.secret_calls.specs.declared.taken.Taken.TheVariants as taken
-use Rattle.service_tables.specs.Disk.{DiskState}
-use Rattle.service_tables.specs.State.{State}
-use Rattle.service_tables.specs.declared.rows.DeskRow.{DeskRow}
-use Rattle.service_events.specs.declared.event.Arrival.{Arrival}
-use Rattle.service_tables.specs.declared.fate.Fate.{Fate}
-use Rattle.service_events.specs.declared.event.Incoming.{Incoming}
-use Rattle.service_events.specs.declared.event.Incoming.TheVariants as incoming
-use Rattle.service_events.specs.declared.event.Event.{Event}
-use Rattle.service_events.specs.declared.event.Event.TheVariants as event
-use Rattle.service_events.specs.declared.event.BroughtKey.{BroughtKey}
-use Rattle.service_events.specs.declared.event.Derivation.{Derivation}
-use Rattle.service_events.specs.declared.event.Output.{Output}
-use Rattle.service_events.specs.declared.event.Output.TheVariants as output
-use Rattle.service_tables.specs.Connections.{waiting_for, desk_of}
-use Rattle.service_events.specs.Fates.{with_fates, AreFaultless, IsFaultless}
-use Rattle.service_events.specs.Stored.{StoresEvent}
-use Rattle.service_events.specs.Incoming.{IsBroughtBy, Records}
-use Rattle.service_events.specs.Step.{step, output_of, Fits}
-use Rattle.service_events.specs.Replay.{replay, Legal}
-use Rattle.service_tables.specs.Sound.{IsSound}
+use Rattle.service_machine.specs.secret_calls.specs.declared.work.Work.{Work}
+use Rattle.service_machine.specs.secret_calls.specs.declared.taken.Taken.{Taken}
+use Rattle.service_machine.specs.secret_calls.specs.declared.taken.Taken.TheVariants as taken
+use Rattle.service_machine.specs.service_tables.specs.Disk.{DiskState}
+use Rattle.service_machine.specs.service_tables.specs.State.{State}
+use Rattle.service_machine.specs.service_tables.specs.declared.rows.DeskRow.{DeskRow}
+use Rattle.service_machine.specs.service_events.specs.declared.event.Arrival.{Arrival}
+use Rattle.service_machine.specs.service_tables.specs.declared.fate.Fate.{Fate}
+use Rattle.service_machine.specs.service_events.specs.declared.event.Incoming.{Incoming}
+use Rattle.service_machine.specs.service_events.specs.declared.event.Incoming.TheVariants as incoming
+use Rattle.service_machine.specs.service_events.specs.declared.event.Event.{Event}
+use Rattle.service_machine.specs.service_events.specs.declared.event.Event.TheVariants as event
+use Rattle.service_machine.specs.service_events.specs.declared.event.BroughtKey.{BroughtKey}
+use Rattle.service_machine.specs.service_events.specs.declared.event.Derivation.{Derivation}
+use Rattle.service_machine.specs.service_events.specs.declared.event.Output.{Output}
+use Rattle.service_machine.specs.service_events.specs.declared.event.Output.TheVariants as output
+use Rattle.service_machine.specs.service_tables.specs.Connections.{waiting_for, desk_of}
+use Rattle.service_machine.specs.service_events.specs.Fates.{with_fates, AreFaultless, IsFaultless}
+use Rattle.service_machine.specs.service_events.specs.Stored.{StoresEvent}
+use Rattle.service_machine.specs.service_events.specs.Incoming.{IsBroughtBy, Records}
+use Rattle.service_machine.specs.service_events.specs.Step.{step, output_of, Fits}
+use Rattle.service_machine.specs.service_events.specs.Replay.{replay, Legal}
+use Rattle.service_machine.specs.service_tables.specs.Sound.{IsSound}
 use Rattle.service_history.specs.Limits.{most_counted}
 use Rattle.service_history.specs.Room.{room}
 use Rattle.service_history.specs.Windows.{Window, total, is_due, stored, first_window, next_window}

@@ -3,11 +3,11 @@
 use Rattle.std.specs.Prelude.{◌≡◌, ◌+◌, ◌-◌, ◌≤◌, ℕ, Bool, true, false, min, List, length, Vec, vec_len, vec_capacity, Option, Some, None}
 use Rattle.std.specs.List.{list_any}
 use Rattle.std.specs.declared.alloc.Global.{Global}
-use Rattle.service_events.specs.declared.event.Event.{Event}
-use Rattle.service_tables.specs.State.{State}
+use Rattle.service_machine.specs.service_events.specs.declared.event.Event.{Event}
+use Rattle.service_machine.specs.service_tables.specs.State.{State}
 use Rattle.service_machine.specs.declared.machine.Machine.{Machine}
 use Rattle.service_machine.specs.Rows.{rows_of, disk_of}
-use Rattle.service_events.specs.Replay.{cost}
+use Rattle.service_machine.specs.service_events.specs.Replay.{cost}
 use Rattle.service_history.specs.History.{History, ServiceState, IsHistory}
 use Rattle.service_history.specs.Limits.{most_counted}
 use Rattle.service_history.specs.Room.{room, enough}

@@ -1,3 +1,5 @@
+pub use Rattle.service_machine.specs.service_calls
+pub use Rattle.service_machine
 pub mod History
 pub mod Inside
 pub mod Limits

@@ -1,8 +1,8 @@
 -- Why an event isn't recorded: why a connection doesn't join, or a request isn't taken.
-use Rattle.secret_calls.specs.declared.taken.Refused.{Refused}
-use Rattle.secret_calls.specs.declared.taken.Refused.TheVariants as request
-use Rattle.service_events.specs.declared.event.JoinRefused.{JoinRefused}
-use Rattle.service_events.specs.declared.event.JoinRefused.TheVariants as join
+use Rattle.service_machine.specs.secret_calls.specs.declared.taken.Refused.{Refused}
+use Rattle.service_machine.specs.secret_calls.specs.declared.taken.Refused.TheVariants as request
+use Rattle.service_machine.specs.service_events.specs.declared.event.JoinRefused.{JoinRefused}
+use Rattle.service_machine.specs.service_events.specs.declared.event.JoinRefused.TheVariants as join
 use Rattle.service_history.specs.declared.refused.EventRefused.{EventRefused}
 use Rattle.service_history.specs.declared.refused.EventRefused.TheVariants as event
 

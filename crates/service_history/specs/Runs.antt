@@ -1,6 +1,6 @@
 -- The windows of a service, from its start on, one call after another.
 use Rattle.std.specs.Prelude.{◌≡◌, ◌<◌, ◌==◌, ◌⊎◌, if◌then◌else◌, List, [], ◌∷◌, ◌++◌, length}
-use Rattle.service_events.specs.declared.event.Event.{Event}
+use Rattle.service_machine.specs.service_events.specs.declared.event.Event.{Event}
 use Rattle.service_history.specs.History.{History, IsHistory}
 use Rattle.service_history.specs.Windows.{Window, next_window}
 

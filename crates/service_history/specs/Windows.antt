@@ -2,13 +2,13 @@
 -- these led to; and the events since then. A cut ends one window, and the next one follows.
 use Rattle.std.specs.Prelude.{◌≡◌, ℕ, ◌+◌, ◌<◌, Bool, true, false, ◌||◌, nat_le, nat_lt, List, [], ◌∷◌, ◌++◌, length, Result, Ok}
 use Rattle.std.specs.List.{flat_map, list_any}
-use Rattle.secret_calls.specs.declared.call.Call.{Call}
-use Rattle.secret_calls.specs.declared.call.Call.TheVariants as call
-use Rattle.secret_calls.specs.declared.call.CallFault.{CallFault}
-use Rattle.service_tables.specs.State.{State}
-use Rattle.service_events.specs.declared.event.Event.{Event}
-use Rattle.service_events.specs.declared.event.Event.TheVariants as event
-use Rattle.service_events.specs.Replay.{replay, Legal, cost}
+use Rattle.service_machine.specs.secret_calls.specs.declared.call.Call.{Call}
+use Rattle.service_machine.specs.secret_calls.specs.declared.call.Call.TheVariants as call
+use Rattle.service_machine.specs.secret_calls.specs.declared.call.CallFault.{CallFault}
+use Rattle.service_machine.specs.service_tables.specs.State.{State}
+use Rattle.service_machine.specs.service_events.specs.declared.event.Event.{Event}
+use Rattle.service_machine.specs.service_events.specs.declared.event.Event.TheVariants as event
+use Rattle.service_machine.specs.service_events.specs.Replay.{replay, Legal, cost}
 use Rattle.service_history.specs.Limits.{most_stored, most_cost}
 
 -- a window

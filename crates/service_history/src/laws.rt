@@ -1,11 +1,11 @@
 // What the definitions of histories and windows say together. Each law is the contract of a function
 // that does nothing.
 ghost use Rattle.std.specs.Prelude.{◌≡◌, ◌++◌, ◌∷◌, [], Bool, List, length};
-ghost use Rattle.service_events.specs.declared.event.Event.{Event};
-ghost use Rattle.service_events.specs.declared.event.Incoming.{Incoming};
-ghost use Rattle.service_events.specs.declared.event.Output.{Output};
-ghost use Rattle.service_tables.specs.State.{State};
-ghost use Rattle.service_events.specs.Replay.{replay, Legal, outputs};
+ghost use Rattle.service_machine.specs.service_events.specs.declared.event.Event.{Event};
+ghost use Rattle.service_machine.specs.service_events.specs.declared.event.Incoming.{Incoming};
+ghost use Rattle.service_machine.specs.service_events.specs.declared.event.Output.{Output};
+ghost use Rattle.service_machine.specs.service_tables.specs.State.{State};
+ghost use Rattle.service_machine.specs.service_events.specs.Replay.{replay, Legal, outputs};
 ghost use Rattle.kr_base.specs.declared.ids.ConnId.{ConnId};
 ghost use Rattle.service_history.specs.History.{History, opened_history, IsHistory, Stores, IsRecorded, IsAppended, told, taken_by, left_by, gone_by};
 ghost use Rattle.service_history.specs.Runs.{GoesOn, Follows, AreCalls, windows_of};

@@ -19,3 +19,4 @@ pub use laws::{
 };
 pub use refused::EventRefused;
 pub use service::Service;
+pub use service_machine;

@@ -1,8 +1,8 @@
 ghost use Rattle.std.specs.Prelude.{◌≡◌};
 ghost use Rattle.service_history.specs.Refusals.{not_joined, not_taken};
 
-use secret_calls::Refused;
 use service_machine::JoinRefused;
+use service_machine::secret_calls::Refused;
 use thiserror::Error;
 
 /// Why an event wasn't recorded.

@@ -1,20 +1,20 @@
 ghost use Rattle.std.specs.Prelude.{◌≡◌, ◌≢◌, ◌<◌, ◌≤◌, [], IsTrue, IfOk, IfSome, OnOk, OnErr, IsErrOf, Err, None};
 ghost use Rattle.std.specs.List.{AllByRecursion};
-ghost use Rattle.service_tables.specs.Aliases.{rows_in};
+ghost use Rattle.service_machine.specs.service_tables.specs.Aliases.{rows_in};
 ghost use Rattle.replace_slot.specs.Cell.{Known};
-ghost use Rattle.service_tables.specs.Slots.{LeavesKnown, file_at, slot_at};
-ghost use Rattle.folder_store.specs.Ring.{IsAsFound};
-ghost use Rattle.collection_table.specs.Entries.{rows_of as collections_of};
-ghost use Rattle.service_tables.specs.Disk.{IsLoaded, FailedToLoad, disk_state};
-ghost use Rattle.service_tables.specs.Opened.{IsOpened, contents_of};
-ghost use Rattle.service_tables.specs.Sound.{AreSoundContents};
-ghost use Rattle.service_tables.specs.Limits.{IsSpent, most_events};
-ghost use Rattle.service_events.specs.Fates.{is_steady};
+ghost use Rattle.service_machine.specs.service_tables.specs.Slots.{LeavesKnown, file_at, slot_at};
+ghost use Rattle.service_machine.specs.folder_store.specs.Ring.{IsAsFound};
+ghost use Rattle.service_machine.specs.collection_table.specs.Entries.{rows_of as collections_of};
+ghost use Rattle.service_machine.specs.service_tables.specs.Disk.{IsLoaded, FailedToLoad, disk_state};
+ghost use Rattle.service_machine.specs.service_tables.specs.Opened.{IsOpened, contents_of};
+ghost use Rattle.service_machine.specs.service_tables.specs.Sound.{AreSoundContents};
+ghost use Rattle.service_machine.specs.service_tables.specs.Limits.{IsSpent, most_events};
+ghost use Rattle.service_machine.specs.service_events.specs.Fates.{is_steady};
 ghost use Rattle.service_machine.specs.Rows.{rows_of};
-ghost use Rattle.service_events.specs.Stored.{KeepsDisk, KeepsMaking};
+ghost use Rattle.service_machine.specs.service_events.specs.Stored.{KeepsDisk, KeepsMaking};
 ghost use Rattle.service_history.specs.Inside.{IsReady};
-ghost use Rattle.service_events.specs.Incoming.{IsOfNone, IsConnect};
-ghost use Rattle.service_events.specs.Step.{CanJoin, IsMissing, IsCrowded};
+ghost use Rattle.service_machine.specs.service_events.specs.Incoming.{IsOfNone, IsConnect};
+ghost use Rattle.service_machine.specs.service_events.specs.Step.{CanJoin, IsMissing, IsCrowded};
 ghost use Rattle.service_history.specs.Windows.{total};
 ghost use Rattle.service_history.specs.History.{opened_history, IsHistory, Stores, StoresKey, StoresOn, StoresRequest, RecordsOn, IsAsked, given_for, taken_by, left_by, gone_by, told};
 
@@ -22,7 +22,7 @@ use crate::EventRefused;
 use crate::window::Window;
 use kr_base::{ConnId, Stem};
 use kr_outside::Folder;
-use secret_calls::{Refused, Taken, Work};
+use service_machine::secret_calls::{Refused, Taken, Work};
 use service_machine::{
     Arrival, Arrived, BroughtKey, Disk, Event, Incoming, JoinRefused, Machine, OpenRefused, Output,
 };
@@ -51,7 +51,7 @@ impl<F: Folder> Model for Service<F> {
 
     ghost view = { λ s. service_of s.machine s.window };
 
-    ghost use Rattle.service_disk.specs.Making.{AreFree};
+    ghost use Rattle.service_machine.specs.service_disk.specs.Making.{AreFree};
     ghost use Rattle.service_machine.specs.Rows.{disk_of};
 
     ghost invariant = { λ s. IsKept (rows_of s.machine) s.window

@@ -1,6 +1,6 @@
 ghost use Rattle.std.specs.Prelude.{◌≡◌, ◌+◌, ◌<◌, ◌≤◌, IfOk, OnOk};
 ghost use Rattle.service_machine.specs.Rows.{rows_of};
-ghost use Rattle.service_events.specs.Replay.{cost_of};
+ghost use Rattle.service_machine.specs.service_events.specs.Replay.{cost_of};
 ghost use Rattle.service_history.specs.Limits.{most_counted};
 ghost use Rattle.service_history.specs.Room.{enough};
 ghost use Rattle.service_history.specs.Windows.{begun, total, is_due, may_hide, stored};
@@ -8,7 +8,7 @@ ghost use Rattle.service_history.specs.Inside.{IsNext, IsReady, chosen};
 
 use kr_base::OutOfMemory;
 use kr_outside::Folder;
-use secret_calls::Call;
+use service_machine::secret_calls::Call;
 use service_machine::{Event, Machine};
 use std::alloc::Global;
 use std::marker::Model;

@@ -5,8 +5,8 @@ use Rattle.std.proofs.lemmas.List.Sorted.{IsPermutation-refl, IsPermutation-tran
 use Rattle.std.specs.List.{AllByRecursion}
 use Rattle.std.specs.List.Sorted.{IsPermutation}
 use Rattle.atomic_table.specs.Seated.{TableId}
-use Rattle.service_tables.proofs.EachLemmas.{each-append, each-weaker}
-use Rattle.shared_turn.specs.Places.{inserted, merged}
+use Rattle.shared_service.specs.service_tables.proofs.EachLemmas.{each-append, each-weaker}
+use Rattle.shared_service.specs.shared_turn.specs.Places.{inserted, merged}
 use Rattle.shared_service.specs.Passes.{Seen, IsGathered}
 use Rattle.service_hub.specs.Gathering.{IsBeginning, AreGathered, all_own}
 use Rattle.service_hub.specs.Links.{ServedLink, IsOf, desk_told, all_passes}

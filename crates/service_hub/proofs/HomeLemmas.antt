@@ -3,12 +3,12 @@ use Rattle.std.proofs.Common.{◌≡◌, ℕ, inl, inr, Bool, List, [], ◌∷�
 use Rattle.std.specs.List.{AllByRecursion, AllZip, FoldsTo}
 use Rattle.atomic_table.specs.Seated.{TableId}
 use Rattle.dbus_framing.specs.Framers.{Framing}
-use Rattle.service_desk.specs.Calls.{Goes}
-use Rattle.service_desk.specs.Places.{Told, Place}
-use Rattle.service_desk.specs.Views.{View}
-use Rattle.service_tables.proofs.EachLemmas.{each-append}
-use Rattle.connection_worker.specs.declared.ending.End.{End}
-use Rattle.connection_worker.specs.Handshakes.{Both}
+use Rattle.shared_service.specs.service_desk.specs.Calls.{Goes}
+use Rattle.shared_service.specs.service_desk.specs.Places.{Told, Place}
+use Rattle.shared_service.specs.service_desk.specs.Views.{View}
+use Rattle.shared_service.specs.service_tables.proofs.EachLemmas.{each-append}
+use Rattle.daemon.specs.connection_worker.specs.declared.ending.End.{End}
+use Rattle.daemon.specs.connection_worker.specs.Handshakes.{Both}
 use Rattle.daemon.specs.declared.job.Served.{Served}
 use Rattle.daemon.specs.Accepts.{Round, Unjoined, Unstarted, Started, World, IsJobOf, IsRound, Rounds}
 use Rattle.daemon.specs.Jobs.{Job, Serves, Follows}

@@ -2,13 +2,13 @@
 use Rattle.std.proofs.Common.{◌≡◌, Bool, [], Some, refl, sym, ◌∙◌, ap, subst, append-nil}
 use Rattle.atomic_table.specs.Seated.{TableId}
 use Rattle.kr_base.specs.declared.ids.ConnId.{ConnId}
-use Rattle.service_events.specs.declared.event.Event.TheVariants as event
-use Rattle.service_events.specs.declared.event.JoinRefused.{JoinRefused}
-use Rattle.service_events.specs.declared.event.JoinRefused.TheVariants as join
-use Rattle.service_events.specs.declared.event.Output.TheVariants as output
-use Rattle.service_events.specs.Step.{Fits, output_of}
-use Rattle.service_desk.specs.Places.{Extends}
-use Rattle.service_desk.specs.Views.{View}
+use Rattle.shared_service.specs.service_events.specs.declared.event.Event.TheVariants as event
+use Rattle.shared_service.specs.service_events.specs.declared.event.JoinRefused.{JoinRefused}
+use Rattle.shared_service.specs.service_events.specs.declared.event.JoinRefused.TheVariants as join
+use Rattle.shared_service.specs.service_events.specs.declared.event.Output.TheVariants as output
+use Rattle.shared_service.specs.service_events.specs.Step.{Fits, output_of}
+use Rattle.shared_service.specs.service_desk.specs.Places.{Extends}
+use Rattle.shared_service.specs.service_desk.specs.Views.{View}
 use Rattle.shared_service.specs.Passes as pass
 use Rattle.daemon.specs.Hubs.{Joins, IsDeskOf, IsNotJoined}
 

@@ -1,12 +1,12 @@
 -- The own events of a desk are at the places that its view has of them.
 use Rattle.std.proofs.Common.{ℕ, List, [], ◌∷◌, ◌++◌, length, refl, sym, ap, ◌∙◌, subst, append_assoc, append-nil}
-use Rattle.service_tables.specs.State.{State}
-use Rattle.service_events.specs.declared.event.Event.{Event}
-use Rattle.service_events.specs.declared.event.Output.{Output}
-use Rattle.service_events.proofs.ReplayLemmas.{replay-append}
-use Rattle.service_desk.specs.Records.{Seen, Others, Own, AreAnswered, with_seen}
-use Rattle.service_desk.specs.Views.{View, state_of, with_others, with_own}
-use Rattle.connection_worker.specs.Sides.{own_in}
+use Rattle.shared_service.specs.service_tables.specs.State.{State}
+use Rattle.shared_service.specs.service_events.specs.declared.event.Event.{Event}
+use Rattle.shared_service.specs.service_events.specs.declared.event.Output.{Output}
+use Rattle.shared_service.specs.service_events.proofs.ReplayLemmas.{replay-append}
+use Rattle.shared_service.specs.service_desk.specs.Records.{Seen, Others, Own, AreAnswered, with_seen}
+use Rattle.shared_service.specs.service_desk.specs.Views.{View, state_of, with_others, with_own}
+use Rattle.daemon.specs.connection_worker.specs.Sides.{own_in}
 use Rattle.service_hub.specs.Places.{IsAt, AreAt}
 
 -- they stay there, whatever follows

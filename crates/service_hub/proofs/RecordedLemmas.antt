@@ -3,18 +3,18 @@ use Rattle.std.proofs.Common.{◌≡◌, ℕ, inl, inr, Bool, List, [], ◌∷�
 use Rattle.std.specs.List.{AllByRecursion, AllZip}
 use Rattle.atomic_table.specs.Seated.{TableId}
 use Rattle.dbus_framing.specs.Framers.{Framing}
-use Rattle.service_tables.specs.State.{State}
-use Rattle.service_desk.specs.Calls.{Goes}
-use Rattle.service_desk.specs.Places.{Place, place}
-use Rattle.service_desk.specs.Records as records
-use Rattle.service_desk.specs.Records.{Records, with_seen}
-use Rattle.service_desk.specs.Views.{View}
-use Rattle.service_desk.proofs.RecordLemmas.{extends-records, looks-records}
+use Rattle.shared_service.specs.service_tables.specs.State.{State}
+use Rattle.shared_service.specs.service_desk.specs.Calls.{Goes}
+use Rattle.shared_service.specs.service_desk.specs.Places.{Place, place}
+use Rattle.shared_service.specs.service_desk.specs.Records as records
+use Rattle.shared_service.specs.service_desk.specs.Records.{Records, with_seen}
+use Rattle.shared_service.specs.service_desk.specs.Views.{View}
+use Rattle.shared_service.specs.service_desk.proofs.RecordLemmas.{extends-records, looks-records}
 use Rattle.shared_service.specs.declared.desk.SharedDesk.{SharedDesk}
 use Rattle.shared_service.specs.Passes.{Seen}
-use Rattle.connection_worker.specs.declared.ending.End.{End}
-use Rattle.connection_worker.specs.Handshakes.{Both}
-use Rattle.connection_worker.specs.Sides.{own_in}
+use Rattle.daemon.specs.connection_worker.specs.declared.ending.End.{End}
+use Rattle.daemon.specs.connection_worker.specs.Handshakes.{Both}
+use Rattle.daemon.specs.connection_worker.specs.Sides.{own_in}
 use Rattle.daemon.specs.Accepts.{IsJobOf}
 use Rattle.daemon.specs.Jobs.{Follows}
 use Rattle.service_hub.specs.Gathering.{IsBeginning}

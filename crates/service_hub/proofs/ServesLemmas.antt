@@ -1,8 +1,8 @@
 -- What became of the links, and the history that their connections have, from what the loop and the gathering say.
 use Rattle.std.proofs.Common.{◌≡◌, ℕ, Bool, List, [], ◌∷◌, ◌++◌, Option, None, Some, sym, ◌∙◌, subst}
 use Rattle.std.specs.List.{AllByRecursion, AllZip}
-use Rattle.service_history.specs.History.{History}
-use Rattle.service_desk.specs.Views.{IsView, state_of, count_of}
+use Rattle.shared_service.specs.service_history.specs.History.{History}
+use Rattle.shared_service.specs.service_desk.specs.Views.{IsView, state_of, count_of}
 use Rattle.shared_service.specs.Passes.{Seen, IsGathered, noted}
 use Rattle.shared_service.specs.Tries.{IsClosed}
 use Rattle.daemon.specs.declared.accepting.LoopEnd.{LoopEnd}

@@ -2,7 +2,7 @@
 use Rattle.std.specs.Prelude.{◌≡◌, ℕ, List, ◌++◌}
 use Rattle.std.specs.List.{AllByRecursion, flat_map}
 use Rattle.std.specs.List.Sorted.{IsPermutation}
-use Rattle.shared_turn.specs.Places.{StartsWith}
+use Rattle.shared_service.specs.shared_turn.specs.Places.{StartsWith}
 use Rattle.shared_service.specs.Passes.{Seen}
 
 -- both passes are of one run of one service, and what the first one has seen is a beginning of what the second one has

@@ -1,3 +1,7 @@
+pub use Rattle.daemon.specs.call_wire
+pub use Rattle.daemon.specs.connection_worker
+pub use Rattle.daemon
+pub use Rattle.shared_service
 pub mod Gathering
 pub mod Links
 pub mod Loop

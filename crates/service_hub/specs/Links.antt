@@ -4,22 +4,22 @@ use mathlib.Core.Logic.{inl, inr}
 use Rattle.std.specs.List.{AllZip, flat_map}
 use Rattle.atomic_table.specs.Seated.{TableId}
 use Rattle.dbus_framing.specs.Framers.{Framing}
-use Rattle.service_tables.specs.State.{State}
-use Rattle.service_events.specs.declared.event.Event.{Event}
-use Rattle.service_events.specs.declared.event.Event.TheVariants as event
-use Rattle.service_events.specs.declared.event.Output.TheVariants as output
-use Rattle.service_history.specs.History.{History}
-use Rattle.service_desk.specs.Calls.{Goes}
-use Rattle.service_desk.specs.Places.{Told, Place}
-use Rattle.service_desk.specs.Records as records
-use Rattle.service_desk.specs.Records.{Own, of_others}
-use Rattle.service_desk.specs.Views.{View, IsView, state_of, count_of}
+use Rattle.shared_service.specs.service_tables.specs.State.{State}
+use Rattle.shared_service.specs.service_events.specs.declared.event.Event.{Event}
+use Rattle.shared_service.specs.service_events.specs.declared.event.Event.TheVariants as event
+use Rattle.shared_service.specs.service_events.specs.declared.event.Output.TheVariants as output
+use Rattle.shared_service.specs.service_history.specs.History.{History}
+use Rattle.shared_service.specs.service_desk.specs.Calls.{Goes}
+use Rattle.shared_service.specs.service_desk.specs.Places.{Told, Place}
+use Rattle.shared_service.specs.service_desk.specs.Records as records
+use Rattle.shared_service.specs.service_desk.specs.Records.{Own, of_others}
+use Rattle.shared_service.specs.service_desk.specs.Views.{View, IsView, state_of, count_of}
 use Rattle.shared_service.specs.declared.desk.SharedDesk.{SharedDesk}
 use Rattle.shared_service.specs.Passes.{Seen, noted, told}
 use Rattle.shared_service.specs.Tries.{IsClosed}
-use Rattle.connection_worker.specs.declared.ending.End.{End}
-use Rattle.connection_worker.specs.Handshakes.{Both}
-use Rattle.connection_worker.specs.Sides.{own_in}
+use Rattle.daemon.specs.connection_worker.specs.declared.ending.End.{End}
+use Rattle.daemon.specs.connection_worker.specs.Handshakes.{Both}
+use Rattle.daemon.specs.connection_worker.specs.Sides.{own_in}
 use Rattle.daemon.specs.declared.accepting.LoopEnd.{LoopEnd}
 use Rattle.daemon.specs.declared.job.Served.{Served}
 use Rattle.daemon.specs.Accepts.{Accepts, Listening, Rounds, World}

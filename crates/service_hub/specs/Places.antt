@@ -1,11 +1,11 @@
 -- Where the own events of a desk are in the history of its service, and what they answered there.
 use Rattle.std.specs.Prelude.{◌≡◌, ℕ, List, [], ◌∷◌, ◌++◌, length}
-use Rattle.service_tables.specs.State.{State}
-use Rattle.service_events.specs.declared.event.Event.{Event}
-use Rattle.service_events.specs.declared.event.Output.{Output}
-use Rattle.service_events.specs.Step.{output_of}
-use Rattle.service_events.specs.Replay.{replay}
-use Rattle.service_desk.specs.Records.{Seen, Own}
+use Rattle.shared_service.specs.service_tables.specs.State.{State}
+use Rattle.shared_service.specs.service_events.specs.declared.event.Event.{Event}
+use Rattle.shared_service.specs.service_events.specs.declared.event.Output.{Output}
+use Rattle.shared_service.specs.service_events.specs.Step.{output_of}
+use Rattle.shared_service.specs.service_events.specs.Replay.{replay}
+use Rattle.shared_service.specs.service_desk.specs.Records.{Seen, Own}
 
 -- The event is at this place of a history that begins with this state, and the answer is that of the step from the state that the events before
 -- it lead to.

@@ -4,12 +4,12 @@ ghost use Rattle.daemon.specs.Hubs.{Joins, IsNotJoined};
 ghost use Rattle.shared_service.specs.Passes.{noted};
 
 use crate::clock::CommonClock;
-use connection_worker::Salts;
 use daemon::Hub;
+use daemon::connection_worker::Salts;
 use dbus_auth::Auth;
 use kr_base::{ConnId, OutOfMemory};
 use kr_outside::{Clock, Folder};
-use service_desk::JoinRefused;
+use shared_service::service_desk::JoinRefused;
 use shared_service::{Pass, SharedDesk, SharedService};
 use std::alloc::{AllocError, Global};
 use std::sync::{Arc, Mutex, Wait};

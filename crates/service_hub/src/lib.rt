@@ -12,5 +12,8 @@ mod hub;
 mod links;
 
 pub use clock::CommonClock;
+pub use daemon;
+pub use daemon::{call_wire, connection_worker};
 pub use hub::ServiceHub;
 pub use links::{AllServed, LinkSpawner, serve_links};
+pub use shared_service;

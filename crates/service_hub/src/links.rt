@@ -1,7 +1,7 @@
 // Serving the links of a listener by one service that threads share.
 ghost use Rattle.std.specs.Prelude.{◌≡◌, ◌<◌, ◌^◌, [], IfSome, Some};
 ghost use Rattle.kr_outside.specs.Faults.{KeepsSteady};
-ghost use Rattle.service_events.specs.Fates.{is_steady};
+ghost use Rattle.shared_service.specs.service_events.specs.Fates.{is_steady};
 ghost use Rattle.daemon.specs.Accepts.{listening};
 ghost use Rattle.std.specs.List.{AllByRecursion};
 ghost use Rattle.service_hub.specs.Gathering.{AreGathered};
@@ -12,7 +12,7 @@ use crate::clock::CommonClock;
 use crate::hub::ServiceHub;
 use daemon::{LoopEnd, Served, Spawner, accept_loop};
 use kr_outside::{Clock, Folder, Listener};
-use service_history::Service;
+use shared_service::service_history::Service;
 use shared_service::{Pass, SharedDesk, SharedService};
 use std::alloc::AllocGlobal;
 use std::sync::Wait;

@@ -2,19 +2,19 @@
 use Rattle.std.proofs.Common.{◌≡◌, ℕ, ◌^◌, ◌<◌, Bool, true, IsTrue, List, ap, ◌∙◌}
 use Rattle.kr_outside.specs.RenameDisk.{Image}
 use Rattle.keyring_text.specs.Fields.{IsBytes}
-use Rattle.service_tables.specs.Connections.{has}
-use Rattle.service_tables.specs.Disk.{DiskState}
-use Rattle.service_tables.specs.State.{State}
-use Rattle.service_tables.specs.declared.fate.Fate.{Fate}
+use Rattle.service_answers.specs.service_tables.specs.Connections.{has}
+use Rattle.service_answers.specs.service_tables.specs.Disk.{DiskState}
+use Rattle.service_answers.specs.service_tables.specs.State.{State}
+use Rattle.service_answers.specs.service_tables.specs.declared.fate.Fate.{Fate}
 use Rattle.service_answers.specs.declared.derived_key.Settled.{Settled}
-use Rattle.service_events.specs.declared.event.BroughtKey.{BroughtKey}
-use Rattle.service_events.specs.declared.event.Derivation.{Derivation}
-use Rattle.service_events.specs.declared.event.Event.TheVariants as event
-use Rattle.service_events.specs.Derivation.{derived}
-use Rattle.service_events.specs.Fates.{AreFaultless, is_steady}
-use Rattle.service_events.specs.Run.{asked, led}
-use Rattle.service_events.specs.Step.{AreByteFiles, Fits, IsSalt, brought_derived, step, terms_of, with_delivered}
-use Rattle.service_events.specs.Stored.{StoresEvent}
+use Rattle.service_answers.specs.service_events.specs.declared.event.BroughtKey.{BroughtKey}
+use Rattle.service_answers.specs.service_events.specs.declared.event.Derivation.{Derivation}
+use Rattle.service_answers.specs.service_events.specs.declared.event.Event.TheVariants as event
+use Rattle.service_answers.specs.service_events.specs.Derivation.{derived}
+use Rattle.service_answers.specs.service_events.specs.Fates.{AreFaultless, is_steady}
+use Rattle.service_answers.specs.service_events.specs.Run.{asked, led}
+use Rattle.service_answers.specs.service_events.specs.Step.{AreByteFiles, Fits, IsSalt, brought_derived, step, terms_of, with_delivered}
+use Rattle.service_answers.specs.service_events.specs.Stored.{StoresEvent}
 use Rattle.service_answers.specs.Settled.{Settles, settled_fates}
 use Rattle.service_machine.proofs.SteadyLemmas.{stores-faultless, stores-steady}
 

@@ -9,25 +9,25 @@ use Rattle.std.proofs.lemmas.Option.{none-some}
 use Rattle.kr_base.specs.Attributes.{is_name, value_at}
 use Rattle.kr_base.specs.declared.ids.ConnId.{ConnId}
 use Rattle.kr_outside.specs.RenameDisk.{Image}
-use Rattle.alias_table.specs.Table.{AliasRows}
-use Rattle.folder_store.specs.Aliases.{alias_slot}
-use Rattle.folder_store.specs.declared.opening.LeftAlone.{LeftAlone}
-use Rattle.folder_store.specs.Names.{aliases}
-use Rattle.folder_store.specs.Ring.{RingState, HandsBack, nothing, with_ring, alone}
-use Rattle.collection_table.specs.Entries.{loaded_from, slots_of}
-use Rattle.service_tables.proofs.EachLemmas.{each-append}
-use Rattle.service_tables.specs.Disk.{DiskState, IsLoaded}
-use Rattle.service_tables.specs.State.{State}
-use Rattle.collection_table.specs.Rows.{Rows}
-use Rattle.service_tables.specs.declared.fate.Fate.{Fate}
-use Rattle.service_tables.specs.Opened.{Contents, contents_of}
-use Rattle.service_disk.specs.Making.{MakesAt}
-use Rattle.service_tables.specs.Slots.{IsFault, StoresAliases, StoresAt, are_steady, slot_at}
-use Rattle.service_tables.specs.Storing.{Brought}
-use Rattle.service_events.specs.Fates.{AreFaultless, is_steady}
-use Rattle.service_events.specs.Plan.{Demand, Store, Erase, Set_alias, Read_aliases, Read_collection, Make, Plan, Ends, After, Asks, Opens}
-use Rattle.service_events.specs.Run.{AreFates, AreNone, asked, demanded, performed_all, unlocked_with}
-use Rattle.service_events.specs.Stored.{KeepsSlotOf, KeepsSlotOrAll, StoresDemand, StoresOf}
+use Rattle.service_answers.specs.alias_table.specs.Table.{AliasRows}
+use Rattle.service_answers.specs.folder_store.specs.Aliases.{alias_slot}
+use Rattle.service_answers.specs.folder_store.specs.declared.opening.LeftAlone.{LeftAlone}
+use Rattle.service_answers.specs.folder_store.specs.Names.{aliases}
+use Rattle.service_answers.specs.folder_store.specs.Ring.{RingState, HandsBack, nothing, with_ring, alone}
+use Rattle.service_answers.specs.collection_table.specs.Entries.{loaded_from, slots_of}
+use Rattle.service_answers.specs.service_tables.proofs.EachLemmas.{each-append}
+use Rattle.service_answers.specs.service_tables.specs.Disk.{DiskState, IsLoaded}
+use Rattle.service_answers.specs.service_tables.specs.State.{State}
+use Rattle.service_answers.specs.collection_table.specs.Rows.{Rows}
+use Rattle.service_answers.specs.service_tables.specs.declared.fate.Fate.{Fate}
+use Rattle.service_answers.specs.service_tables.specs.Opened.{Contents, contents_of}
+use Rattle.service_answers.specs.service_disk.specs.Making.{MakesAt}
+use Rattle.service_answers.specs.service_tables.specs.Slots.{IsFault, StoresAliases, StoresAt, are_steady, slot_at}
+use Rattle.service_answers.specs.service_tables.specs.Storing.{Brought}
+use Rattle.service_answers.specs.service_events.specs.Fates.{AreFaultless, is_steady}
+use Rattle.service_answers.specs.service_events.specs.Plan.{Demand, Store, Erase, Set_alias, Read_aliases, Read_collection, Make, Plan, Ends, After, Asks, Opens}
+use Rattle.service_answers.specs.service_events.specs.Run.{AreFates, AreNone, asked, demanded, performed_all, unlocked_with}
+use Rattle.service_answers.specs.service_events.specs.Stored.{KeepsSlotOf, KeepsSlotOrAll, StoresDemand, StoresOf}
 
 and-both : (a b : Bool) → (a && b) ≡ true → (a ≡ true) × (b ≡ true)
 and-both true b is = (refl, is)

@@ -1,8 +1,8 @@
 -- The state that a machine is in, and its disk.
-use Rattle.service_calls.specs.Rows.{disk_of as disk_with, rows_of as rows_in}
+use Rattle.service_answers.specs.service_calls.specs.Rows.{disk_of as disk_with, rows_of as rows_in}
 use Rattle.service_machine.specs.declared.machine.Machine.{Machine}
-use Rattle.service_tables.specs.Disk.{DiskState}
-use Rattle.service_tables.specs.State.{State}
+use Rattle.service_answers.specs.service_tables.specs.Disk.{DiskState}
+use Rattle.service_answers.specs.service_tables.specs.State.{State}
 
 -- a machine's state: the rows of its tables
 abbrev pub rows_of : {F S : Type 0} → Machine F S → State

@@ -1,16 +1,16 @@
 // The event that a derived key was brought, which is recorded by what the key was derived from.
 ghost use Rattle.std.specs.Prelude.{Ok, ◌≡◌, ◌^◌, ◌<◌, true, IsTrue, IfOk, OnErr};
-ghost use Rattle.service_disk.specs.Making.{AreFree};
-ghost use Rattle.service_events.specs.Derivation.{derived};
-ghost use Rattle.service_events.specs.Fates.{AreFaultless, is_steady};
-ghost use Rattle.service_events.specs.declared.event.Event.TheVariants as Event;
-ghost use Rattle.service_events.specs.Incoming.{IsBroughtBy};
+ghost use Rattle.service_answers.specs.service_disk.specs.Making.{AreFree};
+ghost use Rattle.service_answers.specs.service_events.specs.Derivation.{derived};
+ghost use Rattle.service_answers.specs.service_events.specs.Fates.{AreFaultless, is_steady};
+ghost use Rattle.service_answers.specs.service_events.specs.declared.event.Event.TheVariants as Event;
+ghost use Rattle.service_answers.specs.service_events.specs.Incoming.{IsBroughtBy};
 ghost use Rattle.service_machine.specs.Rows.{disk_of, rows_of};
-ghost use Rattle.service_events.specs.Step.{Fits, IsSalt, step};
-ghost use Rattle.service_events.specs.Stored.{KeepsMaking, StoresEvent};
+ghost use Rattle.service_answers.specs.service_events.specs.Step.{Fits, IsSalt, step};
+ghost use Rattle.service_answers.specs.service_events.specs.Stored.{KeepsMaking, StoresEvent};
 ghost use Rattle.keyring_text.specs.Fields.{IsBytes};
-ghost use Rattle.service_tables.specs.Connections.{has};
-ghost use Rattle.service_tables.specs.Sound.{IsSound};
+ghost use Rattle.service_answers.specs.service_tables.specs.Connections.{has};
+ghost use Rattle.service_answers.specs.service_tables.specs.Sound.{IsSound};
 
 use crate::known::known_files;
 use crate::machine::known_salt;
@@ -18,7 +18,7 @@ use crate::{Boxed, BroughtKey, Derivation, Fates, Machine};
 use keyring_text::known_bytes;
 use kr_base::OutOfMemory;
 use kr_outside::Folder;
-use secret_calls::Finished;
+use service_answers::secret_calls::Finished;
 use service_answers::{Settled, settle};
 
 // What the types of a derived key guarantee that is recorded. It does nothing.

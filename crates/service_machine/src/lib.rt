@@ -18,9 +18,12 @@ mod known;
 mod machine;
 
 pub use machine::Machine;
-pub use service_events::{
+pub use service_answers::service_events::{
     ApplyRefused, Arrival, Arrived, Boxed, BroughtKey, Derivation, Event, Fates, Incoming,
     JoinRefused, Output, Recorded, alike_requests_lead_to_one_state, lists_of_events_go_on,
     outputs_can_wait, steps_keep_the_rows_sound,
 };
-pub use service_tables::{ConnRow, ConnRows, DeskRow, Disk, Fate, OpenRefused, Rows};
+pub use service_answers::service_tables::{
+    ConnRow, ConnRows, DeskRow, Disk, Fate, OpenRefused, Rows,
+};
+pub use service_answers::{secret_calls, service_tables};

@@ -1,24 +1,24 @@
 ghost use Rattle.std.specs.Prelude.{◌≡◌, ◌≢◌, ℕ, List, ◌<◌, ◌^◌, ◌++◌, [], None, Ok, Err, true, false, IsTrue, IfOk, IfSome, OnOk, OnErr, IsErrOf, ◌+◌};
 ghost use Rattle.std.specs.List.{AllByRecursion};
-ghost use Rattle.collection_table.specs.Entries.{rows_of as collections_of};
-ghost use Rattle.service_tables.specs.Aliases.{rows_in};
+ghost use Rattle.service_answers.specs.collection_table.specs.Entries.{rows_of as collections_of};
+ghost use Rattle.service_answers.specs.service_tables.specs.Aliases.{rows_in};
 ghost use Rattle.replace_slot.specs.Cell.{Known};
-ghost use Rattle.service_tables.specs.Slots.{LeavesKnown, file_at, slot_at};
-ghost use Rattle.folder_store.specs.Ring.{IsAsFound};
-ghost use Rattle.service_tables.specs.Connections.{HasRoom, has, waiting_for, desk_of};
-ghost use Rattle.service_tables.specs.Disk.{IsLoaded, FailedToLoad, disk_state};
-ghost use Rattle.service_events.specs.Fates.{with_fates, AreFaultless, IsFaultless, is_steady};
-ghost use Rattle.service_events.specs.Incoming.{AreFreeFor, Records, IsDue, IsOfNone, IsConnect, IsSoundFor, TakesMemory};
-ghost use Rattle.service_tables.specs.Opened.{IsOpened, contents_of};
-ghost use Rattle.service_tables.specs.Storing.{Brought};
-ghost use Rattle.service_events.specs.Run.{asked, ran};
-ghost use Rattle.service_disk.specs.Making.{AreFree};
-ghost use Rattle.service_events.specs.declared.event.Event.TheVariants as Event;
-ghost use Rattle.service_events.specs.declared.event.Output.TheVariants as Output;
-ghost use Rattle.service_tables.specs.Sound.{AreSoundContents, IsSound};
-ghost use Rattle.service_events.specs.Step.{step, output_of, brought_by, brought_with, plan_of, row_of, message_of, replies, with_delivered, IsMissing, IsCrowded, CanJoin, HasTypes, IsSalt, IsTypedName, Fits};
-ghost use Rattle.service_events.specs.Stored.{IsPlain, KeepsDisk, SendsNothing, StoresEvent};
-ghost use Rattle.service_calls.specs.Done.{HasRoomToReply, Leads};
+ghost use Rattle.service_answers.specs.service_tables.specs.Slots.{LeavesKnown, file_at, slot_at};
+ghost use Rattle.service_answers.specs.folder_store.specs.Ring.{IsAsFound};
+ghost use Rattle.service_answers.specs.service_tables.specs.Connections.{HasRoom, has, waiting_for, desk_of};
+ghost use Rattle.service_answers.specs.service_tables.specs.Disk.{IsLoaded, FailedToLoad, disk_state};
+ghost use Rattle.service_answers.specs.service_events.specs.Fates.{with_fates, AreFaultless, IsFaultless, is_steady};
+ghost use Rattle.service_answers.specs.service_events.specs.Incoming.{AreFreeFor, Records, IsDue, IsOfNone, IsConnect, IsSoundFor, TakesMemory};
+ghost use Rattle.service_answers.specs.service_tables.specs.Opened.{IsOpened, contents_of};
+ghost use Rattle.service_answers.specs.service_tables.specs.Storing.{Brought};
+ghost use Rattle.service_answers.specs.service_events.specs.Run.{asked, ran};
+ghost use Rattle.service_answers.specs.service_disk.specs.Making.{AreFree};
+ghost use Rattle.service_answers.specs.service_events.specs.declared.event.Event.TheVariants as Event;
+ghost use Rattle.service_answers.specs.service_events.specs.declared.event.Output.TheVariants as Output;
+ghost use Rattle.service_answers.specs.service_tables.specs.Sound.{AreSoundContents, IsSound};
+ghost use Rattle.service_answers.specs.service_events.specs.Step.{step, output_of, brought_by, brought_with, plan_of, row_of, message_of, replies, with_delivered, IsMissing, IsCrowded, CanJoin, HasTypes, IsSalt, IsTypedName, Fits};
+ghost use Rattle.service_answers.specs.service_events.specs.Stored.{IsPlain, KeepsDisk, SendsNothing, StoresEvent};
+ghost use Rattle.service_answers.specs.service_calls.specs.Done.{HasRoomToReply, Leads};
 
 use crate::{ApplyRefused, Arrival, Arrived, Boxed, Event, Fates, Incoming, Output, Recorded};
 use keyring_text::known_bytes;
@@ -26,13 +26,13 @@ use kr_base::{ConnId, OutOfMemory, Stem};
 use kr_items::Items;
 use kr_outside::Folder;
 use prompt_state::PromptState;
-use secret_calls::{AliasName, Body, Call, CallFault, Out, Request, Serial, Work};
-use service_answers::{answer_prompt, password_in, work_of};
-use service_calls::{Answer, Done, Tables, bounded, refused, unstored};
-use service_tables::{
+use service_answers::secret_calls::{AliasName, Body, Call, CallFault, Out, Request, Serial, Work};
+use service_answers::service_calls::{Answer, Done, Tables, bounded, refused, unstored};
+use service_answers::service_tables::{
     Connections, DeskRow, Disk, OpenRefused, Rows, Sent, known_alias, known_item, known_secret,
     known_text,
 };
+use service_answers::{answer_prompt, password_in, work_of};
 use session_table::SessionTable;
 use std::alloc::Global;
 use stem_choice::{a_used_stem_is_in_the_list, adding_a_stem_uses_it_alone};

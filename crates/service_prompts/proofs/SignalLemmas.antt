@@ -21,7 +21,7 @@ use Rattle.dbus_types.specs.declared.endian.Endian.TheVariants.{Little}
 use Rattle.dbus_marshal.specs.Spelling.{all_spelled, first_at}
 use Rattle.dbus_marshal.specs.Wire.{behind, number_bytes, padding, start_of, zeros}
 use Rattle.dbus_marshal.proofs.WritingLemmas.{zeros_long}
-use Rattle.collection_table.specs.Rows.{CollectionRow, Rows}
+use Rattle.service_tables.specs.collection_table.specs.Rows.{CollectionRow, Rows}
 use Rattle.prompt_state.specs.Prompts.{IsStage, ask_at, ask_in, ask_of, ask_to, asks, asks_of, ended_row, is_prompt, row_at}
 use Rattle.prompt_state.specs.Targets.{first_of}
 use Rattle.prompt_state.specs.declared.row.Ask.{Ask}
@@ -33,11 +33,11 @@ use Rattle.prompt_state.specs.declared.row.Prompts.{Prompts}
 use Rattle.prompt_state.specs.declared.row.Stage.{Stage}
 use Rattle.prompt_state.specs.declared.row.Stage.TheVariants.{Made, Asked, Deriving}
 use Rattle.prompt_state.specs.declared.targets.Target.{Target}
-use Rattle.secret_calls.specs.Outs.{ArePaths, IsResult, IsSignal, most_label, path_values, paths_value, shown_label, spelled_body}
-use Rattle.secret_calls.specs.declared.out.Body.TheVariants as body
-use Rattle.secret_calls.specs.declared.signal.Signal.TheVariants as signal
-use Rattle.secret_calls.proofs.LengthLemmas.{AllAtMost, AtMost, end-most, more-most, path-most}
-use Rattle.secret_calls.proofs.SizeLemmas.{ask-fits, ask-waits, completed-fits, completed-waits, label-short, result_body}
+use Rattle.service_tables.specs.secret_calls.specs.Outs.{ArePaths, IsResult, IsSignal, most_label, path_values, paths_value, shown_label, spelled_body}
+use Rattle.service_tables.specs.secret_calls.specs.declared.out.Body.TheVariants as body
+use Rattle.service_tables.specs.secret_calls.specs.declared.signal.Signal.TheVariants as signal
+use Rattle.service_tables.specs.secret_calls.proofs.LengthLemmas.{AllAtMost, AtMost, end-most, more-most, path-most}
+use Rattle.service_tables.specs.secret_calls.proofs.SizeLemmas.{ask-fits, ask-waits, completed-fits, completed-waits, label-short, result_body}
 use Rattle.service_tables.specs.Connections.{size_of}
 use Rattle.service_tables.specs.Limits.{most_weight}
 use Rattle.service_tables.specs.Reading.{label_of}

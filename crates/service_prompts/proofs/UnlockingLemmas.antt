@@ -8,7 +8,7 @@ use Rattle.kr_names.specs.declared.object_name.ObjectName.{ObjectName}
 use Rattle.kr_names.specs.declared.object_name.ObjectName.TheVariants as name
 use Rattle.kr_names.specs.Path.{IsName}
 use Rattle.prompt_state.specs.declared.targets.Target.{Target}
-use Rattle.secret_calls.specs.Outs.{ArePaths}
+use Rattle.service_tables.specs.secret_calls.specs.Outs.{ArePaths}
 use Rattle.service_tables.specs.Objects.{collection_around, is_listed}
 use Rattle.service_tables.specs.Opened.{Contents}
 use Rattle.service_tables.specs.Reading.{asked_collections}

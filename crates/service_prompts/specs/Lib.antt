@@ -1,2 +1,10 @@
+pub use Rattle.service_tables.specs.alias_table
+pub use Rattle.service_tables.specs.collection_store
+pub use Rattle.service_tables.specs.collection_table
+pub use Rattle.service_tables.specs.folder_store
+pub use Rattle.service_tables.specs.item_store
+pub use Rattle.service_tables.specs.keyring_seal
+pub use Rattle.service_tables.specs.secret_calls
+pub use Rattle.service_tables
 pub mod Prompting
 pub mod Unlocking

@@ -6,7 +6,7 @@ use Rattle.std.specs.Option.{option_and_then, option_map, option_map_or}
 use Rattle.kr_base.specs.declared.ids.PromptId.{PromptId}
 use Rattle.kr_names.specs.declared.object_name.ObjectName.TheVariants as name
 use Rattle.kr_names.specs.Path.{path_text}
-use Rattle.collection_table.specs.Rows.{Rows}
+use Rattle.service_tables.specs.collection_table.specs.Rows.{Rows}
 use Rattle.prompt_state.specs.Prompts.{ask_at, asks, ended_row, row_at}
 use Rattle.prompt_state.specs.Targets.{first_left}
 use Rattle.prompt_state.specs.declared.row.Ask.{Ask}
@@ -16,13 +16,13 @@ use Rattle.prompt_state.specs.declared.row.PromptKind.TheVariants.{Unlock, Creat
 use Rattle.prompt_state.specs.declared.row.PromptRow.{PromptRow}
 use Rattle.prompt_state.specs.declared.row.Prompts.{Prompts}
 use Rattle.prompt_state.specs.declared.targets.Target.{Target}
-use Rattle.secret_calls.specs.Outs.{shown_label}
-use Rattle.secret_calls.specs.declared.out.Out.TheVariants as out
-use Rattle.secret_calls.specs.declared.signal.AskKind.{AskKind}
-use Rattle.secret_calls.specs.declared.signal.AskKind.TheVariants as kind
-use Rattle.secret_calls.specs.declared.signal.Completion.{Completion}
-use Rattle.secret_calls.specs.declared.signal.Completion.TheVariants as completion
-use Rattle.secret_calls.specs.declared.signal.Signal.TheVariants as signal
+use Rattle.service_tables.specs.secret_calls.specs.Outs.{shown_label}
+use Rattle.service_tables.specs.secret_calls.specs.declared.out.Out.TheVariants as out
+use Rattle.service_tables.specs.secret_calls.specs.declared.signal.AskKind.{AskKind}
+use Rattle.service_tables.specs.secret_calls.specs.declared.signal.AskKind.TheVariants as kind
+use Rattle.service_tables.specs.secret_calls.specs.declared.signal.Completion.{Completion}
+use Rattle.service_tables.specs.secret_calls.specs.declared.signal.Completion.TheVariants as completion
+use Rattle.service_tables.specs.secret_calls.specs.declared.signal.Signal.TheVariants as signal
 use Rattle.service_tables.specs.Reading.{label_of}
 use Rattle.service_tables.specs.declared.rows.Sent.{Sent}
 use Rattle.service_prompts.specs.Unlocking.{given_of}

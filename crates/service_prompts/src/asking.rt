@@ -1,14 +1,14 @@
 // The signal Ask.
 ghost use Rattle.std.specs.Prelude.{◌≡◌, IfOk};
 ghost use Rattle.prompt_state.specs.Prompts.{registered};
-ghost use Rattle.secret_calls.specs.Outs.{shown_label};
+ghost use Rattle.service_tables.specs.secret_calls.specs.Outs.{shown_label};
 ghost use Rattle.service_tables.specs.Disk.{contents_in};
 ghost use Rattle.service_prompts.specs.Prompting.{ask_sent, ask_signal, ask_signal_in, asks_sent, label_asked, purpose_of};
 
 use kr_base::{ConnId, OutOfMemory, PromptId, Text};
 use kr_outside::Folder;
 use prompt_state::{Ask, PromptKind, PromptState};
-use secret_calls::{AskKind, Out, Signal, no_label, shown_label};
+use service_tables::secret_calls::{AskKind, Out, Signal, no_label, shown_label};
 use service_tables::{Disk, Sent};
 use std::alloc::Global;
 

@@ -7,7 +7,7 @@ use kr_base::{ConnId, OutOfMemory, PromptId, Stem, Text};
 use kr_items::Items;
 use kr_names::{ObjectName, path_of};
 use prompt_state::{PromptKind, PromptState, Target};
-use secret_calls::{Completion, Out, Signal};
+use service_tables::secret_calls::{Completion, Out, Signal};
 use service_tables::{Sent, collection_path};
 use std::alloc::Global;
 

@@ -12,4 +12,6 @@ mod unlocking;
 
 pub use asking::{ask_sent, ask_signal, asks_sent_to};
 pub use completing::{completed_sent, completed_signal, completion_of};
+pub use service_tables;
+pub use service_tables::{alias_table, collection_store, folder_store, secret_calls};
 pub use unlocking::{are_light, targets_of, unlocked_there};

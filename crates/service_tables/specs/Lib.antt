@@ -1,3 +1,10 @@
+pub use Rattle.alias_table
+pub use Rattle.collection_store
+pub use Rattle.collection_table
+pub use Rattle.folder_store
+pub use Rattle.item_store
+pub use Rattle.keyring_seal
+pub use Rattle.secret_calls
 pub mod Aliases
 pub mod Connections
 pub mod Desks

@@ -24,13 +24,17 @@ mod reading;
 mod rows;
 mod storing;
 
+pub use alias_table;
 pub use aliases::KeptAliases;
+pub use collection_store;
 pub use connections::Connections;
 pub use disk::{Disk, OpenRefused};
 pub use fate::Fate;
+pub use folder_store;
 pub use kept::KeptSlot;
 pub use known::{known_alias, known_item, known_secret, known_text};
 pub use paths::{
     collection_path, is_new, item_path, item_paths, locked_paths, put_path, unlocked_paths,
 };
 pub use rows::{ConnRow, ConnRows, DeskRow, Rows, Sent};
+pub use secret_calls;

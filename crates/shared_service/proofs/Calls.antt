@@ -3,33 +3,33 @@ use Rattle.std.proofs.Common.{◌≡◌, ℕ, ◌<◌, Bool, true, false, List, 
 use Rattle.std.proofs.lemmas.List.{length_push, append_assoc}
 use Rattle.atomic_table.specs.Seated.{TableId}
 use Rattle.kr_base.specs.declared.ids.ConnId.{ConnId}
-use Rattle.secret_calls.specs.declared.taken.Taken.{Taken}
-use Rattle.service_tables.specs.State.{State}
-use Rattle.service_tables.specs.declared.rows.DeskRow.{DeskRow}
-use Rattle.service_events.specs.declared.event.Event.{Event}
-use Rattle.service_events.specs.declared.event.Event.TheVariants as event
-use Rattle.service_tables.specs.Connections.{desk_of, has}
-use Rattle.service_events.specs.Fates.{with_fates, IsFaultless}
-use Rattle.service_events.specs.Step.{step, output_of, Fits, IsMissing, IsCrowded, CanJoin}
-use Rattle.service_events.specs.Replay.{replay, Legal}
-use Rattle.service_tables.proofs.FitLemmas.{has-told, has-none}
-use Rattle.service_events.proofs.ReplayLemmas.{replay-append}
+use Rattle.service_desk.specs.secret_calls.specs.declared.taken.Taken.{Taken}
+use Rattle.service_desk.specs.service_tables.specs.State.{State}
+use Rattle.service_desk.specs.service_tables.specs.declared.rows.DeskRow.{DeskRow}
+use Rattle.service_desk.specs.service_events.specs.declared.event.Event.{Event}
+use Rattle.service_desk.specs.service_events.specs.declared.event.Event.TheVariants as event
+use Rattle.service_desk.specs.service_tables.specs.Connections.{desk_of, has}
+use Rattle.service_desk.specs.service_events.specs.Fates.{with_fates, IsFaultless}
+use Rattle.service_desk.specs.service_events.specs.Step.{step, output_of, Fits, IsMissing, IsCrowded, CanJoin}
+use Rattle.service_desk.specs.service_events.specs.Replay.{replay, Legal}
+use Rattle.service_desk.specs.service_tables.proofs.FitLemmas.{has-told, has-none}
+use Rattle.service_desk.specs.service_events.proofs.ReplayLemmas.{replay-append}
 use Rattle.service_history.specs.History.{History, Stores, StoresKey, StoresRequest, given_for}
 use Rattle.service_history.specs.History as history
 use Rattle.service_history.specs.Windows.{total}
 use Rattle.service_desk.specs.Places.{Looks, Extends}
 use Rattle.service_desk.specs.Views.{View, with_others, with_own, state_of, count_of, HasCause}
 use Rattle.service_desk.specs.Calls.{Arrives, Finishes, IsRefusal, Leaves, Goes, Takes}
-use Rattle.service_tables.specs.Limits.{most_events, IsSpent}
-use Rattle.secret_calls.specs.declared.work.Work.{Work}
-use Rattle.service_events.specs.declared.event.Arrival.{Arrival}
-use Rattle.service_events.specs.declared.event.BroughtKey.{BroughtKey}
-use Rattle.service_events.specs.declared.event.Output.{Output}
-use Rattle.service_events.specs.declared.event.Output.TheVariants as output
-use Rattle.service_events.specs.declared.event.JoinRefused.{JoinRefused}
-use Rattle.service_events.specs.declared.event.JoinRefused.TheVariants as join
-use Rattle.secret_calls.specs.declared.taken.Refused.{Refused}
-use Rattle.secret_calls.specs.declared.taken.Refused.TheVariants as refused
+use Rattle.service_desk.specs.service_tables.specs.Limits.{most_events, IsSpent}
+use Rattle.service_desk.specs.secret_calls.specs.declared.work.Work.{Work}
+use Rattle.service_desk.specs.service_events.specs.declared.event.Arrival.{Arrival}
+use Rattle.service_desk.specs.service_events.specs.declared.event.BroughtKey.{BroughtKey}
+use Rattle.service_desk.specs.service_events.specs.declared.event.Output.{Output}
+use Rattle.service_desk.specs.service_events.specs.declared.event.Output.TheVariants as output
+use Rattle.service_desk.specs.service_events.specs.declared.event.JoinRefused.{JoinRefused}
+use Rattle.service_desk.specs.service_events.specs.declared.event.JoinRefused.TheVariants as join
+use Rattle.service_desk.specs.secret_calls.specs.declared.taken.Refused.{Refused}
+use Rattle.service_desk.specs.secret_calls.specs.declared.taken.Refused.TheVariants as refused
 use Rattle.shared_service.specs.Passes.{spot, told, HasPlace, IsRefused}
 use Rattle.shared_service.specs.Standing.{Stands}
 use Rattle.shared_service.specs.Tries.{Tries, after_take}
@@ -97,7 +97,7 @@ module _ (conn : ConnId) (table : TableId) (steady : Bool) (view : View) (betwee
   count-met = total-stands view.start view.before (view.seen ++ between) service stands
 
   takes-some : (waits overrun leaving : Bool) → Some (record { waits = waits; overrun = overrun; leaving = leaving }) ≡ desk_of conn service.state.connections.rows
-      → (given : Taken) → given ≡ given_for conn service.state (Some (record { waits = waits; overrun = overrun; leaving = leaving })) → (given ≡ Rattle.secret_calls.specs.declared.taken.Taken.TheVariants.Empty → ⊥)
+      → (given : Taken) → given ≡ given_for conn service.state (Some (record { waits = waits; overrun = overrun; leaving = leaving })) → (given ≡ Rattle.service_desk.specs.secret_calls.specs.declared.taken.Taken.TheVariants.Empty → ⊥)
       → Takes (spot conn table steady view) (spot conn table steady (after_take conn given met)) given
   unfolding extends
   takes-some true overrun leaving told given is some = rw is (extends (event.Take conn) (rw (← told) refl) (λ _. tt))
@@ -108,7 +108,7 @@ module _ (conn : ConnId) (table : TableId) (steady : Bool) (view : View) (betwee
 
   -- the call returned something other than Empty
   pub takes : (desk : Option DeskRow) → desk ≡ desk_of conn service.state.connections.rows → (given : Taken) → given ≡ given_for conn service.state desk
-      → (given ≡ Rattle.secret_calls.specs.declared.taken.Taken.TheVariants.Empty → ⊥) → Takes (spot conn table steady view) (spot conn table steady (after_take conn given met)) given
+      → (given ≡ Rattle.service_desk.specs.secret_calls.specs.declared.taken.Taken.TheVariants.Empty → ⊥) → Takes (spot conn table steady view) (spot conn table steady (after_take conn given met)) given
   takes None told given is some = rw is (looks, told-met (λ s. has conn s.connections.rows ≡ false) (has-none conn service.state.connections.rows told))
   takes (Some desk) told given is some = takes-some desk.waits desk.overrun desk.leaving told given is some
 
@@ -136,7 +136,7 @@ none-more view = λ i. record view { seen = sym (append-nil view.seen) i }
 
 -- the call returned something other than Empty, after events of others
 pub takes-after : (conn : ConnId) (table : TableId) (steady : Bool) (view loop last : View) (before : List Event) (given : Taken) → loop ≡ with_others before view → Tries conn loop given last
-    → (given ≡ Rattle.secret_calls.specs.declared.taken.Taken.TheVariants.Empty → ⊥) → Takes (spot conn table steady view) (spot conn table steady last) given
+    → (given ≡ Rattle.service_desk.specs.secret_calls.specs.declared.taken.Taken.TheVariants.Empty → ⊥) → Takes (spot conn table steady view) (spot conn table steady last) given
 takes-after conn table steady view loop last before given is tried some =
     let all : with_others tried.between loop ≡ with_others (before ++ tried.between) view = ap (with_others tried.between) is ∙ more-others view before tried.between in
     let stands : Stands tried.service view.start view.before (view.seen ++ (before ++ tried.between)) =

@@ -2,20 +2,20 @@
 use Rattle.std.proofs.Common.{◌≡◌, ℕ, ◌+◌, ◌<◌, Bool, true, false, List, [], ◌∷◌, ◌++◌, length, Option, Some, None, Result, Ok, Err, IfOk, OnOk, OnErr, refl, sym, ap, ◌∙◌, subst, arith, length-append}
 use Rattle.std.proofs.lemmas.List.{length_push}
 use Rattle.kr_base.specs.declared.ids.ConnId.{ConnId}
-use Rattle.service_tables.specs.State.{State}
-use Rattle.service_tables.specs.declared.rows.DeskRow.{DeskRow}
-use Rattle.secret_calls.specs.declared.taken.Refused.{Refused}
-use Rattle.secret_calls.specs.declared.work.Work.{Work}
-use Rattle.service_events.specs.declared.event.Arrival.{Arrival}
-use Rattle.service_events.specs.declared.event.BroughtKey.{BroughtKey}
-use Rattle.service_events.specs.declared.event.Event.{Event}
-use Rattle.service_events.specs.declared.event.Event.TheVariants as event
-use Rattle.service_tables.specs.declared.fate.Fate.{Fate}
-use Rattle.service_events.specs.Fates.{with_fates}
-use Rattle.service_tables.specs.Connections.{desk_of}
-use Rattle.service_events.specs.Step.{Fits}
-use Rattle.service_events.specs.Replay.{Legal}
-use Rattle.service_tables.proofs.FitLemmas.{has-told}
+use Rattle.service_desk.specs.service_tables.specs.State.{State}
+use Rattle.service_desk.specs.service_tables.specs.declared.rows.DeskRow.{DeskRow}
+use Rattle.service_desk.specs.secret_calls.specs.declared.taken.Refused.{Refused}
+use Rattle.service_desk.specs.secret_calls.specs.declared.work.Work.{Work}
+use Rattle.service_desk.specs.service_events.specs.declared.event.Arrival.{Arrival}
+use Rattle.service_desk.specs.service_events.specs.declared.event.BroughtKey.{BroughtKey}
+use Rattle.service_desk.specs.service_events.specs.declared.event.Event.{Event}
+use Rattle.service_desk.specs.service_events.specs.declared.event.Event.TheVariants as event
+use Rattle.service_desk.specs.service_tables.specs.declared.fate.Fate.{Fate}
+use Rattle.service_desk.specs.service_events.specs.Fates.{with_fates}
+use Rattle.service_desk.specs.service_tables.specs.Connections.{desk_of}
+use Rattle.service_desk.specs.service_events.specs.Step.{Fits}
+use Rattle.service_desk.specs.service_events.specs.Replay.{Legal}
+use Rattle.service_desk.specs.service_tables.proofs.FitLemmas.{has-told}
 use Rattle.service_history.specs.History.{History, IsHistory, Stores, StoresKey, StoresRequest, cut_where_due, with_event, given_for, taken_by, left_by, gone_by}
 use Rattle.service_history.specs.Windows.{total, is_due}
 use Rattle.service_desk.specs.Views.{View, ArePlaces, with_others, with_own}
@@ -130,7 +130,7 @@ module _ (old pass : turn.View Start Event) (between : List Event) (is : pass �
   idle-some (Some event) fits = record {
     start = idle.start;
     outside = refl;
-    legal = Rattle.service_events.proofs.ReplayLemmas.Legal-append (start_or old.start) (old.seen ++ between) (event ∷ []) legal-found
+    legal = Rattle.service_desk.specs.service_events.proofs.ReplayLemmas.Legal-append (start_or old.start) (old.seen ++ between) (event ∷ []) legal-found
         (subst (λ (s : State). Fits s event) (state-stands (start_or old.start) old.before (old.seen ++ between) service stands-view) fits, tt);
     places = subst (λ (k : ℕ). ArePlaces 0 k (old.own ++ length (old.seen ++ between) ∷ [])) (sym (length_push (old.seen ++ between) event)) (places-push 0 (length (old.seen ++ between)) old.own places-found);
   }

@@ -1,15 +1,15 @@
 -- A call with the turn that records one event and returns Ok, or is refused and records nothing.
 use Rattle.std.proofs.Common.{◌≡◌, ℕ, Bool, List, ◌∷◌, [], Option, Some, Result, Err, IfOk, OnOk, OnErr, IfErr, IsErrOf, ◌≢◌, subst}
 use Rattle.kr_base.specs.declared.ids.ConnId.{ConnId}
-use Rattle.secret_calls.specs.declared.taken.Refused.{Refused}
-use Rattle.secret_calls.specs.declared.taken.Refused.TheVariants as refused
-use Rattle.secret_calls.specs.declared.work.Work.{Work}
-use Rattle.service_tables.specs.Limits.{IsSpent}
-use Rattle.service_events.specs.declared.event.Arrival.{Arrival}
-use Rattle.service_events.specs.declared.event.BroughtKey.{BroughtKey}
-use Rattle.service_events.specs.declared.event.Event.{Event}
-use Rattle.service_events.specs.Fates.{with_fates, is_steady}
-use Rattle.service_events.specs.Step.{IsMissing}
+use Rattle.service_desk.specs.secret_calls.specs.declared.taken.Refused.{Refused}
+use Rattle.service_desk.specs.secret_calls.specs.declared.taken.Refused.TheVariants as refused
+use Rattle.service_desk.specs.secret_calls.specs.declared.work.Work.{Work}
+use Rattle.service_desk.specs.service_tables.specs.Limits.{IsSpent}
+use Rattle.service_desk.specs.service_events.specs.declared.event.Arrival.{Arrival}
+use Rattle.service_desk.specs.service_events.specs.declared.event.BroughtKey.{BroughtKey}
+use Rattle.service_desk.specs.service_events.specs.declared.event.Event.{Event}
+use Rattle.service_desk.specs.service_events.specs.Fates.{with_fates, is_steady}
+use Rattle.service_desk.specs.service_events.specs.Step.{IsMissing}
 use Rattle.service_history.specs.History.{History, ServiceState, IsHistory, Stores, StoresKey, StoresRequest}
 use Rattle.service_history.specs.Windows.{total}
 use Rattle.service_desk.specs.Places.{Place, Looks}

@@ -1,14 +1,14 @@
 -- The service is what the run's history leads to, and still is after one more event.
 use Rattle.std.proofs.Common.{◌≡◌, ℕ, zero, suc, ◌+◌, ◌-◌, ◌≤◌, Bool, true, false, List, [], ◌∷◌, ◌++◌, length, take, drop, refl, sym, ap, ◌∙◌, subst, arith, length-drop, take-append-drop}
 use Rattle.std.proofs.lemmas.List.{length_push}
-use Rattle.service_tables.specs.State.{State}
-use Rattle.service_events.specs.declared.event.Event.{Event}
-use Rattle.service_events.specs.Step.{step, Fits}
-use Rattle.service_events.specs.Replay.{replay, Legal}
-use Rattle.service_events.proofs.ReplayLemmas.{replay-append, Legal-append}
+use Rattle.service_desk.specs.service_tables.specs.State.{State}
+use Rattle.service_desk.specs.service_events.specs.declared.event.Event.{Event}
+use Rattle.service_desk.specs.service_events.specs.Step.{step, Fits}
+use Rattle.service_desk.specs.service_events.specs.Replay.{replay, Legal}
+use Rattle.service_desk.specs.service_events.proofs.ReplayLemmas.{replay-append, Legal-append}
 use Rattle.service_history.specs.History.{History, IsHistory, cut, cut_where_due, with_event}
 use Rattle.service_history.specs.Windows.{total, is_due}
-use Rattle.service_events.proofs.SoundLemmas.{sound_replay}
+use Rattle.service_desk.specs.service_events.proofs.SoundLemmas.{sound_replay}
 use Rattle.shared_service.specs.Standing.{Stands, newest}
 
 -- a cut keeps what is true of every service

@@ -1,6 +1,6 @@
 -- A call with the turn that recorded one event or none.
 use Rattle.std.specs.Prelude.{◌≡◌, ℕ, ◌+◌, ◌<◌, Bool, List, [], ◌∷◌, ◌++◌, length, Some}
-use Rattle.service_events.specs.declared.event.Event.{Event}
+use Rattle.service_desk.specs.service_events.specs.declared.event.Event.{Event}
 use Rattle.service_history.specs.History.{History}
 use Rattle.service_history.specs.Windows.{total}
 use Rattle.shared_turn.specs.Passes as turn

@@ -3,11 +3,11 @@ use Rattle.std.specs.Prelude.{◌≡◌, ℕ, ◌+◌, List, [], ◌∷◌, leng
 use mathlib.Core.Path.{sym, subst}
 use mathlib.Core.HLevel.{×_prop, Unit-prop}
 use Rattle.std.proofs.Props.{props}
-use Rattle.service_tables.specs.State.{State}
-use Rattle.service_events.specs.declared.event.Event.{Event}
-use Rattle.service_events.specs.Step.{step}
-use Rattle.service_events.proofs.EventLemmas.{fits-prop}
-use Rattle.service_events.specs.Replay.{Legal}
+use Rattle.service_desk.specs.service_tables.specs.State.{State}
+use Rattle.service_desk.specs.service_events.specs.declared.event.Event.{Event}
+use Rattle.service_desk.specs.service_events.specs.Step.{step}
+use Rattle.service_desk.specs.service_events.proofs.EventLemmas.{fits-prop}
+use Rattle.service_desk.specs.service_events.specs.Replay.{Legal}
 use Rattle.service_desk.specs.Views.{View, ArePlaces, IsView, state_of, count_of}
 
 events-prop : (state : State) (events : List Event) → IsProp (Legal state events)

@@ -1,3 +1,16 @@
+pub use Rattle.service_desk.specs.alias_table
+pub use Rattle.service_desk.specs.collection_store
+pub use Rattle.service_desk.specs.collection_table
+pub use Rattle.service_desk.specs.folder_store
+pub use Rattle.service_desk.specs.item_store
+pub use Rattle.service_desk.specs.secret_calls
+pub use Rattle.service_history.specs.service_calls
+pub use Rattle.service_desk
+pub use Rattle.service_desk.specs.service_events
+pub use Rattle.service_history
+pub use Rattle.service_history.specs.service_machine
+pub use Rattle.service_desk.specs.service_tables
+pub use Rattle.shared_turn
 pub mod Ends
 pub mod Kept
 pub mod Passes

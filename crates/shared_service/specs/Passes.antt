@@ -2,17 +2,17 @@
 use Rattle.std.specs.Prelude.{◌≡◌, ◌<◌, Bool, true, false, [], length, Option, Some, None}
 use Rattle.atomic_table.specs.Seated.{TableId}
 use Rattle.kr_base.specs.declared.ids.ConnId.{ConnId}
-use Rattle.service_tables.specs.State.{State}
-use Rattle.service_events.specs.declared.event.Event.{Event}
-use Rattle.service_tables.specs.Opened.{opened_state}
-use Rattle.service_events.specs.Replay.{Legal}
+use Rattle.service_desk.specs.service_tables.specs.State.{State}
+use Rattle.service_desk.specs.service_events.specs.declared.event.Event.{Event}
+use Rattle.service_desk.specs.service_tables.specs.Opened.{opened_state}
+use Rattle.service_desk.specs.service_events.specs.Replay.{Legal}
 use Rattle.service_history.specs.Windows.{Window}
 use Rattle.service_desk.specs.Views.{View, ArePlaces, state_of, count_of, HasCause}
 use Rattle.service_desk.specs.Places.{Told, Place, Looks}
-use Rattle.service_events.specs.declared.event.JoinRefused.{JoinRefused}
-use Rattle.service_events.specs.declared.event.JoinRefused.TheVariants as join
-use Rattle.service_events.specs.Step.{CanJoin}
-use Rattle.service_tables.specs.Limits.{most_events}
+use Rattle.service_desk.specs.service_events.specs.declared.event.JoinRefused.{JoinRefused}
+use Rattle.service_desk.specs.service_events.specs.declared.event.JoinRefused.TheVariants as join
+use Rattle.service_desk.specs.service_events.specs.Step.{CanJoin}
+use Rattle.service_desk.specs.service_tables.specs.Limits.{most_events}
 use Rattle.shared_turn.specs.Passes as turn
 use Rattle.shared_turn.specs.Places.{StartsWith, longer, merged}
 use Rattle.shared_service.specs.Standing.{Start}

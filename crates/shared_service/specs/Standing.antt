@@ -1,9 +1,9 @@
 -- What a service is in a run: the history since the run's start led to it.
 use Rattle.std.specs.Prelude.{◌≡◌, ℕ, ◌+◌, ◌≤◌, Bool, List, [], ◌∷◌, length, take, drop}
-use Rattle.service_tables.specs.State.{State}
-use Rattle.service_events.specs.declared.event.Event.{Event}
-use Rattle.service_events.specs.Replay.{replay, Legal}
-use Rattle.service_events.specs.Fates.{is_steady}
+use Rattle.service_desk.specs.service_tables.specs.State.{State}
+use Rattle.service_desk.specs.service_events.specs.declared.event.Event.{Event}
+use Rattle.service_desk.specs.service_events.specs.Replay.{replay, Legal}
+use Rattle.service_desk.specs.service_events.specs.Fates.{is_steady}
 use Rattle.service_history.specs.History.{History, ServiceState, IsHistory}
 
 -- The run began with this state, after this many events, and this is its history since then. The service keeps the

@@ -1,10 +1,10 @@
 -- What one call does with the turn, given the service as it was found.
 use Rattle.std.specs.Prelude.{◌≡◌, List, ◌++◌}
 use Rattle.kr_base.specs.declared.ids.ConnId.{ConnId}
-use Rattle.secret_calls.specs.declared.taken.Taken.{Taken}
-use Rattle.secret_calls.specs.declared.taken.Taken.TheVariants as taken
-use Rattle.service_events.specs.declared.event.Event.{Event}
-use Rattle.service_events.specs.declared.event.Event.TheVariants as event
+use Rattle.service_desk.specs.secret_calls.specs.declared.taken.Taken.{Taken}
+use Rattle.service_desk.specs.secret_calls.specs.declared.taken.Taken.TheVariants as taken
+use Rattle.service_desk.specs.service_events.specs.declared.event.Event.{Event}
+use Rattle.service_desk.specs.service_events.specs.declared.event.Event.TheVariants as event
 use Rattle.service_history.specs.History.{History, given_for, told}
 use Rattle.service_desk.specs.Views.{View, with_others, with_own}
 use Rattle.shared_service.specs.Standing.{Stands}

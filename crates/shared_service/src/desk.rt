@@ -6,7 +6,7 @@ use crate::pass::Pass;
 use crate::shared::SharedService;
 use kr_base::ConnId;
 use kr_outside::Folder;
-use secret_calls::{Finished, Refused, Request, Taken, Work};
+use service_desk::secret_calls::{Finished, Refused, Request, Taken, Work};
 use service_desk::{Desk, ReadDesk, WriteDesk};
 use std::alloc::Global;
 use std::sync::{Arc, Wait};

@@ -1,6 +1,6 @@
 use kr_outside::Folder;
 use service_history::Service;
-use service_machine::{Event, Machine};
+use service_history::service_machine::{Event, Machine};
 use shared_turn::Chronicle;
 use std::marker::Model;
 
@@ -17,7 +17,7 @@ impl<F: Folder> Model for Moment<F> {
 
     ghost Value = { Start };
 
-    ghost use Rattle.service_machine.specs.Rows.{rows_of};
+    ghost use Rattle.service_history.specs.service_machine.specs.Rows.{rows_of};
 
     ghost view = { λ m. record { state = rows_of m.machine; steady = m.steady } };
 }

@@ -13,4 +13,6 @@ mod shared;
 
 pub use desk::SharedDesk;
 pub use pass::Pass;
+pub use service_desk;
+pub use service_history;
 pub use shared::SharedService;

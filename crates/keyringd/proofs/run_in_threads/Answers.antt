@@ -1,5 +1,5 @@
 use denote.Param.Send.{sendable}
-use Rattle.service_hub.proofs.Sends.SharedService.{SharedDesk-send}
+use Rattle.keyring_program.specs.service_hub.proofs.Sends.SharedService.{SharedDesk-send}
 use Rattle.keyringd.proofs.run_in_threads.Goals as goal
 
 -- a desk may go to another thread

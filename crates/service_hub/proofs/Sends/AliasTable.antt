@@ -3,7 +3,7 @@ use denote.RattleType.{RattleType}
 use denote.Param.Send.{IsSend, sendable}
 use Rattle.std.proofs.Crossing as heap
 use Rattle.kr_outside.specs.declared.slot.Slot as slot
-use Rattle.alias_table.specs.contracts.table.AliasTable as AliasTable
+use Rattle.shared_service.specs.alias_table.specs.contracts.table.AliasTable as AliasTable
 use Rattle.service_hub.proofs.Sends.KrBase.{Stem-send, Text-send}
 use Rattle.service_hub.proofs.Sends.ReplaceSlot.{FileCell-send}
 

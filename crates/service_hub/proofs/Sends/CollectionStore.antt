@@ -3,9 +3,9 @@ use denote.RattleType.{RattleType}
 use denote.Param.Send.{IsSend, sendable}
 use Rattle.std.proofs.Crossing as heap
 use Rattle.kr_outside.specs.declared.slot.Slot as slot
-use Rattle.collection_store.specs.contracts.collection.Collection as Collection
-use Rattle.collection_store.specs.contracts.holding.Open as Open
-use Rattle.collection_store.specs.contracts.told.Told as Told
+use Rattle.shared_service.specs.collection_store.specs.contracts.collection.Collection as Collection
+use Rattle.shared_service.specs.collection_store.specs.contracts.holding.Open as Open
+use Rattle.shared_service.specs.collection_store.specs.contracts.told.Told as Told
 use Rattle.service_hub.proofs.Sends.HashedIndex.{HashedIndex-send}
 use Rattle.service_hub.proofs.Sends.ItemStore.{ItemStore-send}
 use Rattle.service_hub.proofs.Sends.KeyringFile.{Clear-send}

@@ -3,7 +3,7 @@ use denote.RattleType.{RattleType}
 use denote.Param.Send.{IsSend, sendable}
 use Rattle.std.proofs.Crossing as heap
 use Rattle.kr_outside.specs.declared.slot.Slot as slot
-use Rattle.collection_table.specs.contracts.table.CollectionTable as CollectionTable
+use Rattle.shared_service.specs.collection_table.specs.contracts.table.CollectionTable as CollectionTable
 use Rattle.service_hub.proofs.Sends.CollectionStore.{Collection-send}
 use Rattle.service_hub.proofs.Sends.KrBase.{Stem-send}
 

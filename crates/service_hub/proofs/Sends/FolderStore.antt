@@ -3,9 +3,9 @@ use denote.RattleType.{RattleType}
 use denote.Param.Send.{IsSend, sendable}
 use Rattle.std.proofs.Crossing as heap
 use Rattle.kr_outside.specs.declared.slot.Slot as slot
-use Rattle.folder_store.specs.contracts.alias_file.AliasFile as AliasFile
-use Rattle.folder_store.specs.contracts.found_aliases.FoundAliases as FoundAliases
-use Rattle.folder_store.specs.contracts.opening.LeftAlone as LeftAlone
+use Rattle.shared_service.specs.folder_store.specs.contracts.alias_file.AliasFile as AliasFile
+use Rattle.shared_service.specs.folder_store.specs.contracts.found_aliases.FoundAliases as FoundAliases
+use Rattle.shared_service.specs.folder_store.specs.contracts.opening.LeftAlone as LeftAlone
 use Rattle.service_hub.proofs.Sends.KrBase.{Stem-send, Text-send}
 use Rattle.service_hub.proofs.Sends.ReplaceSlot.{FileCell-send}
 

@@ -1,8 +1,8 @@
 -- What of item_store may be sent to another thread.
 use denote.Param.Send.{IsSend, sendable}
 use Rattle.std.proofs.Crossing as heap
-use Rattle.item_store.specs.contracts.rows.RowList as RowList
-use Rattle.item_store.specs.contracts.store.ItemStore as ItemStore
+use Rattle.shared_service.specs.item_store.specs.contracts.rows.RowList as RowList
+use Rattle.shared_service.specs.item_store.specs.contracts.store.ItemStore as ItemStore
 use Rattle.service_hub.proofs.Sends.AttributeIndex.{AttributeIndex-send}
 use Rattle.service_hub.proofs.Sends.KeyringFile.{FullItem-send}
 

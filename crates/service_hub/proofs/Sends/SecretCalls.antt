@@ -1,15 +1,15 @@
 -- What of secret_calls may be sent to another thread.
 use denote.Param.Send.{IsSend, sendable}
-use Rattle.secret_calls.specs.contracts.alias.AliasName as AliasName
-use Rattle.secret_calls.specs.contracts.call.Call as Call
-use Rattle.secret_calls.specs.contracts.call.Request as Request
-use Rattle.secret_calls.specs.contracts.out.Body as Body
-use Rattle.secret_calls.specs.contracts.out.Out as Out
-use Rattle.secret_calls.specs.contracts.secret.ItemSecret as ItemSecret
-use Rattle.secret_calls.specs.contracts.secret.ReturnedSecret as ReturnedSecret
-use Rattle.secret_calls.specs.contracts.secret.Secret as Secret
-use Rattle.secret_calls.specs.contracts.signal.Completion as Completion
-use Rattle.secret_calls.specs.contracts.signal.Signal as Signal
+use Rattle.shared_service.specs.secret_calls.specs.contracts.alias.AliasName as AliasName
+use Rattle.shared_service.specs.secret_calls.specs.contracts.call.Call as Call
+use Rattle.shared_service.specs.secret_calls.specs.contracts.call.Request as Request
+use Rattle.shared_service.specs.secret_calls.specs.contracts.out.Body as Body
+use Rattle.shared_service.specs.secret_calls.specs.contracts.out.Out as Out
+use Rattle.shared_service.specs.secret_calls.specs.contracts.secret.ItemSecret as ItemSecret
+use Rattle.shared_service.specs.secret_calls.specs.contracts.secret.ReturnedSecret as ReturnedSecret
+use Rattle.shared_service.specs.secret_calls.specs.contracts.secret.Secret as Secret
+use Rattle.shared_service.specs.secret_calls.specs.contracts.signal.Completion as Completion
+use Rattle.shared_service.specs.secret_calls.specs.contracts.signal.Signal as Signal
 use Rattle.service_hub.proofs.Sends.KrBase.{Attributes-send, Bytes-send, Stem-send, Text-send}
 use Rattle.service_hub.proofs.Sends.KrItems.{Items-send}
 use Rattle.service_hub.proofs.Sends.KrNames.{ObjectName-field-send, ObjectName-send}

@@ -3,7 +3,7 @@ use denote.RattleType.{RattleType}
 use denote.Param.Send.{IsSend, sendable}
 use Rattle.std.proofs.Crossing as heap
 use Rattle.kr_outside.specs.declared.slot.Slot as slot
-use Rattle.service_calls.specs.contracts.tables.Tables as Tables
+use Rattle.shared_service.specs.service_calls.specs.contracts.tables.Tables as Tables
 use Rattle.service_hub.proofs.Sends.PromptState.{PromptState-send}
 use Rattle.service_hub.proofs.Sends.ServiceTables.{Connections-send, Disk-send}
 use Rattle.service_hub.proofs.Sends.SessionTable.{SessionTable-send}

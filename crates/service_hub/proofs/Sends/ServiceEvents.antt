@@ -2,12 +2,12 @@
 use denote.RattleType.{RattleType}
 use denote.Param.Send.{IsSend, sendable}
 use Rattle.std.proofs.Crossing as heap
-use Rattle.service_events.specs.contracts.boxed.Boxed as Boxed
-use Rattle.service_events.specs.contracts.event.Arrival as Arrival
-use Rattle.service_events.specs.contracts.event.Derivation as Derivation
-use Rattle.service_events.specs.contracts.event.Event as Event
-use Rattle.service_events.specs.contracts.event.Recorded as Recorded
-use Rattle.service_events.specs.contracts.fates.Fates as Fates
+use Rattle.shared_service.specs.service_events.specs.contracts.boxed.Boxed as Boxed
+use Rattle.shared_service.specs.service_events.specs.contracts.event.Arrival as Arrival
+use Rattle.shared_service.specs.service_events.specs.contracts.event.Derivation as Derivation
+use Rattle.shared_service.specs.service_events.specs.contracts.event.Event as Event
+use Rattle.shared_service.specs.service_events.specs.contracts.event.Recorded as Recorded
+use Rattle.shared_service.specs.service_events.specs.contracts.fates.Fates as Fates
 use Rattle.service_hub.proofs.Sends.KrBase.{Bytes-send}
 use Rattle.service_hub.proofs.Sends.SecretCalls.{Request-send}
 use Rattle.service_hub.proofs.Sends.ServiceTables.{Fate-send}

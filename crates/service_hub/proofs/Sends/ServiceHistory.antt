@@ -4,8 +4,8 @@ use denote.Param.Send.{IsSend, sendable}
 use Rattle.std.proofs.Crossing as heap
 use Rattle.kr_outside.specs.declared.folder.Folder as folder
 use Rattle.kr_outside.specs.declared.slot.Slot as slot
-use Rattle.service_history.specs.contracts.service.Service as Service
-use Rattle.service_history.specs.contracts.window.Window as Window
+use Rattle.shared_service.specs.service_history.specs.contracts.service.Service as Service
+use Rattle.shared_service.specs.service_history.specs.contracts.window.Window as Window
 use Rattle.service_hub.proofs.Sends.ServiceEvents.{Event-send}
 use Rattle.service_hub.proofs.Sends.ServiceMachine.{Machine-send}
 

@@ -4,12 +4,12 @@ use denote.Param.Send.{IsSend, sendable}
 use Rattle.std.proofs.Crossing as heap
 use Rattle.std.proofs.MapsCrossing as maps
 use Rattle.kr_outside.specs.declared.slot.Slot as slot
-use Rattle.service_tables.specs.contracts.aliases.KeptAliases as KeptAliases
-use Rattle.service_tables.specs.contracts.connections.Connections as Connections
-use Rattle.service_tables.specs.contracts.desk.Desk as Desk
-use Rattle.service_tables.specs.contracts.disk.Disk as Disk
-use Rattle.service_tables.specs.contracts.fate.Fate as Fate
-use Rattle.service_tables.specs.contracts.kept.KeptSlot as KeptSlot
+use Rattle.shared_service.specs.service_tables.specs.contracts.aliases.KeptAliases as KeptAliases
+use Rattle.shared_service.specs.service_tables.specs.contracts.connections.Connections as Connections
+use Rattle.shared_service.specs.service_tables.specs.contracts.desk.Desk as Desk
+use Rattle.shared_service.specs.service_tables.specs.contracts.disk.Disk as Disk
+use Rattle.shared_service.specs.service_tables.specs.contracts.fate.Fate as Fate
+use Rattle.shared_service.specs.service_tables.specs.contracts.kept.KeptSlot as KeptSlot
 use Rattle.service_hub.proofs.Sends.CollectionTable.{CollectionTable-send}
 use Rattle.service_hub.proofs.Sends.AliasTable.{AliasTable-send}
 use Rattle.service_hub.proofs.Sends.FolderStore.{LeftAlone-send}

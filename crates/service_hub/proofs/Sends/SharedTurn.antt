@@ -5,9 +5,9 @@ use Rattle.std.proofs.Crossing as heap
 use Rattle.atomic_table.proofs.shared.Seat.TheSendSync.{the_send as seat-send}
 use Rattle.atomic_table.proofs.shared.Shared.TheSendSync.{the_send as shared-send, the_sync as shared-sync}
 use Rattle.atomic_table.proofs.send_lease.SendLease.TheSendSync.{the_send as lease-send, the_sync as lease-sync}
-use Rattle.shared_turn.specs.declared.chronicle.Chronicle as chronicle
-use Rattle.shared_turn.specs.contracts.pass.Pass as Pass
-use Rattle.shared_turn.specs.contracts.turn.Turn as Turn
+use Rattle.shared_service.specs.shared_turn.specs.declared.chronicle.Chronicle as chronicle
+use Rattle.shared_service.specs.shared_turn.specs.contracts.pass.Pass as Pass
+use Rattle.shared_service.specs.shared_turn.specs.contracts.turn.Turn as Turn
 
 module _ (C B E : RattleType) (c : chronicle.Ghosts C.Denot B.Denot E.Denot) where
   pub Pass-send : IsSend C → IsSend (Pass.the_row C B E c)

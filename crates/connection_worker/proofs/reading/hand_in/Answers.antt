@@ -1,6 +1,6 @@
 use Rattle.std.proofs.Common.{None, Some, subst}
-use Rattle.secret_calls.specs.Works.{finished}
-use Rattle.service_events.specs.declared.event.Arrival.{Arrival}
+use Rattle.service_desk.specs.secret_calls.specs.Works.{finished}
+use Rattle.service_desk.specs.service_events.specs.declared.event.Arrival.{Arrival}
 use Rattle.service_desk.specs.Calls.{Arrives, Finishes}
 use Rattle.service_desk.specs.Places.{place}
 use Rattle.connection_worker.specs.Serving.{world}

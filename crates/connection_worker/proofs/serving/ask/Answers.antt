@@ -1,6 +1,6 @@
 use Rattle.std.proofs.Common.{[], None, refl}
 use Rattle.service_desk.specs.Places.{place}
-use Rattle.service_events.specs.Single.{TimedRequest}
+use Rattle.service_desk.specs.service_events.specs.Single.{TimedRequest}
 use Rattle.connection_worker.proofs.ServingLemmas.{has-arrived, has-asked, has-work, spent-before}
 use Rattle.connection_worker.proofs.serving.ask.Goals as goal
 

@@ -1,5 +1,5 @@
 use Rattle.std.proofs.Common.{subst}
-use Rattle.secret_calls.specs.Works.{finished}
+use Rattle.service_desk.specs.secret_calls.specs.Works.{finished}
 use Rattle.service_desk.specs.Calls.{Finishes}
 use Rattle.service_desk.specs.Places.{place}
 use Rattle.connection_worker.proofs.ServingLemmas.{has-brought, has-lost, key_in, spent-before}

@@ -1,6 +1,6 @@
 use Rattle.std.proofs.Common.{refl, ap, subst}
-use Rattle.service_desk.specs.Calls.{Goes}
-use Rattle.service_desk.specs.Places.{place}
+use Rattle.connection_worker.specs.service_desk.specs.Calls.{Goes}
+use Rattle.connection_worker.specs.service_desk.specs.Places.{place}
 use Rattle.daemon.specs.Accepts.{Unjoined, Unstarted, Started}
 use Rattle.daemon.proofs.accepting.admit.Goals as goal
 

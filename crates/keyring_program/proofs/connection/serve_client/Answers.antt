@@ -2,17 +2,17 @@ use Rattle.std.proofs.Common.{◌≡◌, ℕ, ◌+◌, sym, ◌∙◌, ap, subst
 use Rattle.rand_chacha.specs.ChaCha.{key_of}
 use Rattle.kr_base.specs.declared.ids.ConnId.{ConnId}
 use Rattle.dbus_auth.specs.Exchange.{Exchange}
-use Rattle.service_tables.specs.State.{State}
-use Rattle.service_events.specs.declared.event.Event.TheVariants as event
-use Rattle.service_tables.specs.Opened.{Contents, contents_of, opened_state}
-use Rattle.service_events.specs.Step.{step, Fits}
-use Rattle.service_history.specs.History.{History}
-use Rattle.service_history.specs.Windows.{total}
+use Rattle.lone_desk.specs.service_tables.specs.State.{State}
+use Rattle.lone_desk.specs.service_events.specs.declared.event.Event.TheVariants as event
+use Rattle.lone_desk.specs.service_tables.specs.Opened.{Contents, contents_of, opened_state}
+use Rattle.lone_desk.specs.service_events.specs.Step.{step, Fits}
+use Rattle.lone_desk.specs.service_history.specs.History.{History}
+use Rattle.lone_desk.specs.service_history.specs.Windows.{total}
 use Rattle.lone_desk.specs.Lone.{told, has_seen}
-use Rattle.connection_worker.specs.OneThread.{IsServed}
-use Rattle.connection_worker.specs.Salts.{Salting}
-use Rattle.connection_worker.specs.Serving.{world}
-use Rattle.connection_worker.specs.Streams.{input_of, output_of}
+use Rattle.service_hub.specs.connection_worker.specs.OneThread.{IsServed}
+use Rattle.service_hub.specs.connection_worker.specs.Salts.{Salting}
+use Rattle.service_hub.specs.connection_worker.specs.Serving.{world}
+use Rattle.service_hub.specs.connection_worker.specs.Streams.{input_of, output_of}
 use Rattle.keyring_program.specs.Events.{the_connection, joined}
 use Rattle.keyring_program.specs.ServerNumber.{guid}
 use Rattle.keyring_program.proofs.ServeLemmas.{first-connection, serves, serves-none}

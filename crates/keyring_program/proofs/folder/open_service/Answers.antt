@@ -1,6 +1,6 @@
 use Rattle.std.proofs.Common.{◌∙◌, ap, inr}
 use Rattle.std.proofs.lemmas.Result.{IfOk-weaker}
-use Rattle.service_tables.specs.Opened.{contents_of}
+use Rattle.lone_desk.specs.service_tables.specs.Opened.{contents_of}
 use Rattle.keyring_program.proofs.FolderLemmas.{has-opened}
 use Rattle.keyring_program.proofs.folder.open_service.Goals as goal
 

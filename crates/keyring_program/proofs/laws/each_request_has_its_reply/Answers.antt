@@ -1,10 +1,10 @@
 use Rattle.std.proofs.Common.{◌++◌, true, refl, ap, false, None}
 use Rattle.std.specs.List.{concat}
-use Rattle.service_events.specs.declared.event.Event.TheVariants as event
-use Rattle.service_tables.specs.Opened.{Contents, opened_state}
-use Rattle.service_tables.specs.Sound.{IsSound}
-use Rattle.service_desk.specs.Places.{Told}
-use Rattle.connection_worker.specs.Written.{spelled_behind}
+use Rattle.lone_desk.specs.service_events.specs.declared.event.Event.TheVariants as event
+use Rattle.lone_desk.specs.service_tables.specs.Opened.{Contents, opened_state}
+use Rattle.lone_desk.specs.service_tables.specs.Sound.{IsSound}
+use Rattle.lone_desk.specs.service_desk.specs.Places.{Told}
+use Rattle.service_hub.specs.connection_worker.specs.Written.{spelled_behind}
 use Rattle.keyring_program.specs.Events.{the_connection, joined}
 use Rattle.keyring_program.proofs.laws.each_request_has_its_reply.Goals as goal
 

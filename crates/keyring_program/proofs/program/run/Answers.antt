@@ -1,7 +1,7 @@
 use Rattle.std.proofs.Common.{◌≡◌, List, ℕ, inl, inr, refl, sym, ◌∙◌, ap, subst}
 use Rattle.command_words.specs.CommandLines.{IsCommandLine}
 use Rattle.command_words.specs.declared.command_line.CommandLine.TheVariants.{Stdio, Serve, Load}
-use Rattle.connection_worker.specs.Streams.{input_of, output_of}
+use Rattle.service_hub.specs.connection_worker.specs.Streams.{input_of, output_of}
 use Rattle.keyring_program.specs.Status.{IsStdioStatus, IsServeStatus}
 use Rattle.keyring_program.proofs.CommandLemmas.{one_stdio, one_serve, serve_or_stdio, load_or_stdio, load_or_serve, is_built}
 use Rattle.keyring_program.proofs.ServeLemmas.{nothing, nothing-sound, serves-none}

@@ -1,7 +1,7 @@
 use Rattle.std.proofs.Common.{Err, inl, inr, refl, sym, ◌∙◌, ap, subst}
 use Rattle.kr_outside.specs.Faults.{Rose}
 use Rattle.keyring_program.proofs.DoorLemmas.{never-rises, loop-complete, loop-done, loop-fault, loop-folder, loop-status}
-use Rattle.service_tables.specs.Opened.{contents_of}
+use Rattle.lone_desk.specs.service_tables.specs.Opened.{contents_of}
 use Rattle.keyring_program.proofs.FolderLemmas.{is-opened}
 use Rattle.keyring_program.proofs.LinksLemmas.{first-pass, serves-door}
 use Rattle.keyring_program.proofs.serve.run_serve.Goals as goal

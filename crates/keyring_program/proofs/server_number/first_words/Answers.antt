@@ -1,6 +1,6 @@
 use Rattle.std.proofs.Common.{◌≡◌, ℕ, List, [], ◌∷◌, ◌++◌, ◌+◌, ◌%◌, ◌^◌, slice_index_or, sym, ◌∙◌, ap, append_assoc}
 use Rattle.rand_chacha.specs.ChaCha.{key_of}
-use Rattle.connection_worker.specs.Salts.{Salting, word_of, words_at}
+use Rattle.service_hub.specs.connection_worker.specs.Salts.{Salting, word_of, words_at}
 use Rattle.keyring_program.proofs.server_number.first_words.Goals as goal
 
 -- the bytes of two words are the words

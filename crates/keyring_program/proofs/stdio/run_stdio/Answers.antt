@@ -1,6 +1,6 @@
 use Rattle.std.proofs.Common.{inr, sym, ◌∙◌}
-use Rattle.service_tables.specs.Opened.{contents_of}
-use Rattle.connection_worker.specs.Streams.{input_of, output_of}
+use Rattle.lone_desk.specs.service_tables.specs.Opened.{contents_of}
+use Rattle.service_hub.specs.connection_worker.specs.Streams.{input_of, output_of}
 use Rattle.keyring_program.proofs.CompleteLemmas.{complete, stdio-status}
 use Rattle.keyring_program.proofs.FolderLemmas.{is-opened}
 use Rattle.keyring_program.proofs.ServeLemmas.{nothing, nothing-sound, serves-none}

@@ -1,11 +1,11 @@
 use Rattle.std.proofs.Common.{◌≡◌, true, false, [], ◌∷◌, sym, ap, subst, ◌∙◌}
 use Rattle.std.proofs.lemmas.List.{append-nil}
-use Rattle.collection_table.specs.Rows.{has}
-use Rattle.secret_calls.specs.declared.out.Body.TheVariants as body
-use Rattle.service_tables.specs.Desks.{Table}
-use Rattle.service_events.specs.Plan.{Go_on}
+use Rattle.service_calls.specs.collection_table.specs.Rows.{has}
+use Rattle.service_calls.specs.secret_calls.specs.declared.out.Body.TheVariants as body
+use Rattle.service_calls.specs.service_tables.specs.Desks.{Table}
+use Rattle.service_calls.specs.service_events.specs.Plan.{Go_on}
 use Rattle.service_calls.specs.Rows.{disk_of, rows_of}
-use Rattle.service_events.specs.Run.{asked, sent_by}
+use Rattle.service_calls.specs.service_events.specs.Run.{asked, sent_by}
 use Rattle.service_calls.specs.Done.{HasRoomToReply}
 use Rattle.service_calls.specs.declared.storing.Done.{Done}
 use Rattle.service_answers.proofs.AnswerLemmas.{small-empty, target-gone, target-locked, taken-round, taken-there}

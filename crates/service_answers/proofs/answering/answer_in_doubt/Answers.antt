@@ -1,12 +1,12 @@
 use Rattle.std.proofs.Common.{◌≡◌, refl, sym, ap, subst}
-use Rattle.service_disk.specs.Resolving.{rows_resolved}
-use Rattle.service_tables.specs.Disk.{contents_in, disk_state}
-use Rattle.service_tables.specs.Opened.{Contents}
-use Rattle.service_tables.specs.Slots.{StoresAt}
-use Rattle.service_tables.specs.State.{State}
-use Rattle.service_events.specs.AnswerCalls.{target_answered}
+use Rattle.service_calls.specs.service_disk.specs.Resolving.{rows_resolved}
+use Rattle.service_calls.specs.service_tables.specs.Disk.{contents_in, disk_state}
+use Rattle.service_calls.specs.service_tables.specs.Opened.{Contents}
+use Rattle.service_calls.specs.service_tables.specs.Slots.{StoresAt}
+use Rattle.service_calls.specs.service_tables.specs.State.{State}
+use Rattle.service_calls.specs.service_events.specs.AnswerCalls.{target_answered}
 use Rattle.service_calls.specs.Rows.{disk_of, rows_of}
-use Rattle.service_events.specs.Run.{asked}
+use Rattle.service_calls.specs.service_events.specs.Run.{asked}
 use Rattle.service_calls.specs.Done.{HasRoomToReply, Leads}
 use Rattle.service_calls.specs.declared.storing.Done.{Done}
 use Rattle.service_answers.proofs.AnswerLemmas.{leads-failed, leads-found, locked-read, rows-read, sends-gone, state-read, taken-round, taken-there, target-doubt, target-whole}

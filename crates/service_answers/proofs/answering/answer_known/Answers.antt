@@ -1,7 +1,7 @@
 use Rattle.std.proofs.Common.{◌≡◌, true, false, sym, ◌∙◌}
-use Rattle.collection_table.specs.Rows.{has, is_open}
+use Rattle.service_calls.specs.collection_table.specs.Rows.{has, is_open}
 use Rattle.service_calls.specs.Rows.{disk_of, rows_of}
-use Rattle.service_events.specs.Run.{asked}
+use Rattle.service_calls.specs.service_events.specs.Run.{asked}
 use Rattle.service_answers.proofs.AnswerLemmas.{room-kept, taken-round, taken-there, target-gone, target-locked, target-open}
 use Rattle.service_calls.proofs.LeadsLemmas.{leads-as, map-ok}
 use Rattle.service_answers.proofs.answering.answer_known.Goals as goal

@@ -1,11 +1,11 @@
 use Rattle.std.proofs.Common.{◌≡◌, None, sym, ap, ◌∙◌}
 use Rattle.kr_base.specs.declared.ids.PromptId.{PromptId}
 use Rattle.prompt_state.specs.Prompts.{refusal, row_at}
-use Rattle.service_events.specs.AgentCalls.{in_round, unless_refused}
-use Rattle.service_events.specs.AnswerCalls.{answer_prompt, row_answered}
-use Rattle.service_events.specs.Plan.{Plan}
+use Rattle.service_calls.specs.service_events.specs.AgentCalls.{in_round, unless_refused}
+use Rattle.service_calls.specs.service_events.specs.AnswerCalls.{answer_prompt, row_answered}
+use Rattle.service_calls.specs.service_events.specs.Plan.{Plan}
 use Rattle.service_calls.specs.Rows.{rows_of}
-use Rattle.service_events.specs.Run.{asked}
+use Rattle.service_calls.specs.service_events.specs.Run.{asked}
 use Rattle.service_calls.specs.declared.storing.Done.{Done}
 use Rattle.service_calls.proofs.LeadsLemmas.{leads-as, map-ok, room-silent}
 use Rattle.service_answers.proofs.answering.answer_prompt.Goals as goal

@@ -1,7 +1,7 @@
 use Rattle.std.proofs.Common.{◌≡◌, false, sym, ◌∙◌}
-use Rattle.service_disk.specs.Resolving.{is_doubtful}
+use Rattle.service_calls.specs.service_disk.specs.Resolving.{is_doubtful}
 use Rattle.service_calls.specs.Rows.{rows_of}
-use Rattle.service_events.specs.Run.{asked}
+use Rattle.service_calls.specs.service_events.specs.Run.{asked}
 use Rattle.service_answers.proofs.AnswerLemmas.{target-known}
 use Rattle.service_calls.proofs.LeadsLemmas.{leads-as, map-ok}
 use Rattle.service_answers.proofs.answering.answer_target.Goals as goal

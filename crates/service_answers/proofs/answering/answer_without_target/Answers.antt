@@ -1,8 +1,8 @@
 use Rattle.std.proofs.Common.{◌≡◌, true, false, sym, ◌∙◌}
 use Rattle.prompt_state.specs.Prompts.{row_at}
-use Rattle.service_events.specs.AnswerCalls.{creates_row}
+use Rattle.service_calls.specs.service_events.specs.AnswerCalls.{creates_row}
 use Rattle.service_calls.specs.Rows.{disk_of, rows_of}
-use Rattle.service_events.specs.Run.{asked}
+use Rattle.service_calls.specs.service_events.specs.Run.{asked}
 use Rattle.service_answers.proofs.AnswerLemmas.{answered-creates, answered-over, room-kept, taken-round, taken-there}
 use Rattle.service_calls.proofs.LeadsLemmas.{leads-as, map-ok}
 use Rattle.service_answers.proofs.answering.answer_without_target.Goals as goal

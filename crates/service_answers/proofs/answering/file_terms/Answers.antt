@@ -1,8 +1,8 @@
 use Rattle.std.proofs.Common.{Some, sym, ap, ◌∙◌}
 use Rattle.std.specs.Option.{option_map}
-use Rattle.collection_table.specs.Entries.{row_of}
-use Rattle.collection_table.proofs.RowLemmas.{value-rows}
-use Rattle.service_events.specs.Step.{file_terms}
+use Rattle.service_calls.specs.collection_table.specs.Entries.{row_of}
+use Rattle.service_calls.specs.collection_table.proofs.RowLemmas.{value-rows}
+use Rattle.service_calls.specs.service_events.specs.Step.{file_terms}
 use Rattle.service_answers.proofs.answering.file_terms.Goals as goal
 
 -- the terms are those of the row

@@ -1,5 +1,5 @@
 use Rattle.std.proofs.Common.{sym, ◌∙◌}
-use Rattle.service_tables.specs.Disk.{contents_in}
+use Rattle.service_calls.specs.service_tables.specs.Disk.{contents_in}
 use Rattle.service_answers.proofs.AnswerLemmas.{open-apart, open-same}
 use Rattle.service_answers.proofs.answering.is_open_without.Goals as goal
 

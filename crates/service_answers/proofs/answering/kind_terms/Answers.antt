@@ -3,8 +3,8 @@ use Rattle.std.specs.Option.{option_and_then, option_copied, option_map}
 use Rattle.kr_base.specs.Attributes.{value_at}
 use Rattle.prompt_state.specs.Targets.{first_left}
 use Rattle.prompt_state.specs.declared.targets.Target.{Target}
-use Rattle.service_tables.specs.Disk.{contents_in}
-use Rattle.service_events.specs.Step.{file_terms, terms_for}
+use Rattle.service_calls.specs.service_tables.specs.Disk.{contents_in}
+use Rattle.service_calls.specs.service_events.specs.Step.{file_terms, terms_for}
 use Rattle.service_answers.proofs.answering.kind_terms.Goals as goal
 
 -- the first target's file

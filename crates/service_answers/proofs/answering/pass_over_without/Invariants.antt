@@ -1,8 +1,8 @@
 use Rattle.std.proofs.Common.{◌≡◌, length}
-use Rattle.collection_table.specs.Entries.{without}
-use Rattle.service_tables.specs.Disk.{contents_in}
-use Rattle.service_tables.specs.Reading.{asked_collections}
-use Rattle.service_events.specs.PromptCalls.{passed}
+use Rattle.service_calls.specs.collection_table.specs.Entries.{without}
+use Rattle.service_calls.specs.service_tables.specs.Disk.{contents_in}
+use Rattle.service_calls.specs.service_tables.specs.Reading.{asked_collections}
+use Rattle.service_calls.specs.service_events.specs.PromptCalls.{passed}
 use Rattle.service_answers.proofs.answering.pass_over_without.Given as goal
 
 -- what is left leads to what all targets lead to

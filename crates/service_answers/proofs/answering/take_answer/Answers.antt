@@ -3,7 +3,7 @@ use Rattle.std.specs.Option.{option_map}
 use Rattle.prompt_state.specs.Prompts.{first_of_row, last_round, row_at}
 use Rattle.prompt_state.specs.declared.targets.Target.{Target}
 use Rattle.service_calls.specs.Rows.{rows_of}
-use Rattle.service_events.specs.Run.{asked}
+use Rattle.service_calls.specs.service_events.specs.Run.{asked}
 use Rattle.service_answers.proofs.AnswerLemmas.{answered-last, answered-target, none-first, taken-there}
 use Rattle.service_calls.proofs.LeadsLemmas.{leads-as, map-ok}
 use Rattle.service_answers.proofs.answering.take_answer.Goals as goal

@@ -2,7 +2,7 @@ use Rattle.std.proofs.Common.{◌≡◌, Some, sym, ap, ◌∙◌}
 use Rattle.std.specs.Option.{option_copied}
 use Rattle.prompt_state.specs.Prompts.{row_at}
 use Rattle.service_calls.specs.Rows.{rows_of}
-use Rattle.service_events.specs.Step.{row_terms}
+use Rattle.service_calls.specs.service_events.specs.Step.{row_terms}
 use Rattle.service_answers.proofs.answering.terms_for.Goals as goal
 
 -- the prompt is there

@@ -1,7 +1,7 @@
 use Rattle.std.proofs.Common.{sym, ◌∙◌}
-use Rattle.service_events.specs.Plan.{KeyTerms}
+use Rattle.service_calls.specs.service_events.specs.Plan.{KeyTerms}
 use Rattle.service_calls.specs.Rows.{rows_of}
-use Rattle.service_events.specs.Run.{asked}
+use Rattle.service_calls.specs.service_events.specs.Run.{asked}
 use Rattle.service_answers.proofs.NewLemmas.{can-room, cannot-count, cannot-terms, terms-are}
 use Rattle.service_answers.proofs.derived_key.can_make.Goals as goal
 

@@ -1,8 +1,8 @@
 use Rattle.std.proofs.Common.{◌≡◌, ◌==◌, [], false, IfSome, Some, inl, inr, sym, ap, subst, ◌∙◌}
 use Rattle.kr_names.specs.Path.{IsAliasName}
-use Rattle.collection_table.specs.Entries.{inserted}
-use Rattle.collection_table.specs.Rows.{CollectionRow, has}
-use Rattle.service_tables.specs.Aliases.{IsPreparedIn}
+use Rattle.service_calls.specs.collection_table.specs.Entries.{inserted}
+use Rattle.service_calls.specs.collection_table.specs.Rows.{CollectionRow, has}
+use Rattle.service_calls.specs.service_tables.specs.Aliases.{IsPreparedIn}
 use Rattle.service_answers.specs.Purposes.{SetsAlias}
 use Rattle.service_calls.specs.Rows.{rows_of}
 use Rattle.service_answers.proofs.NewLemmas.{each-ok, empty-is, empty-not, sets-change}

@@ -1,9 +1,9 @@
 use Rattle.std.proofs.Common.{◌≡◌, Some, sym, ap, ◌∙◌}
 use Rattle.std.specs.Option.{option_copied}
 use Rattle.prompt_state.specs.Prompts.{row_at}
-use Rattle.service_tables.specs.Opened.{contents_of}
-use Rattle.service_tables.specs.Reading.{asked_collections}
-use Rattle.service_events.specs.PromptCalls.{advance_sent, passed_kind}
+use Rattle.service_calls.specs.service_tables.specs.Opened.{contents_of}
+use Rattle.service_calls.specs.service_tables.specs.Reading.{asked_collections}
+use Rattle.service_calls.specs.service_events.specs.PromptCalls.{advance_sent, passed_kind}
 use Rattle.service_calls.specs.Rows.{rows_of}
 use Rattle.service_answers.proofs.DerivedLemmas.{cleared-sends}
 use Rattle.service_calls.proofs.LeadsLemmas.{map-ok}

@@ -1,9 +1,9 @@
 use Rattle.std.proofs.Common.{◌≡◌, ◌+◌, ◌≤◌, ◌∷◌, [], nat_le, cond, refl, sym, ap, subst, ◌∙◌}
 use Rattle.prompt_state.specs.Prompts.{asked_again, last_round, next_round, one_more, row_at}
 use Rattle.prompt_state.specs.declared.row.PromptRow.{PromptRow}
-use Rattle.service_events.specs.Derivation.{dismissing, most_wrong_answers, quietly}
+use Rattle.service_calls.specs.service_events.specs.Derivation.{dismissing, most_wrong_answers, quietly}
 use Rattle.service_calls.specs.declared.storing.Done.{Done}
-use Rattle.service_events.specs.Plan.{Ask_prompt, Count_wrong}
+use Rattle.service_calls.specs.service_events.specs.Plan.{Ask_prompt, Count_wrong}
 use Rattle.service_calls.specs.Rows.{disk_of, rows_of}
 use Rattle.service_answers.proofs.DerivedLemmas.{disk-kept, if-some, round-changed, wronged-sends}
 use Rattle.service_calls.proofs.LeadsLemmas.{leads-as, leads-done, map-ok, room-sent}

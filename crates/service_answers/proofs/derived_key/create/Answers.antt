@@ -1,10 +1,10 @@
 use Rattle.std.proofs.Common.{◌≡◌, true, false, sym, subst, ◌∙◌}
-use Rattle.service_disk.specs.Making.{AreFree}
-use Rattle.service_tables.specs.Storing.{Brought}
-use Rattle.service_events.specs.Derivation.{can_make, collection_made, dismissing}
-use Rattle.service_events.specs.Plan.{KeyTerms}
+use Rattle.service_calls.specs.service_disk.specs.Making.{AreFree}
+use Rattle.service_calls.specs.service_tables.specs.Storing.{Brought}
+use Rattle.service_calls.specs.service_events.specs.Derivation.{can_make, collection_made, dismissing}
+use Rattle.service_calls.specs.service_events.specs.Plan.{KeyTerms}
 use Rattle.service_calls.specs.Rows.{disk_of, rows_of}
-use Rattle.service_events.specs.Run.{asked}
+use Rattle.service_calls.specs.service_events.specs.Run.{asked}
 use Rattle.service_calls.specs.Done.{HasRoomToReply}
 use Rattle.service_answers.specs.declared.derived_key.Settled.{Settled}
 use Rattle.service_answers.proofs.DerivedLemmas.{keeps-as, map-err, settles-as, settles-unmade}

@@ -1,8 +1,8 @@
 use Rattle.std.proofs.Common.{◌≡◌, [], None, sym, ap, subst, ◌∙◌}
-use Rattle.secret_calls.specs.declared.out.Body.TheVariants as body
+use Rattle.service_calls.specs.secret_calls.specs.declared.out.Body.TheVariants as body
 use Rattle.service_calls.specs.declared.storing.Done.{Done}
-use Rattle.service_events.specs.Derivation.{alias_given}
-use Rattle.service_events.specs.Plan.{After}
+use Rattle.service_calls.specs.service_events.specs.Derivation.{alias_given}
+use Rattle.service_calls.specs.service_events.specs.Plan.{After}
 use Rattle.service_calls.specs.Rows.{disk_of, rows_of}
 use Rattle.service_answers.specs.Settled.{Settles}
 use Rattle.service_answers.proofs.NewLemmas.{settles-completed}

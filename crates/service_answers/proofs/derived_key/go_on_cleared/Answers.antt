@@ -2,11 +2,11 @@ use Rattle.std.proofs.Common.{◌≡◌, ◌≤◌, refl, sym, ap, subst, ◌∙
 use Rattle.std.specs.Option.{is_some}
 use Rattle.prompt_state.specs.Prompts.{last_round, next_round, row_at}
 use Rattle.prompt_state.specs.declared.row.PromptRow.{PromptRow}
-use Rattle.service_tables.specs.Desks.{Table}
+use Rattle.service_calls.specs.service_tables.specs.Desks.{Table}
 use Rattle.service_calls.specs.declared.storing.Done.{Done}
-use Rattle.service_events.specs.Plan.{Go_on}
+use Rattle.service_calls.specs.service_events.specs.Plan.{Go_on}
 use Rattle.service_calls.specs.Rows.{disk_of, rows_of}
-use Rattle.service_events.specs.Run.{performed}
+use Rattle.service_calls.specs.service_events.specs.Run.{performed}
 use Rattle.service_calls.specs.Done.{HasRoomToReply}
 use Rattle.service_answers.proofs.DerivedLemmas.{round-changed, there-changed}
 use Rattle.service_calls.proofs.LeadsLemmas.{leads-done, room-sent}

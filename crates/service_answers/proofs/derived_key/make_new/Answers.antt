@@ -1,20 +1,20 @@
 use Rattle.std.proofs.Common.{◌≡◌, Some, None, false, true, Contains, inl, inr, sym, ap, subst, ◌∙◌, arith}
 use Rattle.key_derivation.specs.Kdf.{key_of, vector_of}
-use Rattle.collection_table.specs.Rows.{has, stored}
-use Rattle.service_disk.specs.Making as making
-use Rattle.service_disk.specs.Making.{AreFree}
-use Rattle.service_prompts.specs.Prompting.{completed_sent}
-use Rattle.service_tables.specs.Desks.{Table}
-use Rattle.service_tables.specs.Disk.{contents_in, disk_state}
-use Rattle.service_tables.specs.Opened.{Contents}
-use Rattle.service_tables.specs.State.{State}
-use Rattle.service_tables.specs.Storing.{Brought}
-use Rattle.service_tables.specs.declared.fate.Fate.TheVariants as fates
-use Rattle.service_events.specs.Derivation.{making_ended}
-use Rattle.service_events.specs.Plan.{Asks, KeyTerms, Make}
+use Rattle.service_calls.specs.collection_table.specs.Rows.{has, stored}
+use Rattle.service_calls.specs.service_disk.specs.Making as making
+use Rattle.service_calls.specs.service_disk.specs.Making.{AreFree}
+use Rattle.service_calls.specs.service_prompts.specs.Prompting.{completed_sent}
+use Rattle.service_calls.specs.service_tables.specs.Desks.{Table}
+use Rattle.service_calls.specs.service_tables.specs.Disk.{contents_in, disk_state}
+use Rattle.service_calls.specs.service_tables.specs.Opened.{Contents}
+use Rattle.service_calls.specs.service_tables.specs.State.{State}
+use Rattle.service_calls.specs.service_tables.specs.Storing.{Brought}
+use Rattle.service_calls.specs.service_tables.specs.declared.fate.Fate.TheVariants as fates
+use Rattle.service_calls.specs.service_events.specs.Derivation.{making_ended}
+use Rattle.service_calls.specs.service_events.specs.Plan.{Asks, KeyTerms, Make}
 use Rattle.service_answers.specs.Purposes.{SetsAlias}
 use Rattle.service_calls.specs.Rows.{disk_of, rows_of}
-use Rattle.service_events.specs.Run.{demanded}
+use Rattle.service_calls.specs.service_events.specs.Run.{demanded}
 use Rattle.service_calls.specs.Done.{HasRoomToReply}
 use Rattle.service_answers.proofs.DerivedLemmas.{settles-as, settles-made}
 use Rattle.service_answers.proofs.NewLemmas.{free-aliases, sets-prepared}

@@ -3,10 +3,10 @@ use Rattle.kr_base.specs.Attributes.{IsInOrder}
 use Rattle.std.specs.Cmp.Lexicographic.{slice_cmp}
 use Rattle.std.specs.List.Sorted.{IsStrictlySortedBy}
 use Rattle.std.specs.Ordering.{nat_cmp}
-use Rattle.collection_table.specs.Entries.{changed}
-use Rattle.collection_table.specs.Rows.{Rows, locked}
-use Rattle.collection_table.proofs.RowLemmas.{keys-rows}
-use Rattle.service_tables.specs.Opened.{Contents}
+use Rattle.service_calls.specs.collection_table.specs.Entries.{changed}
+use Rattle.service_calls.specs.collection_table.specs.Rows.{Rows, locked}
+use Rattle.service_calls.specs.collection_table.proofs.RowLemmas.{keys-rows}
+use Rattle.service_calls.specs.service_tables.specs.Opened.{Contents}
 use Rattle.service_calls.specs.Rows.{rows_of}
 use Rattle.service_answers.proofs.DerivedLemmas.{both-ok, rows-locked, rows-shut}
 use Rattle.service_answers.proofs.derived_key.open_with.Goals as goal

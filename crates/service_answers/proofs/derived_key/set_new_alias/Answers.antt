@@ -1,4 +1,4 @@
-use Rattle.service_tables.proofs.SlotLemmas.{of-some}
+use Rattle.service_calls.specs.service_tables.proofs.SlotLemmas.{of-some}
 use Rattle.service_answers.proofs.derived_key.set_new_alias.Goals as goal
 
 -- the change was prepared

@@ -1,21 +1,21 @@
 use Rattle.std.proofs.Common.{◌≡◌, [], true, false, refl, sym, subst, ◌∙◌}
-use Rattle.secret_calls.specs.declared.out.Out.{Out}
-use Rattle.secret_calls.specs.declared.out.Out.TheVariants as out
-use Rattle.secret_calls.specs.declared.signal.Completion.TheVariants as completion
-use Rattle.secret_calls.specs.declared.signal.Signal.TheVariants as signal
+use Rattle.service_calls.specs.secret_calls.specs.declared.out.Out.{Out}
+use Rattle.service_calls.specs.secret_calls.specs.declared.out.Out.TheVariants as out
+use Rattle.service_calls.specs.secret_calls.specs.declared.signal.Completion.TheVariants as completion
+use Rattle.service_calls.specs.secret_calls.specs.declared.signal.Signal.TheVariants as signal
 use Rattle.prompt_state.specs.Prompts.{derives_in, row_at}
-use Rattle.service_disk.specs.Making.{AreFree}
-use Rattle.service_tables.specs.Connections.{HasRoomFor}
-use Rattle.service_tables.specs.Sound.{IsSoundPrompt}
-use Rattle.service_tables.specs.Storing.{Brought}
-use Rattle.service_tables.proofs.RoomLemmas.{room-zero}
+use Rattle.service_calls.specs.service_disk.specs.Making.{AreFree}
+use Rattle.service_calls.specs.service_tables.specs.Connections.{HasRoomFor}
+use Rattle.service_calls.specs.service_tables.specs.Sound.{IsSoundPrompt}
+use Rattle.service_calls.specs.service_tables.specs.Storing.{Brought}
+use Rattle.service_calls.specs.service_tables.proofs.RoomLemmas.{room-zero}
 use Rattle.service_answers.specs.declared.derived_key.Settled.{Settled}
 use Rattle.service_answers.specs.declared.derived_key.Purpose.TheVariants as purpose
-use Rattle.service_events.specs.Derivation.{collection_made, derived}
-use Rattle.service_events.specs.Plan.{KeyTerms}
+use Rattle.service_calls.specs.service_events.specs.Derivation.{collection_made, derived}
+use Rattle.service_calls.specs.service_events.specs.Plan.{KeyTerms}
 use Rattle.service_answers.specs.Purposes.{IsPurposeOf}
 use Rattle.service_calls.specs.Rows.{disk_of, rows_of}
-use Rattle.service_events.specs.Run.{asked}
+use Rattle.service_calls.specs.service_events.specs.Run.{asked}
 use Rattle.service_answers.proofs.DerivedLemmas.{create-alias, create-plan, deriving-round, deriving-there, each-at, keeps-as, late-plan, map-err, settles-as, settles-late}
 use Rattle.service_calls.proofs.LeadsLemmas.{map-ok, room-after}
 use Rattle.service_answers.proofs.derived_key.settle.Goals as goal

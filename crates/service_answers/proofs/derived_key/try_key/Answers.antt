@@ -1,12 +1,12 @@
 use Rattle.std.proofs.Common.{◌≡◌, ◌∷◌, [], IfSome, None, true, refl, sym, ap, subst, ◌∙◌}
 use Rattle.prompt_state.specs.Prompts.{row_at}
 use Rattle.prompt_state.specs.declared.row.PromptRow.{PromptRow}
-use Rattle.secret_calls.specs.declared.out.Body.TheVariants as body
-use Rattle.service_disk.specs.Opening.{opening_of}
-use Rattle.service_disk.specs.declared.opening.Opening.TheVariants as ends
-use Rattle.service_tables.specs.Storing.{Brought}
-use Rattle.service_events.specs.Derivation.{dismissing, opening_ended, quietly, wrong_again}
-use Rattle.service_events.specs.Plan.{Ask_prompt, Clear_wrong, End_prompt, Go_on, KeyTerms}
+use Rattle.service_calls.specs.secret_calls.specs.declared.out.Body.TheVariants as body
+use Rattle.service_calls.specs.service_disk.specs.Opening.{opening_of}
+use Rattle.service_calls.specs.service_disk.specs.declared.opening.Opening.TheVariants as ends
+use Rattle.service_calls.specs.service_tables.specs.Storing.{Brought}
+use Rattle.service_calls.specs.service_events.specs.Derivation.{dismissing, opening_ended, quietly, wrong_again}
+use Rattle.service_calls.specs.service_events.specs.Plan.{Ask_prompt, Clear_wrong, End_prompt, Go_on, KeyTerms}
 use Rattle.service_calls.specs.Rows.{disk_of, rows_of}
 use Rattle.service_calls.specs.Done.{Leads}
 use Rattle.service_answers.proofs.DerivedLemmas.{disk-kept, if-all, if-some, leads-from, leads-opened}

@@ -1,13 +1,13 @@
 use Rattle.std.proofs.Common.{◌≡◌, ◌∷◌, [], subst}
 use Rattle.prompt_state.specs.Prompts.{row_at}
-use Rattle.secret_calls.specs.declared.out.Body.TheVariants as body
-use Rattle.service_tables.specs.Storing.{Brought}
-use Rattle.service_events.specs.Derivation.{derived, quietly}
+use Rattle.service_calls.specs.secret_calls.specs.declared.out.Body.TheVariants as body
+use Rattle.service_calls.specs.service_tables.specs.Storing.{Brought}
+use Rattle.service_calls.specs.service_events.specs.Derivation.{derived, quietly}
 use Rattle.service_answers.specs.declared.derived_key.Purpose.TheVariants as purpose
-use Rattle.service_events.specs.Plan.{Go_on, KeyTerms, Plan}
+use Rattle.service_calls.specs.service_events.specs.Plan.{Go_on, KeyTerms, Plan}
 use Rattle.service_answers.specs.Purposes.{IsPurposeOf}
 use Rattle.service_calls.specs.Rows.{disk_of, rows_of}
-use Rattle.service_events.specs.Run.{asked}
+use Rattle.service_calls.specs.service_events.specs.Run.{asked}
 use Rattle.service_calls.specs.Done.{Leads}
 use Rattle.service_answers.proofs.DerivedLemmas.{disk-kept, none-plan, to-target}
 use Rattle.service_calls.proofs.LeadsLemmas.{leads-as, map-ok}

@@ -1,6 +1,6 @@
 use Rattle.std.proofs.Common.{◌+◌, min, nat_le, ◌∙◌}
-use Rattle.keyring_seal.specs.Whole.{most_bytes}
-use Rattle.collection_table.specs.Entries.{rows_of}
+use Rattle.service_tables.specs.keyring_seal.specs.Whole.{most_bytes}
+use Rattle.service_tables.specs.collection_table.specs.Entries.{rows_of}
 use Rattle.service_disk.proofs.MakingLemmas.{room-tested}
 use Rattle.service_disk.proofs.making.has_room.Goals as goal
 

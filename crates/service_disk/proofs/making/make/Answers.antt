@@ -1,7 +1,7 @@
 use Rattle.std.proofs.Common.{◌∷◌, ap, ◌∙◌}
 use Rattle.key_derivation.specs.Kdf.{key_of, vector_of}
 use Rattle.replace_slot.specs.Cell.{CellState}
-use Rattle.collection_table.specs.Entries.{row_of, rows_of}
+use Rattle.service_tables.specs.collection_table.specs.Entries.{row_of, rows_of}
 use Rattle.service_tables.specs.Disk.{contents_in, disk_state}
 use Rattle.service_tables.specs.Opened.{Contents}
 use Rattle.service_tables.specs.Slots.{file_at}

@@ -1,10 +1,10 @@
 use Rattle.std.proofs.Common.{◌≡◌, Some, IfOk, sym, ap, subst, ◌∙◌}
 use Rattle.std.specs.Option.{option_map}
 use Rattle.kr_base.specs.Attributes.{value_at}
-use Rattle.collection_store.specs.State.{CollectionState}
-use Rattle.collection_table.specs.Entries.{changed, rows_of, slots_of}
-use Rattle.collection_table.specs.Rows.{Rows}
-use Rattle.collection_table.proofs.RowLemmas.{slots-changed}
+use Rattle.service_tables.specs.collection_store.specs.State.{CollectionState}
+use Rattle.service_tables.specs.collection_table.specs.Entries.{changed, rows_of, slots_of}
+use Rattle.service_tables.specs.collection_table.specs.Rows.{Rows}
+use Rattle.service_tables.specs.collection_table.proofs.RowLemmas.{slots-changed}
 use Rattle.service_tables.specs.Disk.{contents_in, disk_state}
 use Rattle.service_tables.proofs.DiskLemmas.{changed-back, rows-become, slots-ordered, value-slots}
 use Rattle.service_disk.specs.Opening.{row_opened}

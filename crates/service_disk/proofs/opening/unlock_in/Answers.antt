@@ -1,6 +1,6 @@
 use Rattle.std.proofs.Common.{rules, sym, ap, ◌∙◌}
-use Rattle.collection_store.specs.declared.refused.UnlockRefused.TheVariants as refused
-use Rattle.collection_table.specs.Entries.{row_of}
+use Rattle.service_tables.specs.collection_store.specs.declared.refused.UnlockRefused.TheVariants as refused
+use Rattle.service_tables.specs.collection_table.specs.Entries.{row_of}
 use Rattle.service_disk.specs.declared.opening.Opening.TheVariants as ends
 use Rattle.service_disk.proofs.OpeningLemmas.{damaged-in, opened-in, refused-in, row-stays, settled-in, unfit-in}
 use Rattle.service_disk.proofs.opening.unlock_in.Goals as goal

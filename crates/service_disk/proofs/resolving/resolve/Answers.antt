@@ -1,10 +1,10 @@
 use Rattle.std.proofs.Common.{◌≡◌, Some, true, false, refl, sym, ap, ◌∙◌}
 use Rattle.std.specs.Option.{option_map}
 use Rattle.kr_base.specs.Attributes.{value_at}
-use Rattle.collection_store.specs.State.{CollectionState}
-use Rattle.collection_table.specs.Entries.{changed, row_of, rows_of, slots_of}
-use Rattle.collection_table.specs.Rows.{CollectionRow, Rows}
-use Rattle.collection_table.proofs.RowLemmas.{slots-changed}
+use Rattle.service_tables.specs.collection_store.specs.State.{CollectionState}
+use Rattle.service_tables.specs.collection_table.specs.Entries.{changed, row_of, rows_of, slots_of}
+use Rattle.service_tables.specs.collection_table.specs.Rows.{CollectionRow, Rows}
+use Rattle.service_tables.specs.collection_table.proofs.RowLemmas.{slots-changed}
 use Rattle.service_tables.specs.Disk.{contents_in, disk_state}
 use Rattle.service_tables.specs.Opened.{Contents}
 use Rattle.service_tables.proofs.DiskLemmas.{at-changed, at-erased, changed-here, file-there, rows-become, rows-left, slots-left, slots-ordered, value-slots, without-here}

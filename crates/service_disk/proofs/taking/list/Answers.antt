@@ -1,6 +1,6 @@
 use Rattle.std.proofs.Common.{ap, ◌∙◌}
-use Rattle.collection_store.specs.State.{CollectionState}
-use Rattle.collection_table.specs.Entries.{slots_of}
+use Rattle.service_tables.specs.collection_store.specs.State.{CollectionState}
+use Rattle.service_tables.specs.collection_table.specs.Entries.{slots_of}
 use Rattle.service_tables.specs.Disk.{disk_state}
 use Rattle.stem_choice.specs.UsedStems.{with_stem}
 use Rattle.service_disk.proofs.InsertedLemmas.{values-inserted}

@@ -1,5 +1,5 @@
 use Rattle.keyring_file.proofs.KnownLemmas.{all_more, all_of_taken}
-use Rattle.service_events.specs.Step.{AreByteImages}
+use Rattle.service_answers.specs.service_events.specs.Step.{AreByteImages}
 use Rattle.service_machine.proofs.known.known_entries.Goals as goal
 
 pub loop-entry-preserved : goal.loop-entry-preserved

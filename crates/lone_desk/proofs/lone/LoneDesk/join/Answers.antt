@@ -1,7 +1,7 @@
 use Rattle.std.proofs.Common.{rules, ap, ◌∙◌}
-use Rattle.service_tables.specs.State.{State}
-use Rattle.service_events.specs.Step.{step}
-use Rattle.service_events.specs.declared.event.Event.TheVariants as event
+use Rattle.service_desk.specs.service_tables.specs.State.{State}
+use Rattle.service_desk.specs.service_events.specs.Step.{step}
+use Rattle.service_desk.specs.service_events.specs.declared.event.Event.TheVariants as event
 use Rattle.service_history.specs.History.{History}
 use Rattle.service_history.proofs.HistoryLemmas.{history-sound}
 use Rattle.lone_desk.proofs.DeskLemmas.{counts-stored, same-refusal, state-cut}

@@ -1,5 +1,5 @@
 use Rattle.std.proofs.Common.{ap, subst, sym}
-use Rattle.service_tables.specs.Desks.{Table}
+use Rattle.service_events.specs.service_tables.specs.Desks.{Table}
 use Rattle.service_calls.specs.Done.{HasRoomToReply}
 use Rattle.service_calls.specs.declared.storing.Done.{Done}
 use Rattle.service_calls.proofs.LeadsLemmas.{room-sent}

@@ -1,11 +1,11 @@
 use Rattle.std.proofs.Common.{◌≡◌, nat_le, cond, true, false, Some, sym, ap, ◌∙◌, []}
 use Rattle.std.specs.Option.{option_map_or}
-use Rattle.folder_store.specs.Limits.{the_limits}
+use Rattle.service_events.specs.folder_store.specs.Limits.{the_limits}
 use Rattle.prompt_state.specs.declared.row.PromptKind.TheVariants as kind
-use Rattle.secret_calls.specs.declared.out.Body.TheVariants as body
-use Rattle.secret_calls.specs.declared.out.ErrorName.TheVariants as name
-use Rattle.service_tables.specs.Opened.{contents_of}
-use Rattle.service_tables.specs.Reading.{asked_collections}
+use Rattle.service_events.specs.secret_calls.specs.declared.out.Body.TheVariants as body
+use Rattle.service_events.specs.secret_calls.specs.declared.out.ErrorName.TheVariants as name
+use Rattle.service_events.specs.service_tables.specs.Opened.{contents_of}
+use Rattle.service_events.specs.service_tables.specs.Reading.{asked_collections}
 use Rattle.service_events.specs.Plan.{refused}
 use Rattle.service_calls.specs.Rows.{rows_of}
 use Rattle.service_events.specs.Run.{asked}

@@ -1,9 +1,9 @@
 use Rattle.std.proofs.Common.{◌≡◌, cond, true, [], sym, ap, ◌∙◌}
 use Rattle.prompt_state.specs.Prompts.{owns, row_at}
-use Rattle.secret_calls.specs.declared.out.Body.TheVariants as body
-use Rattle.secret_calls.specs.declared.out.ErrorName.TheVariants as name
-use Rattle.service_tables.specs.Opened.{contents_of}
-use Rattle.service_tables.specs.Reading.{asked_collections}
+use Rattle.service_events.specs.secret_calls.specs.declared.out.Body.TheVariants as body
+use Rattle.service_events.specs.secret_calls.specs.declared.out.ErrorName.TheVariants as name
+use Rattle.service_events.specs.service_tables.specs.Opened.{contents_of}
+use Rattle.service_events.specs.service_tables.specs.Reading.{asked_collections}
 use Rattle.service_events.specs.Plan.{answered, refused}
 use Rattle.service_events.specs.PromptCalls.{first_advance, is_made_row, row_advance}
 use Rattle.service_calls.specs.Rows.{rows_of}

@@ -1,11 +1,11 @@
 use Rattle.std.proofs.Common.{◌≡◌, cond, true, [], None, Some, sym, ap, ◌∙◌}
-use Rattle.collection_table.specs.Rows.{is_open}
-use Rattle.secret_calls.specs.declared.out.Body.TheVariants as body
-use Rattle.secret_calls.specs.declared.out.ErrorName.TheVariants as name
-use Rattle.service_tables.specs.Objects.{collection_named}
-use Rattle.service_tables.specs.Opened.{Contents, contents_of}
-use Rattle.service_tables.specs.Reading.{asked_collections}
-use Rattle.service_tables.specs.Storing.{rows_erased}
+use Rattle.service_events.specs.collection_table.specs.Rows.{is_open}
+use Rattle.service_events.specs.secret_calls.specs.declared.out.Body.TheVariants as body
+use Rattle.service_events.specs.secret_calls.specs.declared.out.ErrorName.TheVariants as name
+use Rattle.service_events.specs.service_tables.specs.Objects.{collection_named}
+use Rattle.service_events.specs.service_tables.specs.Opened.{Contents, contents_of}
+use Rattle.service_events.specs.service_tables.specs.Reading.{asked_collections}
+use Rattle.service_events.specs.service_tables.specs.Storing.{rows_erased}
 use Rattle.service_events.specs.CollectionCalls.{by_fate, delete_collection, if_open, no_prompt, on_collection}
 use Rattle.service_events.specs.Plan.{Asks, Erase, refused}
 use Rattle.service_calls.specs.Rows.{disk_of, rows_of}

@@ -1,7 +1,7 @@
 use Rattle.std.proofs.Common.{◌≡◌, cond, true, refl, sym, ap, ◌∙◌}
-use Rattle.collection_table.specs.Rows.{has_item, is_open}
-use Rattle.secret_calls.specs.declared.out.ErrorName.TheVariants as name
-use Rattle.service_tables.specs.Storing.{Brought, Remove_item, storable_edit}
+use Rattle.service_events.specs.collection_table.specs.Rows.{has_item, is_open}
+use Rattle.service_events.specs.secret_calls.specs.declared.out.ErrorName.TheVariants as name
+use Rattle.service_events.specs.service_tables.specs.Storing.{Brought, Remove_item, storable_edit}
 use Rattle.service_events.specs.CollectionCalls.{if_open, no_prompt, storing}
 use Rattle.service_events.specs.ItemCalls.{delete_item}
 use Rattle.service_events.specs.Plan.{refused}

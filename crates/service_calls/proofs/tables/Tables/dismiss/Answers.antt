@@ -1,7 +1,7 @@
 use Rattle.std.proofs.Common.{◌≡◌, cond, true, [], ◌∷◌, None, sym, ap, ◌∙◌}
 use Rattle.prompt_state.specs.Prompts.{owns}
-use Rattle.secret_calls.specs.declared.out.Body.TheVariants as body
-use Rattle.secret_calls.specs.declared.out.ErrorName.TheVariants as name
+use Rattle.service_events.specs.secret_calls.specs.declared.out.Body.TheVariants as body
+use Rattle.service_events.specs.secret_calls.specs.declared.out.ErrorName.TheVariants as name
 use Rattle.service_events.specs.Plan.{End_prompt, answered, refused}
 use Rattle.service_calls.specs.Rows.{rows_of}
 use Rattle.service_calls.proofs.LeadsLemmas.{leads-as, map-ok}

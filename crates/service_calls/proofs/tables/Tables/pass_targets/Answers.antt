@@ -1,10 +1,10 @@
 use Rattle.std.proofs.Common.{◌≡◌, ◌<◌, length, true, false, None, Some, refl, sym, ap, subst, ◌∙◌}
 use Rattle.std.specs.Option.{is_some, option_copied}
-use Rattle.collection_table.specs.Rows.{has, is_open}
+use Rattle.service_events.specs.collection_table.specs.Rows.{has, is_open}
 use Rattle.prompt_state.specs.Prompts.{first_of_row, next_round, row_at, targeted}
 use Rattle.prompt_state.specs.Targets.{first_done, first_dropped}
-use Rattle.service_tables.specs.Opened.{contents_of}
-use Rattle.service_tables.specs.Reading.{asked_collections}
+use Rattle.service_events.specs.service_tables.specs.Opened.{contents_of}
+use Rattle.service_events.specs.service_tables.specs.Reading.{asked_collections}
 use Rattle.service_events.specs.PromptCalls.{left_in_row, passed_over}
 use Rattle.service_calls.specs.Rows.{rows_of}
 use Rattle.service_events.proofs.AdvanceLemmas.{Advanced, fewer-left, round-targeted, step-done, step-dropped, there-targeted}

@@ -1,7 +1,7 @@
 use Rattle.std.proofs.Common.{◌≡◌, true, [], ◌∷◌, None, sym, ap, ◌∙◌}
 use Rattle.kr_base.specs.declared.ids.PromptId.{PromptId}
 use Rattle.prompt_state.specs.Prompts.{refusal}
-use Rattle.secret_calls.specs.declared.out.Body.TheVariants as body
+use Rattle.service_events.specs.secret_calls.specs.declared.out.Body.TheVariants as body
 use Rattle.service_events.specs.AgentCalls.{in_round, refuse, unless_refused}
 use Rattle.service_events.specs.Plan.{Plan, End_prompt, answered}
 use Rattle.service_calls.specs.Rows.{rows_of}

@@ -1,9 +1,9 @@
 use Rattle.std.proofs.Common.{◌≡◌, cond, true, sym, ap, ◌∙◌}
-use Rattle.collection_store.specs.declared.change.Change.TheVariants as change
-use Rattle.collection_table.specs.Rows.{has_item}
-use Rattle.secret_calls.specs.declared.out.Body.TheVariants as body
-use Rattle.secret_calls.specs.declared.out.ErrorName.TheVariants as name
-use Rattle.service_tables.specs.Storing.{Brought, Edit, Set_secret}
+use Rattle.service_events.specs.collection_store.specs.declared.change.Change.TheVariants as change
+use Rattle.service_events.specs.collection_table.specs.Rows.{has_item}
+use Rattle.service_events.specs.secret_calls.specs.declared.out.Body.TheVariants as body
+use Rattle.service_events.specs.secret_calls.specs.declared.out.ErrorName.TheVariants as name
+use Rattle.service_events.specs.service_tables.specs.Storing.{Brought, Edit, Set_secret}
 use Rattle.service_events.specs.CollectionCalls.{secret_stored}
 use Rattle.service_events.specs.ItemCalls.{set_secret}
 use Rattle.service_events.specs.Plan.{refused}

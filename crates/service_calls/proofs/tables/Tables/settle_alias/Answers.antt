@@ -1,10 +1,10 @@
 use Rattle.std.proofs.Common.{◌≡◌, true, false, IfNone, sym, ap, subst, ◌∙◌}
-use Rattle.service_tables.specs.Aliases.{are_doubtful}
-use Rattle.service_tables.specs.Disk.{DiskState, contents_in, disk_state}
-use Rattle.service_tables.specs.Opened.{Contents, contents_of}
-use Rattle.service_tables.specs.State.{State}
-use Rattle.service_tables.specs.declared.fate.Fate.TheVariants as fate
-use Rattle.service_tables.proofs.SlotLemmas.{of-some}
+use Rattle.service_events.specs.service_tables.specs.Aliases.{are_doubtful}
+use Rattle.service_events.specs.service_tables.specs.Disk.{DiskState, contents_in, disk_state}
+use Rattle.service_events.specs.service_tables.specs.Opened.{Contents, contents_of}
+use Rattle.service_events.specs.service_tables.specs.State.{State}
+use Rattle.service_events.specs.service_tables.specs.declared.fate.Fate.TheVariants as fate
+use Rattle.service_events.specs.service_tables.proofs.SlotLemmas.{of-some}
 use Rattle.service_events.specs.AliasCalls.{alias_stored}
 use Rattle.service_calls.specs.Rows.{disk_of, rows_of}
 use Rattle.service_events.specs.Run.{asked}

@@ -1,8 +1,8 @@
 use Rattle.std.proofs.Common.{◌≡◌, true, ap}
-use Rattle.secret_calls.specs.declared.out.Body.TheVariants as body
-use Rattle.service_tables.specs.Aliases.{asked_aliases}
-use Rattle.service_tables.specs.Opened.{Contents, contents_of}
-use Rattle.service_tables.proofs.SlotLemmas.{of-some}
+use Rattle.service_events.specs.secret_calls.specs.declared.out.Body.TheVariants as body
+use Rattle.service_events.specs.service_tables.specs.Aliases.{asked_aliases}
+use Rattle.service_events.specs.service_tables.specs.Opened.{Contents, contents_of}
+use Rattle.service_events.specs.service_tables.proofs.SlotLemmas.{of-some}
 use Rattle.service_events.specs.Plan.{Set_alias}
 use Rattle.service_calls.specs.Rows.{disk_of, rows_of}
 use Rattle.service_calls.proofs.AliasLemmas.{for-moved, stored-plan}

@@ -1,8 +1,8 @@
 use Rattle.std.proofs.Common.{◌≡◌, ◌⊎◌, false, true, [], None, Some, inl, inr, refl, sym, ap, ◌∙◌}
-use Rattle.secret_calls.specs.declared.out.ErrorName.TheVariants as name
-use Rattle.service_tables.specs.Opened.{Contents}
-use Rattle.service_tables.specs.Storing.{Brought, rows_stored, storable_at}
-use Rattle.service_tables.proofs.SlotLemmas.{of-some, storable-or-none}
+use Rattle.service_events.specs.secret_calls.specs.declared.out.ErrorName.TheVariants as name
+use Rattle.service_events.specs.service_tables.specs.Opened.{Contents}
+use Rattle.service_events.specs.service_tables.specs.Storing.{Brought, rows_stored, storable_at}
+use Rattle.service_events.specs.service_tables.proofs.SlotLemmas.{of-some, storable-or-none}
 use Rattle.service_events.specs.CollectionCalls.{storing}
 use Rattle.service_events.specs.Plan.{Store}
 use Rattle.service_calls.specs.Rows.{disk_of, rows_of}

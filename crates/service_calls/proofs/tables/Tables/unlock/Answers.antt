@@ -1,8 +1,8 @@
 use Rattle.std.proofs.Common.{◌≡◌, [], false, Some, None, sym, ap, ◌∙◌}
 use Rattle.prompt_state.specs.declared.row.PromptKind.TheVariants as kind
-use Rattle.secret_calls.specs.declared.out.Body.TheVariants as body
-use Rattle.service_prompts.specs.Unlocking.{targets_of, unlocked_there}
-use Rattle.service_tables.specs.Targets.{are_light}
+use Rattle.service_events.specs.secret_calls.specs.declared.out.Body.TheVariants as body
+use Rattle.service_events.specs.service_prompts.specs.Unlocking.{targets_of, unlocked_there}
+use Rattle.service_events.specs.service_tables.specs.Targets.{are_light}
 use Rattle.service_events.specs.PromptCalls.{are_none}
 use Rattle.service_calls.specs.Rows.{disk_of, rows_of}
 use Rattle.service_events.specs.Run.{asked}

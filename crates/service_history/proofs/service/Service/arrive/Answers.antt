@@ -1,7 +1,7 @@
 use Rattle.std.proofs.Common.{refl, subst, sym, ◌∙◌}
-use Rattle.service_tables.specs.State.{State}
-use Rattle.service_disk.specs.Making.{AreFree}
-use Rattle.service_events.specs.Fates.{is_steady}
+use Rattle.service_machine.specs.service_tables.specs.State.{State}
+use Rattle.service_machine.specs.service_disk.specs.Making.{AreFree}
+use Rattle.service_machine.specs.service_events.specs.Fates.{is_steady}
 use Rattle.service_machine.specs.Rows.{disk_of, rows_of}
 use Rattle.service_history.specs.History.{StoresOn, StoresRequest}
 use Rattle.service_history.specs.Inside.{IsKept, in_window, service_of}

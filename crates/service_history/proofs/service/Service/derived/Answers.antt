@@ -1,6 +1,6 @@
 use Rattle.std.proofs.Common.{subst, sym}
-use Rattle.service_tables.specs.State.{State}
-use Rattle.service_events.specs.Fates.{is_steady}
+use Rattle.service_machine.specs.service_tables.specs.State.{State}
+use Rattle.service_machine.specs.service_events.specs.Fates.{is_steady}
 use Rattle.service_machine.specs.Rows.{rows_of}
 use Rattle.service_history.specs.History.{StoresOn, StoresKey}
 use Rattle.service_history.specs.Inside.{IsKept, in_window, service_of}

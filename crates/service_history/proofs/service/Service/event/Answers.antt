@@ -1,7 +1,7 @@
 use Rattle.std.proofs.Common.{refl}
-use Rattle.service_events.specs.declared.event.Event.{Event}
-use Rattle.service_events.specs.declared.event.Event.TheVariants as event
-use Rattle.service_events.specs.Fates.{with_fates}
+use Rattle.service_machine.specs.service_events.specs.declared.event.Event.{Event}
+use Rattle.service_machine.specs.service_events.specs.declared.event.Event.TheVariants as event
+use Rattle.service_machine.specs.service_events.specs.Fates.{with_fates}
 use Rattle.service_history.proofs.service.Service.event.Goals as goal
 
 -- a connection that joins uses no device

@@ -1,9 +1,9 @@
-use Rattle.service_disk.specs.Making.{AreFree}
+use Rattle.service_machine.specs.service_disk.specs.Making.{AreFree}
 use Rattle.std.proofs.Common.{◌<◌, arith, subst, sym}
-use Rattle.service_tables.specs.State.{State}
-use Rattle.service_tables.specs.Limits.{most_events}
+use Rattle.service_machine.specs.service_tables.specs.State.{State}
+use Rattle.service_machine.specs.service_tables.specs.Limits.{most_events}
 use Rattle.service_machine.specs.Rows.{rows_of}
-use Rattle.service_events.specs.declared.event.Event.TheVariants as event
+use Rattle.service_machine.specs.service_events.specs.declared.event.Event.TheVariants as event
 use Rattle.service_history.specs.Inside.{IsKept}
 use Rattle.service_history.specs.Windows.{total}
 use Rattle.service_history.proofs.KeptLemmas.{kept-event, kept-same}

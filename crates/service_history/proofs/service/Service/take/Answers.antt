@@ -1,5 +1,5 @@
 use Rattle.std.proofs.Common.{subst, sym}
-use Rattle.service_disk.specs.Making.{AreFree}
+use Rattle.service_machine.specs.service_disk.specs.Making.{AreFree}
 use Rattle.service_machine.specs.Rows.{rows_of}
 use Rattle.service_history.proofs.KeptLemmas.{sure-take, sure-gone}
 use Rattle.service_history.proofs.service.Service.take.Goals as goal

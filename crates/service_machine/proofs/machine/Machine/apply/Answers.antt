@@ -1,5 +1,5 @@
 use Rattle.std.proofs.Common.{◌≡◌, true, false}
-use Rattle.service_tables.proofs.FitLemmas.{told_of-there}
+use Rattle.service_answers.specs.service_tables.proofs.FitLemmas.{told_of-there}
 use Rattle.service_machine.proofs.machine.Machine.apply.Goals as goal
 
 -- it is there, and isn't leaving

@@ -1,13 +1,13 @@
 use Rattle.std.proofs.Common.{◌≡◌, ◌++◌, Option, ap, subst, sym, ◌∙◌}
-use Rattle.secret_calls.specs.declared.work.Work.{Work}
-use Rattle.service_events.specs.declared.event.Output.TheVariants.{Arrived}
-use Rattle.service_events.specs.Fates.{with_fates, AreFaultless, is_steady, fates_of}
+use Rattle.service_answers.specs.secret_calls.specs.declared.work.Work.{Work}
+use Rattle.service_answers.specs.service_events.specs.declared.event.Output.TheVariants.{Arrived}
+use Rattle.service_answers.specs.service_events.specs.Fates.{with_fates, AreFaultless, is_steady, fates_of}
 use Rattle.service_machine.specs.Rows.{disk_of, rows_of}
-use Rattle.service_events.specs.Run.{asked}
-use Rattle.service_events.specs.Step.{Fits, brought_by, output_of, plan_of, replies, step, with_delivered, work_of}
-use Rattle.service_events.specs.Stored.{StoresEvent}
-use Rattle.service_calls.specs.Done.{fates_in}
-use Rattle.service_calls.proofs.LeadsLemmas.{leads-fits, leads-stepped, leads-stores, leads-work}
+use Rattle.service_answers.specs.service_events.specs.Run.{asked}
+use Rattle.service_answers.specs.service_events.specs.Step.{Fits, brought_by, output_of, plan_of, replies, step, with_delivered, work_of}
+use Rattle.service_answers.specs.service_events.specs.Stored.{StoresEvent}
+use Rattle.service_answers.specs.service_calls.specs.Done.{fates_in}
+use Rattle.service_answers.specs.service_calls.proofs.LeadsLemmas.{leads-fits, leads-stepped, leads-stores, leads-work}
 use Rattle.service_machine.proofs.SteadyLemmas.{stores-faultless, stores-steady}
 use Rattle.service_machine.proofs.machine.Machine.arrive.Goals as goal
 

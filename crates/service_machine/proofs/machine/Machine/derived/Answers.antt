@@ -1,12 +1,12 @@
 use Rattle.std.proofs.Common.{◌≡◌, ◌^◌, ◌<◌, ◌++◌, sym, ap, subst, ◌∙◌}
 use Rattle.keyring_text.specs.Fields.{IsBytes}
-use Rattle.service_tables.specs.Connections.{HasRoomFor, delivered}
-use Rattle.service_events.specs.declared.event.Event.TheVariants as event
-use Rattle.service_events.specs.declared.event.Derivation.{Derivation}
-use Rattle.service_events.specs.Fates.{AreFaultless, fates_of}
-use Rattle.service_events.specs.Step.{Fits, IsSalt, step}
-use Rattle.service_events.specs.Stored.{StoresEvent, plan_brought}
-use Rattle.service_calls.specs.Rows.{disk_of as disk_with, rows_of as rows_in}
+use Rattle.service_answers.specs.service_tables.specs.Connections.{HasRoomFor, delivered}
+use Rattle.service_answers.specs.service_events.specs.declared.event.Event.TheVariants as event
+use Rattle.service_answers.specs.service_events.specs.declared.event.Derivation.{Derivation}
+use Rattle.service_answers.specs.service_events.specs.Fates.{AreFaultless, fates_of}
+use Rattle.service_answers.specs.service_events.specs.Step.{Fits, IsSalt, step}
+use Rattle.service_answers.specs.service_events.specs.Stored.{StoresEvent, plan_brought}
+use Rattle.service_answers.specs.service_calls.specs.Rows.{disk_of as disk_with, rows_of as rows_in}
 use Rattle.service_machine.specs.Rows.{disk_of, rows_of}
 use Rattle.service_answers.specs.Settled.{settled_fates}
 use Rattle.service_machine.proofs.RecordedLemmas.{came-is, came_of, key-faultless, key-fits, key-steady, key-stepped, key-stores}

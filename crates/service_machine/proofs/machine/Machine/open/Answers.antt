@@ -1,4 +1,4 @@
-use Rattle.service_disk.proofs.UnusedLemmas.{free-loaded}
+use Rattle.service_answers.specs.service_disk.proofs.UnusedLemmas.{free-loaded}
 use Rattle.service_machine.proofs.SteadyLemmas.{loaded-steady}
 use Rattle.service_machine.proofs.machine.Machine.open.Goals as goal
 

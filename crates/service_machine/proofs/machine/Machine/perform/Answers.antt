@@ -1,4 +1,4 @@
-use Rattle.service_calls.proofs.LeadsLemmas.{map-ok}
+use Rattle.service_answers.specs.service_calls.proofs.LeadsLemmas.{map-ok}
 use Rattle.service_machine.proofs.machine.Machine.perform.Goals as goal
 
 -- the row is performed as its function says, whatever the request brings

@@ -1,6 +1,6 @@
 use Rattle.std.proofs.Common.{sym}
 use Rattle.service_machine.specs.Rows.{disk_of, rows_of}
-use Rattle.service_calls.proofs.LeadsLemmas.{leads-done, leads-plain, map-ok}
+use Rattle.service_answers.specs.service_calls.proofs.LeadsLemmas.{leads-done, leads-plain, map-ok}
 use Rattle.service_machine.proofs.machine.Machine.perform_silently.Goals as goal
 
 -- a removal leads to the same whatever the request brings

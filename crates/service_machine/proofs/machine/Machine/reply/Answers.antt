@@ -1,9 +1,9 @@
 use Rattle.std.proofs.Common.{subst, sym}
-use Rattle.secret_calls.specs.declared.out.ErrorName.TheVariants as name
-use Rattle.secret_calls.specs.declared.out.Out.TheVariants as out
-use Rattle.service_tables.specs.Connections.{HasRoomFor}
-use Rattle.service_tables.proofs.RoomLemmas.{first-room}
-use Rattle.service_calls.proofs.LeadsLemmas.{room-after}
+use Rattle.service_answers.specs.secret_calls.specs.declared.out.ErrorName.TheVariants as name
+use Rattle.service_answers.specs.secret_calls.specs.declared.out.Out.TheVariants as out
+use Rattle.service_answers.specs.service_tables.specs.Connections.{HasRoomFor}
+use Rattle.service_answers.specs.service_tables.proofs.RoomLemmas.{first-room}
+use Rattle.service_answers.specs.service_calls.proofs.LeadsLemmas.{room-after}
 use Rattle.service_machine.proofs.machine.Machine.reply.Goals as goal
 
 -- there is room for the reply

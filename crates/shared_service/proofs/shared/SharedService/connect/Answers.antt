@@ -1,7 +1,7 @@
 use Rattle.std.proofs.Common.{IfOk, IfErr, ap, ◌∙◌, subst}
-use Rattle.service_events.specs.declared.event.Event.TheVariants as event
-use Rattle.service_events.specs.declared.event.Output.TheVariants as output
-use Rattle.service_events.specs.Fates.{is_steady}
+use Rattle.service_desk.specs.service_events.specs.declared.event.Event.TheVariants as event
+use Rattle.service_desk.specs.service_events.specs.declared.event.Output.TheVariants as output
+use Rattle.service_desk.specs.service_events.specs.Fates.{is_steady}
 use Rattle.service_desk.specs.Views.{View}
 use Rattle.service_desk.specs.Places.{Extends}
 use Rattle.shared_service.specs.Passes.{Seen, steady_or, spot, view_of, IsRefused}

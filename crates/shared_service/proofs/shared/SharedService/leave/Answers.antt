@@ -1,5 +1,5 @@
 use Rattle.std.proofs.Common.{refl, sym, ap, ◌∙◌, subst}
-use Rattle.service_events.specs.Fates.{is_steady}
+use Rattle.service_desk.specs.service_events.specs.Fates.{is_steady}
 use Rattle.service_history.specs.History.{told}
 use Rattle.service_desk.specs.Views.{View}
 use Rattle.service_desk.specs.Calls.{Leaves}

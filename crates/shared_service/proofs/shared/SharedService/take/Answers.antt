@@ -1,5 +1,5 @@
 use Rattle.std.proofs.Common.{rules, ◌≡◌, [], ◌++◌, refl, ap, ◌∙◌}
-use Rattle.secret_calls.specs.declared.taken.Taken.TheVariants as taken
+use Rattle.service_desk.specs.secret_calls.specs.declared.taken.Taken.TheVariants as taken
 use Rattle.service_desk.specs.Views.{with_others}
 use Rattle.shared_service.specs.Tries.{after_take}
 use Rattle.shared_service.proofs.Calls.{none-more, more-others, takes-after}

@@ -1,5 +1,5 @@
 use Rattle.std.proofs.Common.{◌≡◌, List}
-use Rattle.service_events.specs.declared.event.Event.{Event}
+use Rattle.service_desk.specs.service_events.specs.declared.event.Event.{Event}
 use Rattle.service_desk.specs.Views.{with_others}
 use Rattle.shared_service.proofs.shared.SharedService.take.Given as goal
 
