@@ -4,8 +4,8 @@ use Rattle.std.specs.List.{list_all}
 use Rattle.std.specs.Option.{is_some, option_map, option_or}
 use Rattle.kr_base.specs.Attributes.{is_name, value_at}
 use Rattle.kr_outside.specs.RenameDisk.{Image, Only}
-use Rattle.service_tables.specs.folder_store.specs.Loads.{IsFree}
-use Rattle.service_tables.specs.folder_store.specs.Names.{IsRingName}
+use Rattle.folder_store.specs.Loads.{IsFree}
+use Rattle.folder_store.specs.Names.{IsRingName}
 use Rattle.service_tables.specs.collection_store.specs.State.{CollectionState}
 use Rattle.service_tables.specs.collection_table.specs.Entries.{Entries, row_of, rows_of, slots_of}
 use Rattle.service_tables.specs.collection_table.specs.Rows.{has}

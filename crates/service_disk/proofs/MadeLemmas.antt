@@ -5,10 +5,10 @@ use Rattle.std.specs.Option.{option_or}
 use Rattle.kr_base.specs.Attributes.{is_name, value_at}
 use Rattle.kr_base.proofs.OrderedLemmas.{name-test}
 use Rattle.kr_outside.specs.RenameDisk.{Image, Only}
-use Rattle.service_tables.specs.folder_store.specs.Loads.{IsFree}
-use Rattle.service_tables.specs.folder_store.specs.Names.{IsRingName}
-use Rattle.service_tables.specs.folder_store.proofs.OpenedLemmas.{cons_cases}
-use Rattle.service_tables.specs.folder_store.proofs.StemLemmas.{one_stem}
+use Rattle.folder_store.specs.Loads.{IsFree}
+use Rattle.folder_store.specs.Names.{IsRingName}
+use Rattle.folder_store.proofs.OpenedLemmas.{cons_cases}
+use Rattle.folder_store.proofs.StemLemmas.{one_stem}
 use Rattle.service_tables.specs.collection_table.specs.Entries.{inserted}
 use Rattle.service_tables.specs.collection_table.specs.Rows.{Rows}
 use Rattle.stem_choice.specs.UsedStems.{with_stem}

@@ -4,10 +4,10 @@ use Rattle.std.specs.List.{AllByRecursion}
 use Rattle.std.specs.Option.{option_or}
 use Rattle.kr_base.specs.Attributes.{is_name}
 use Rattle.kr_outside.specs.RenameDisk.{Image, Only}
-use Rattle.service_tables.specs.folder_store.specs.Aliases.{pairs_in}
-use Rattle.service_tables.specs.folder_store.specs.Loads.{IsFree}
-use Rattle.service_tables.specs.folder_store.specs.Names.{IsRingName}
-use Rattle.service_tables.specs.folder_store.specs.declared.loading.Loaded.{Loaded}
+use Rattle.folder_store.specs.Aliases.{pairs_in}
+use Rattle.folder_store.specs.Loads.{IsFree}
+use Rattle.folder_store.specs.Names.{IsRingName}
+use Rattle.folder_store.specs.declared.loading.Loaded.{Loaded}
 use Rattle.service_tables.specs.collection_table.specs.Entries.{loaded_from, rows_of}
 use Rattle.service_tables.specs.collection_table.specs.Rows.{CollectionRow, Rows, has}
 use Rattle.stem_choice.specs.UsedStems.{is_used, with_stem}

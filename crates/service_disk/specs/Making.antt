@@ -7,8 +7,8 @@ use Rattle.key_derivation.specs.Kdf.{Inputs, key_of, vector_of}
 use Rattle.service_tables.specs.keyring_seal.specs.Whole.{sealed}
 use Rattle.service_tables.specs.keyring_seal.specs.declared.content.Content.{Content}
 use Rattle.replace_slot.specs.Cell.{Known, Doubt}
-use Rattle.service_tables.specs.folder_store.specs.Loads.{IsFree}
-use Rattle.service_tables.specs.folder_store.specs.Names.{IsRingName}
+use Rattle.folder_store.specs.Loads.{IsFree}
+use Rattle.folder_store.specs.Names.{IsRingName}
 use Rattle.service_tables.specs.collection_store.specs.Changes.{content_created}
 use Rattle.service_tables.specs.collection_store.specs.Outcomes.{most_for}
 use Rattle.service_tables.specs.collection_table.specs.Entries.{inserted}

@@ -1,6 +1,6 @@
 // A collection is made under a stem that isn't used.
 ghost use Rattle.std.specs.Prelude.{◌≡◌, ◌+◌, ◌<◌, ◌≤◌, ℕ, false, true, Contains, IfOk, OnErr, OnOk, length, min, nat_le, string_bytes, vec_capacity, vec_len};
-ghost use Rattle.service_tables.specs.folder_store.specs.Names.{IsRingName};
+ghost use Rattle.folder_store.specs.Names.{IsRingName};
 ghost use Rattle.key_derivation.specs.Kdf.{Inputs};
 ghost use Rattle.keyring_file.specs.ClearText.{most_iterations};
 ghost use Rattle.service_tables.specs.collection_table.specs.Rows.{has};
@@ -42,7 +42,7 @@ pub fn has_room<F: Folder>(disk: &Disk<F>, label: &Text) -> bool
 }
 
 /// The name of the file of a stem.
-#[tactic(auto, unfolding(service_tables::specs::folder_store::specs::Names::ending))]
+#[tactic(auto, unfolding(folder_store::specs::Names::ending))]
 fn file_name(alloc: Global, stem: &Stem) -> Result<String, OutOfMemory>
     ensures { IfOk result (λ name. IsRingName (string_bytes name) stem.now) }
 {

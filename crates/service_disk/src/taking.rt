@@ -3,8 +3,8 @@
 ghost use Rattle.std.specs.Prelude.{◌≡◌, ◌-◌, ◌<◌, ◌≤◌, ◌∷◌, ℕ, false, Contains, IfNone, IfOk, IfSome, List, None, OnErr, vec_capacity, vec_len};
 ghost use Rattle.service_tables.specs.collection_table.specs.Entries.{inserted, row_of};
 ghost use Rattle.service_tables.specs.collection_table.specs.Rows.{has};
-ghost use Rattle.service_tables.specs.folder_store.specs.Loads.{IsFree};
-ghost use Rattle.service_tables.specs.folder_store.specs.Names.{IsRingName};
+ghost use Rattle.folder_store.specs.Loads.{IsFree};
+ghost use Rattle.folder_store.specs.Names.{IsRingName};
 ghost use Rattle.kr_base.specs.Attributes.{is_name, value_at};
 ghost use Rattle.replace_slot.specs.Cell.{Known};
 ghost use Rattle.service_disk.specs.Making.{IsFreeStem, KeepsFolder};
