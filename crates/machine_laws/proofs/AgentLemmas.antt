@@ -1,8 +1,9 @@
 -- Ask goes to the agent that is there after the event: only Register and Unregister change who is the agent, and each of them changes nothing
 -- else.
-use Rattle.std.proofs.Common.{◌≡◌, ℕ, Bool, true, false, cond, nat_eq, nat_le, ◌+◌, IfSome, List, [], ◌∷◌, ◌++◌, filter, length, map, Option, Some, None, Result, Ok, Err, refl, sym, ap, subst, ◌∙◌}
+use Rattle.std.proofs.Common.{◌≡◌, ℕ, Bool, true, false, cond, nat_eq, nat_le, ◌+◌, IfSome, List, [], ◌∷◌, ◌++◌, filter, length, map, Option, Some, None, Result, Ok, Err, refl, sym, ap, subst, ◌∙◌, Contains}
 use Rattle.std.specs.List.{AllByRecursion, cons_option, filter_map}
 use Rattle.std.specs.Option.{option_and_then, option_map}
+use Rattle.std.proofs.lemmas.List.Elements.{All-contains, All-from_recursion}
 use Rattle.kr_base.specs.declared.ids.ConnId.{ConnId}
 use Rattle.kr_base.specs.declared.ids.ItemId.{ItemId}
 use Rattle.kr_base.specs.declared.ids.PromptId.{PromptId}
@@ -26,6 +27,9 @@ use Rattle.service_events.specs.secret_calls.specs.declared.out.Body.{Body}
 use Rattle.service_events.specs.secret_calls.specs.declared.out.Body.TheVariants as body
 use Rattle.service_events.specs.secret_calls.specs.declared.out.ErrorName.{ErrorName}
 use Rattle.service_events.specs.secret_calls.specs.declared.out.ErrorName.TheVariants as name
+use Rattle.service_events.specs.secret_calls.specs.declared.out.Out.TheVariants as out
+use Rattle.service_events.specs.secret_calls.specs.declared.signal.AskKind.{AskKind}
+use Rattle.service_events.specs.secret_calls.specs.declared.signal.Signal.TheVariants as signal
 use Rattle.service_events.specs.service_disk.specs.declared.opening.Opening.{Opening}
 use Rattle.service_events.specs.service_disk.specs.declared.opening.Opening.TheVariants as ends
 use Rattle.service_events.specs.service_prompts.specs.Prompting.{ask_signal, ask_signal_in, asks_sent, completed_signal}
@@ -118,12 +122,12 @@ go_on-for questions collections agent (Some row) =
 
 -- ---- changes that leave the agent
 
-abbrev KeepsAgent : Change → Type 0
+abbrev pub KeepsAgent : Change → Type 0
 KeepsAgent Become_agent = ⊥
 KeepsAgent Leave_agent = ⊥
 KeepsAgent _ = Unit {0}
 
-abbrev KeepAgent : List Change → Type 0
+abbrev pub KeepAgent : List Change → Type 0
 KeepAgent changes = AllByRecursion KeepsAgent changes
 
 performed-agent : (caller : ConnId) (change : Change) (state : State) → KeepsAgent change → (performed caller change state).prompts.agent ≡ state.prompts.agent
@@ -164,9 +168,9 @@ sent-for caller (Finish_target prompt) state keeps = tt
 sent-for caller (Drop_target prompt) state keeps = tt
 
 -- what is sent is for the agent, who stays
-record IsKept (agent : Option ConnId) (sent : List Sent) (new : Prompts) : Type 0 where
-  for : AreForAgent agent sent
-  same : new.agent ≡ agent
+pub record IsKept (agent : Option ConnId) (sent : List Sent) (new : Prompts) : Type 0 where
+  pub for : AreForAgent agent sent
+  pub same : new.agent ≡ agent
 
 both-for : (agent : Option ConnId) (sent more : List Sent) → AreForAgent agent sent → AreForAgent agent more → AreForAgent agent (sent ++ more)
 both-for agent sent more first rest = each-append (λ (one : Sent). is_ask one.out ≡ true → agent ≡ Some one.to) sent more first rest
@@ -177,7 +181,7 @@ then-kept agent mid sent more new same first rest = record {
   same = rest.same ∙ same;
 }
 
-all-kept : (caller : ConnId) (changes : List Change) (state : State) → KeepAgent changes → IsKept state.prompts.agent (sent_all caller changes state) (performed_all caller changes state).prompts
+pub all-kept : (caller : ConnId) (changes : List Change) (state : State) → KeepAgent changes → IsKept state.prompts.agent (sent_all caller changes state) (performed_all caller changes state).prompts
 all-kept caller [] state keeps = record { for = tt; same = refl }
 all-kept caller (change ∷ changes) state keeps =
     let next = performed caller change state in
@@ -186,13 +190,13 @@ all-kept caller (change ∷ changes) state keeps =
 
 -- ---- plans
 
-abbrev KeepsPlan : Plan → Type 0
+abbrev pub KeepsPlan : Plan → Type 0
 KeepsPlan (Ends answer changes) = KeepAgent changes
 KeepsPlan (After changes next) = KeepAgent changes × ((questions : Questions) → KeepsPlan (next questions))
 KeepsPlan (Asks demand next) = (some : Fate) → KeepsPlan (next some)
 KeepsPlan (Opens stem terms next) = KeepsPlan next
 
-run-kept : (caller : ConnId) (brought : Brought) (plan : Plan) (fates : List Fate) (state : State) → KeepsPlan plan
+pub run-kept : (caller : ConnId) (brought : Brought) (plan : Plan) (fates : List Fate) (state : State) → KeepsPlan plan
     → IsKept state.prompts.agent (run caller brought plan fates state).sends (run caller brought plan fates state).state.prompts
 run-kept caller brought (Ends answer changes) fates state keeps = all-kept caller changes state keeps
 run-kept caller brought (After changes next) fates state keeps =
@@ -367,7 +371,7 @@ keeps-derived-kind prompt wrong (kind.Unlock targets) terms questions =
 keeps-derived-kind prompt wrong (kind.Create label alias salt) terms questions =
     keeps-if (can_make label salt terms questions) _ (dismissing prompt) (keeps-making prompt alias (questions.files.stem_for label)) (tt, tt)
 
-keeps-derived : (prompt : PromptId) (round : ℕ) (terms : KeyTerms) (questions : Questions) → KeepsPlan (derived prompt round terms questions)
+pub keeps-derived : (prompt : PromptId) (round : ℕ) (terms : KeyTerms) (questions : Questions) → KeepsPlan (derived prompt round terms questions)
 keeps-derived prompt round terms questions =
     let pass : (row : Option PromptRow) → KeepsPlan (row_derived prompt round row terms questions) =
     elim [
@@ -378,12 +382,12 @@ keeps-derived prompt round terms questions =
 
 -- ---- each call
 
-abbrev KeepsCall : Result Call CallFault → Type 0
+abbrev pub KeepsCall : Result Call CallFault → Type 0
 KeepsCall (Ok call.Register) = ⊥
 KeepsCall (Ok call.Unregister) = ⊥
 KeepsCall _ = Unit {0}
 
-keeps-call : (salt : List ℕ) (given : Result Call CallFault) (questions : Questions) → KeepsCall given → KeepsPlan (plan_of salt given questions)
+pub keeps-call : (salt : List ℕ) (given : Result Call CallFault) (questions : Questions) → KeepsCall given → KeepsPlan (plan_of salt given questions)
 keeps-call salt (Ok call.Register) questions keeps = absurd keeps
 keeps-call salt (Ok call.Unregister) questions keeps = absurd keeps
 keeps-call salt (Ok (call.OpenSession algorithm)) questions keeps =
@@ -461,3 +465,11 @@ asks_go_to_agent state (event.Derived came) =
 asks_go_to_agent state (event.Leave conn) = tt
 asks_go_to_agent state (event.Take conn) = tt
 asks_go_to_agent state (event.Gone conn) = tt
+
+pub ask_goes_to_agent : (state : State) (event : Event) (conn : ConnId) (prompt : PromptId) (round : ℕ) (kind : AskKind) (label : List ℕ) (wrong : ℕ)
+    → Contains (puts_out state event) (record { to = conn; out = out.Signal (signal.Ask prompt round kind label wrong) }) → (step state event).prompts.agent ≡ Some conn
+ask_goes_to_agent state event conn prompt round kind label wrong there =
+    let agent = (step state event).prompts.agent in
+    let IsForAgent = λ (one : Sent). is_ask one.out ≡ true → agent ≡ Some one.to in
+    All-contains IsForAgent (puts_out state event) (record { to = conn; out = out.Signal (signal.Ask prompt round kind label wrong) })
+    (All-from_recursion IsForAgent (puts_out state event) (asks_go_to_agent state event)) there refl

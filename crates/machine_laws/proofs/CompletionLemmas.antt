@@ -9,11 +9,12 @@ use Rattle.std.proofs.lemmas.List.Elements.{filter-append}
 use Rattle.kr_base.specs.declared.ids.ConnId.{ConnId}
 use Rattle.kr_base.specs.declared.ids.PromptId.{PromptId}
 use Rattle.service_events.specs.collection_table.specs.Rows.{Rows}
-use Rattle.prompt_state.specs.Prompts.{AreGiven, AreRising, abandoned, asked_again, ask_at, asks, begun, changed, ended, ended_row, is_agent, is_of, is_prompt, registered, row_at, unanswered_row, unregistered, without}
+use Rattle.prompt_state.specs.Prompts.{AreGiven, AreRising, abandoned, asked_again, ask_at, asks, begun, changed, ended, ended_row, is_agent, is_of, is_prompt, next_round, registered, row_at, unanswered_row, unregistered, without}
 use Rattle.prompt_state.specs.declared.row.Ask.{Ask}
 use Rattle.prompt_state.specs.declared.row.PromptKind.{PromptKind}
 use Rattle.prompt_state.specs.declared.row.PromptRow.{PromptRow}
 use Rattle.prompt_state.specs.declared.row.Prompts.{Prompts}
+use Rattle.prompt_state.specs.declared.row.Stage.TheVariants.{Asked}
 use Rattle.service_events.specs.secret_calls.specs.declared.call.Request.{Request}
 use Rattle.service_events.specs.secret_calls.specs.declared.out.Body.{Body}
 use Rattle.service_events.specs.secret_calls.specs.declared.out.ErrorName.{ErrorName}
@@ -127,27 +128,27 @@ count-kept p h keeps (x ∷ xs) =
     ] in
     step (is_prompt p x) refl
 
--- the row that is found counts among those of its owner
-count-own : (p : PromptId) (owner : ConnId) (rows : List PromptRow) (row : PromptRow) → is_of owner row ≡ true → find (is_prompt p) rows ≡ Some row → 1 ≤ count p (filter (is_of owner) rows)
-count-own p owner [] row own is = absurd (let no : None ≡ Some row = is in cc)
-count-own p owner (x ∷ xs) row own is =
-    let more : List PromptRow = filter (is_of owner) xs in
-    let step : (a b : Bool) → is_prompt p x ≡ a → is_of owner x ≡ b → 1 ≤ count p (cond b (x ∷ more) more) =
+-- the row that is found counts among those that pass a test, if it does
+count-own : (p : PromptId) (test : PromptRow → Bool) (rows : List PromptRow) (row : PromptRow) → test row ≡ true → find (is_prompt p) rows ≡ Some row → 1 ≤ count p (filter test rows)
+count-own p test [] row own is = absurd (let no : None ≡ Some row = is in cc)
+count-own p test (x ∷ xs) row own is =
+    let more : List PromptRow = filter test xs in
+    let step : (a b : Bool) → is_prompt p x ≡ a → test x ≡ b → 1 ≤ count p (cond b (x ∷ more) more) =
     elim [
       | true ↦ elim [
         | true ↦ λ here its. rw here (omega arith)
         | false ↦ λ here other.
             let found : Some x ≡ Some row = rw here at is in
             let same : x ≡ row = cc in
-            absurd (let no : false ≡ true = sym other ∙ ap (is_of owner) same ∙ own in cc)
+            absurd (let no : false ≡ true = sym other ∙ ap test same ∙ own in cc)
       ]
       | false ↦ λ b off its.
           let later : find (is_prompt p) xs ≡ Some row = rw off at is in
-          let rest = count-own p owner xs row own later in
+          let rest = count-own p test xs row own later in
           let either : (b : Bool) → 1 ≤ count p (cond b (x ∷ more) more) = elim [ true ↦ rw off rest | false ↦ rest ] in
           either b
     ] in
-    step (is_prompt p x) (is_of owner x) refl refl
+    step (is_prompt p x) (test x) refl refl
 
 count-none : (p : PromptId) (rows : List PromptRow) → count p rows ≡ 0 → find (is_prompt p) rows ≡ None
 count-none p [] none = refl
@@ -401,6 +402,192 @@ list-paid p state (event ∷ events) =
     let rest = list-paid p (step state event) events in
     omega (arith, first, rest)
 
+-- ---- whatever isn't left any more was put out
+
+-- if no more than one Completed is left, it is still left or was put out
+abbrev IsDue : PromptId → List Sent → Prompts → Prompts → Type 0
+IsDue p sent new old = left p old ≤ 1 → left p old ≤ completions_in p sent + left p new
+
+-- rows that have another number
+count-other : (p prompt : PromptId) (rows : List PromptRow) → nat_eq prompt.0 p.0 ≡ false → count p (filter (is_prompt prompt) rows) ≡ 0
+count-other p prompt [] off = refl
+count-other p prompt (x ∷ xs) off =
+    let rest = count-other p prompt xs off in
+    let more : List PromptRow = filter (is_prompt prompt) xs in
+    let step : (b : Bool) → is_prompt prompt x ≡ b → count p (cond b (x ∷ more) more) ≡ 0 =
+    elim [
+      | true ↦ λ is. let far : nat_eq x.prompt.0 p.0 ≡ false = grind (arith, nat_tests) in rw far rest
+      | false ↦ λ is. rest
+    ] in
+    step (is_prompt prompt x) refl
+
+-- Completed is sent for the only row that has the number
+found-due : (p prompt : PromptId) (dismissed : Bool) (created : Option (List ℕ)) (rows : List PromptRow) → nat_eq prompt.0 p.0 ≡ true → count p (filter (is_prompt prompt) rows) ≤ 1
+    → count p (filter (is_prompt prompt) rows) ≤ completions_in p (cons_option (option_map (λ (row : PromptRow). completed_signal dismissed created (ended_row row)) (find (is_prompt prompt) rows)) [])
+found-due p prompt dismissed created [] same few = omega arith
+found-due p prompt dismissed created (x ∷ xs) same few =
+    let sent = completed_signal dismissed created (ended_row x) in
+    let more : List PromptRow = filter (is_prompt prompt) xs in
+    let one : (b : Bool) → b ≡ true → length (cond b (x ∷ filter (is_prompt p) more) (filter (is_prompt p) more)) ≤ 1
+    → length (cond b (x ∷ filter (is_prompt p) more) (filter (is_prompt p) more)) ≤ length (cond b (sent ∷ []) []) =
+    elim [ true ↦ λ is some. omega (arith, some) | false ↦ λ off some. absurd (let no : false ≡ true = off in cc) ] in
+    let step : (b : Bool) → is_prompt prompt x ≡ b → count p (cond b (x ∷ more) more) ≤ 1
+    → count p (cond b (x ∷ more) more)
+    ≤ completions_in p (cons_option (option_map (λ (row : PromptRow). completed_signal dismissed created (ended_row row)) (cond b (Some x) (find (is_prompt prompt) xs))) []) =
+    elim [
+      | true ↦ λ is some. let own : is_prompt p x ≡ true = grind (arith, nat_tests) in one (is_prompt p x) own some
+      | false ↦ λ off some. found-due p prompt dismissed created xs same some
+    ] in
+    step (is_prompt prompt x) refl few
+
+ends-due : (p prompt : PromptId) (dismissed : Bool) (created : Option (List ℕ)) (rows : List PromptRow) → count p (filter (is_prompt prompt) rows) ≤ 1
+    → count p (filter (is_prompt prompt) rows) ≤ completions_in p (cons_option (option_map (λ (row : PromptRow). completed_signal dismissed created (ended_row row)) (find (is_prompt prompt) rows)) [])
+ends-due p prompt dismissed created rows few =
+    let step : (b : Bool) → nat_eq prompt.0 p.0 ≡ b
+    → count p (filter (is_prompt prompt) rows) ≤ completions_in p (cons_option (option_map (λ (row : PromptRow). completed_signal dismissed created (ended_row row)) (find (is_prompt prompt) rows)) []) =
+    elim [ true ↦ λ same. found-due p prompt dismissed created rows same few | false ↦ λ off. let none = count-other p prompt rows off in omega (arith, none) ] in
+    step (nat_eq prompt.0 p.0) refl
+
+ended-due : (p prompt : PromptId) (dismissed : Bool) (created : Option (List ℕ)) (prompts : Prompts) → IsDue p (completed_sent prompt dismissed created prompts) (ended prompt prompts) prompts
+ended-due p prompt dismissed created prompts = λ few.
+    let split = count-split p (is_prompt prompt) prompts.rows in
+    let once : count p (filter (is_prompt prompt) prompts.rows) ≤ 1 = omega (arith, few, split) in
+    let told = ends-due p prompt dismissed created prompts.rows once in
+    omega (arith, told, split)
+
+module _ (p : PromptId) (sent : List Sent) where
+  map-due : (h : PromptRow → PromptRow) → ((row : PromptRow) → (h row).prompt ≡ row.prompt) → (prompts : Prompts) (agent : Option ConnId)
+      → IsDue p sent (record { rows = map h prompts.rows; agent = agent; next = prompts.next }) prompts
+  map-due h keeps prompts agent = λ few. let same = count-kept p h keeps prompts.rows in omega (arith, same)
+
+  changed-due : (prompt : PromptId) (f : PromptRow → PromptRow) → ((row : PromptRow) → (f row).prompt ≡ row.prompt) → (prompts : Prompts) → IsDue p sent (changed prompt f prompts) prompts
+  changed-due prompt f keeps prompts =
+      let its : (row : PromptRow) → (cond (is_prompt prompt row) (f row) row).prompt ≡ row.prompt =
+      λ row.
+      let step : (b : Bool) → (cond b (f row) row).prompt ≡ row.prompt = elim [ true ↦ keeps row | false ↦ refl ] in
+      step (is_prompt prompt row) in
+      map-due (λ row. cond (is_prompt prompt row) (f row) row) its prompts prompts.agent
+
+room-stays : (next number : ℕ) → cond (nat_le next number) 1 0 ≤ cond (nat_eq next number) 1 0 + cond (nat_le (next + 1) number) 1 0
+room-stays next number = grind (arith, nat_tests)
+
+begun-due : (p : PromptId) (owner : ConnId) (kind : PromptKind) (prompts : Prompts) → IsDue p [] (begun owner kind prompts) prompts
+begun-due p owner kind prompts = λ few.
+    let more : count p (begun owner kind prompts).rows ≡ count p prompts.rows + cond (nat_eq prompts.next p.0) 1 0 = count-more p prompts.rows _ in
+    let stays = room-stays prompts.next p.0 in
+    omega (arith, more, stays)
+
+-- a prompt that continues
+gone_on-due : (p prompt : PromptId) (questions : CollectionQuestions) (collections : Rows) (prompts : Prompts)
+    → IsDue p (go_on_sent questions collections prompts.agent (row_at prompt prompts)) (gone_on prompt questions prompts) prompts
+gone_on-due p prompt questions collections prompts = λ few.
+    let after = passed_over prompt questions prompts in
+    let row = row_at prompt prompts in
+    let sent = go_on_sent questions collections prompts.agent row in
+    let same-row = row-changed prompt (passed_row questions) prompts (λ row. refl) in
+    let paid : IsPaid p [] after prompts = changed-paid p [] refl prompt (passed_row questions) (λ row. refl) prompts in
+    let passed = changed-due p [] prompt (passed_row questions) (λ row. refl) prompts few in
+    let one : left p after ≤ 1 = omega (arith, paid, few) in
+    let pass : (b : Bool) → is_over_row (row_at prompt after) ≡ b → left p prompts ≤ completions_in p sent + left p (cond b (ended prompt after) (asked_again prompt after)) =
+    elim [
+      | true ↦ λ is.
+          let same : sent ≡ completed_sent prompt false None after =
+          end-sends p prompt questions collections prompts row (sym (ap is_over_row same-row) ∙ is)
+          ∙ ap (λ o. cons_option (option_map (λ (row : PromptRow). completed_signal false None (ended_row row)) o) []) (sym same-row) in
+          let told = ap (completions_in p) same in
+          let due = ended-due p prompt false None after one in
+          omega (arith, passed, told, due)
+      | false ↦ λ is. let due = changed-due p sent prompt (λ row. record row { stage = Asked (next_round (row_at prompt after)) }) (λ row. refl) after one in omega (arith, passed, due)
+    ] in
+    pass (is_over_row (row_at prompt after)) refl
+
+performed-due : (p : PromptId) (caller : ConnId) (change : Change) (state : State) → IsDue p (sent_by caller change state) (performed caller change state).prompts state.prompts
+performed-due p caller Open_session state = λ few. omega arith
+performed-due p caller (Close_session session) state = λ few. omega arith
+performed-due p caller (Lock_collection stem) state = λ few. omega arith
+performed-due p caller (Begin_prompt kind) state = begun-due p caller kind state.prompts
+performed-due p caller (Ask_prompt prompt) state = changed-due p (ask_sent prompt (asked_again prompt state.prompts) state.collections) prompt _ (λ row. refl) state.prompts
+performed-due p caller (Derive_key prompt round) state = changed-due p [] prompt _ (λ row. refl) state.prompts
+performed-due p caller (Count_wrong prompt) state = changed-due p [] prompt _ (λ row. refl) state.prompts
+performed-due p caller (Clear_wrong prompt) state = changed-due p [] prompt _ (λ row. refl) state.prompts
+performed-due p caller (Go_on prompt) state = gone_on-due p prompt (asked_collections (contents_of state)) state.collections state.prompts
+performed-due p caller (Finish_target prompt) state = changed-due p [] prompt _ (λ row. refl) state.prompts
+performed-due p caller (Drop_target prompt) state = changed-due p [] prompt _ (λ row. refl) state.prompts
+performed-due p caller (End_prompt prompt dismissed created) state = ended-due p prompt dismissed created state.prompts
+performed-due p caller Become_agent state = λ few. omega arith
+performed-due p caller Leave_agent state = map-due p [] unanswered_row (λ row. refl) state.prompts None
+
+all-due : (p : PromptId) (caller : ConnId) (changes : List Change) (state : State) → IsDue p (sent_all caller changes state) (performed_all caller changes state).prompts state.prompts
+all-due p caller [] state = λ few. omega arith
+all-due p caller (change ∷ changes) state = λ few.
+    let next = performed caller change state in
+    let paid = performed-paid p caller change state in
+    let one : left p next.prompts ≤ 1 = omega (arith, paid, few) in
+    let first = performed-due p caller change state few in
+    let rest = all-due p caller changes next one in
+    let both = told-append p (sent_by caller change state) (sent_all caller changes next) in
+    omega (arith, first, rest, both)
+
+run-due : (p : PromptId) (caller : ConnId) (brought : Brought) (plan : Plan) (fates : List Fate) (state : State)
+    → IsDue p (run caller brought plan fates state).sends (run caller brought plan fates state).state.prompts state.prompts
+run-due p caller brought (Ends answer changes) fates state = all-due p caller changes state
+run-due p caller brought (After changes next) fates state = λ few.
+    let mid = performed_all caller changes state in
+    let then = run caller brought (next (asked caller brought mid)) fates mid in
+    let paid = all-paid p caller changes state in
+    let one : left p mid.prompts ≤ 1 = omega (arith, paid, few) in
+    let first = all-due p caller changes state few in
+    let rest = run-due p caller brought (next (asked caller brought mid)) fates mid one in
+    let both = told-append p (sent_all caller changes state) then.sends in
+    omega (arith, first, rest, both)
+run-due p caller brought (Asks demand next) [] state = λ few. omega arith
+run-due p caller brought (Asks demand next) (fate ∷ fates) state = run-due p caller brought (next fate) fates (demanded brought demand fate state)
+run-due p caller brought (Opens stem terms next) fates state = run-due p caller brought next fates (unlocked_with brought stem terms state)
+
+led-due : (p : PromptId) (caller : ConnId) (brought : Brought) (plan : Plan) (fates : List Fate) (state : State)
+    → IsDue p (led caller brought plan fates state).sends (led caller brought plan fates state).state.prompts state.prompts
+led-due p caller brought plan fates state = λ few.
+    let ran = run caller brought plan fates state in
+    let due = run-due p caller brought plan fates state few in
+    let told = ap (completions_in p) (sends-limited plan ran) in
+    let kept = ap (λ (s : State). left p s.prompts) (state-limited plan ran) in
+    omega (arith, due, told, kept)
+
+-- once a connection is gone, its prompts and no others aren't left
+abandoned-due : (p : PromptId) (conn : ConnId) (prompts : Prompts) (row : PromptRow) → row_at p prompts ≡ Some row → (conn ≡ row.owner → ⊥) → left p prompts ≤ 1 → left p prompts ≤ left p (abandoned conn prompts)
+abandoned-due p conn prompts row found another few =
+    let others = without conn prompts in
+    let not_its : (b : Bool) → is_of conn row ≡ b → not b ≡ true =
+    elim [
+      | true ↦ λ is. absurd (let same : conn.0 ≡ row.owner.0 = grind (arith, nat_tests) in another (λ i. record { 0 = same i }))
+      | false ↦ λ off. refl
+    ] in
+    let stays = count-own p (λ (other : PromptRow). not (is_of conn other)) prompts.rows row (not_its (is_of conn row) refl) found in
+    let split = count-split p (is_of conn) prompts.rows in
+    let one : left p others ≤ 1 = omega (arith, few, split) in
+    let quiet = map-due p [] unanswered_row (λ row. refl) others None one in
+    let step : (b : Bool) → left p others ≤ left p (cond b (unregistered others) others) = elim [ true ↦ omega (arith, quiet) | false ↦ omega arith ] in
+    let kept = step (is_agent conn prompts) in
+    omega (arith, few, stays, split, kept)
+
+event-due : (p : PromptId) (state : State) (row : PromptRow) (some : Event) → row_at p state.prompts ≡ Some row → (some ≡ event.Gone row.owner → ⊥) → IsDue p (puts_out state some) (step state some).prompts state.prompts
+event-due p state row (event.Connect conn) found another = λ few. omega arith
+event-due p state row (event.Arrive came) found another = λ few.
+    let caller = came.arrival.conn in
+    let ran = served came state in
+    let due = led-due p caller (brought_by came.arrival) (plan_for came state) came.fates state few in
+    let none = reply-told p caller came.arrival.request ran.answer in
+    let both = told-append p (replies caller came.arrival.request ran.answer) ran.sends in
+    omega (arith, due, none, both)
+event-due p state row (event.Derived came) found another =
+    let brought = brought_derived came in
+    led-due p came.conn brought (derived came.prompt came.round (terms_of came) (asked came.conn brought state)) came.fates state
+event-due p state row (event.Leave conn) found another = λ few. omega arith
+event-due p state row (event.Take conn) found another = λ few. omega arith
+event-due p state row (event.Gone conn) found another = λ few.
+    let kept = abandoned-due p conn state.prompts row found (λ same. another (ap event.Gone same)) few in
+    omega (arith, kept)
+
 -- ---- the law
 
 sound-left : (p : PromptId) (state : State) → IsSound state → left p state.prompts ≤ 1
@@ -415,7 +602,7 @@ over_once_completed p state events sound some = none-over p (replay state events
 pub over_once_gone : (p : PromptId) (state : State) (row : PromptRow) → IsSound state → row_at p state.prompts ≡ Some row → IsOver p (step state (event.Gone row.owner)).prompts
 over_once_gone p state row sound found =
     let itself : is_of row.owner row ≡ true = grind (arith, nat_tests) in
-    let own = count-own p row.owner state.prompts.rows row itself found in
+    let own = count-own p (is_of row.owner) state.prompts.rows row itself found in
     let split = count-split p (is_of row.owner) state.prompts.rows in
     let fewer = abandoned-left p row.owner state.prompts in
     none-over p (abandoned row.owner state.prompts) (omega (arith, own, split, fewer, sound-left p state sound))
@@ -441,3 +628,16 @@ derived_is_nothing state came over =
     ap (λ (o : Option PromptRow).
     let ran = led came.conn brought (row_derived came.prompt came.round o terms asks) came.fates state in
     with_delivered ran.sends ran.state) over.gone
+
+-- a prompt that is over by an event other than that its owner is gone has completed
+pub completes_at_its_end : (p : PromptId) (state : State) (row : PromptRow) (some : Event) → IsSound state → row_at p state.prompts ≡ Some row → (some ≡ event.Gone row.owner → ⊥)
+    → IsOver p (step state some).prompts → completions_in p (puts_out state some) ≡ 1
+completes_at_its_end p state row some sound found another ends =
+    let itself : is_of row.owner row ≡ true = grind (arith, nat_tests) in
+    let own = count-own p (is_of row.owner) state.prompts.rows row itself found in
+    let split = count-split p (is_of row.owner) state.prompts.rows in
+    let few = sound-left p state sound in
+    let due = event-due p state row some found another few in
+    let paid = event-paid p state some in
+    let none = over-none p (step state some).prompts ends in
+    omega (arith, own, split, few, due, paid, none)

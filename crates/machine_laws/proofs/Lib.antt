@@ -1,4 +1,5 @@
 pub mod AgentLemmas
+pub mod AskedLemmas
 pub mod CompletionLemmas
 pub mod DeliveryLemmas
 pub mod OwnerLemmas

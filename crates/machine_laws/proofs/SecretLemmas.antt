@@ -1,9 +1,9 @@
 -- Each secret that an event puts out is that of an item of an unlocked collection, for a session that its connection owns; signals have none.
-use Rattle.std.proofs.Common.{◌≡◌, ℕ, ◌≤◌, Bool, true, false, nat_le, cond, IsSomeAnd, List, [], ◌∷◌, length, slice_get, Contains, Option, Some, None, Result, Ok, Err, refl, sym, ap, subst, ◌∙◌, arith, nat_eq, is_some, filter, IfSome}
+use Rattle.std.proofs.Common.{◌≡◌, ◌⊎◌, ⊎_elim, ℕ, ◌≤◌, Bool, true, false, nat_le, cond, IsSomeAnd, List, [], ◌∷◌, length, slice_get, Contains, Option, Some, None, Result, Ok, Err, refl, sym, ap, subst, ◌∙◌, arith, nat_eq, is_some, filter, IfSome}
 use Rattle.std.specs.List.{AllByRecursion, cons_option, filter_map}
 use Rattle.std.specs.Option.{option_and_then, option_map, option_map_or}
 use Rattle.std.proofs.lemmas.Bool.{le-leb}
-use Rattle.std.proofs.lemmas.List.Elements.{All-contains, All-from_recursion, Contains-append_left}
+use Rattle.std.proofs.lemmas.List.Elements.{All-contains, All-from_recursion, Contains-append_cases, Contains-append_left, Contains-append_right, Contains-push_cases}
 use Rattle.std.proofs.lemmas.Option.{none-some, same_Some}
 use Rattle.kr_base.specs.Attributes.{value_at}
 use Rattle.kr_base.specs.declared.ids.ConnId.{ConnId}
@@ -59,12 +59,12 @@ use Rattle.service_events.specs.CollectionCalls.{by_fate, if_open, made, on_coll
 use Rattle.service_events.specs.Plan.{Answer, Change, Open_session, Close_session, Lock_collection, Begin_prompt, Ask_prompt, Derive_key, Count_wrong, Clear_wrong, Go_on, Finish_target, Drop_target, End_prompt, Become_agent, Leave_agent, Gives, Plan, Ends, After, Asks, Opens, Questions, Refuses, Returns, Secret_of, Secrets_of, answered, given, refused, Erase, Set_alias, Read_aliases, Read_collection}
 use Rattle.service_events.specs.PromptCalls.{asks_for, completes, go_on_sent, with_prompt, first_advance, is_over, passed_kind}
 use Rattle.service_events.specs.Run.{Ran, asked, bounded, demanded, led, limited, performed, performed_all, run, secret_returned, sent_all, sent_by, unlocked_with}
-use Rattle.service_events.specs.ServiceCalls.{answered_if_small, creating, is_small, there_already, unlocking, with_new_prompt, is_plain, locks, no_collection}
+use Rattle.service_events.specs.ServiceCalls.{get_secrets, answered_if_small, creating, is_small, there_already, unlocking, with_new_prompt, is_plain, locks, no_collection}
 use Rattle.service_events.specs.SessionCalls.{with_session}
 use Rattle.service_events.specs.Step.{brought_by, brought_derived, finished, message_of, plan_of, puts_out, replies, row_of, served, terms_of}
 use Rattle.service_events.specs.Derivation.{derived}
 use Rattle.service_events.proofs.RunLemmas.{sends-limited}
-use Rattle.machine_laws.specs.Secrets.{IsOfOpenItem, IsReturnOf, Shows, ShowsAt, item_asked, item_called, secrets_in, state_at}
+use Rattle.machine_laws.specs.Secrets.{IsOfOpenItem, IsReturnOf, Shows, ShowsAt, item_asked, item_called, items_shown, secrets_in, secrets_shown, state_at}
 use Rattle.service_events.specs.folder_store.specs.Limits.{the_limits}
 use Rattle.service_events.specs.ItemCalls.{get_secret, secret_if_open}
 use Rattle.service_events.specs.service_tables.specs.Questions.{CollectionQuestions}
@@ -635,4 +635,62 @@ shown_on_call state came stem item session secret call wanted own there is small
     let alone : Contains (shown ∷ []) shown = (0, omega arith, refl) in (
       Contains-append_left (replies caller came.arrival.request (served came state).answer) (served came state).sends sent (subst (λ l. Contains l sent) (sym answers) first),
       subst (λ c. Contains (secrets_in (item_called c) message) shown) (sym call) alone,
+    )
+
+-- ---- GetSecrets by the owner of a session
+
+-- an object whose secret is read gives it
+gives-secret : (session : SessionId) (rows : Rows) (objects : List ObjectName) (object : ObjectName) (shown : ItemSecret) → Contains objects object → item_secret session rows object ≡ Some shown
+    → Contains (filter_map (item_secret session rows) objects) shown
+gives-secret session rows [] object shown there is = absurd (let none = there.1 in omega (arith, none))
+gives-secret session rows (first ∷ objects) object shown there is =
+    let rest = filter_map (item_secret session rows) objects in
+    let here : first ≡ object → Contains (cons_option (item_secret session rows first) rest) shown =
+    λ same. subst (λ o. Contains (cons_option o rest) shown) (sym (ap (item_secret session rows) same ∙ is)) (0, omega arith, refl) in
+    let alone : Contains (first ∷ []) object → first ≡ object =
+    λ one. ⊎_elim (λ (none : Contains [] object). absurd (let no = none.1 in omega (arith, no))) (λ (same : first ≡ object). same) (Contains-push_cases [] first object one) in
+    let later : Contains objects object → Contains (cons_option (item_secret session rows first) rest) shown =
+    λ behind.
+    let more = gives-secret session rows objects object shown behind is in
+    let pass : (o : Option ItemSecret) → Contains (cons_option o rest) shown = elim [ None ↦ more | Some other ↦ Contains-append_right (other ∷ []) rest shown more ] in
+    pass (item_secret session rows first) in
+    ⊎_elim (λ (one : Contains (first ∷ []) object). here (alone one)) later (Contains-append_cases (first ∷ []) objects object there)
+
+given-answers : (caller : ConnId) (brought : Brought) (fates : List Fate) (state : State) (objects : List ObjectName) (session : SessionId) → owns caller session state.sessions ≡ true
+    → length (spelled_body (body.Secrets (secrets_shown session state objects))) ≤ most_body
+    → (led caller brought (get_secrets objects (Some session) (asked caller brought state)) fates state).answer ≡ Ok (body.Secrets (secrets_shown session state objects))
+given-answers caller brought fates state objects session own small =
+    let secrets = secrets_shown session state objects in
+    ap (λ b. (led caller brought (cond b (given (Secrets_of session (items_shown state objects))) (refused name.NoSession)) fates state).answer) own
+    ∙ ap (λ b. cond b (Ok (body.Secrets secrets)) (Err name.LimitsExceeded)) (le-leb (length (spelled_body (body.Secrets secrets))) most_body small)
+
+pub shown_on_calls : (state : State) (came : Recorded) (objects : List ObjectName) (stem : List ℕ) (item : ItemId) (session : SessionId) (secret : ReturnedSecret)
+    → came.arrival.request.call ≡ Ok (call.GetSecrets objects (Some session))
+    → came.arrival.request.wants_reply ≡ true
+    → owns came.arrival.conn session state.sessions ≡ true
+    → Contains (items_shown state objects) (object.Item stem item)
+    → secret_of session state.collections stem item ≡ Some secret
+    → length (spelled_body (body.Secrets (secrets_shown session state objects))) ≤ most_body
+    → Shows state (event.Arrive came) (record { to = came.arrival.conn; out = out.Return came.arrival.request.serial (body.Secrets (secrets_shown session state objects)) })
+    (record { item = path_text (object.Item stem item); secret = secret })
+shown_on_calls state came objects stem item session secret call wanted own there is small =
+    let caller = came.arrival.conn in
+    let brought = brought_by came.arrival in
+    let serial = came.arrival.request.serial in
+    let path = path_text (object.Item stem item) in
+    let shown : ItemSecret = record { item = path; secret = secret } in
+    let secrets = secrets_shown session state objects in
+    let message : Out = out.Return serial (body.Secrets secrets) in
+    let sent : Sent = record { to = caller; out = message } in
+    let answer : (served came state).answer ≡ Ok (body.Secrets secrets) =
+    ap (λ c. (led caller brought (plan_of came.arrival.salt c (asked caller brought state)) came.fates state).answer) call
+    ∙ given-answers caller brought came.fates state objects session own small in
+    let answers : replies caller came.arrival.request (served came state).answer ≡ sent ∷ [] =
+    ap (λ b. cond b (record { to = caller; out = message_of serial (served came state).answer } ∷ []) []) wanted
+    ∙ ap (λ a. record { to = caller; out = message_of serial a } ∷ []) answer in
+    let first : Contains (sent ∷ []) sent = (0, omega arith, refl) in
+    let read : item_secret session state.collections (object.Item stem item) ≡ Some shown = ap (option_map (λ (s : ReturnedSecret). record { item = path; secret = s })) is in
+    let among : Contains secrets shown = gives-secret session state.collections (items_shown state objects) (object.Item stem item) shown there read in (
+      Contains-append_left (replies caller came.arrival.request (served came state).answer) (served came state).sends sent (subst (λ l. Contains l sent) (sym answers) first),
+      subst (λ c. Contains (secrets_in (item_called c) message) shown) (sym call) among,
     )

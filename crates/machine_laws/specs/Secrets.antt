@@ -1,8 +1,11 @@
 -- Which secrets a connection is shown, and what is true of each (Secret Service API draft 0.2, "Secrets", and the interfaces Item and Service):
 -- GetSecret returns the secret of the item on which it is called, and GetSecrets those of several items, each with the path of its item. The
 -- values of no other message have room for a secret.
-use Rattle.std.specs.Prelude.{◌≡◌, ℕ, IsSomeAnd, IsTrue, List, [], ◌∷◌, Contains, slice_get, take, Some, Result, Ok}
+use Rattle.std.specs.Prelude.{◌≡◌, ℕ, IsSomeAnd, IsTrue, List, [], ◌∷◌, Contains, filter, slice_get, take, Some, Result, Ok}
+use Rattle.std.specs.List.{filter_map}
 use Rattle.kr_base.specs.declared.ids.ItemId.{ItemId}
+use Rattle.kr_base.specs.declared.ids.SessionId.{SessionId}
+use Rattle.kr_names.specs.declared.object_name.ObjectName.{ObjectName}
 use Rattle.kr_names.specs.declared.object_name.ObjectName.TheVariants as object
 use Rattle.kr_names.specs.Path.{path_text}
 use Rattle.service_events.specs.collection_table.specs.Rows.{Rows, is_open}
@@ -15,7 +18,9 @@ use Rattle.service_events.specs.secret_calls.specs.declared.out.Out.TheVariants 
 use Rattle.service_events.specs.secret_calls.specs.declared.secret.ItemSecret.{ItemSecret}
 use Rattle.service_events.specs.secret_calls.specs.declared.serial.Serial.{Serial}
 use Rattle.service_events.specs.service_tables.specs.declared.rows.Sent.{Sent}
-use Rattle.service_events.specs.service_tables.specs.Reading.{secret_of}
+use Rattle.service_events.specs.service_tables.specs.Objects.{is_open_item, once}
+use Rattle.service_events.specs.service_tables.specs.Opened.{contents_of}
+use Rattle.service_events.specs.service_tables.specs.Reading.{asked_collections, item_secret, secret_of}
 use Rattle.service_events.specs.service_tables.specs.State.{State}
 use Rattle.service_events.specs.declared.event.Event.{Event}
 use Rattle.service_events.specs.declared.event.Event.TheVariants as event
@@ -71,3 +76,13 @@ pub record IsOfOpenItem (rows : Rows) (shown : ItemSecret) : Type 0 where
   pub named : shown.item ≡ path_text (object.Item stem item)
   pub unlocked : IsTrue (is_open stem rows)
   pub whose : secret_of shown.secret.session rows stem item ≡ Some shown.secret
+
+-- ---- what GetSecrets shows
+
+-- the items among these objects that are there and whose collections are unlocked, each path once
+abbrev pub items_shown : State → List ObjectName → List ObjectName
+items_shown state objects = once (filter (is_open_item (asked_collections (contents_of state))) objects)
+
+-- their secrets for a session, each with the path of its item
+abbrev pub secrets_shown : SessionId → State → List ObjectName → List ItemSecret
+secrets_shown session state objects = filter_map (item_secret session state.collections) (items_shown state objects)

@@ -2,7 +2,7 @@
 // nothing.
 ghost use Rattle.std.specs.Prelude.{◌≡◌, ◌≤◌, [], List, Some};
 ghost use Rattle.kr_base.specs.declared.ids.PromptId.{PromptId};
-ghost use Rattle.machine_laws.specs.Completions.{completions, AreAllFor, IsOver};
+ghost use Rattle.machine_laws.specs.Completions.{completions, completions_in, AreAllFor, IsOver};
 ghost use Rattle.prompt_state.specs.Prompts.{row_at};
 ghost use Rattle.prompt_state.specs.declared.row.PromptRow.{PromptRow};
 ghost use Rattle.service_events.specs.Replay.{replay};
@@ -27,6 +27,15 @@ pub fn a_prompt_completes_at_most_once()
     ensures owner_gone { (prompt : PromptId) (state : State) (row : PromptRow) → IsSound state
         → row_at prompt state.prompts ≡ Some row
         → IsOver prompt (step state (Event.Gone row.owner)).prompts }
+{}
+
+/// A prompt that ends completes: if a prompt that is there in a sound state is over after an event, this event
+/// puts out Completed for it, once, unless the event is that the prompt's owner is gone.
+pub fn a_prompt_that_ends_completes()
+    ensures { (prompt : PromptId) (state : State) (row : PromptRow) (event : Event)
+        → IsSound state → row_at prompt state.prompts ≡ Some row
+        → ¬ (event ≡ Event.Gone row.owner) → IsOver prompt (step state event).prompts
+        → completions_in prompt (puts_out state event) ≡ 1 }
 {}
 
 /// A prompt that is over stays so, whatever events come: no prompt has its number again, which is below

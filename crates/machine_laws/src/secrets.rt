@@ -1,7 +1,8 @@
 // Who is shown a secret, and whose it is. Each law is the contract of a function that does nothing.
-ghost use Rattle.std.specs.Prelude.{◌≡◌, ℕ, ◌≤◌, List, length, true, slice_get, IsTrue, IsSomeAnd, Some, Ok};
+ghost use Rattle.std.specs.Prelude.{◌≡◌, ℕ, ◌≤◌, Contains, List, length, true, slice_get, IsTrue, IsSomeAnd, Some, Ok};
 ghost use Rattle.kr_base.specs.declared.ids.ItemId.{ItemId};
 ghost use Rattle.kr_base.specs.declared.ids.SessionId.{SessionId};
+ghost use Rattle.kr_names.specs.declared.object_name.ObjectName.{ObjectName};
 ghost use Rattle.kr_names.specs.declared.object_name.ObjectName.TheVariants as object;
 ghost use Rattle.kr_names.specs.Path.{path_text};
 ghost use Rattle.service_events.specs.collection_table.specs.Rows.{has_item};
@@ -19,7 +20,7 @@ ghost use Rattle.service_events.specs.service_tables.specs.declared.rows.Sent.{S
 ghost use Rattle.service_events.specs.declared.event.Event.{Event};
 ghost use Rattle.service_events.specs.declared.event.Event.TheVariants as Event;
 ghost use Rattle.service_events.specs.declared.event.Recorded.{Recorded};
-ghost use Rattle.machine_laws.specs.Secrets.{IsOfOpenItem, IsReturnOf, Shows, ShowsAt, state_at};
+ghost use Rattle.machine_laws.specs.Secrets.{IsOfOpenItem, IsReturnOf, Shows, ShowsAt, items_shown, secrets_shown, state_at};
 
 /// A message that contains a secret is the return of a request of the connection to which it goes. In the
 /// state before that request the connection owns the secret's session, and the secret is that of an item
@@ -65,6 +66,26 @@ pub fn an_unlocked_item_is_shown_to_a_sessions_owner()
         (record {
           to = came.arrival.conn;
           out = Out.Return came.arrival.request.serial (body.Secret secret);
+        })
+        (record { item = path_text (object.Item stem item); secret = secret }) }
+{}
+
+/// By GetSecrets, the owner of a session is shown the secret of each of the items that are there and whose
+/// collections are unlocked, if a reply is wanted and its values aren't too large.
+#[tactic(auto, using(crate::proofs::SecretLemmas::shown_on_calls))]
+pub fn unlocked_items_are_shown_to_a_sessions_owner()
+    ensures { (state : State) (came : Recorded) (objects : List ObjectName) (stem : List ℕ)
+        (item : ItemId) (session : SessionId) (secret : ReturnedSecret)
+        → came.arrival.request.call ≡ Ok (call.GetSecrets objects (Some session))
+        → came.arrival.request.wants_reply ≡ true → IsTrue (owns came.arrival.conn session state.sessions)
+        → Contains (items_shown state objects) (object.Item stem item)
+        → secret_of session state.collections stem item ≡ Some secret
+        → length (spelled_body (body.Secrets (secrets_shown session state objects))) ≤ most_body
+        → Shows state (Event.Arrive came)
+        (record {
+          to = came.arrival.conn;
+          out = Out.Return came.arrival.request.serial
+              (body.Secrets (secrets_shown session state objects));
         })
         (record { item = path_text (object.Item stem item); secret = secret }) }
 {}
