@@ -118,7 +118,7 @@ impl<I: Source + Drop + Send + 'static, O: Sink + Drop + Send + 'static> Listene
 
     /// The first of the links left, or None if none is left.
     ///
-    /// Refused with `Failed` at the calls that the plan lists, and at no other.
+    /// Refused with `Failed` at the calls that the plan lists; no clause says which these are.
     fn accept(&mut self) -> Result<Option<Link<I, O>>, Failed> {
         if self.plan.fails_now() {
             return Err(self.plan.fail());
