@@ -10,7 +10,7 @@ use Rattle.dbus_framing.specs.declared.violation.Violation.{Violation}
 use Rattle.dbus_framing.specs.declared.violation.Violation.TheVariants as violation
 use Rattle.dbus_framing.specs.Framers.{Framing}
 use Rattle.dbus_framing.specs.Messages.{Parts}
-use Rattle.dbus_framing.specs.Streams.{Cut, Stream, Breaks}
+use Rattle.dbus_framing.specs.Streams.{Cut, Stream, Breaks, BreaksNone}
 use Rattle.dbus_framing.proofs.Cuts.{cut_none, cut_then, cut_more, stream_then}
 use Rattle.call_wire.specs.CallOf.{CallOf}
 use Rattle.service_desk.specs.secret_calls.specs.declared.call.Request.{Request}
@@ -111,7 +111,7 @@ stops-memory w = record {
   recorded = records-none (place_of w);
   late = [];
   handed = handed-none w;
-  refusal = omega arith;
+  refusal = inl (refl, refl);
 }
 
 -- ---- one request
@@ -182,7 +182,7 @@ hands-refused request now salt why old new so is first drawn salting =
     refused-one : (why : Refused) (told : Told) (asked : TimedRequest) → IsRefusal why told → RefusedFor (end_for why) told (asked ∷ []) []
     refused-one refusal.EventsSpent told asked is = (is, omega arith)
     refused-one refusal.Gone told asked is = (is, omega arith)
-    refused-one refusal.OutOfMemory told asked is = omega arith
+    refused-one refusal.OutOfMemory told asked is = inr (is, omega arith)
 
 -- the desk refused its key
 pub hands-late : (request : Request) (now later : ℕ) (salt : List ℕ) (work : Work) (why : Refused) (between : Option (ℕ → ℕ)) (old : World) (mid : Place) (new : World)
@@ -219,7 +219,7 @@ hands-late request now later salt work why between old mid new so looked is firs
     refused-key : (why : Refused) (told : Told) (later : ℕ) → IsRefusal why told → RefusedFor (end_for why) told [] (later ∷ [])
     refused-key refusal.EventsSpent told later is = (is, omega arith)
     refused-key refusal.Gone told later is = (is, omega arith)
-    refused-key refusal.OutOfMemory told later is = omega arith
+    refused-key refusal.OutOfMemory told later is = inr (is, omega arith)
 
 -- ---- one message
 
@@ -501,8 +501,8 @@ hands-end has from now left more old mid new end.Overrun most so hands = stops-e
 
 -- no more bytes were read
 pub feeds-no-more : (has : Framing) (from now later : Input) (left fed : Framing) (old new : World) (why : End) → has.most ≡ most_bytes → ReadThrough has from now left old new
-    → FeedsMore left fed now later (Err why) → ReadsOn has from later old new why
-feeds-no-more has from now later left fed old new end.ReadFault most so feeds =
+    → BreaksNone most_bytes left.rest → FeedsMore left fed now later (Err why) → ReadsOn has from later old new why
+feeds-no-more has from now later left fed old new end.ReadFault most so quiet feeds =
     let was = so.so_far in record {
       read = was.read;
       took = stays from now later was.read was.took feeds.0;
@@ -513,9 +513,9 @@ feeds-no-more has from now later left fed old new end.ReadFault most so feeds =
       late = [];
       handed = was.going.handed;
       refusal = (refl, refl);
-      cause = ((left.rest, all-read has from now left old new most so), rose-later from.faults now.faults later.faults was.took.later feeds.1);
+      cause = ((left.rest, all-read has from now left old new most so, quiet), rose-later from.faults now.faults later.faults was.took.later feeds.1);
     }
-feeds-no-more has from now later left fed old new end.Done most so feeds =
+feeds-no-more has from now later left fed old new end.Done most so quiet feeds =
     let was = so.so_far in record {
       read = was.read;
       took = stays from now later was.read was.took feeds.0;
@@ -528,7 +528,7 @@ feeds-no-more has from now later left fed old new end.Done most so feeds =
       refusal = (refl, refl);
       cause = (rw (sym feeds.2) (all-read has from now left old new most so), feeds.1, feeds.3 ∙ was.still);
     }
-feeds-no-more has from now later left fed old new (end.Violation violation.EndInside) most so feeds =
+feeds-no-more has from now later left fed old new (end.Violation violation.EndInside) most so quiet feeds =
     let was = so.so_far in record {
       read = was.read;
       took = stays from now later was.read was.took feeds.0;
@@ -539,9 +539,9 @@ feeds-no-more has from now later left fed old new (end.Violation violation.EndIn
       late = [];
       handed = was.going.handed;
       refusal = (refl, refl);
-      cause = ((left.rest, all-read has from now left old new most so, (feeds.2, feeds.1)), feeds.3 ∙ was.still);
+      cause = ((left.rest, all-read has from now left old new most so, (feeds.2, feeds.1, quiet)), feeds.3 ∙ was.still);
     }
-feeds-no-more has from now later left fed old new end.Memory most so feeds =
+feeds-no-more has from now later left fed old new end.Memory most so quiet feeds =
     let was = so.so_far in
     let bytes : has.rest ++ (was.read ++ feeds.0) ≡ (has.rest ++ was.read) ++ feeds.0 = sym (append_assoc has.rest was.read feeds.0) in
     let first : FirstRequests has.most (has.rest ++ (was.read ++ feeds.0)) (requests_of (all_asked was.going.handled ++ [])) =
@@ -561,15 +561,15 @@ feeds-no-more has from now later left fed old new end.Memory most so feeds =
       refused = [];
       late = [];
       handed = was.going.handed;
-      refusal = omega arith;
+      refusal = inl (refl, refl);
       cause = (subst (λ m. FirstRequests m (has.rest ++ (was.read ++ feeds.0)) (requests_of (all_asked was.going.handled ++ []))) most first, feeds.2 ∙ was.still);
     }
-feeds-no-more has from now later left fed old new end.EventsSpent most so feeds = absurd feeds
-feeds-no-more has from now later left fed old new end.OtherEnded most so feeds = absurd feeds
-feeds-no-more has from now later left fed old new end.WriteFault most so feeds = absurd feeds
-feeds-no-more has from now later left fed old new end.Overrun most so feeds = absurd feeds
-feeds-no-more has from now later left fed old new (end.AuthRefused why) most so feeds = absurd feeds
-feeds-no-more has from now later left fed old new (end.Violation cause) most so feeds = absurd feeds
+feeds-no-more has from now later left fed old new end.EventsSpent most so quiet feeds = absurd feeds
+feeds-no-more has from now later left fed old new end.OtherEnded most so quiet feeds = absurd feeds
+feeds-no-more has from now later left fed old new end.WriteFault most so quiet feeds = absurd feeds
+feeds-no-more has from now later left fed old new end.Overrun most so quiet feeds = absurd feeds
+feeds-no-more has from now later left fed old new (end.AuthRefused why) most so quiet feeds = absurd feeds
+feeds-no-more has from now later left fed old new (end.Violation cause) most so quiet feeds = absurd feeds
 
 -- there was no memory to begin
 pub reads-never : (has : Framing) (from : Input) (w : World) → has.most ≡ most_bytes → ReadsOn has from from w w end.Memory
@@ -582,7 +582,7 @@ reads-never has from w most = record {
   refused = [];
   late = [];
   handed = handed-none w;
-  refusal = omega arith;
+  refusal = inl (refl, refl);
   cause = (first-none most_bytes (has.rest ++ []), refl);
 }
 
@@ -605,7 +605,11 @@ refused-seen : (why : End) (old new : Place) (seen : List Seen) (refused : List 
     → RefusedFor why (told_after old.told seen) refused late
 refused-seen end.EventsSpent old new seen refused late so is = (refusal-seen refusal.EventsSpent old new seen so is.0, is.1)
 refused-seen end.OtherEnded old new seen refused late so is = (refusal-seen refusal.Gone old new seen so is.0, is.1)
-refused-seen end.Memory old new seen refused late so is = is
+refused-seen end.Memory old new seen refused late so is =
+    elim is [
+      | inl none ↦ inl none
+      | inr one ↦ inr (refusal-seen refusal.OutOfMemory old new seen so one.0, one.1)
+    ]
 refused-seen end.Done old new seen refused late so is = is
 refused-seen (end.Violation cause) old new seen refused late so is = is
 refused-seen (end.AuthRefused cause) old new seen refused late so is = is

@@ -6,7 +6,7 @@ use Rattle.dbus_framing.specs.declared.violation.Violation.{Violation}
 use Rattle.dbus_framing.specs.declared.violation.Violation.TheVariants as violation
 use Rattle.dbus_framing.specs.Framers.{Framing}
 use Rattle.dbus_framing.specs.Messages.{Parts}
-use Rattle.dbus_framing.specs.Streams.{Stream, Breaks}
+use Rattle.dbus_framing.specs.Streams.{Stream, Breaks, BreaksNone}
 use Rattle.dbus_auth.specs.Handshake.{Run, silent, opened}
 use Rattle.dbus_framing.proofs.Ends.{never_ends}
 use Rattle.dbus_framing.proofs.Cuts.{cut_then, cut_more, stream_then}
@@ -253,8 +253,8 @@ pub stays : (a b c : Input) (x : List ℕ) → Took a b x → Took b c [] → To
 stays a b c x p q = let e : x ++ [] ≡ x = append-nil x in rw (sym e) (Took-trans a b c x [] p q)
 
 pub feeds-end : (has : Framing) (from now later : Input) (left fed : Framing) (old new : World) (behind : ℕ) (sink o : Output) (why : End) → has.most ≡ most_bytes
-    → IsThrough has from now left old new behind sink o → FeedsMore left fed now later (Err why) → ServesOn has from later old new sink o why
-feeds-end has from now later left fed old new behind sink o end.ReadFault most so feeds = record {
+    → IsThrough has from now left old new behind sink o → BreaksNone most_bytes left.rest → FeedsMore left fed now later (Err why) → ServesOn has from later old new sink o why
+feeds-end has from now later left fed old new behind sink o end.ReadFault most so quiet feeds = record {
   read = so.so_far.read;
   took = stays from now later so.so_far.read so.so_far.took feeds.0;
   asked = so.so_far.going.asked;
@@ -264,10 +264,10 @@ feeds-end has from now later left fed old new behind sink o end.ReadFault most s
   finished = so.so_far.going.answered.finished;
   idle = so.so_far.going.answered.idle;
   few = (refl, refl);
-  cause = (rose-later from.faults now.faults later.faults so.so_far.took.later feeds.1, inr (left.rest, all-served has from now left old new behind sink o most so));
+  cause = (rose-later from.faults now.faults later.faults so.so_far.took.later feeds.1, inr (left.rest, all-served has from now left old new behind sink o most so, quiet));
   wrote = gave-so has from now left old new behind sink o so.so_far;
 }
-feeds-end has from now later left fed old new behind sink o end.Done most so feeds = record {
+feeds-end has from now later left fed old new behind sink o end.Done most so quiet feeds = record {
   read = so.so_far.read;
   took = stays from now later so.so_far.read so.so_far.took feeds.0;
   asked = so.so_far.going.asked;
@@ -280,7 +280,7 @@ feeds-end has from now later left fed old new behind sink o end.Done most so fee
   cause = (rw (sym feeds.2) (all-served has from now left old new behind sink o most so), feeds.1, feeds.3 ∙ so.so_far.still);
   wrote = gave-so has from now left old new behind sink o so.so_far;
 }
-feeds-end has from now later left fed old new behind sink o (end.Violation violation.EndInside) most so feeds = record {
+feeds-end has from now later left fed old new behind sink o (end.Violation violation.EndInside) most so quiet feeds = record {
   read = so.so_far.read;
   took = stays from now later so.so_far.read so.so_far.took feeds.0;
   asked = so.so_far.going.asked;
@@ -290,10 +290,10 @@ feeds-end has from now later left fed old new behind sink o (end.Violation viola
   finished = so.so_far.going.answered.finished;
   idle = so.so_far.going.answered.idle;
   few = (refl, refl);
-  cause = ((left.rest, all-served has from now left old new behind sink o most so, (feeds.2, feeds.1)), feeds.3 ∙ so.so_far.still);
+  cause = ((left.rest, all-served has from now left old new behind sink o most so, (feeds.2, feeds.1, quiet)), feeds.3 ∙ so.so_far.still);
   wrote = gave-so has from now left old new behind sink o so.so_far;
 }
-feeds-end has from now later left fed old new behind sink o end.Memory most so feeds =
+feeds-end has from now later left fed old new behind sink o end.Memory most so quiet feeds =
     let bytes : has.rest ++ (so.so_far.read ++ feeds.0) ≡ (has.rest ++ so.so_far.read) ++ feeds.0 = sym (append_assoc has.rest so.so_far.read feeds.0) in
     let asked = so.so_far.going.asked in
     let first : FirstRequests has.most (has.rest ++ (so.so_far.read ++ feeds.0)) (requests_of asked) =
@@ -318,7 +318,7 @@ feeds-end has from now later left fed old new behind sink o end.Memory most so f
       cause = (served, feeds.2 ∙ so.so_far.still);
       wrote = GaveFront-whole sink o (written_after old.told.conn 0 old.told.state (turns old.told.conn old.told.state asked)) (gave-so has from now left old new behind sink o so.so_far);
     }
-feeds-end has from now later left fed old new behind sink o _ most so feeds = absurd feeds
+feeds-end has from now later left fed old new behind sink o _ most so quiet feeds = absurd feeds
 
 -- there was no memory to begin
 pub never-served : (has : Framing) (from : Input) (w : World) (sink : Output) → has.most ≡ most_bytes → IsOwed w.told [] → ServesOn has from from w w sink sink end.Memory

@@ -101,7 +101,7 @@ cause-after end.ReadFault run bytes asked count from mid to sink o out is later 
   rose-later from.faults mid.faults to.faults later cause.0,
   elim cause.1 [
     | inl none ↦ absurd none.0
-    | inr all ↦ inr (all.0, all-run run bytes asked all.0 is all.1)
+    | inr all ↦ inr (all.0, all-run run bytes asked all.0 is all.1, all.2)
   ],
 )
 cause-after end.WriteFault run bytes asked count from mid to sink o out is later same put cause =

@@ -22,7 +22,7 @@ use Rattle.connection_worker.specs.Causes.{HasWritten}
 use Rattle.connection_worker.specs.Sending.{AreBehind, Sends}
 use Rattle.connection_worker.specs.Sides.{own_in, told_after}
 use Rattle.connection_worker.specs.Streams.{Output, Gave, GaveFront}
-use Rattle.connection_worker.specs.Writing.{take_event, gone_event, WroteFor, GoneFor, WriterEnds, SendsTaken, WritesNext, WrittenSoFar, LastFor, WritesOn}
+use Rattle.connection_worker.specs.Writing.{take_event, gone_event, WroteFor, GoneFor, WriterEnds, SendsTaken, WritesNext, WrittenSoFar, LastFor, WritesOn, StopsAtTake, HasStopped}
 use Rattle.connection_worker.specs.Written.{spelled_behind}
 use Rattle.connection_worker.proofs.HandshakeLemmas.{rose-later}
 use Rattle.connection_worker.proofs.SendingLemmas.{spelled_behind-append}
@@ -104,7 +104,18 @@ broke-off from o to old mid new serials behind outs why so takes sends =
     let recorded = records-more old mid new so.seen (of_others took.between ++ take_event old.told.conn outs ∷ []) so.recorded (extends-records mid new (event.Take old.told.conn) (output.Taken outs) took) in
     let front : GaveFront o to (spelled_behind (length (given so.seen)) outs) → GaveFront from to (spelled_behind 0 (given seen)) =
     λ f. rw (e, spelled-more (given so.seen) outs) (GaveFront-behind from o to (spelled_behind 0 (given so.seen)) (spelled_behind (length (given so.seen)) outs) so.wrote f) in
-    let ends = pass why seen (told_after old.told seen) so.behind so.wrote.later front sends in
+    let stops : GaveFront o to (spelled_behind (length (given so.seen)) outs) → StopsAtTake from to old.told.conn seen =
+    λ f. record {
+      before = so.seen;
+      behind = of_others took.between ++ take_event old.told.conn outs ∷ [];
+      parted = refl;
+      outs = outs;
+      only = own_in-append (of_others took.between) (take_event old.told.conn outs ∷ []) ∙ ap (λ l. l ++ take_event old.told.conn outs ∷ []) (own_in-others took.between);
+      amid = o;
+      whole = so.wrote;
+      front = f;
+    } in
+    let ends = pass why seen (told_after old.told seen) so.behind so.wrote.later front stops sends in
     record {
       seen = seen;
       last = [];
@@ -114,20 +125,26 @@ broke-off from o to old mid new serials behind outs why so takes sends =
       wrote = ends.0;
       cause = ends.1;
       last_is = ends.2;
+      stopped = ends.3;
     }
   where
     pass : (why : End) (seen : List Seen) (told : Told) → AreBehind (length (given so.seen)) serials → from.faults ≤ o.faults
-        → (GaveFront o to (spelled_behind (length (given so.seen)) outs) → GaveFront from to (spelled_behind 0 (given seen))) → Sends outs serials behind o to (Err why)
-        → HasWritten why from to (spelled_behind 0 (given seen)) × WroteFor why told from to × LastFor why old.told.conn []
-    pass end.WriteFault seen told behind later front sends = (front (sends.1 (length (given so.seen)) behind), rose-later from.faults o.faults to.faults later sends.0, refl)
-    pass end.Memory seen told behind later front sends = (front (sends (length (given so.seen)) behind), tt, refl)
-    pass _ seen told behind later front sends = absurd sends
+        → (GaveFront o to (spelled_behind (length (given so.seen)) outs) → GaveFront from to (spelled_behind 0 (given seen)))
+        → (GaveFront o to (spelled_behind (length (given so.seen)) outs) → StopsAtTake from to old.told.conn seen) → Sends outs serials behind o to (Err why)
+        → HasWritten why from to (spelled_behind 0 (given seen)) × WroteFor why told from to × LastFor why old.told.conn [] × HasStopped why from to old.told.conn seen
+    pass end.WriteFault seen told behind later front stops sends =
+        let put = sends.1 (length (given so.seen)) behind in
+        (front put, rose-later from.faults o.faults to.faults later sends.0, refl, stops put)
+    pass end.Memory seen told behind later front stops sends =
+        let put = sends (length (given so.seen)) behind in
+        (front put, tt, refl, stops put)
+    pass _ seen told behind later front stops sends = absurd sends
 
 -- nothing was there to be written
 looked-on : (from o : Output) (old mid new : Place) (serials : ℕ) (why : End) → (so : WrittenSoFar from o old mid serials) → (looks : Looks mid new)
     → HasWritten why from o (spelled_behind 0 (given so.seen)) → ((told : Told) → told.conn ≡ new.told.conn → told.state ≡ new.told.state → WroteFor why told from o)
-    → LastFor why old.told.conn [] → WritesOn from o old new why
-looked-on from o old mid new serials why so looks wrote cause last =
+    → LastFor why old.told.conn [] → ((seen : List Seen) → HasStopped why from o old.told.conn seen) → WritesOn from o old new why
+looked-on from o old mid new serials why so looks wrote cause last stopped =
     let seen = so.seen ++ of_others looks.between in
     let recorded = records-more old mid new so.seen (of_others looks.between) so.recorded (looks-records mid new looks) in
     let same : given seen ≡ given so.seen = given-append so.seen (of_others looks.between) ∙ ap (λ l. given so.seen ++ l) (given-others looks.between) ∙ append-nil (given so.seen) in
@@ -140,6 +157,7 @@ looked-on from o old mid new serials why so looks wrote cause last =
       wrote = rw same wrote;
       cause = cause (told_after old.told seen) (sym recorded.same.conn) (sym recorded.state);
       last_is = last;
+      stopped = stopped seen;
     }
 
 events-others : (events : List Event) → events_of (of_others events) ≡ events
@@ -175,6 +193,7 @@ closed-on from o old mid new serials so gone told =
       wrote = rw same so.wrote;
       cause = subst (λ s. IsToldOf old.told.conn s false false true) here (subst (λ c. IsToldOf c gone.at false false true) conn told);
       last_is = refl;
+      stopped = tt;
     }
 
 -- the end in a result
@@ -198,12 +217,12 @@ writes-end from o to old mid new serials behind why so next = pass next.taken ne
     pass taken.Overrun takes sends =
         same-end from o to old new end.Overrun why (Err why) sends.0 sends.1 refl
         (looked-on from o old mid new serials end.Overrun so takes.0 so.wrote
-        (λ told conn state. (takes.1.0, subst (λ c. IsToldOf c told.state false true takes.1.0) (sym conn) (subst (λ s. IsToldOf new.told.conn s false true takes.1.0) (sym state) takes.1.1))) refl)
+        (λ told conn state. (takes.1.0, subst (λ c. IsToldOf c told.state false true takes.1.0) (sym conn) (subst (λ s. IsToldOf new.told.conn s false true takes.1.0) (sym state) takes.1.1))) refl (λ seen. tt))
     pass taken.Closed takes sends = same-end from o to old new end.Done why (Err why) sends.0 sends.1 refl (closed-on from o old mid new serials so takes.0 takes.1)
     pass taken.Missing takes sends =
         same-end from o to old new end.OtherEnded why (Err why) sends.0 sends.1 refl
         (looked-on from o old mid new serials end.OtherEnded so takes.0 so.wrote
-        (λ told conn state. subst (λ c. IsMissing c told.state) (sym conn) (subst (λ s. IsMissing new.told.conn s) (sym state) takes.1)) refl)
+        (λ told conn state. subst (λ c. IsMissing c told.state) (sym conn) (subst (λ s. IsMissing new.told.conn s) (sym state) takes.1)) refl (λ seen. tt))
 
 -- ---- the connection is gone
 
@@ -233,6 +252,7 @@ goes-after from to old mid new how so none gone goes =
       own = so.own;
       wrote = so.wrote;
       cause = so.cause;
+      stopped = so.stopped;
       gone = gone saw.0 (subst (λ c. (own_in saw.0 ≡ gone_event c ∷ []) ⊎ ((own_in saw.0 ≡ []) × IsMissing c new.told.state)) conn saw.2);
     }
 

@@ -2,7 +2,7 @@
 use Rattle.std.specs.Prelude.{◌≡◌, ℕ, ◌+◌, ◌≤◌, ◌==◌, true, List, [], ◌∷◌, ◌++◌, length, Result, Ok, Err}
 use Rattle.dbus_framing.specs.Framers.{Framing}
 use Rattle.dbus_framing.specs.Messages.{Parts}
-use Rattle.dbus_framing.specs.Streams.{Cut, Stream, Breaks}
+use Rattle.dbus_framing.specs.Streams.{Cut, Stream, Breaks, BreaksNone}
 use Rattle.call_wire.specs.CallOf.{CallOf}
 use Rattle.connection_worker.specs.declared.ending.End.{End}
 use Rattle.connection_worker.specs.declared.ending.End.TheVariants as end
@@ -80,11 +80,11 @@ abbrev pub AnswersEarly : Framing → World → World → ℕ → Output → Out
 AnswersEarly has old new serials from to why =
     (asked : List TimedRequest) × (broke : Broke old new serials from to asked why) × FirstRequests has.most has.rest (requests_of (asked ++ broke.refused))
 
--- The complete messages were served, and no further one is complete; or after them a violation shows; or the
--- serving ended early.
+-- The complete messages were served, no further one is complete, and the rest shows no violation; or after them a violation
+-- shows; or the serving ended early.
 abbrev pub AnswersAll : Framing → Framing → World → World → ℕ → ℕ → Output → Output → Result Unit End → Type 0
 AnswersAll has left old new serials behind from to (Ok done) =
-    (going : ServedPrefix has.most has.rest left.rest old new serials behind from to) × Stream has.most has.rest going.messages left.rest × (left.most ≡ has.most)
+    (going : ServedPrefix has.most has.rest left.rest old new serials behind from to) × Stream has.most has.rest going.messages left.rest × (left.most ≡ has.most) × BreaksNone has.most left.rest
 AnswersAll has left old new serials behind from to (Err (end.Violation cause)) =
     (going : ServedPrefix has.most has.rest left.rest old new serials behind from to) × Stream has.most has.rest going.messages left.rest × Breaks has.most left.rest cause
 AnswersAll has left old new serials behind from to (Err why) = AnswersEarly has old new serials from to why

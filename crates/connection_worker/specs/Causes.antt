@@ -5,7 +5,7 @@ use Rattle.kr_outside.specs.Faults.{Rose}
 use Rattle.dbus_auth.specs.Handshake as shaking
 use Rattle.dbus_framing.specs.declared.violation.Violation.{Violation}
 use Rattle.dbus_framing.specs.declared.violation.Violation.TheVariants as violation
-use Rattle.dbus_framing.specs.Streams.{Breaks}
+use Rattle.dbus_framing.specs.Streams.{Breaks, BreaksNone}
 use Rattle.service_desk.specs.service_tables.specs.Limits.{IsSpent}
 use Rattle.connection_worker.specs.declared.ending.End.{End}
 use Rattle.connection_worker.specs.declared.ending.End.TheVariants as end
@@ -27,9 +27,9 @@ abbrev pub FirstServed : shaking.Run → List TimedRequest → Type 0
 FirstServed run asked = (asked ≡ []) ⊎ ((behind : List ℕ) × (run.end ≡ shaking.opened behind) × FirstRequests most_bytes behind (requests_of asked))
 
 -- The rest after the messages shows this violation. Bytes never show EndInside; it comes if the input ended
--- with a rest.
+-- with a rest that shows no violation.
 abbrev pub IsViolated : Violation → Input → List ℕ → Type 0
-IsViolated violation.EndInside to rest = (rest ≢ []) × IsAtEnd to.left
+IsViolated violation.EndInside to rest = (rest ≢ []) × IsAtEnd to.left × BreaksNone most_bytes rest
 IsViolated cause to rest = Breaks most_bytes rest cause
 
 -- The cause of each end: by the run of the handshake over the bytes read, the requests that were recorded, the number of
@@ -42,9 +42,9 @@ HasCause end.Done run asked count from to sink after = AllServed run asked [] ×
 HasCause (end.Violation cause) run asked count from to sink after = ((rest : List ℕ) × AllServed run asked rest × IsViolated cause to rest) × IsStill from to
 -- the handshake was refused for this; EndedEarly if the input ended before BEGIN
 HasCause (end.AuthRefused why) run asked count from to sink after = IsRefusedFor run.end to why × (asked ≡ []) × IsStill from to
--- the input's count rose; each complete call in what was read was recorded
+-- the input's count rose; each complete call in what was read was recorded, and the rest shows no violation
 HasCause end.ReadFault run asked count from to sink after =
-    Rose from.faults to.faults × ((Awaits run.end × (asked ≡ [])) ⊎ ((rest : List ℕ) × AllServed run asked rest))
+    Rose from.faults to.faults × ((Awaits run.end × (asked ≡ [])) ⊎ ((rest : List ℕ) × AllServed run asked rest × BreaksNone most_bytes rest))
 -- the output's count rose
 HasCause end.WriteFault run asked count from to sink after = Rose sink.faults after.faults × FirstServed run asked × IsStill from to
 -- all events that can be counted were recorded

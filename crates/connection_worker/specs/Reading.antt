@@ -1,5 +1,5 @@
 -- The reader of a connection: it hands the calls in what it reads to its desk, and brings the keys that their answers ask for.
-use Rattle.std.specs.Prelude.{◌≡◌, ℕ, ◌+◌, ◌≤◌, ◌⊎◌, ◌==◌, Bool, true, IsTrue, List, [], ◌∷◌, ◌++◌, length, map, Option, None, Some, Result, Ok, Err}
+use Rattle.std.specs.Prelude.{◌≡◌, ℕ, ◌+◌, ◌⊎◌, ◌==◌, Bool, true, IsTrue, List, [], ◌∷◌, ◌++◌, length, map, Option, None, Some, Result, Ok, Err}
 use Rattle.std.specs.List.{AllByRecursion, flat_map}
 use Rattle.std.specs.Option.{is_some}
 use Rattle.std.specs.Io.KnownBytes.{IsAtEnd}
@@ -7,7 +7,7 @@ use Rattle.kr_base.specs.declared.ids.ConnId.{ConnId}
 use Rattle.kr_outside.specs.Faults.{Rose}
 use Rattle.dbus_framing.specs.Framers.{Framing}
 use Rattle.dbus_framing.specs.Messages.{Parts}
-use Rattle.dbus_framing.specs.Streams.{Cut, Stream, Breaks}
+use Rattle.dbus_framing.specs.Streams.{Cut, Stream, Breaks, BreaksNone}
 use Rattle.service_desk.specs.secret_calls.specs.declared.call.Request.{Request}
 use Rattle.service_desk.specs.secret_calls.specs.declared.taken.Refused.{Refused}
 use Rattle.service_desk.specs.secret_calls.specs.declared.taken.Refused.TheVariants as refusal
@@ -81,12 +81,12 @@ pub record HandedIn (old new : World) (seen : List Seen) (handled : List Handled
 
 -- ---- why a reader ends
 
--- What the desk refused, by what it had seen then: one request or one key if it refused for a cause; at most one if memory ran out; and none
--- at any other end.
+-- What the desk refused, by what it had seen then: one request or one key if it refused for a cause; one or none if memory ran out, since the
+-- reader may lack it too; and none at any other end. So a refusal of the desk leads to the end of its cause.
 abbrev pub RefusedFor : End → Told → List TimedRequest → List ℕ → Type 0
 RefusedFor end.EventsSpent told refused late = IsRefusal refusal.EventsSpent told × (length refused + length late ≡ 1)
 RefusedFor end.OtherEnded told refused late = IsRefusal refusal.Gone told × (length refused + length late ≡ 1)
-RefusedFor end.Memory told refused late = length refused + length late ≤ 1
+RefusedFor end.Memory told refused late = ((refused ≡ []) × (late ≡ [])) ⊎ (IsRefusal refusal.OutOfMemory told × (length refused + length late ≡ 1))
 RefusedFor _ told refused late = (refused ≡ []) × (late ≡ [])
 
 -- Which requests of the bytes were handed in by each end, and what the input shows. Its count of faults rose if it failed, and didn't rise at
@@ -96,8 +96,8 @@ abbrev pub ReadFor : End → List ℕ → List Request → Input → Input → T
 ReadFor end.Done bytes requests from to = AllRequests most_bytes bytes requests [] × IsAtEnd to.left × IsStill from to
 -- each call was handed in, and the rest breaks a rule
 ReadFor (end.Violation cause) bytes requests from to = ((rest : List ℕ) × AllRequests most_bytes bytes requests rest × IsViolated cause to rest) × IsStill from to
--- each complete call was handed in, and the input failed
-ReadFor end.ReadFault bytes requests from to = ((rest : List ℕ) × AllRequests most_bytes bytes requests rest) × Rose from.faults to.faults
+-- each complete call was handed in, the rest shows no violation, and the input failed
+ReadFor end.ReadFault bytes requests from to = ((rest : List ℕ) × AllRequests most_bytes bytes requests rest × BreaksNone most_bytes rest) × Rose from.faults to.faults
 -- the first calls were, up to the one at which the desk refused or memory ran out
 ReadFor end.EventsSpent bytes requests from to = FirstRequests most_bytes bytes requests × IsStill from to
 ReadFor end.OtherEnded bytes requests from to = FirstRequests most_bytes bytes requests × IsStill from to
@@ -184,11 +184,11 @@ pub record HandedSoFar (most : ℕ) (bytes rest : List ℕ) (old new : World) : 
   pub recorded : Records (place_of old) (place_of new) seen
   pub handed : HandedIn old new seen handled [] []
 
--- The requests of the complete messages were handed in, and no further one is complete; or after them a violation shows; or the reader stops
--- after the first requests.
+-- The requests of the complete messages were handed in, no further one is complete, and the rest shows no violation; or after them a
+-- violation shows; or the reader stops after the first requests.
 abbrev pub HandsInAll : Framing → Framing → World → World → Result Unit End → Type 0
 HandsInAll has left old new (Ok done) =
-    (going : HandedSoFar has.most has.rest left.rest old new) × Stream has.most has.rest going.messages left.rest × (left.most ≡ has.most)
+    (going : HandedSoFar has.most has.rest left.rest old new) × Stream has.most has.rest going.messages left.rest × (left.most ≡ has.most) × BreaksNone has.most left.rest
 HandsInAll has left old new (Err (end.Violation cause)) =
     (going : HandedSoFar has.most has.rest left.rest old new) × Stream has.most has.rest going.messages left.rest × Breaks has.most left.rest cause
 HandsInAll has left old new (Err why) =

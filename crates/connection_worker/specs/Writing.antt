@@ -17,7 +17,7 @@ use Rattle.connection_worker.specs.declared.ending.End.TheVariants as end
 use Rattle.connection_worker.specs.Causes.{HasWritten}
 use Rattle.connection_worker.specs.Sending.{AreBehind, Sends}
 use Rattle.connection_worker.specs.Sides.{own_in, told_after}
-use Rattle.connection_worker.specs.Streams.{Output, Gave}
+use Rattle.connection_worker.specs.Streams.{Output, Gave, GaveFront}
 use Rattle.connection_worker.specs.Written.{spelled_behind}
 
 -- the event of a take that returned these outputs
@@ -50,6 +50,24 @@ GoneFor end.Done conn state last = last ≡ gone_event conn ∷ []
 GoneFor end.OtherEnded conn state last = last ≡ []
 GoneFor _ conn state last = (own_in last ≡ gone_event conn ∷ []) ⊎ ((own_in last ≡ []) × IsMissing conn state)
 
+-- The last of these events that the desk recorded of its own is a take whose outputs weren't all written: what those before it returned was
+-- written, and a prefix of what it returned.
+pub record StopsAtTake (from to : Output) (conn : ConnId) (seen : List Seen) : Type 0 where
+  pub before : List Seen
+  pub behind : List Seen
+  pub parted : seen ≡ before ++ behind
+  pub outs : List Out
+  pub only : own_in behind ≡ take_event conn outs ∷ []
+  pub amid : Output
+  pub whole : Gave from amid (spelled_behind 0 (given before))
+  pub front : GaveFront amid to (spelled_behind (length (given before)) outs)
+
+-- nothing is taken after a write that failed, or for which no memory was left
+abbrev pub HasStopped : End → Output → Output → ConnId → List Seen → Type 0
+HasStopped end.WriteFault from to conn seen = StopsAtTake from to conn seen
+HasStopped end.Memory from to conn seen = StopsAtTake from to conn seen
+HasStopped _ from to conn seen = Unit {0}
+
 -- All that a writer took and wrote, and why it ended: the desk's own events are these takes, and at last that the connection is gone; and
 -- what was written is what the takes returned, with the serials from the first one on.
 pub record WriterEnds (from to : Output) (old new : Place) (how : End) : Type 0 where
@@ -61,6 +79,7 @@ pub record WriterEnds (from to : Output) (old new : Place) (how : End) : Type 0 
   pub wrote : HasWritten how from to (spelled_behind 0 (given seen))
   pub cause : WroteFor how (told_after old.told seen) from to
   pub gone : GoneFor how old.told.conn new.told.state last
+  pub stopped : HasStopped how from to old.told.conn seen
 
 -- ---- one take after the other
 
@@ -102,3 +121,4 @@ pub record WritesOn (from to : Output) (old new : Place) (how : End) : Type 0 wh
   pub wrote : HasWritten how from to (spelled_behind 0 (given seen))
   pub cause : WroteFor how (told_after old.told seen) from to
   pub last_is : LastFor how old.told.conn last
+  pub stopped : HasStopped how from to old.told.conn seen

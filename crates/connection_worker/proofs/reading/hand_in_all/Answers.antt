@@ -12,7 +12,7 @@ pub returns-in-Ok-None : goal.returns-in-Ok-None
 returns-in-Ok-None g c =
     let waits = rw c.in-Ok-None.field-0-is at c.in-Ok-None.ensures.waits in
     let last = so-last _ _ _ _ _ _ c.loop.invariant.1 (rw c.loop.invariant.0 at waits.0) in
-    (last.0, last.1, c.in-Ok-None.ensures.most ∙ c.loop.invariant.0)
+    (last.0, last.1, c.in-Ok-None.ensures.most ∙ c.loop.invariant.0, rw c.loop.invariant.0 at waits.1)
 
 -- a violation shows
 pub returns-in-Err-Violation : goal.returns-in-Err-Violation

@@ -1,4 +1,5 @@
-use Rattle.std.proofs.Common.{◌∙◌}
+use Rattle.std.proofs.Common.{◌∙◌, subst}
+use Rattle.dbus_framing.specs.Streams.{BreaksNone}
 use Rattle.connection_worker.specs.Streams.{input_of}
 use Rattle.connection_worker.specs.Serving.{world}
 use Rattle.connection_worker.proofs.ReaderLemmas.{read-none, read-through, read-more, hands-end, feeds-no-more}
@@ -35,7 +36,8 @@ returns-in-Err-feed_more g c =
     let mid = world told g.D.Desk.has_seen coming c.loop.desk c.loop.clock c.loop.salts in
     let new = world told g.D.Desk.has_seen coming c.hand_in_all.new.desk c.hand_in_all.new.clock c.hand_in_all.new.salts in
     feeds-no-more c.args.framer from now later c.hand_in_all.new.framer c.feed_more.new.framer old new c.in-Err-feed_more.end c.requires.most
-    (read-through c.args.framer from now c.loop.framer c.hand_in_all.new.framer old mid new c.loop.invariant handed.2 handed.0 handed.1) c.in-Err-feed_more.ensures
+    (read-through c.args.framer from now c.loop.framer c.hand_in_all.new.framer old mid new c.loop.invariant handed.2 handed.0 handed.1)
+    (subst (λ m. BreaksNone m c.hand_in_all.new.framer.rest) (c.loop.invariant.most ∙ c.requires.most) handed.3) c.in-Err-feed_more.ensures
 
 -- more bytes were read
 pub loop-preserved : goal.loop-preserved

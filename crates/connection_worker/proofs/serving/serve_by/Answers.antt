@@ -1,4 +1,5 @@
-use Rattle.std.proofs.Common.{◌∙◌}
+use Rattle.std.proofs.Common.{◌∙◌, subst}
+use Rattle.dbus_framing.specs.Streams.{BreaksNone}
 use Rattle.connection_worker.specs.Streams.{input_of, output_of}
 use Rattle.connection_worker.specs.Serving.{world}
 use Rattle.connection_worker.proofs.ServeLemmas.{amid-none, through, amid-more, answers-end, feeds-end}
@@ -46,7 +47,7 @@ returns-in-Err-feed_more g c =
     let to = output_of sink.written sink.faults sink.is_steady sink.is_closed c.answer_messages-answered.new.output in
     feeds-end c.args.framer from now later c.answer_messages-answered.new.framer c.feed_more.new.framer old new c.answer_messages-answered.new.serials begun to c.in-Err-feed_more.end c.requires.most
     (through c.args.framer from now c.loop.framer c.answer_messages-answered.new.framer old mid new c.loop.serials c.answer_messages-answered.new.serials begun o to c.loop.invariant served.0 served.1 served.2)
-    c.in-Err-feed_more.ensures
+    (subst (λ m. BreaksNone m c.answer_messages-answered.new.framer.rest) (c.loop.invariant.most ∙ c.requires.most) served.3) c.in-Err-feed_more.ensures
 
 -- more bytes were read
 pub loop-preserved : goal.loop-preserved
