@@ -1,0 +1,3 @@
+mod DueLemmas
+mod HistoryLemmas
+mod PlaceLemmas

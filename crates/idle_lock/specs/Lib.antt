@@ -1,0 +1,2 @@
+pub mod Deadline
+pub mod History
