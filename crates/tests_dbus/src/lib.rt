@@ -1,19 +1,12 @@
-//! The tests of the D-Bus crates: tables of texts, bytes and conversations that come from the
-//! standard and from other programs, and calls of each public function. They use only the public
-//! items of the crates.
+//! The tests of D-Bus that are no rows of check_dbus: the longest array, calls that are sent, and how faults are printed. They are
+//! in a crate of their own so that no crate is proved again for its tests.
 #![tactic(auto)]
 
 #[cfg(test)]
 mod checks;
 #[cfg(test)]
-mod handshake;
+mod faults;
 #[cfg(test)]
-mod marshalling;
-#[cfg(test)]
-mod messages;
+mod longest;
 #[cfg(test)]
 mod sending;
-#[cfg(test)]
-mod spelling;
-#[cfg(test)]
-mod types;
