@@ -1,12 +1,17 @@
+// The traits of a desk, over a service of one thread.
+
 use crate::checks::{holds, same_number, same_text};
 use crate::folders::{Service, lent, over, service_over_nothing};
+use check_rows::cell;
+use check_words::{call_of, number};
 use lone_desk::LoneDesk;
-use secret_calls::{Body, Call, CallFault, Out, Refused, Request, Serial, Taken, Work};
-use service_desk::{Desk, JoinRefused, ReadDesk, WriteDesk};
+use lone_desk::service_desk::{Desk, JoinRefused, ReadDesk, WriteDesk};
+use lone_desk::service_history::service_machine::secret_calls::{
+    Body, Call, CallFault, Out, Refused, Request, Serial, Taken, Work,
+};
 use std::alloc::Global;
 use std::process::Abort;
 use std::test::Fail;
-use tests_words::{call_of, cell, number};
 
 // The serial of a row.
 fn serial_of(text: &str) -> Result<Serial, Fail> {
@@ -74,7 +79,7 @@ fn arrived_told(arrived: Result<Option<Work>, Refused>) -> &'static str {
 }
 
 fn arrive<D: ReadDesk>(desk: &mut D, request: Request, now: u64) -> &'static str {
-    arrived_told(desk.arrive(request, now, [0; 8]))
+    arrived_told(desk.arrive(request, now, now.to_be_bytes()))
 }
 
 fn take<D: WriteDesk>(desk: &mut D) -> &'static str {
@@ -94,8 +99,9 @@ fn gone<D: WriteDesk>(desk: &mut D) -> &'static str {
 // Records the request of a row.
 fn ask<D: ReadDesk>(alloc: Global, desk: &mut D, row: &str) -> Result<&'static str, Fail> {
     let serial = serial_of(cell(row, 0))?;
-    let now = number(cell(row, 3))?;
-    let request = request(serial, call_of(alloc, row)?);
+    let now = number(cell(row, 3)).ok_or("a moment")?;
+    let call = call_of(alloc, row).ok_or("a call")?;
+    let request = request(serial, call);
     Ok(arrive(desk, request, now))
 }
 

@@ -1,16 +1,15 @@
-// Services over folders in memory, and what lends them to a test.
+// Services over folders in memory without files, and what lends them to a test.
 ghost use Rattle.std.specs.Prelude.{◌≡◌, []};
 
 use kr_memory_disk::MemoryFolder;
 use std::alloc::Global;
 use std::test::Fail;
-use tests_words::{login_folder, two_folder};
 
 /// A machine over a folder in memory.
-pub type Machine = service_machine::Machine<MemoryFolder>;
+pub type Machine = lone_desk::service_history::service_machine::Machine<MemoryFolder>;
 
 /// A service over a folder in memory.
-pub type Service = service_history::Service<MemoryFolder>;
+pub type Service = lone_desk::service_history::Service<MemoryFolder>;
 
 fn no_files(alloc: Global) -> MemoryFolder
     ensures { result.made ≡ [] }
@@ -21,16 +20,6 @@ fn no_files(alloc: Global) -> MemoryFolder
 /// A machine over a folder without files.
 pub fn machine_over_nothing(alloc: Global) -> Result<Machine, Fail> {
     Ok(Machine::open(alloc, no_files(alloc))?)
-}
-
-/// A service over a folder with one collection.
-pub fn service_over_login(alloc: Global) -> Result<Service, Fail> {
-    Ok(Service::open(alloc, login_folder(alloc)?)?)
-}
-
-/// A service over a folder with two collections.
-pub fn service_over_two(alloc: Global) -> Result<Service, Fail> {
-    Ok(Service::open(alloc, two_folder(alloc)?)?)
 }
 
 /// A service over a folder without files.

@@ -1,32 +1,31 @@
-use crate::checks::{holds, same_number, same_text};
-use crate::folders::{Machine, machine_over_nothing, over};
+// The calls of the machine itself, and the history's call that takes any event.
+
+use crate::checks::{holds, same_number};
+use crate::folders::{Machine, Service, machine_over_nothing, over, service_over_nothing};
+use check_words::call_of;
 use kr_base::ConnId;
-use kr_items::Items;
-use secret_calls::{Call, CallFault, Out, Request, Serial};
-use service_machine::{ApplyRefused, Arrival, Incoming, Output, Rows};
+use lone_desk::service_history::service_machine::secret_calls::{Request, Serial};
+use lone_desk::service_history::service_machine::{ApplyRefused, Arrival, Incoming, Output, Rows};
 use std::alloc::Global;
 use std::process::Abort;
 use std::test::Fail;
-use tests_words::{call_of, cell, joined, last_told, number};
 
-// Two connections, 1 and 2; a connection that is gone isn't there. In a row, a connection and what
-// it does: it pings, opens a session with an algorithm, closes one, calls no method or is gone; and
-// what it gets: a return, the number of a session, an error or nothing.
-const CONVERSATION: &str = "\
-1|ping||done
-1|open|dh-ietf1024-sha256-aes128-cbc-pkcs7|NotSupported
-1|open|plain|session 1
-2|close|1|NoSession
-2|open|plain|session 2
-1|close|2|NoSession
-1|close|1|done
-1|close|1|NoSession
-1|open|plain|session 3
-1|unknown||UnknownMethod
-1|gone||nothing
-1|ping||nothing
-2|close|3|NoSession
-";
+// The arrival of a connection's call; the row has it in the cells 1 and 2.
+fn arrival(alloc: Global, conn: ConnId, row: &str) -> Result<Arrival, Fail> {
+    let call = call_of(alloc, row).ok_or("a call")?;
+    let request = Request {
+        serial: Serial { number: 7 },
+        wants_reply: true,
+        length: 128,
+        call,
+    };
+    Ok(Arrival {
+        conn,
+        request,
+        now: 1_700_000_000,
+        salt: [1, 2, 3, 4, 5, 6, 7, 8],
+    })
+}
 
 // Lets a connection join, and returns its number.
 fn join(machine: &mut Machine) -> Result<u64, ApplyRefused> {
@@ -37,84 +36,30 @@ fn join(machine: &mut Machine) -> Result<u64, ApplyRefused> {
     }
 }
 
-fn arrive(
-    machine: &mut Machine,
-    conn: ConnId,
-    call: Result<Call, CallFault>,
-) -> Result<(), ApplyRefused> {
-    let request = Request {
-        serial: Serial { number: 7 },
-        wants_reply: true,
-        length: 128,
-        call,
-    };
-    let arrival = Arrival {
-        conn,
-        request,
-        now: 0,
-        salt: [0; 8],
-    };
-    let _ = machine.apply(Incoming::Arrive(arrival))?;
-    Ok(())
-}
-
 fn gone(machine: &mut Machine, conn: ConnId) -> Result<(), ApplyRefused> {
     let _ = machine.apply(Incoming::Gone(conn))?;
     Ok(())
 }
 
-// Takes everything that waits; None if nothing waits.
-fn taken(machine: &mut Machine, conn: ConnId) -> Option<Items<Out>> {
-    let desk = machine.desk(conn)?;
-    if !desk.waits {
-        return None;
-    }
-    let (output, _) = machine.apply(Incoming::Take(conn)).ok()?;
-    match output {
-        Output::Taken(outs) => Some(outs),
-        _ => None,
-    }
-}
-
-// Does what a row says.
-fn does(
-    alloc: Global,
-    machine: &mut Machine,
-    conn: ConnId,
-    row: &str,
-) -> Result<Result<(), ApplyRefused>, Fail> {
-    match cell(row, 1) {
-        "gone" => Ok(gone(machine, conn)),
-        _ => Ok(arrive(machine, conn, call_of(alloc, row)?)),
-    }
-}
-
-// Takes everything that waits, and returns the last of it in words.
-fn answer(alloc: Global, machine: &mut Machine, conn: ConnId) -> Result<String, Fail> {
-    match taken(machine, conn) {
-        Some(outs) => last_told(alloc, outs.as_slice()),
-        None => joined(alloc, &["nothing"]),
-    }
-}
-
-// Whether an event was performed, or its connection isn't there.
-fn is_taken_or_of_none(applied: Result<(), ApplyRefused>) -> bool {
-    matches!(applied, Ok(()) | Err(ApplyRefused::NoConnection))
-}
-
-// Asserts what a connection gets for what it does, as a row says.
-fn is_answered(
-    rt: &impl Abort,
-    alloc: Global,
-    machine: &mut Machine,
-    row: &str,
-) -> Result<(), Fail> {
-    let conn = ConnId(number(cell(row, 0))?);
-    let applied = does(alloc, machine, conn, row)?;
-    holds(rt, is_taken_or_of_none(applied), row);
-    let told = answer(alloc, machine, conn)?;
-    same_text(rt, told.as_str(), cell(row, 3), row);
+fn arrive(alloc: Global, machine: &mut Machine, conn: ConnId, row: &str) -> Result<(), Fail> {
+    let arrival = arrival(alloc, conn, row)?;
+    let _ = machine.apply(Incoming::Arrive(arrival))?;
     Ok(())
+}
+
+// Takes everything that waits for a connection, and returns how much that is.
+fn count_taken(machine: &mut Machine, conn: ConnId) -> Result<u64, Fail> {
+    let (output, _) = machine.apply(Incoming::Take(conn))?;
+    match output {
+        Output::Taken(outs) => Ok(outs.len() as u64),
+        _ => Err("another output")?,
+    }
+}
+
+// Whether outputs wait for a connection that isn't overrun and doesn't leave.
+fn waits(machine: &Machine, conn: ConnId) -> Result<bool, Fail> {
+    let desk = machine.desk(conn).ok_or("a desk")?;
+    Ok(desk.waits && !desk.overrun && !desk.leaving)
 }
 
 // Asserts that only the second connection is left, with one session.
@@ -127,63 +72,31 @@ fn are_left(rt: &impl Abort, rows: &Rows) {
     same_number(rt, rows.sessions.next, 4, "the next session");
 }
 
-fn talk(rt: &impl Abort, alloc: Global, machine: &mut Machine) -> Result<(), Fail> {
+// Each connection opens a session, and the first one another.
+fn open_sessions(alloc: Global, machine: &mut Machine) -> Result<(), Fail> {
     join(machine)?;
     join(machine)?;
-    for row in CONVERSATION.lines() {
-        is_answered(rt, alloc, machine, row)?;
+    for conn in [1u64, 2, 1] {
+        arrive(alloc, machine, ConnId(conn), "|open|plain")?;
     }
+    Ok(())
+}
+
+fn leaves_rows(rt: &impl Abort, alloc: Global, machine: &mut Machine) -> Result<(), Fail> {
+    open_sessions(alloc, machine)?;
+    holds(rt, waits(machine, ConnId(1))?, "outputs wait");
+    same_number(rt, count_taken(machine, ConnId(1))?, 2, "the outputs");
+    holds(rt, !waits(machine, ConnId(1))?, "no output waits");
+    gone(machine, ConnId(1))?;
+    holds(rt, machine.desk(ConnId(1)).is_none(), "it is gone");
     are_left(rt, &machine.rows()?);
     Ok(())
 }
 
 #[test]
-fn two_connections_talk(rt: HostRuntime) -> Result<(), Fail> {
+fn a_connection_that_is_gone_leaves_no_rows(rt: HostRuntime) -> Result<(), Fail> {
     let machine = machine_over_nothing(rt.alloc())?;
-    over(machine, |machine| talk(&rt, rt.alloc(), machine))
-}
-
-fn is_overrun(machine: &Machine, conn: ConnId) -> Result<bool, Fail> {
-    Ok(machine.desk(conn).ok_or("desk")?.overrun)
-}
-
-// Whether outputs wait for a connection that doesn't leave.
-fn waits(machine: &Machine, conn: ConnId) -> Result<bool, Fail> {
-    let desk = machine.desk(conn).ok_or("desk")?;
-    Ok(desk.waits && !desk.leaving)
-}
-
-fn ping(rt: &impl Abort, machine: &mut Machine, conn: ConnId) -> Result<(), Fail> {
-    holds(rt, !is_overrun(machine, conn)?, "a ping before the last");
-    arrive(machine, conn, Ok(Call::Ping))?;
-    Ok(())
-}
-
-fn count_taken(machine: &mut Machine, conn: ConnId) -> Result<u64, Fail> {
-    Ok(taken(machine, conn).ok_or("outs")?.len() as u64)
-}
-
-// Asserts that a connection was overrun, and takes what waits.
-fn was_overrun(rt: &impl Abort, machine: &mut Machine, conn: ConnId) -> Result<(), Fail> {
-    holds(rt, is_overrun(machine, conn)?, "it is overrun");
-    holds(rt, waits(machine, conn)?, "outputs wait");
-    same_number(rt, count_taken(machine, conn)?, 371_370, "the outputs");
-    Ok(())
-}
-
-fn takes_nothing(rt: &impl Abort, machine: &mut Machine) -> Result<(), Fail> {
-    let conn = ConnId(join(machine)?);
-    // 371,370 returns of 24 bytes are 8,912,880 bytes, and the next one would exceed 8,912,896.
-    for _ in 0..371_371u32 {
-        ping(rt, machine, conn)?;
-    }
-    was_overrun(rt, machine, conn)
-}
-
-#[test]
-fn a_connection_that_takes_nothing_is_overrun(rt: HostRuntime) -> Result<(), Fail> {
-    let machine = machine_over_nothing(rt.alloc())?;
-    over(machine, |machine| takes_nothing(&rt, machine))
+    over(machine, |machine| leaves_rows(&rt, rt.alloc(), machine))
 }
 
 fn is_crowded(machine: &mut Machine) -> bool {
@@ -204,4 +117,24 @@ fn join_257_times(rt: &impl Abort, machine: &mut Machine) -> Result<(), Fail> {
 fn a_257th_connection_is_refused(rt: HostRuntime) -> Result<(), Fail> {
     let machine = machine_over_nothing(rt.alloc())?;
     over(machine, |machine| join_257_times(&rt, machine))
+}
+
+fn is_joined(output: &Output) -> bool {
+    matches!(output, Output::Joined(ConnId(1)))
+}
+
+// Lets a connection join, ask and take by the history's `event`.
+fn records(rt: &impl Abort, alloc: Global, service: &mut Service) -> Result<(), Fail> {
+    let joined = service.event(Incoming::Connect)?;
+    holds(rt, is_joined(&joined), "it joined");
+    let arrival = arrival(alloc, ConnId(1), "|ping|")?;
+    let _ = service.event(Incoming::Arrive(arrival))?;
+    same_number(rt, service.events().len() as u64, 2, "the events");
+    Ok(())
+}
+
+#[test]
+fn a_history_records_any_event(rt: HostRuntime) -> Result<(), Fail> {
+    let service = service_over_nothing(rt.alloc())?;
+    over(service, |service| records(&rt, rt.alloc(), service))
 }

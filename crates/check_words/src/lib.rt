@@ -1,0 +1,14 @@
+//! The words of the rows that test the service: calls from words, and outputs in words. A path continues
+//! `/org/freedesktop/secrets/`.
+#![tactic(auto)]
+
+mod calls;
+mod outputs;
+mod prompt_calls;
+mod secrets;
+mod signals;
+mod values;
+
+pub use calls::call_of;
+pub use outputs::write_outs;
+pub use values::{bytes_of, number, numbers, text};
