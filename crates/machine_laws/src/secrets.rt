@@ -75,17 +75,18 @@ pub fn an_unlocked_item_is_shown_to_a_sessions_owner()
 #[tactic(auto, using(crate::proofs::SecretLemmas::shown_on_calls))]
 pub fn unlocked_items_are_shown_to_a_sessions_owner()
     ensures { (state : State) (came : Recorded) (objects : List ObjectName) (stem : List ℕ)
-        (item : ItemId) (session : SessionId) (secret : ReturnedSecret)
-        → came.arrival.request.call ≡ Ok (call.GetSecrets objects (Some session))
-        → came.arrival.request.wants_reply ≡ true → IsTrue (owns came.arrival.conn session state.sessions)
+        (item : ItemId) (given : SessionId) (secret : ReturnedSecret)
+        → came.arrival.request.call ≡ Ok (call.GetSecrets objects (Some given))
+        → came.arrival.request.wants_reply ≡ true
+        → IsTrue (owns came.arrival.conn given state.sessions)
         → Contains (items_shown state objects) (object.Item stem item)
-        → secret_of session state.collections stem item ≡ Some secret
-        → length (spelled_body (body.Secrets (secrets_shown session state objects))) ≤ most_body
+        → secret_of given state.collections stem item ≡ Some secret
+        → length (spelled_body (body.Secrets (secrets_shown given state objects))) ≤ most_body
         → Shows state (Event.Arrive came)
         (record {
           to = came.arrival.conn;
           out = Out.Return came.arrival.request.serial
-              (body.Secrets (secrets_shown session state objects));
+              (body.Secrets (secrets_shown given state objects));
         })
         (record { item = path_text (object.Item stem item); secret = secret }) }
 {}
