@@ -1,0 +1,4 @@
+mod TextLemmas
+mod FitLemmas
+mod SentLemmas
+mod ReadLemmas
