@@ -163,6 +163,9 @@ pub fn reopen(
 ) {
     match folder_left(line.alloc(), slot, cells) {
         Some(folder) => open_over(service, folder, line),
-        None => line.add("no folder"),
+        None => {
+            put(service, None);
+            line.add("no folder");
+        }
     }
 }

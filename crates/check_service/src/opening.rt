@@ -136,6 +136,9 @@ pub fn open_over(service: &mut Option<Service>, folder: MemoryFolder, line: &mut
 pub fn open(service: &mut Option<Service>, images: &[Image], cells: &str, line: &mut Line) {
     match folder_of(line.alloc(), images, cells) {
         Some(folder) => open_over(service, folder, line),
-        None => line.add("no folder"),
+        None => {
+            put(service, None);
+            line.add("no folder");
+        }
     }
 }
