@@ -1,0 +1,3 @@
+pub mod PieceLemmas
+pub mod ValueLemmas
+pub mod EntryLemmas
