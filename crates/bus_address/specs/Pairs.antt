@@ -5,10 +5,11 @@ use Rattle.std.specs.Str.{bytes_eq}
 use Rattle.bus_address.specs.Pieces.{has_separator, before, after}
 use Rattle.bus_address.specs.Values.{is_value}
 
--- the key of a pair, and its value as it is written
+-- the key of a pair
 abbrev pub key_of : List ℕ → List ℕ
 key_of pair = before 61 pair
 
+-- the value of a pair, as it is written
 abbrev pub value_of : List ℕ → List ℕ
 value_of pair = after 61 pair
 

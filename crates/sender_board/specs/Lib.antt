@@ -1,0 +1,4 @@
+pub mod Rows
+pub mod Hear
+pub mod Laws
+pub mod Starting
