@@ -1,8 +1,9 @@
 -- How one file changes what is open, at each exit of the call that takes it.
 use Rattle.std.proofs.Common.{◌≡◌, ◌⊎◌, ⊎_elim, inl, inr, ℕ, ◌+◌, ◌<◌, Option, List, [], ◌∷◌, ◌++◌, Bool, true, false, IsTrue, None, Some, IsSome, Result, Ok, Err, OnOk, OnErr, length, refl, sym, ◌∙◌, ap, subst, arith}
-use Rattle.std.specs.List.{Contains}
+use Rattle.std.specs.List.{All, Contains}
+use Rattle.std.specs.Prelude.{IfSome}
 use Rattle.std.proofs.lemmas.List.{length-append}
-use Rattle.std.proofs.lemmas.List.Elements.{Contains-push}
+use Rattle.std.proofs.lemmas.List.Elements.{All-append, All-cons, All-nil, Contains-push}
 use Rattle.kr_outside.specs.Faults.{Rose, KeepsSteady, last_count}
 use Rattle.kr_outside.specs.declared.slot.DeviceCall.{DeviceCall}
 use Rattle.kr_outside.specs.declared.slot.Slot.{Ghosts}
@@ -14,7 +15,8 @@ use Rattle.keyring_file.specs.ClearText.{HasClear}
 use Rattle.folder_store.specs.declared.limits.Limits.{Limits}
 use Rattle.folder_store.specs.Names.{IsRingName, IsLoadName}
 use Rattle.folder_store.specs.Opened.{Takes, other, left_alone, Fits, leaves_alone}
-use Rattle.folder_store.specs.Ring.{rows_of, IsAsFound, HandsBack, with_ring, alone, ReturnsAll, between_files, at_a_file, IsLook, HasFailedSlot}
+use Rattle.folder_store.specs.Ring.{rows_of, IsAsFound, HandsBack, with_ring, alone, ReturnsAll, between_files, at_a_file, IsLook, HasFailedSlot, NoneFailed, RingState}
+use Rattle.folder_store.specs.declared.opening.LeftAlone.{LeftAlone}
 use Rattle.folder_store.specs.Walk.{OpeningState, plain, MakesAtMost, none, one, Visits, Keeps, in_ring, by_itself, StopsAt}
 
 -- an empty file isn't a keyring file
@@ -180,3 +182,41 @@ failed_slot found images made before faults failed is_steady steady name start s
       let same : faults slot ≡ faults start = keeps.still (subst (λ b. IsTrue b) (sym steady_start) s) in
       ⊎_elim (λ (more : faults start < faults slot). omega (arith, same, more)) (λ (last : faults slot ≡ last_count). omega (arith, same, fresh, last)) rose;
 }
+
+-- P holds of each element of a list of one element
+alone_all : {X : Type 0} (P : X → Type 0) (x : X) → P x → All P (x ∷ [])
+alone_all P x p = All-cons P x [] p (All-nil P)
+
+module _ {S : Type 0} (failed : S → Option DeviceCall) (old new : OpeningState S) (none_failed : NoneFailed failed old.rings old.left old.last) where
+  -- the slots are as before
+  pub none_failed_same : new.rings ≡ old.rings → new.left ≡ old.left → new.last ≡ old.last → NoneFailed failed new.rings new.left new.last
+  none_failed_same rings left last = record {
+    listed = subst (λ r. All (λ ring. failed ring.cell.slot ≡ None) r) (sym rings) none_failed.listed;
+    alone = subst (λ l. All (λ file. failed file.slot ≡ None) l) (sym left) none_failed.alone;
+    last = subst (λ s. IfSome s (λ slot. failed slot ≡ None)) (sym last) none_failed.last;
+  }
+
+  -- one more that didn't fail is kept
+  pub none_failed_kept : (stem : List ℕ) (slot : S) → failed slot ≡ None → Keeps stem slot old new → new.last ≡ old.last → NoneFailed failed new.rings new.left new.last
+  none_failed_kept stem slot fine (in_ring ring of_stem of_slot rings left) last = record {
+    listed = subst (λ r. All (λ ring. failed ring.cell.slot ≡ None) r) (sym rings)
+        (All-append (λ (r : RingState S). failed r.cell.slot ≡ None) old.rings (ring ∷ []) none_failed.listed
+        (alone_all (λ (r : RingState S). failed r.cell.slot ≡ None) ring (ap failed of_slot ∙ fine)));
+    alone = subst (λ l. All (λ file. failed file.slot ≡ None) l) (sym left) none_failed.alone;
+    last = subst (λ s. IfSome s (λ slot. failed slot ≡ None)) (sym last) none_failed.last;
+  }
+  none_failed_kept stem slot fine (by_itself file of_stem of_slot rings left) last = record {
+    listed = subst (λ r. All (λ ring. failed ring.cell.slot ≡ None) r) (sym rings) none_failed.listed;
+    alone = subst (λ l. All (λ file. failed file.slot ≡ None) l) (sym left)
+        (All-append (λ (f : LeftAlone S). failed f.slot ≡ None) old.left (file ∷ []) none_failed.alone
+        (alone_all (λ (f : LeftAlone S). failed f.slot ≡ None) file (ap failed of_slot ∙ fine)));
+    last = subst (λ s. IfSome s (λ slot. failed slot ≡ None)) (sym last) none_failed.last;
+  }
+
+  -- the load stops at one that didn't fail
+  pub none_failed_stopped : (slot : S) → failed slot ≡ None → StopsAt slot old new → NoneFailed failed new.rings new.left new.last
+  none_failed_stopped slot fine stops = record {
+    listed = subst (λ r. All (λ ring. failed ring.cell.slot ≡ None) r) (sym stops.rings) none_failed.listed;
+    alone = subst (λ l. All (λ file. failed file.slot ≡ None) l) (sym stops.left) none_failed.alone;
+    last = subst (λ s. IfSome s (λ slot. failed slot ≡ None)) (sym stops.last) fine;
+  }

@@ -1,5 +1,5 @@
 -- What was loaded, as contracts see it.
-use Rattle.std.specs.Prelude.{◌≡◌, ℕ, ◌⊎◌, List, [], ◌∷◌, ◌++◌, length, map, Contains, Option, None, Some, Bool, IsTrue, ◌<◌}
+use Rattle.std.specs.Prelude.{◌≡◌, ℕ, ◌⊎◌, List, [], ◌∷◌, ◌++◌, length, map, All, Contains, Option, None, Some, IfSome, Bool, IsTrue, ◌<◌}
 use Rattle.kr_outside.specs.Faults.{Rose}
 use Rattle.kr_outside.specs.RenameDisk.{Image, Temporary, Unknown, Only}
 use Rattle.kr_outside.specs.declared.slot.DeviceCall.{DeviceCall}
@@ -90,3 +90,10 @@ pub record HasFailedSlot {S : Type 0} (found : Image → S → Type 0) (images :
   pub rose : Rose 0 (faults slot)
   pub look : IsLook (failed slot)
   pub unsteady : ¬ (IsTrue steady)
+
+-- no slot failed in its last call: none of a listed collection, none of a file that was left alone, and not the one
+-- beside them, if there is one
+pub record NoneFailed {S : Type 0} (failed : S → Option DeviceCall) (rings : List (RingState S)) (left : List (LeftAlone S)) (beside : Option S) : Type 0 where
+  pub listed : All (λ ring. failed ring.cell.slot ≡ None) rings
+  pub alone : All (λ file. failed file.slot ≡ None) left
+  pub last : IfSome beside (λ slot. failed slot ≡ None)

@@ -1,4 +1,4 @@
-ghost use Rattle.std.specs.Prelude.{◌≡◌, ◌≤◌, ◌⊎◌, ◌↔◌, ◌∷◌, ℕ, List, Option, None, [], IsTrue, Contains, IsSome, IfOk, IfErr, OnOk, OnErr, IsErrOf};
+ghost use Rattle.std.specs.Prelude.{◌≡◌, ◌≤◌, ◌⊎◌, ◌↔◌, ◌∷◌, ℕ, List, Option, None, Some, [], IsTrue, Contains, IsSome, IfOk, IfErr, OnOk, OnErr, IsErrOf};
 ghost use Rattle.std.specs.Cmp.Lexicographic.{slice_cmp};
 ghost use Rattle.std.specs.List.Sorted.{IsStrictlySortedBy};
 ghost use Rattle.std.specs.Ordering.{nat_cmp};
@@ -10,7 +10,7 @@ ghost use Rattle.folder_store.specs.Aliases.{AreFound, alias_slot};
 ghost use Rattle.folder_store.specs.Limits.{the_limits};
 ghost use Rattle.folder_store.specs.Loads.{Loads};
 ghost use Rattle.folder_store.specs.Names.{aliases, IsRingName};
-ghost use Rattle.folder_store.specs.Ring.{HasFailedSlot, IsAsFound, HandsBack, MakesOneAtMost, ReturnsAll};
+ghost use Rattle.folder_store.specs.Ring.{HasFailedSlot, IsAsFound, HandsBack, MakesOneAtMost, NoneFailed, ReturnsAll};
 ghost use Rattle.folder_store.specs.Walk.{Visits, Walk, plain};
 
 use crate::found_aliases::{FoundAliases, found_by};
@@ -76,6 +76,14 @@ pub fn load<F: Folder>(alloc: Global, folder: &mut F) -> Result<Loaded<F::Cell>,
         (F.is_steady folder.old)) }
     ensures never { IsTrue (F.is_steady folder.old) → IfErr result (λ not_loaded.
         ¬ (not_loaded.refused ≡ LoadRefused.Folder)) }
+
+    // A slot that failed is a reason to refuse: unless the load is refused with `Folder`, no slot that was
+    // made failed in its last call.
+    ensures fine { IfOk result (λ loaded. NoneFailed F.Cell.failed loaded.rings.items
+        loaded.left_alone.items (Some (alias_slot loaded.aliases))) }
+    ensures fault { IfErr result (λ not_loaded. ¬ (not_loaded.refused ≡ LoadRefused.Folder)
+        → NoneFailed F.Cell.failed not_loaded.rings.items not_loaded.left_alone.items
+        not_loaded.last) }
 {
     load_within(alloc, folder, &LIMITS)
 }
@@ -116,6 +124,14 @@ pub fn load_within<F: Folder>(
         (F.is_steady folder.old)) }
     ensures never { IsTrue (F.is_steady folder.old) → IfErr result (λ not_loaded.
         ¬ (not_loaded.refused ≡ LoadRefused.Folder)) }
+
+    // A slot that failed is a reason to refuse: unless the load is refused with `Folder`, no slot that was
+    // made failed in its last call.
+    ensures fine { IfOk result (λ loaded. NoneFailed F.Cell.failed loaded.rings.items
+        loaded.left_alone.items (Some (alias_slot loaded.aliases))) }
+    ensures fault { IfErr result (λ not_loaded. ¬ (not_loaded.refused ≡ LoadRefused.Folder)
+        → NoneFailed F.Cell.failed not_loaded.rings.items not_loaded.left_alone.items
+        not_loaded.last) }
 {
     let mut opening = Opening::new(alloc);
     match load_into(alloc, folder, limits, &mut opening) {
@@ -159,6 +175,10 @@ fn load_into<F: Folder>(
         (F.images folder.old) (F.made folder.new) F.Cell.faults F.Cell.failed
         (F.is_steady folder.old) }
     ensures never { IsTrue (F.is_steady folder.old) → ¬ (IsErrOf result LoadRefused.Folder) }
+    ensures fine { IfOk result (λ loaded. NoneFailed F.Cell.failed loaded.rings.items
+        loaded.left_alone.items (Some (alias_slot loaded.aliases))) }
+    ensures fault { ¬ (IsErrOf result LoadRefused.Folder) → OnErr result
+        (NoneFailed F.Cell.failed opening.new.rings opening.new.left opening.new.last) }
 {
     let names = settled_names(alloc, folder)?;
     walk(alloc, folder, limits, &names, opening)?;
@@ -244,6 +264,9 @@ fn walk<F: Folder>(
         (F.is_honest folder.old) (F.is_steady folder.old))
         images (F.made folder.new) F.Cell.faults F.Cell.failed
         (F.is_steady folder.old) }
+    ensures fault { NoneFailed F.Cell.failed opening.old.rings opening.old.left opening.old.last
+        → ¬ (IsErrOf result LoadRefused.Folder)
+        → NoneFailed F.Cell.failed opening.new.rings opening.new.left opening.new.last }
 {
     for name in names {
         visit(alloc, folder, limits, name.as_str(), opening)?;
@@ -300,6 +323,9 @@ fn visit<F: Folder>(
         (F.is_honest folder.old) (F.is_steady folder.old))
         images (F.made folder.new) F.Cell.faults F.Cell.failed
         (F.is_steady folder.old) }
+    ensures fault { NoneFailed F.Cell.failed opening.old.rings opening.old.left opening.old.last
+        → ¬ (IsErrOf result LoadRefused.Folder)
+        → NoneFailed F.Cell.failed opening.new.rings opening.new.left opening.new.last }
 {
     match stem_of_name(alloc, name)? {
         Some(stem) => take_file(alloc, folder, limits, name, stem, opening),
@@ -358,6 +384,9 @@ fn take_file<F: Folder>(
         (F.is_honest folder.old) (F.is_steady folder.old))
         images (F.made folder.new) F.Cell.faults F.Cell.failed
         (F.is_steady folder.old) }
+    ensures fault { NoneFailed F.Cell.failed opening.old.rings opening.old.left opening.old.last
+        → ¬ (IsErrOf result LoadRefused.Folder)
+        → NoneFailed F.Cell.failed opening.new.rings opening.new.left opening.new.last }
 {
     let Some(room) = opening.room(limits) else {
         return opening.leave(stem);
@@ -409,6 +438,10 @@ fn load_aliases<F: Folder>(
         (F.is_honest folder.old) (F.is_steady folder.old))
         images (F.made folder.new) F.Cell.faults F.Cell.failed
         (F.is_steady folder.old) }
+    ensures fine { IfOk result (λ found. F.Cell.failed (alias_slot found) ≡ None) }
+    ensures fault { NoneFailed F.Cell.failed opening.old.rings opening.old.left opening.old.last
+        → ¬ (IsErrOf result LoadRefused.Folder)
+        → NoneFailed F.Cell.failed opening.new.rings opening.new.left opening.new.last }
 {
     let (slot, look) = look_at(alloc, folder, "aliases", LONGEST, opening)?;
     match found_by(alloc, slot, look) {

@@ -5,7 +5,7 @@ ghost use Rattle.kr_outside.specs.Moments.{LeavesOnly};
 ghost use Rattle.kr_outside.specs.RenameDisk.{Only, LeavesAnyBytes, size_of};
 ghost use Rattle.kr_outside.specs.Slot.{KeepsNature, OnlyLooks};
 ghost use Rattle.folder_store.specs.Names.{IsLoadName};
-ghost use Rattle.folder_store.specs.Ring.{HasFailedSlot, IsAsFound, IsLook, HandsBack, MakesOneAtMost, ReturnsAll};
+ghost use Rattle.folder_store.specs.Ring.{HasFailedSlot, IsAsFound, IsLook, HandsBack, MakesOneAtMost, NoneFailed, ReturnsAll};
 ghost use Rattle.folder_store.specs.Walk.{Looks, ReadsWithin, image_of};
 
 use crate::opening::Opening;
@@ -27,6 +27,7 @@ pub fn settled_size<S: Slot>(slot: &mut S) -> Result<Option<u64>, Failed>
         → LeavesOnly S.moment S.left_since slot.old slot.new (S.may_leave slot.old) }
     ensures kept { KeepsNature S.is_honest S.is_steady S.faults (IsErr result) slot.old slot.new }
     ensures call { IsErr result → IsLook (S.failed slot.new) }
+    ensures fine { OnOk result (S.failed slot.new ≡ None) }
 {
     slot.sync_folder()?;
     slot.size()
@@ -49,6 +50,8 @@ pub fn read_sized<S: Slot>(
     ensures kept { KeepsNature S.is_honest S.is_steady S.faults (IsErrOf result LoadRefused.Folder)
         slot.old slot.new }
     ensures call { IsErrOf result LoadRefused.Folder → IsLook (S.failed slot.new) }
+    ensures fine { S.failed slot.old ≡ None → ¬ (IsErrOf result LoadRefused.Folder)
+        → S.failed slot.new ≡ None }
 {
     let mut bytes = Vec::new(alloc);
     bytes.resize(size as usize, 0)?;
@@ -98,6 +101,7 @@ pub fn read_settled<S: Slot>(alloc: Global, slot: &mut S, most: usize) -> Result
     ensures kept { KeepsNature S.is_honest S.is_steady S.faults (IsErrOf result LoadRefused.Folder)
         slot.old slot.new }
     ensures call { IsErrOf result LoadRefused.Folder → IsLook (S.failed slot.new) }
+    ensures fine { ¬ (IsErrOf result LoadRefused.Folder) → S.failed slot.new ≡ None }
 {
     match settled_size(slot) {
         Ok(Some(size)) => {
@@ -158,6 +162,10 @@ pub fn look_at<F: Folder>(
         (F.is_honest folder.old) (F.is_steady folder.old))
         images (F.made folder.new) F.Cell.faults F.Cell.failed
         (F.is_steady folder.old) }
+    ensures fine { IfOk result (λ found. F.Cell.failed found.0 ≡ None) }
+    ensures fault { NoneFailed F.Cell.failed opening.old.rings opening.old.left opening.old.last
+        → ¬ (IsErrOf result LoadRefused.Folder)
+        → NoneFailed F.Cell.failed opening.new.rings opening.new.left opening.new.last }
 {
     let mut slot = folder.slot(name)?;
     match read_settled(alloc, &mut slot, most) {

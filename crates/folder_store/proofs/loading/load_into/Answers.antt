@@ -1,4 +1,6 @@
-use Rattle.std.proofs.Common.{◌≡◌, ◌↔◌, ℕ, List, Contains, IsTrue, IsErrOf, inr, rules, [], refl, IsSome, sym, ap, subst, ◌∙◌}
+use Rattle.std.proofs.lemmas.List.Elements.{All-nil}
+use Rattle.std.proofs.lemmas.List.Sorted.{All-permutation}
+use Rattle.std.proofs.Common.{All, None, ◌≡◌, ◌↔◌, ℕ, List, Contains, IsTrue, IsErrOf, inr, rules, [], refl, IsSome, sym, ap, subst, ◌∙◌}
 use Rattle.std.specs.Cmp.Lexicographic.{slice_cmp}
 use Rattle.std.specs.List.Sorted.{IsPermutation, IsStrictlySortedBy}
 use Rattle.std.specs.Ordering.{nat_cmp}
@@ -6,7 +8,7 @@ use Rattle.kr_outside.specs.Folder.{Stays}
 use Rattle.folder_store.specs.declared.refused.LoadRefused.TheVariants.{Folder}
 use Rattle.folder_store.specs.Names.{aliases}
 use Rattle.folder_store.specs.Aliases.{AreFound, alias_slot}
-use Rattle.folder_store.specs.Ring.{IsAsFound, HandsBack, HasFailedSlot, ReturnsAll, nothing}
+use Rattle.folder_store.specs.Ring.{IsAsFound, HandsBack, HasFailedSlot, NoneFailed, ReturnsAll, nothing}
 use Rattle.folder_store.specs.Walk.{Walk, plain}
 use Rattle.folder_store.proofs.LoadLemmas.{aliases_alone, off_way, Loads-made}
 use Rattle.folder_store.proofs.VisitLemmas.{found_same, stops_before, whatever}
@@ -219,3 +221,19 @@ returns-in_err-names-clause-others g c is =
     let folder = g.F.Folder in
     subst (λ m. Stays folder.images folder.may_leave m c.args.folder.now c.settled_names.new.folder) (c.requires.fresh ∙ sym c.in_err-names.ensures.made)
     (c.in_err-names.ensures.others is)
+
+-- no slot failed: none among the names, and not the one for the aliases
+pub returns-clause-fine : goal.returns-clause-fine
+returns-clause-fine g c =
+    let slot = g.F.Cell.Slot in
+    let opening = c.walk.new.opening in
+    let whole : c.replace.result ≡ opening = c.replace.ensures.value ∙ c.in_ok-aliases.ensures.opening in
+    let start : NoneFailed slot.failed c.args.opening.now.rings c.args.opening.now.left c.args.opening.now.last =
+    subst (λ o. NoneFailed slot.failed o.rings o.left o.last) (sym c.requires.empty) (record { listed = All-nil _; alone = All-nil _; last = tt }) in
+    let none_failed = c.in_ok-walk.ensures.fault start (λ is. let never : ⊥ = cc in never) in
+    record {
+      listed = All-permutation (λ ring. slot.failed ring.cell.slot ≡ None) c.replace.result.rings c.into_parts-rings.result.0.items c.into_parts-rings.ensures.same
+          (subst (λ o. All (λ ring. slot.failed ring.cell.slot ≡ None) o.rings) (sym whole) none_failed.listed);
+      alone = subst (λ l. All (λ file. slot.failed file.slot ≡ None) l) (sym (c.into_parts-rings.ensures.left ∙ ap (λ o. o.left) whole)) none_failed.alone;
+      last = c.in_ok-aliases.ensures.fine;
+    }

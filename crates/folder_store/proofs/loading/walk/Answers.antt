@@ -40,6 +40,7 @@ loop-name-init g c =
       refl,
       λ is. Stays-none folder.images folder.may_leave (folder.made c.args.folder.now) c.args.folder.now,
       ap (λ o. o.last) c.requires.empty,
+      λ none_failed. none_failed,
     )
 
 -- one more name
@@ -85,6 +86,7 @@ loop-name-preserved g c =
           (one_fewer name (folder.made mid) (folder.made new) c.in_ok-visit.ensures.made) (c.loop-name.invariant.5 is)
           (c.in_ok-visit.ensures.stays (subst (λ b. IsTrue b) (sym as_honest) is)),
       c.in_ok-visit.ensures.last ∙ c.loop-name.invariant.6,
+      λ none_failed. c.in_ok-visit.ensures.fault (c.loop-name.invariant.7 none_failed) (λ is. let never : ⊥ = cc in never),
     )
 
 pub returns-clause-walked : goal.returns-clause-walked

@@ -1,7 +1,7 @@
 use Rattle.std.proofs.Common.{◌≡◌, ℕ, List, IsTrue, None, take}
 use Rattle.kr_outside.specs.Folder.{Stays}
 use Rattle.kr_outside.specs.RenameDisk.{Image}
-use Rattle.folder_store.specs.Ring.{IsAsFound, HandsBack}
+use Rattle.folder_store.specs.Ring.{IsAsFound, HandsBack, NoneFailed}
 use Rattle.folder_store.specs.Walk.{Walk, plain}
 use Rattle.folder_store.proofs.loading.walk.Given as goal
 
@@ -18,3 +18,4 @@ invariant-loop-name g l =
     × (folder.faults l.folder ≡ folder.faults l.fn.folder)
     × (IsTrue (folder.is_honest l.fn.folder) → Stays folder.images folder.may_leave (folder.made l.folder) l.fn.folder l.folder)
     × (l.opening.last ≡ None)
+    × (NoneFailed slot.failed l.fn.opening.rings l.fn.opening.left l.fn.opening.last → NoneFailed slot.failed l.opening.rings l.opening.left l.opening.last)
