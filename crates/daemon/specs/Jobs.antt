@@ -47,6 +47,12 @@ closed_input input = record input { is_closed = true }
 abbrev pub closed_output : Output → Output
 closed_output output = record output { is_closed = true }
 
+-- A writer did its work after the handshake, and closed its output when it ended.
+pub record Writes {B O : Type 0} (told : B → Told) (has_seen : B → View → Type 0) (written : O → Option (List ℕ)) (faults : O → ℕ) (is_steady is_closed : O → Bool) (old : B) (from : O) (new : B) (to : O) (how : End) : Type 0 where
+  pub ended : Output
+  pub writer : WriterEnds (output_of written faults is_steady is_closed from) ended (place told has_seen old) (place told has_seen new) how
+  pub output : output_of written faults is_steady is_closed to ≡ closed_output ended
+
 -- Both ends of a link were closed, and nothing else was done.
 pub record IsClosing {A B I O : Type 0} (left : I → Option (List ℕ)) (in_faults : I → ℕ) (in_steady in_closed : I → Bool) (written : O → Option (List ℕ)) (out_faults : O → ℕ) (out_steady out_closed : O → Bool) (old new : Served A B I O) : Type 0 where
   pub conn : new.conn ≡ old.conn

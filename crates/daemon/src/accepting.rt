@@ -33,7 +33,16 @@ pub enum LoopEnd {
 /// What the serving of a listener's link to a hub's connection resulted in.
 pub type ServedBy<U: Hub, L: Listener> = Served<U::Reader, U::Writer, L::In, L::Out>;
 
-// Records that the connection of a job is gone, and drops the rest of the job. Returns the writer's desk.
+// Closes both ends of a link that isn't served, so that the other side sees its end.
+fn hang_up<I: Source + Drop, O: Sink + Drop>(input: I, output: O) {
+    let mut input = input;
+    let mut output = output;
+    input.close();
+    output.close();
+}
+
+// Records that the connection of a job is gone, closes its link, and drops the rest of the job. Returns the writer's
+// desk.
 fn turn_away<
     R: Drop,
     A: ReadDesk + Drop,
@@ -44,7 +53,13 @@ fn turn_away<
 >(job: LinkJob<R, A, B, C, I, O>) -> B
     ensures { Goes (place B.told B.has_seen job.writer) (place B.told B.has_seen result) }
 {
-    let LinkJob { writer, .. } = job;
+    let LinkJob {
+        writer,
+        input,
+        output,
+        ..
+    } = job;
+    hang_up(input, output);
     let_go(writer)
 }
 
@@ -59,7 +74,7 @@ enum Next {
     Failed,
 }
 
-// Joins the connection of a link, and returns its job. If the connection can't join, the link is dropped.
+// Joins the connection of a link, and returns its job. If the connection can't join, the link is closed.
 fn join_link<R: Copy + Drop, U: Hub, L: Listener>(
     rt: &R,
     hub: &mut U,
@@ -80,7 +95,10 @@ fn join_link<R: Copy + Drop, U: Hub, L: Listener>(
     let Link { input, output } = link;
     let (conn, reader, writer) = match hub.join() {
         Ok(joined) => joined,
-        Err(refused) => return Err(refused),
+        Err(refused) => {
+            hang_up(input, output);
+            return Err(refused);
+        }
     };
     let (auth, clock, salts) = hub.parts(conn);
     Ok(LinkJob {
@@ -96,8 +114,8 @@ fn join_link<R: Copy + Drop, U: Hub, L: Listener>(
     })
 }
 
-// Joins the connection of a link, and starts its job. If the connection can't join, the link is dropped; if
-// the job can't be started, the link is dropped and its connection is gone.
+// Joins the connection of a link, and starts its job. If the connection can't join, the link is closed; if
+// the job can't be started, the link is closed and its connection is gone.
 fn admit<
     R: AllocGlobal + Threads + Wait + Copy + Send + Sync + Drop + 'static,
     U: Hub,
@@ -254,7 +272,7 @@ where
 /// results are appended to `done` in the order in which the jobs were started. Room for a result is made
 /// before each link is accepted.
 ///
-/// A link is dropped without being served only if its connection couldn't join, or its job couldn't be
+/// A link is closed without being served only if its connection couldn't join, or its job couldn't be
 /// started; then its connection is gone. `Ended` comes only if the listener returned None, `Reached` only if
 /// `most` links were accepted, and `ListenFault` only if the listener's count of faults rose.
 pub fn accept_loop<

@@ -1,10 +1,8 @@
 ghost use Rattle.std.specs.Prelude.{◌≡◌, IsTrue, IsFalse};
 ghost use Rattle.connection_worker.specs.Handshakes.{most_bytes};
-ghost use Rattle.connection_worker.specs.Streams.{output_of};
-ghost use Rattle.connection_worker.specs.Writing.{WriterEnds};
 ghost use Rattle.connection_worker.specs.service_desk.specs.Calls.{Goes};
 ghost use Rattle.connection_worker.specs.service_desk.specs.Places.{place};
-ghost use Rattle.daemon.specs.Jobs.{Reads, Serves, IsClosing};
+ghost use Rattle.daemon.specs.Jobs.{Reads, Writes, Serves, IsClosing};
 
 use crate::hub::Hub;
 use connection_worker::service_desk::{ReadDesk, WriteDesk};
@@ -133,23 +131,22 @@ fn read<R: AllocGlobal + Wait, A: ReadDesk, C: Clock, I: Source>(
     (input, reader, end)
 }
 
-// Writes to the end, and returns the output, the desk and the end.
+// Writes to the end, closes the output, so that the other side sees its end, and returns it, the desk and the end.
 fn write<R: AllocGlobal + Wait, B: WriteDesk, O: Sink>(rt: &R, output: O, writer: B) -> (O, B, End)
     requires waiting { IsTrue (B.told writer).is_waiting }
     requires output_open { IsFalse (O.is_closed output) }
-    ensures { WriterEnds
-        (output_of O.written O.faults O.is_steady O.is_closed output)
-        (output_of O.written O.faults O.is_steady O.is_closed result.0)
-        (place B.told B.has_seen writer) (place B.told B.has_seen result.1) result.2 }
+    ensures { Writes B.told B.has_seen O.written O.faults O.is_steady O.is_closed
+        writer output result.1 result.0 result.2 }
 {
-    let mut output = output;
+    let mut sink = output;
     let mut writer = writer;
-    let end = write_side(rt, &mut output, &mut writer);
-    (output, writer, end)
+    let end = write_side(rt, &mut sink, &mut writer);
+    sink.close();
+    (sink, writer, end)
 }
 
 // Both sides at once, each in a thread of its own; if no thread can be made, the writer starts when the
-// reader has ended. The ends of the link are still open.
+// reader has ended. The input is still open, and the output was closed when the writer ended.
 fn serve_both<
     R: AllocGlobal + Threads + Wait + Sync,
     A: ReadDesk + Drop + Send,
@@ -175,21 +172,16 @@ fn serve_both<
     ensures conn { result.conn ≡ conn }
     ensures reads { Reads A.told A.has_seen C.coming I.left I.faults I.is_steady I.is_closed
         framer salts clock reader input result.reader result.input result.read_end }
-    ensures writes { WriterEnds
-        (output_of O.written O.faults O.is_steady O.is_closed output)
-        (output_of O.written O.faults O.is_steady O.is_closed result.output)
-        (place B.told B.has_seen writer) (place B.told B.has_seen result.writer)
-        result.write_end }
+    ensures writes { Writes B.told B.has_seen O.written O.faults O.is_steady O.is_closed
+        writer output result.writer result.output result.write_end }
 {
     let ((output, writer, writes), (input, reader, reads)) = thread::join(
         rt,
         || -> (O, B, End)
             requires waiting { IsTrue (B.told writer).is_waiting }
             requires output_open { IsFalse (O.is_closed output) }
-            ensures { WriterEnds
-                (output_of O.written O.faults O.is_steady O.is_closed output)
-                (output_of O.written O.faults O.is_steady O.is_closed result.0)
-                (place B.told B.has_seen writer) (place B.told B.has_seen result.1) result.2 }
+            ensures { Writes B.told B.has_seen O.written O.faults O.is_steady O.is_closed
+                writer output result.1 result.0 result.2 }
         {
             let output = output;
             let writer = writer;
@@ -250,8 +242,8 @@ fn close<A, B, I: Source, O: Sink>(served: Served<A, B, I, O>) -> Served<A, B, I
 }
 
 /// Serves a link: the handshake, and then its reader and its writer at once. If the handshake is
-/// refused, both ends are that refusal, and the connection is gone. Both ends of the link are closed
-/// last.
+/// refused, both ends are that refusal, and the connection is gone. The output is closed when the writer
+/// ends, and the input last.
 pub fn serve_link<
     R: AllocGlobal + Threads + Wait + Sync + Drop,
     A: ReadDesk + Drop + Send,

@@ -2,31 +2,33 @@ ghost use Rattle.std.specs.Prelude.{◌≡◌, [], None, false, reverse};
 ghost use Rattle.std.proofs.Common.{rules};
 
 use crate::faults::{count, counted};
-use crate::slot::{RealSlot, sync_folder};
+use crate::opened::OpenFolder;
+use crate::slot::RealSlot;
 use kr_base::{Bytes, OutOfMemory, Text};
 use kr_outside::{Failed, Folder, OutsideRefused};
 use std::alloc::Global;
 use std::fs::{self, DirEntry, Files};
 use std::io::{self, ErrorKind};
+use std::sync::Arc;
 
-/// A real folder, by its path.
+/// A real folder. It is opened once, so that it and its slots stay in one folder when that is moved.
 #[derive(Drop)]
 pub struct RealFolder<R: Files + AllocGlobal + Copy> {
     rt: R,
-    path: String,
+    folder: Arc<OpenFolder, Global>,
     made: Vec<Bytes>,
     faults: u64,
 }
 
 impl<R: Files + AllocGlobal + Copy> RealFolder<R> {
-    /// The folder at this path, with no fault so far.
-    pub fn new(rt: R, path: String) -> Self
+    /// The open folder, with no fault so far.
+    pub fn new(rt: R, folder: Arc<OpenFolder, Global>) -> Self
         ensures faults { result.faults ≡ 0 }
         ensures made { reverse result.made.items ≡ [] }
     {
         RealFolder {
             rt,
-            path,
+            folder,
             made: Vec::new(rt.alloc()),
             faults: 0,
         }
@@ -58,12 +60,12 @@ impl<R: Files + AllocGlobal + Copy> Folder for RealFolder<R> {
     ghost steady_below = { Prim.search rules };
 
     fn sync(&mut self) -> Result<(), Failed> {
-        let synced = sync_folder(&self.rt, &self.path);
+        let synced = self.folder.sync();
         counted(&mut self.faults, synced)
     }
 
     fn names(&mut self) -> Result<Vec<Text>, OutsideRefused> {
-        match listed(&self.rt, &self.path) {
+        match names_of(&self.rt, &self.folder) {
             Ok(names) => Ok(names),
             Err(error) => {
                 if error.kind() == ErrorKind::OutOfMemory {
@@ -77,14 +79,43 @@ impl<R: Files + AllocGlobal + Copy> Folder for RealFolder<R> {
 
     fn slot(&mut self, name: &str) -> Result<RealSlot<R>, OutOfMemory> {
         let alloc = self.rt.alloc();
-        let folder = String::from_str(alloc, &self.path)?;
-        let path = path_in(alloc, &self.path, name, "")?;
-        let temporary = path_in(alloc, &self.path, name, ".tmp")?;
+        let folder = Arc::try_clone(&self.folder)?;
+        let path = path_in(alloc, folder.path(), name, "")?;
+        let temporary = path_in(alloc, folder.path(), name, TEMPORARY)?;
+        let aside = path_in(alloc, folder.path(), name, ASIDE)?;
         let made = Bytes::from_slice(alloc, name.as_bytes())?;
         match self.made.push(made) {
-            Ok(()) => Ok(RealSlot::new(self.rt, folder, path, temporary)),
+            Ok(()) => Ok(RealSlot::new(self.rt, folder, path, temporary, aside)),
             Err(refused) => Err(refused.into()),
         }
+    }
+}
+
+// The endings of the temporary file of a name, and of a folder that took its place and was moved aside. They have
+// the same length, so that a name that is short enough for the one is for the other.
+const TEMPORARY: &str = ".tmp";
+
+const ASIDE: &str = ".tm0";
+
+/// Removes the temporary files that an ended process left in the folder: those of keyring files and of the aliases.
+/// One that can't be removed stays; it is in nobody's way.
+pub fn remove_left_overs<R: Files + AllocGlobal + Copy>(rt: &R, folder: &OpenFolder) {
+    let Ok(names) = listed(rt, folder.path()) else {
+        return;
+    };
+    for name in &names {
+        if is_temporary(name.as_str()) {
+            if let Ok(path) = path_in(rt.alloc(), folder.path(), name.as_str(), "") {
+                let _ = fs::remove_file(rt, path.as_str());
+            }
+        }
+    }
+}
+
+fn is_temporary(name: &str) -> bool {
+    match name.strip_suffix(TEMPORARY) {
+        Some(file) => file == "aliases" || file.ends_with(".keyring"),
+        None => false,
     }
 }
 
@@ -95,6 +126,12 @@ fn path_in(alloc: Global, folder: &str, name: &str, ending: &str) -> Result<Stri
     path.push_str(name)?;
     path.push_str(ending)?;
     Ok(path)
+}
+
+// The names in an open folder. An error if it was removed.
+fn names_of<R: Files + AllocGlobal + Copy>(rt: &R, folder: &OpenFolder) -> io::Result<Vec<Text>> {
+    folder.is_there()?;
+    listed(rt, folder.path())
 }
 
 // The names in the folder at this path, whatever they stand for: a folder with the name of a

@@ -2,26 +2,33 @@ ghost use Rattle.std.specs.Prelude.{◌≡◌, None, false};
 ghost use Rattle.std.proofs.Common.{rules};
 
 use crate::clock::SystemClock;
+use crate::door::UnixDoor;
+use crate::ending::{DoorBell, Ending};
 use crate::faults::count;
-use crate::folder::RealFolder;
-use crate::socket::UnixDoor;
+use crate::folder::{RealFolder, remove_left_overs};
+use crate::opened::OpenFolder;
+use kr_base::OutOfMemory;
 use kr_outside::{Host, OutsideRefused};
-use std::fs::{self, Files};
-use std::io::{self, ErrorKind};
+use std::alloc::{AllocGlobal, Global};
+use std::fs::{File, Files};
+use std::io::{self, Eprint, ErrorKind};
 use std::net::Net;
+use std::sync::Arc;
 use std::time;
 
 /// The machine on which the program runs.
 #[derive(Drop)]
-pub struct RealHost<R: Files + Net + time::Clock + AllocGlobal + Copy> {
+pub struct RealHost<R: Files<File = File> + Net + time::Clock + Eprint + AllocGlobal + Copy> {
     rt: R,
     faults: u64,
     given: u64,
     shut: u64,
     last_given: u64,
+    last_ended: bool,
+    ending: Option<Arc<Ending, Global>>,
 }
 
-impl<R: Files + Net + time::Clock + AllocGlobal + Copy> RealHost<R> {
+impl<R: Files<File = File> + Net + time::Clock + Eprint + AllocGlobal + Copy> RealHost<R> {
     /// The machine, with no fault so far, no folder opened and no door taken back.
     pub fn new(rt: R) -> Self
         ensures faults { result.faults ≡ 0 }
@@ -34,7 +41,26 @@ impl<R: Files + Net + time::Clock + AllocGlobal + Copy> RealHost<R> {
             given: 0,
             shut: 0,
             last_given: 0,
+            last_ended: false,
+            ending: None,
         }
+    }
+
+    /// A bell of the doors that the host opens from now on: once it is rung, from any thread, they end.
+    ///
+    /// Refused if no memory was left; nothing has changed then.
+    pub fn bell(&mut self) -> Result<DoorBell, OutOfMemory>
+        ensures given { self.new.given ≡ self.old.given }
+        ensures shut { self.new.shut ≡ self.old.shut }
+        ensures faults { self.new.faults ≡ self.old.faults }
+    {
+        if let Some(ending) = &self.ending {
+            return Ok(DoorBell::new(Arc::try_clone(ending)?));
+        }
+        let ending = Arc::new(self.rt.alloc(), Ending::new())?;
+        let theirs = Arc::try_clone(&ending)?;
+        self.ending = Some(ending);
+        Ok(DoorBell::new(theirs))
     }
 
     /// How often the system returned an error.
@@ -45,10 +71,20 @@ impl<R: Files + Net + time::Clock + AllocGlobal + Copy> RealHost<R> {
     }
 }
 
-impl<R: Files + Net + time::Clock + AllocGlobal + Copy> Host for RealHost<R> {
+// A further owner of the ending, if there is one.
+fn shared(
+    ending: &Option<Arc<Ending, Global>>,
+) -> Result<Option<Arc<Ending, Global>>, OutOfMemory> {
+    match ending {
+        Some(ending) => Ok(Some(Arc::try_clone(ending)?)),
+        None => Ok(None),
+    }
+}
+
+impl<R: Files<File = File> + Net + time::Clock + Eprint + AllocGlobal + Copy> Host for RealHost<R> {
     type Dir = RealFolder<R>;
 
-    type Door = UnixDoor;
+    type Door = UnixDoor<R>;
 
     type Time = SystemClock<R>;
 
@@ -63,7 +99,7 @@ impl<R: Files + Net + time::Clock + AllocGlobal + Copy> Host for RealHost<R> {
     ghost shut_doors = { λ h. record {
       count = h.shut;
       given = h.last_given;
-      has_ended = false;
+      has_ended = h.last_ended;
     } };
 
     ghost is_honest = { λ _. false };
@@ -72,11 +108,13 @@ impl<R: Files + Net + time::Clock + AllocGlobal + Copy> Host for RealHost<R> {
 
     ghost steady_below = { Prim.search rules };
 
+    /// The folder at a path, which is locked as long as it or a slot of it is there. The temporary files that an
+    /// ended process left in it are removed.
     fn folder(&mut self, path: &str) -> Result<RealFolder<R>, OutsideRefused> {
-        match opened(&self.rt, path) {
-            Ok(path) => {
+        match claimed(&self.rt, path) {
+            Ok(folder) => {
                 self.given = self.given.saturating_add(1);
-                Ok(RealFolder::new(self.rt, path))
+                Ok(RealFolder::new(self.rt, folder))
             }
             Err(error) => {
                 if error.kind() == ErrorKind::OutOfMemory {
@@ -88,8 +126,11 @@ impl<R: Files + Net + time::Clock + AllocGlobal + Copy> Host for RealHost<R> {
         }
     }
 
-    fn listen(&mut self, path: &str) -> Result<UnixDoor, OutsideRefused> {
-        match UnixDoor::bind(&self.rt, path) {
+    fn listen(&mut self, path: &str) -> Result<UnixDoor<R>, OutsideRefused> {
+        let Ok(ending) = shared(&self.ending) else {
+            return Err(OutsideRefused::OutOfMemory);
+        };
+        match UnixDoor::bind(self.rt, path, ending) {
             Ok(door) => Ok(door),
             Err(error) => {
                 if error.kind() == ErrorKind::OutOfMemory {
@@ -101,10 +142,11 @@ impl<R: Files + Net + time::Clock + AllocGlobal + Copy> Host for RealHost<R> {
         }
     }
 
-    fn shut(&mut self, door: UnixDoor) {
+    fn shut(&mut self, door: UnixDoor<R>) {
         self.shut = self.shut.saturating_add(1);
         self.last_given = door.given();
-        if door.close(&self.rt).is_err() {
+        self.last_ended = door.has_ended();
+        if door.close().is_err() {
             count(&mut self.faults);
         }
     }
@@ -114,11 +156,12 @@ impl<R: Files + Net + time::Clock + AllocGlobal + Copy> Host for RealHost<R> {
     }
 }
 
-// A copy of the path, if there is a folder at it that can be read.
-fn opened<R: Files + AllocGlobal>(rt: &R, path: &str) -> io::Result<String> {
-    if !fs::metadata(rt, path)?.is_dir() {
-        return Err(ErrorKind::NotADirectory.into());
-    }
-    let _ = fs::open(rt, path)?;
-    Ok(String::from_str(rt.alloc(), path)?)
+// The folder at this path, open and locked, without the temporary files that were left over.
+fn claimed<R: Files<File = File> + Eprint + AllocGlobal + Copy>(
+    rt: &R,
+    path: &str,
+) -> io::Result<Arc<OpenFolder, Global>> {
+    let folder = OpenFolder::open(rt, path)?;
+    remove_left_overs(rt, &folder);
+    Ok(Arc::new(rt.alloc(), folder)?)
 }

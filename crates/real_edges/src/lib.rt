@@ -6,16 +6,23 @@
 #![tactic(auto)]
 
 mod clock;
+mod connection;
+mod door;
+mod ending;
 mod faults;
 mod folder;
 mod host;
+mod opened;
 mod slot;
 mod socket;
+mod socket_file;
 mod standard;
 
 pub use clock::SystemClock;
+pub use door::UnixDoor;
+pub use ending::DoorBell;
 pub use folder::RealFolder;
 pub use host::RealHost;
 pub use slot::RealSlot;
-pub use socket::{SocketSink, SocketSource, UnixDoor};
+pub use socket::{SocketSink, SocketSource};
 pub use standard::{ReaderSource, WriterSink};

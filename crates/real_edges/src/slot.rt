@@ -5,19 +5,23 @@ ghost use Rattle.kr_outside.specs.Faults.{HasCause, EndsAs};
 ghost use Rattle.kr_outside.specs.RenameDisk.{Unknown, FitsIn};
 
 use crate::faults::counted;
+use crate::opened::OpenFolder;
 use crate::standard::{ReaderSource, WriterSink};
 use kr_outside::{DeviceCall, Failed, Seen, Slot, Source, write_all};
+use std::alloc::Global;
 use std::fs::{self, Files, OpenFile, OpenOptions};
 use std::io::{self, ErrorKind};
 use std::os::unix::fs::OpenOptionsExt;
+use std::sync::Arc;
 
 /// A name of a real folder, with the temporary file beside it. Its calls take no memory.
 #[derive(Drop)]
 pub struct RealSlot<R: Files + Copy> {
     rt: R,
-    folder: String,
+    folder: Arc<OpenFolder, Global>,
     path: String,
     temporary: String,
+    aside: String,
     written: Option<R::File>,
     faults: u64,
     failed: Option<DeviceCall>,
@@ -25,8 +29,15 @@ pub struct RealSlot<R: Files + Copy> {
 }
 
 impl<R: Files + Copy> RealSlot<R> {
-    /// The slot of the file at this path, in this folder, with this temporary file; no fault so far.
-    pub fn new(rt: R, folder: String, path: String, temporary: String) -> Self
+    /// The slot of the file at this path, in this folder, with this temporary file; no fault so far. A folder in the
+    /// place of the temporary file is moved to the path `aside`, the last letter of which is a digit.
+    pub fn new(
+        rt: R,
+        folder: Arc<OpenFolder, Global>,
+        path: String,
+        temporary: String,
+        aside: String,
+    ) -> Self
         ensures { result.faults ≡ 0 }
     {
         RealSlot {
@@ -34,6 +45,7 @@ impl<R: Files + Copy> RealSlot<R> {
             folder,
             path,
             temporary,
+            aside,
             written: None,
             faults: 0,
             failed: None,
@@ -108,7 +120,7 @@ impl<R: Files + Copy> Slot for RealSlot<R> {
         // A file that an earlier call wrote isn't this one: if this call fails, there is
         // nothing to sync.
         self.written = None;
-        let written = write_anew(&self.rt, &self.temporary, bytes);
+        let written = write_anew(&self.rt, &self.temporary, &mut self.aside, bytes);
         self.written = Some(self.ended(DeviceCall::PutTemp, written)?);
         Ok(())
     }
@@ -127,7 +139,7 @@ impl<R: Files + Copy> Slot for RealSlot<R> {
     }
 
     fn sync_folder(&mut self) -> Result<(), Failed> {
-        let synced = sync_folder(&self.rt, &self.folder);
+        let synced = self.folder.sync();
         self.ended(DeviceCall::SyncFolder, synced)
     }
 
@@ -135,11 +147,6 @@ impl<R: Files + Copy> Slot for RealSlot<R> {
         let removed = fs::remove_file(&self.rt, &self.path);
         self.ended(DeviceCall::Remove, removed)
     }
-}
-
-/// Puts on the disk what the names of this folder stand for.
-pub fn sync_folder<R: Files>(rt: &R, path: &str) -> io::Result<()> {
-    fs::open(rt, path)?.sync_all()
 }
 
 // The number of bytes of the file at this path, or None if there is none. Anything but a file, such
@@ -161,14 +168,30 @@ fn size_of<R: Files>(rt: &R, path: &str) -> io::Result<Option<u64>> {
     }
 }
 
+// The file at this path, opened for reading, or None if there is none. It is opened for writing as well, by which no
+// pipe waits for its other end, and then looked at. One that may not be written is looked at first.
+fn opened_file<R: Files>(rt: &R, path: &str) -> io::Result<Option<R::File>> {
+    match OpenOptions::new().read(true).write(true).open(rt, path) {
+        Ok(file) => Ok(if file.metadata()?.is_file() {
+            Some(file)
+        } else {
+            None
+        }),
+        Err(_) => Ok(match size_of(rt, path)? {
+            Some(_) => Some(fs::open(rt, path)?),
+            None => None,
+        }),
+    }
+}
+
 // Reads the file at this path to the start of the buffer.
 fn read_file<R: Files>(rt: &R, path: &str, buffer: &mut [u8]) -> io::Result<Seen>
     ensures { IfOk result (FitsIn (length buffer.new)) }
 {
-    if size_of(rt, path)?.is_none() {
+    let Some(file) = opened_file(rt, path)? else {
         return Ok(Seen::Missing);
-    }
-    let mut file = ReaderSource::new(fs::open(rt, path)?);
+    };
+    let mut file = ReaderSource::new(file);
     let mut behind = [0; 1];
     let Ok(count) = fill(&mut file, buffer) else {
         return Err(ErrorKind::Other.into());
@@ -201,14 +224,21 @@ fn fill<I: Source>(input: &mut I, buffer: &mut [u8]) -> Result<usize, Failed>
 }
 
 // Makes the file at this path anew, for its owner alone, and writes the bytes. One that an earlier
-// run left over is removed first.
-fn write_anew<R: Files>(rt: &R, path: &str, bytes: &[u8]) -> io::Result<R::File> {
+// run left over is removed first, and a folder in its place is moved aside.
+fn write_anew<R: Files>(
+    rt: &R,
+    path: &str,
+    aside: &mut String,
+    bytes: &[u8],
+) -> io::Result<R::File> {
     let file = match new_file(rt, path) {
         Err(error) => {
             if error.kind() != ErrorKind::AlreadyExists {
                 return Err(error);
             }
-            fs::remove_file(rt, path)?;
+            if fs::remove_file(rt, path).is_err() {
+                move_aside(rt, path, aside)?;
+            }
             new_file(rt, path)?
         }
         Ok(file) => file,
@@ -218,6 +248,18 @@ fn write_anew<R: Files>(rt: &R, path: &str, bytes: &[u8]) -> io::Result<R::File>
         Ok(()) => Ok(sink.into_writer()),
         Err(_) => Err(ErrorKind::Other.into()),
     }
+}
+
+// Moves the folder at this path to the other one, with the first digit at its end at which nothing else is.
+fn move_aside<R: Files>(rt: &R, path: &str, aside: &mut String) -> io::Result<()> {
+    for digit in '0'..='9' {
+        aside.pop();
+        aside.push(digit)?;
+        if fs::rename(rt, path, aside.as_str()).is_ok() {
+            return Ok(());
+        }
+    }
+    Err(ErrorKind::AlreadyExists.into())
 }
 
 fn new_file<R: Files>(rt: &R, path: &str) -> io::Result<R::File> {

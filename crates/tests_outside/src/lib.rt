@@ -6,6 +6,10 @@
 #[cfg(test)]
 mod checks;
 #[cfg(test)]
+mod doors;
+#[cfg(test)]
+mod folders;
+#[cfg(test)]
 mod links;
 #[cfg(test)]
 mod memory;

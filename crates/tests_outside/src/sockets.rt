@@ -10,7 +10,7 @@ use std::os::unix::fs::PermissionsExt;
 use std::os::unix::net::UnixStream;
 use std::test::Fail;
 
-fn door_at(rt: HostRuntime, path: &str) -> Result<UnixDoor, Fail> {
+fn door_at(rt: HostRuntime, path: &str) -> Result<UnixDoor<HostRuntime>, Fail> {
     Ok(RealHost::new(rt).listen(path).ok().ok_or("a door")?)
 }
 
@@ -19,7 +19,7 @@ fn is_refused(rt: HostRuntime, path: &str) -> bool {
     host.listen(path).is_err() && host.faults() == 1
 }
 
-fn link_of(door: &mut UnixDoor) -> Result<Link<SocketSource, SocketSink>, Fail>
+fn link_of(door: &mut UnixDoor<HostRuntime>) -> Result<Link<SocketSource, SocketSink>, Fail>
     ensures input { IfOk result (λ link. IsFalse (is_none link.input.stream)) }
     ensures output { IfOk result (λ link. IsFalse (is_none link.output.stream)) }
 {

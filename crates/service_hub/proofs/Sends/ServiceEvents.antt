@@ -10,13 +10,13 @@ use Rattle.shared_service.specs.service_events.specs.contracts.event.Recorded as
 use Rattle.shared_service.specs.service_events.specs.contracts.fates.Fates as Fates
 use Rattle.service_hub.proofs.Sends.KrBase.{Bytes-send}
 use Rattle.service_hub.proofs.Sends.SecretCalls.{Request-send}
-use Rattle.service_hub.proofs.Sends.ServiceTables.{Fate-send}
+use Rattle.service_hub.proofs.Sends.ServiceTables.{ReadFate-send, StoreFate-send}
 
 Boxed-send : (T : RattleType) → IsSend T → IsSend (Boxed.the_row T)
 Boxed-send T of-value = search (sendable, heap.crosses) depth 30
 
 Fates-send : IsSend (Fates.the_field).row
-Fates-send = search (Fate-send, sendable) depth 40
+Fates-send = search (ReadFate-send, StoreFate-send, sendable) depth 40
 
 Arrival-send : IsSend (Arrival.the_field).row
 Arrival-send = search (Request-send, sendable) depth 40

@@ -8,7 +8,8 @@ use Rattle.shared_service.specs.service_tables.specs.contracts.aliases.KeptAlias
 use Rattle.shared_service.specs.service_tables.specs.contracts.connections.Connections as Connections
 use Rattle.shared_service.specs.service_tables.specs.contracts.desk.Desk as Desk
 use Rattle.shared_service.specs.service_tables.specs.contracts.disk.Disk as Disk
-use Rattle.shared_service.specs.service_tables.specs.contracts.fate.Fate as Fate
+use Rattle.shared_service.specs.service_tables.specs.contracts.fate.ReadFate as ReadFate
+use Rattle.shared_service.specs.service_tables.specs.contracts.fate.StoreFate as StoreFate
 use Rattle.shared_service.specs.service_tables.specs.contracts.kept.KeptSlot as KeptSlot
 use Rattle.service_hub.proofs.Sends.CollectionTable.{CollectionTable-send}
 use Rattle.service_hub.proofs.Sends.AliasTable.{AliasTable-send}
@@ -18,8 +19,11 @@ use Rattle.service_hub.proofs.Sends.ReplaceSlot.{FileCell-send}
 use Rattle.service_hub.proofs.Sends.SecretCalls.{Out-send}
 use Rattle.service_hub.proofs.Sends.StemChoice.{UsedStems-send}
 
-pub Fate-send : IsSend Fate.the_row
-Fate-send = search sendable depth 40
+pub ReadFate-send : IsSend ReadFate.the_row
+ReadFate-send = search sendable depth 40
+
+pub StoreFate-send : IsSend StoreFate.the_row
+StoreFate-send = search sendable depth 40
 
 Desk-send : IsSend Desk.the_row
 Desk-send = search (Out-send, sendable, heap.crosses) depth 40
