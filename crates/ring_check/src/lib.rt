@@ -5,11 +5,21 @@
 //! line, with its moments as dates of the calendar in UTC.
 #![tactic(auto)]
 
+mod batches;
+mod checking;
+mod ending;
 mod judging;
 mod lines;
+mod names;
+mod progress;
+mod reading;
 mod time;
 mod verdict;
 
+pub use checking::{Checked, check_folder, check_within};
+pub use ending::CheckEnd;
 pub use judging::judge;
 pub use lines::{line, report};
+pub use progress::{Progress, Unwatched};
+pub use reading::Looked;
 pub use verdict::{Row, Summary, Verdict};
