@@ -6,6 +6,7 @@ mod bodies;
 mod called;
 mod messages;
 mod outputs;
+mod replies;
 mod requests;
 mod signals;
 
@@ -23,6 +24,7 @@ impl Subject for Calls {
             "output" => outputs::write_output(line, cells),
             "signal" => signals::write_signal(line, cells),
             "fault" => outputs::write_fault(line, cells),
+            "reply" => replies::write_reply(line, cells),
             "label" => signals::write_label(line, cells),
             "alias" => signals::write_alias(line, cells),
             _ => line.add("no such kind"),

@@ -54,7 +54,8 @@ fn return_in(alloc: Global, word: &str, words: &str, to: Serial) -> Option<Out> 
     Some(Out::Return { to, body })
 }
 
-fn output_in(alloc: Global, cells: &str) -> Option<Out> {
+/// The output that these words spell, with the serial that it answers.
+pub fn output_in(alloc: Global, cells: &str) -> Option<Out> {
     let to = serial_in(cell(cells, 1))?;
     match cell(cells, 0).split_once(' ') {
         Some(("error", name)) => error_in(name, to),

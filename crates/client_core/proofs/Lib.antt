@@ -2,3 +2,5 @@ mod TextLemmas
 mod FitLemmas
 mod SentLemmas
 mod ReadLemmas
+mod ReplyLemmas
+mod AnswerLemmas

@@ -1,3 +1,4 @@
 pub mod Arguments
 pub mod Askable
 pub mod Asked
+pub mod Replies

@@ -1,10 +1,20 @@
 // What the definitions of calls say together. Each law is the contract of a function that does nothing.
-ghost use Rattle.std.specs.Prelude.{◌≡◌, ℕ, ◌≤◌, true, Ok, length};
+ghost use Rattle.std.specs.Prelude.{◌≡◌, ℕ, ◌≤◌, true, Ok, Err, None, Some, length};
 ghost use Rattle.secret_calls.specs.declared.call.Call.{Call};
 ghost use Rattle.secret_calls.specs.declared.call.Request.{Request};
 ghost use Rattle.dbus_framing.specs.Messages.{Parts, IsMessage};
 ghost use Rattle.dbus_sending.specs.Sent.{IsSerial};
 ghost use Rattle.call_wire.specs.CallOf.{CallOf};
+ghost use Rattle.secret_calls.specs.declared.out.Body.{Body};
+ghost use Rattle.secret_calls.specs.declared.out.ErrorName.{ErrorName};
+ghost use Rattle.secret_calls.specs.declared.out.Out.{Out};
+ghost use Rattle.secret_calls.specs.declared.serial.Serial.{Serial};
+ghost use Rattle.secret_calls.specs.Outs.{error_text, AreTyped};
+ghost use Rattle.call_wire.specs.Said as service;
+ghost use Rattle.client_core.specs.declared.reply.Reply.{Reply};
+ghost use Rattle.client_core.specs.declared.reply.ReplyFault.{ReplyFault};
+ghost use Rattle.client_core.specs.declared.reply.Shape.{Shape};
+ghost use Rattle.client_core.specs.Replies.{shape_in, shape_of, reply_in, HasNumbers};
 ghost use Rattle.client_core.specs.Askable.{CanBeAsked};
 ghost use Rattle.client_core.specs.Asked.{spelled, said, most_bytes};
 
@@ -27,5 +37,29 @@ pub fn a_call_is_read_again()
         × (request.wants_reply ≡ true) × (request.length ≡ length (spelled call serial)) }
 {
     a_message_has_one_meaning();
+    a_path_is_that_of_its_name();
+}
+
+/// What the service sends is read by a client as what was sent. A return whose body has the shape of what
+/// the call returns is that body, and one of any other shape isn't read; an error is the error's name. A
+/// message that answers another serial, or none, is no reply.
+pub fn what_the_service_sends_is_read_again()
+    ensures returned { (call : Call) (to : Serial) (body : Body) (serial : ℕ)
+        → AreTyped body → HasNumbers body → shape_in body ≡ shape_of call
+        → reply_in (shape_of call) to.number (service.said (Out.Return to body) serial)
+        ≡ Ok (Reply.Return body) }
+    ensures other_shape { (call : Call) (to : Serial) (body : Body) (serial : ℕ)
+        → (shape_in body ≡ shape_of call → ⊥)
+        → reply_in (shape_of call) to.number (service.said (Out.Return to body) serial)
+        ≡ Err ReplyFault.WrongShape }
+    ensures error { (call : Call) (to : Serial) (name : ErrorName) (serial : ℕ)
+        → reply_in (shape_of call) to.number (service.said (Out.Error to name) serial)
+        ≡ Ok (Reply.Error (error_text name)) }
+    ensures other_serial { (call : Call) (number to : ℕ) (parts : Parts)
+        → parts.reply_serial ≡ Some to → (to ≡ number → ⊥)
+        → reply_in (shape_of call) number parts ≡ Err ReplyFault.NotAReply }
+    ensures no_serial { (call : Call) (number : ℕ) (parts : Parts) → parts.reply_serial ≡ None
+        → reply_in (shape_of call) number parts ≡ Err ReplyFault.NotAReply }
+{
     a_path_is_that_of_its_name();
 }
