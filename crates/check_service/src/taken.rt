@@ -3,7 +3,7 @@
 use check_rows::Line;
 use check_words::write_outs;
 use service_history::service_machine::secret_calls::Taken;
-use service_history::service_machine::service_tables::Fate;
+use service_history::service_machine::service_tables::{ReadFate, StoreFate};
 use service_history::service_machine::{Event, Fates};
 
 /// Writes all that waited for a connection; of a hundred outputs or more, their number.
@@ -35,25 +35,38 @@ pub fn taken_word(taken: Taken) -> &'static str {
     }
 }
 
-fn fate_word(fate: Fate) -> &'static str {
+fn store_word(fate: StoreFate) -> &'static str {
     match fate {
-        Fate::Stored => "Stored",
-        Fate::Before => "Before",
-        Fate::Unsure => "Unsure",
-        Fate::Old => "Old",
-        Fate::New => "New",
-        Fate::Other => "Other",
-        Fate::ReadFailed => "ReadFailed",
+        StoreFate::Stored => "Stored",
+        StoreFate::Before => "Before",
+        StoreFate::Unsure => "Unsure",
     }
+}
+
+fn read_word(fate: ReadFate) -> &'static str {
+    match fate {
+        ReadFate::Old => "Old",
+        ReadFate::New => "New",
+        ReadFate::Other => "Other",
+        ReadFate::ReadFailed => "ReadFailed",
+    }
+}
+
+fn write_word(word: &'static str, line: &mut Line) {
+    line.add(word);
+    line.add(" ");
 }
 
 fn write_each(fates: &Fates, line: &mut Line) {
     let (made, read, stored) = fates.parts();
-    for fate in [made, read, stored] {
-        if let Some(fate) = fate {
-            line.add(fate_word(fate));
-            line.add(" ");
-        }
+    if let Some(fate) = made {
+        write_word(store_word(fate), line);
+    }
+    if let Some(fate) = read {
+        write_word(read_word(fate), line);
+    }
+    if let Some(fate) = stored {
+        write_word(store_word(fate), line);
     }
     line.add("and no more");
 }

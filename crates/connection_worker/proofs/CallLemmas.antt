@@ -1,5 +1,5 @@
 -- One method call, from its message to what is written for it.
-use Rattle.std.proofs.Common.{◌≡◌, ℕ, ◌+◌, false, true, List, [], ◌∷◌, ◌++◌, length, length-append, Option, Some, None, Result, Ok, Err, refl, sym, ◌∙◌, ap, subst, arith}
+use Rattle.std.proofs.Common.{◌≡◌, ℕ, ◌+◌, false, true, List, [], ◌∷◌, ◌++◌, length, length-append, append_assoc, append-nil, inl, inr, Option, Some, None, Result, Ok, Err, refl, sym, ◌∙◌, ap, subst, arith}
 use Rattle.std.specs.Option.{is_some}
 use Rattle.service_desk.specs.secret_calls.specs.declared.call.Request.{Request}
 use Rattle.service_desk.specs.secret_calls.specs.declared.work.Work.{Work}
@@ -12,9 +12,11 @@ use Rattle.dbus_framing.specs.Messages.{Parts}
 use Rattle.call_wire.specs.CallOf.{CallOf}
 use Rattle.connection_worker.specs.declared.ending.End.{End}
 use Rattle.connection_worker.specs.declared.ending.End.TheVariants as end
-use Rattle.connection_worker.specs.Streams.{Output, GaveFront}
+use Rattle.connection_worker.specs.Stopping.{StopsAtWrite}
+use Rattle.connection_worker.specs.Streams.{Output, Gave, GaveFront}
 use Rattle.service_desk.specs.service_events.specs.Replay.{replay}
-use Rattle.service_desk.specs.service_events.specs.Single.{MayBeFinished, TimedKey, TimedRequest, arrival, asking, derivation, turns, work_for}
+use Rattle.service_desk.specs.service_events.proofs.ReplayLemmas.{replay-append}
+use Rattle.service_desk.specs.service_events.specs.Single.{MayBeFinished, TimedKey, TimedRequest, arrival, asking, derivation, taking, turns, work_for}
 use Rattle.service_desk.specs.service_events.specs.Step.{Fits, step}
 use Rattle.service_desk.specs.service_events.proofs.AloneLemmas.{waiting_row}
 use Rattle.connection_worker.specs.Written.{given_by, spelled_behind}
@@ -24,7 +26,7 @@ use Rattle.connection_worker.proofs.StreamLemmas.{Gave-none, Gave-trans, GaveFro
 use Rattle.connection_worker.proofs.AnswerLemmas.{given-idle}
 use Rattle.connection_worker.proofs.HandshakeLemmas.{rose-later}
 use Rattle.connection_worker.proofs.SendingLemmas.{spelled_behind-append}
-use Rattle.connection_worker.proofs.RecordLemmas.{asking-one, behind, given-keyed, given-keyless, keyed, recorded-keyed, recorded-late, recorded-none, recorded-one, recorded-refused}
+use Rattle.connection_worker.proofs.RecordLemmas.{asking-one, behind, given-keyed, given-keyless, given-taking, given_by-append, keyed, turn-keyed, turn-keyless, recorded-keyed, recorded-late, recorded-none, recorded-one, recorded-refused}
 
 -- nothing was written, which is a prefix of anything
 front-none : (o : Output) (text : List ℕ) → GaveFront o o text
@@ -34,7 +36,7 @@ front-none o text = GaveFront-more o o [] text (GaveFront-whole o o [] (Gave-non
 pub unread : (parts : Parts) (w : World) (serials : ℕ) (o : Output) → IsOwed w.told [] → AnswersCall parts w w serials serials o o (Err end.Memory)
 unread parts w serials o idle = (
   [],
-  record { early = tt; refused = []; late = []; few = omega arith; recorded = recorded-none w; finished = tt; idle = idle; wrote = λ taken behind. front-none o [] },
+  record { early = tt; refused = []; late = []; few = omega arith; recorded = recorded-none w; finished = tt; idle = idle; wrote = λ taken behind. front-none o []; stops = λ taken behind. inl (Gave-none o) },
   tt,
 )
 
@@ -65,6 +67,7 @@ unasked parts request old new serials o end.EventsSpent call idle asks =
         finished = keyless-may old asks.0 asks.1.keyless;
         idle = idle-still old.told new.told calls.same.conn calls.state idle;
         wrote = λ taken behind. (omega (arith, asks.3, calls.count), Gave-none o);
+        stops = λ taken behind. tt;
       },
       rw asks.1.same call,
     )
@@ -79,6 +82,7 @@ unasked parts request old new serials o end.Memory call idle asks = (
     finished = keyless-may old asks.0 asks.1.keyless;
     idle = idle-still old.told new.told asks.2.calls.same.conn asks.2.calls.state idle;
     wrote = λ taken behind. front-none o [];
+    stops = λ taken behind. inl (Gave-none o);
   },
   rw asks.1.same call,
 )
@@ -117,6 +121,56 @@ given-both old mid last first a work key gives so taken brings =
     let two = waits-after old.told last.told (step here (derivation conn work key)) (brings.calls.same.conn ∙ asks.same.conn) state in
     given-keyed conn old.told.state a work key gives ∙ (λ i. one i ++ two i)
 
+-- a request stops at the write of what waits after it
+stops-first : (old mid : World) (a : TimedRequest) (taken : ℕ) (from to : Output) → a.key ≡ None → HasArrived old mid a → GaveFront from to (spelled_behind taken (owed mid.told))
+    → StopsAtWrite from to old.told.conn taken old.told.state (turns old.told.conn old.told.state (a ∷ []))
+stops-first old mid a taken from to keyless so front =
+    let conn = old.told.conn in
+    let state = old.told.state in
+    let waits = waits-after old.told mid.told (step state (arrival conn a)) so.calls.same.conn so.calls.state in
+    let sum : taken ≡ taken + 0 = omega arith in
+    record {
+      before = arrival conn a ∷ [];
+      parted = turn-keyless conn state a keyless;
+      amid = from;
+      whole = Gave-none from;
+      front =
+          subst (λ n. GaveFront from to (spelled_behind n (waiting_for conn (step state (arrival conn a)).connections.rows))) sum
+          (subst (λ outs. GaveFront from to (spelled_behind taken outs)) (sym waits) front);
+    }
+
+-- with its key it stops at the write of what waits after that
+stops-keyed : (old mid last : World) (first : Place) (a : TimedRequest) (work : Work) (key : TimedKey) (taken : ℕ) (from o to : Output) → work_for old.told.conn old.told.state a ≡ Some work
+    → HasArrived old mid a → HasGiven (place_of mid) first → HasBrought (behind mid first) last work key → Gave from o (spelled_behind taken (owed mid.told))
+    → GaveFront o to (spelled_behind (taken + length (owed mid.told)) (owed last.told)) → StopsAtWrite from to old.told.conn taken old.told.state (turns old.told.conn old.told.state (keyed a key ∷ []))
+stops-keyed old mid last first a work key taken from o to gives so given brings gave front =
+    let conn = old.told.conn in
+    let start = old.told.state in
+    let asks = asking-one old mid first a so given in
+    let events = asking conn start a in
+    let here = replay start events in
+    let brought = derivation conn work key in
+    let at : first.told.state ≡ here = own-state (place_of old) first events asks in
+    let one = waits-after old.told mid.told (step start (arrival conn a)) so.calls.same.conn so.calls.state in
+    let state : last.told.state ≡ step here brought =
+    brings.calls.state ∙ ap (λ c. step first.told.state (derivation c work key)) asks.same.conn ∙ ap (λ s. step s brought) at in
+    let two = waits-after old.told last.told (step here brought) (brings.calls.same.conn ∙ asks.same.conn) state in
+    let then : replay start (events ++ brought ∷ []) ≡ step here brought = replay-append start events (brought ∷ []) in
+    let outs : given_by conn start (events ++ brought ∷ []) ≡ owed mid.told =
+    given_by-append conn start events (brought ∷ []) ∙ append-nil (given_by conn start events) ∙ given-taking conn (step start (arrival conn a)) ∙ one in
+    let waits : waiting_for conn (replay start (events ++ brought ∷ [])).connections.rows ≡ owed last.told = ap (λ (s : State). waiting_for conn s.connections.rows) then ∙ two in
+    record {
+      before = events ++ brought ∷ [];
+      parted =
+          turn-keyed conn start a work key gives ∙ sym (append_assoc events (brought ∷ []) (taking conn (step here brought)))
+          ∙ ap (λ s. (events ++ brought ∷ []) ++ taking conn s) (sym then);
+      amid = o;
+      whole = subst (λ l. Gave from o (spelled_behind taken l)) (sym outs) gave;
+      front =
+          subst (λ l. GaveFront o to (spelled_behind (taken + length l) (waiting_for conn (replay start (events ++ brought ∷ [])).connections.rows))) (sym outs)
+          (subst (λ l. GaveFront o to (spelled_behind (taken + length (owed mid.told)) l)) (sym waits) front);
+    }
+
 -- ---- what waited for a request was taken
 
 -- it wasn't all written
@@ -135,6 +189,7 @@ broke-first parts request work old mid new serials next from to end.WriteFault c
         finished = keyless-may old a asks.1.keyless;
         idle = given-idle (place_of mid) new all gives.0;
         wrote = λ taken are. rw e (gives.1, gives.2 taken are);
+        stops = λ taken are. stops-first old mid a taken from to asks.1.keyless asks.2 (gives.2 taken are);
       },
       rw asks.1.same call,
     )
@@ -151,6 +206,7 @@ broke-first parts request work old mid new serials next from to end.Memory call 
         finished = keyless-may old a asks.1.keyless;
         idle = given-idle (place_of mid) new all gives.0;
         wrote = λ taken are. rw e (gives.1 taken are);
+        stops = λ taken are. inr (stops-first old mid a taken from to asks.1.keyless asks.2 (gives.1 taken are));
       },
       rw asks.1.same call,
     )
@@ -191,6 +247,7 @@ broke-late parts request work old mid first last serials next from o end.EventsS
         finished = keyless-may old a asks.1.keyless;
         idle = idle-still first.told last.told lost.calls.same.conn lost.calls.state (given-idle (place_of mid) first all gives.0);
         wrote = λ taken are. rw e (omega (arith, brings.2, lost.calls.count), (gives.2 taken are).0);
+        stops = λ taken are. tt;
       },
       rw asks.1.same call,
     )
@@ -208,6 +265,7 @@ broke-late parts request work old mid first last serials next from o end.Memory 
         finished = keyless-may old a asks.1.keyless;
         idle = idle-still first.told last.told lost.calls.same.conn lost.calls.state (given-idle (place_of mid) first all gives.0);
         wrote = λ taken are. rw e (GaveFront-whole from o (spelled_behind taken (owed mid.told)) (gives.2 taken are).0);
+        stops = λ taken are. inl (rw e (gives.2 taken are).0);
       },
       rw asks.1.same call,
     )
@@ -259,6 +317,9 @@ answers parts request work key old mid last first new serials next after from o 
               rose-later from.faults o.faults to.faults begun.0.later then.1,
               GaveFront-behind from o to (spelled_behind taken one) (spelled_behind (taken + length one) two) begun.0 (then.2 (taken + length one) begun.1),
             );
+        stops = λ taken are.
+            let begun = gives.2 taken are in
+            stops-keyed old mid last first a work key taken from o to (sym asks.3) asks.2 gives.0 brings begun.0 (then.2 (taken + length one) begun.1);
       },
       rw asks.1.same call,
     )
@@ -280,6 +341,9 @@ answers parts request work key old mid last first new serials next after from o 
             let begun = gives.2 taken are in
             rw (e, spelled_behind-append taken one two)
             (GaveFront-behind from o to (spelled_behind taken one) (spelled_behind (taken + length one) two) begun.0 (then.1 (taken + length one) begun.1));
+        stops = λ taken are.
+            let begun = gives.2 taken are in
+            inr (stops-keyed old mid last first a work key taken from o to (sym asks.3) asks.2 gives.0 brings begun.0 (then.1 (taken + length one) begun.1));
       },
       rw asks.1.same call,
     )

@@ -1,12 +1,15 @@
 -- The calls among the messages of a framer, one after the other.
-use Rattle.std.proofs.Common.{◌≡◌, ℕ, ◌+◌, ◌==◌, true, false, List, [], ◌∷◌, ◌++◌, length, Result, Ok, Err, refl, sym, ◌∙◌, ap, arith, subst, append_assoc, append-nil, length-append}
+use Rattle.std.proofs.Common.{◌≡◌, inl, inr, ℕ, ◌+◌, ◌==◌, true, false, List, [], ◌∷◌, ◌++◌, length, Result, Ok, Err, refl, sym, ◌∙◌, ap, arith, subst, append_assoc, append-nil, length-append}
 use Rattle.std.proofs.lemmas.Bool.Decides.{nat_tests}
 use Rattle.std.proofs.lemmas.List.{map-append}
 use Rattle.std.proofs.lemmas.List.Elements.{filter-append}
 use Rattle.kr_base.specs.declared.ids.ConnId.{ConnId}
 use Rattle.service_desk.specs.secret_calls.specs.declared.call.Request.{Request}
 use Rattle.service_desk.specs.service_tables.specs.State.{State}
+use Rattle.service_desk.specs.service_events.specs.declared.event.Event.{Event}
 use Rattle.service_desk.specs.service_events.specs.Replay.{replay}
+use Rattle.service_desk.specs.service_events.proofs.ReplayLemmas.{replay-append}
+use Rattle.service_desk.specs.service_tables.specs.Connections.{waiting_for}
 use Rattle.dbus_framing.specs.Framers.{Framing}
 use Rattle.dbus_framing.specs.Messages.{Parts}
 use Rattle.dbus_framing.specs.Streams.{Cut, Stream}
@@ -14,8 +17,9 @@ use Rattle.dbus_framing.proofs.Cuts.{cut_none, cut_then, stream_then}
 use Rattle.connection_worker.specs.declared.ending.End.{End}
 use Rattle.connection_worker.specs.declared.ending.End.TheVariants as end
 use Rattle.connection_worker.specs.Arrivals.{calls_in, AreRequests, FirstRequests}
-use Rattle.connection_worker.specs.Streams.{Output, Gave}
-use Rattle.service_desk.specs.service_events.specs.Single.{AllFinished, AreFinished, TimedRequest, requests_of, turns}
+use Rattle.connection_worker.specs.Stopping.{StopsAtWrite, StopsFor}
+use Rattle.connection_worker.specs.Streams.{Output, Gave, GaveFront}
+use Rattle.service_desk.specs.service_events.specs.Single.{AllFinished, AreFinished, TimedRequest, requests_of, taking, turns}
 use Rattle.connection_worker.specs.Written.{given_by, spelled_behind, written_after}
 use Rattle.service_desk.proofs.RecordLemmas.{own-state}
 use Rattle.connection_worker.specs.Serving.{World, place_of, IsOwed, Recorded, EndsEarly}
@@ -87,6 +91,56 @@ ends-behind end.WriteFault count from o to x y gave ends = (rose-later from.faul
 ends-behind end.Memory count from o to x y gave ends = GaveFront-behind from o to x y gave ends
 ends-behind _ count from o to x y gave ends = absurd ends
 
+-- events that stop at a write do so after others, of which all was written
+stops-write : (conn : ConnId) (taken : ℕ) (state : State) (first second : List Event) (from o to : Output) → Gave from o (written_after conn taken state first)
+    → StopsAtWrite o to conn (taken + length (given_by conn state first)) (replay state first) second → StopsAtWrite from to conn taken state (first ++ second)
+stops-write conn taken state first second from o to gave stops =
+    let next = replay state first in
+    let one = given_by conn state first in
+    let two = given_by conn next stops.before in
+    let here : replay state (first ++ stops.before) ≡ replay next stops.before = replay-append state first stops.before in
+    let both : given_by conn state (first ++ stops.before) ≡ one ++ two = given_by-append conn state first stops.before in
+    let number : length (given_by conn state (first ++ stops.before)) ≡ length one + length two = ap length both ∙ length-append one two in
+    let sum : (taken + length one) + length two ≡ taken + length (given_by conn state (first ++ stops.before)) = omega (arith, number) in
+    record {
+      before = first ++ stops.before;
+      parted =
+          ap (λ l. first ++ l) stops.parted ∙ sym (append_assoc first stops.before (taking conn (replay next stops.before)))
+          ∙ ap (λ s. (first ++ stops.before) ++ taking conn s) (sym here);
+      amid = stops.amid;
+      whole =
+          subst (λ outs. Gave from stops.amid (spelled_behind taken outs)) (sym both)
+          (rw (spelled_behind-append taken one two) (Gave-trans from o stops.amid (spelled_behind taken one) (spelled_behind (taken + length one) two) gave stops.whole));
+      front =
+          subst (λ (s : State). GaveFront stops.amid to (spelled_behind (taken + length (given_by conn state (first ++ stops.before))) (waiting_for conn s.connections.rows))) (sym here)
+          (subst (λ n. GaveFront stops.amid to (spelled_behind n (waiting_for conn (replay next stops.before).connections.rows))) sum stops.front);
+    }
+
+-- and so do the events of an early end
+stops-behind : (why : End) (conn : ConnId) (taken : ℕ) (state : State) (first second : List Event) (from o to : Output) → Gave from o (written_after conn taken state first)
+    → StopsFor why o to conn (taken + length (given_by conn state first)) (replay state first) second → StopsFor why from to conn taken state (first ++ second)
+stops-behind end.WriteFault conn taken state first second from o to gave stops = stops-write conn taken state first second from o to gave stops
+stops-behind end.Memory conn taken state first second from o to gave (inl all) =
+    let one = given_by conn state first in
+    let two = given_by conn (replay state first) second in
+    inl (subst (λ outs. Gave from to (spelled_behind taken outs)) (sym (given_by-append conn state first second))
+    (rw (spelled_behind-append taken one two) (Gave-trans from o to (spelled_behind taken one) (spelled_behind (taken + length one) two) gave all)))
+stops-behind end.Memory conn taken state first second from o to gave (inr stops) = inr (stops-write conn taken state first second from o to gave stops)
+stops-behind _ conn taken state first second from o to gave stops = tt
+
+-- those of more requests do so after those of others
+pub stops-more : (why : End) (old mid : World) (asked more : List TimedRequest) (taken : ℕ) (from o to : Output) → Recorded old mid asked [] []
+    → Gave from o (written_after old.told.conn taken old.told.state (turns old.told.conn old.told.state asked))
+    → StopsFor why o to mid.told.conn (taken + length (given_by old.told.conn old.told.state (turns old.told.conn old.told.state asked))) mid.told.state (turns mid.told.conn mid.told.state more)
+    → StopsFor why from to old.told.conn taken old.told.state (turns old.told.conn old.told.state (asked ++ more))
+stops-more why old mid asked more taken from o to so gave stops =
+    let conn = old.told.conn in
+    let state = old.told.state in
+    let first = turns conn state asked in
+    subst (λ events. StopsFor why from to conn taken state events) (sym (turns-append conn state asked more))
+    (stops-behind why conn taken state first (turns conn (replay state first) more) from o to gave
+    (here-by (λ c s. StopsFor why o to c (taken + length (given_by conn state first)) s (turns c s more)) old mid asked so stops))
+
 unfoldable pub broke-more : (old mid new : World) (serials next : ℕ) (from o to : Output) (asked more : List TimedRequest) (why : End)
     → Answered old mid serials next from o asked → Broke mid new next o to more why → Broke old new serials from to (asked ++ more) why
 broke-more old mid new serials next from o to asked more why p q =
@@ -107,6 +161,9 @@ broke-more old mid new serials next from o to asked more why p q =
           let first = p.wrote taken are in
           rw (e, spelled_behind-append taken one two)
           (ends-behind why new.told.count from o to (spelled_behind taken one) (spelled_behind (taken + length one) two) first.0 (q.wrote (taken + length one) first.1));
+      stops = λ taken are.
+          let first = p.wrote taken are in
+          stops-more why old mid asked more taken from o to p.recorded first.0 (q.stops (taken + length one) first.1);
     }
 
 pub broke-memory : (old new : World) (serials behind : ℕ) (from to : Output) (asked : List TimedRequest) → Answered old new serials behind from to asked → Broke old new serials from to asked end.Memory
@@ -119,6 +176,7 @@ broke-memory old new serials behind from to asked p = record {
   finished = let e : asked ++ [] ≡ asked = append-nil asked in rw e (all-finished old.told.conn old.told.state asked p.finished);
   idle = p.idle;
   wrote = λ taken are. GaveFront-whole from to (written_after old.told.conn taken old.told.state (turns old.told.conn old.told.state asked)) (p.wrote taken are).0;
+  stops = λ taken are. inl (p.wrote taken are).0;
 }
 
 -- ---- messages

@@ -1,5 +1,5 @@
 -- What a request sends beside its reply is signals, so the only reply among its outputs is its own.
-use Rattle.std.proofs.Common.{◌≡◌, ℕ, Bool, true, false, cond, List, [], ◌∷◌, ◌++◌, filter, ◌==◌, Option, Some, None, Result, Ok, Err, refl, ◌∙◌, ap}
+use Rattle.std.proofs.Common.{◌≡◌, ℕ, Bool, true, false, cond, List, [], ◌∷◌, ◌++◌, filter, Option, Some, None, Result, Ok, Err, refl, ◌∙◌, ap}
 use Rattle.std.specs.List.{AllByRecursion, cons_option, filter_map}
 use Rattle.std.specs.Option.{option_and_then, option_map}
 use Rattle.kr_base.specs.declared.ids.ConnId.{ConnId}
@@ -19,7 +19,7 @@ use Rattle.service_desk.specs.service_tables.specs.Questions.{CollectionQuestion
 use Rattle.service_desk.specs.service_tables.specs.State.{State}
 use Rattle.service_desk.specs.service_tables.specs.Storing.{Brought}
 use Rattle.service_desk.specs.service_tables.specs.declared.fate.Fate.{Fate}
-use Rattle.service_desk.specs.service_tables.specs.declared.rows.Sent.{Sent}
+use Rattle.service_desk.specs.service_tables.specs.Sent.{One, Sent, is_for}
 use Rattle.service_desk.specs.service_tables.proofs.EachLemmas.{each-append}
 use Rattle.service_desk.specs.service_prompts.specs.Prompting.{ask_sent, ask_signal, ask_signal_in, completed_sent, completed_signal}
 use Rattle.service_desk.specs.service_events.specs.declared.event.Derivation.{Derivation}
@@ -27,10 +27,10 @@ use Rattle.service_desk.specs.service_events.specs.declared.event.Recorded.{Reco
 use Rattle.service_desk.specs.service_events.specs.Derivation.{derived}
 use Rattle.service_desk.specs.service_events.specs.PromptCalls.{asks_for, completes, go_on_sent, is_over, passed_kind}
 use Rattle.service_desk.specs.service_events.specs.Single.{TimedKey}
-use Rattle.service_desk.specs.service_events.specs.Plan.{Change, Open_session, Close_session, Lock_collection, Begin_prompt, Ask_prompt, Derive_key, Count_wrong, Clear_wrong, Go_on, Finish_target, Drop_target, End_prompt, Become_agent, Leave_agent, Plan, Ends, After, Asks, Opens}
-use Rattle.service_desk.specs.service_events.specs.Run.{asked, demanded, led, performed, performed_all, run, sent_all, sent_by, unlocked_with}
+use Rattle.service_desk.specs.service_events.specs.Plan.{Change, Open_session, Close_session, Lock_collection, Begin_prompt, Ask_prompt, Derive_key, Count_wrong, Clear_wrong, Go_on, End_prompt, Become_agent, Leave_agent, Plan}
+use Rattle.service_desk.specs.service_events.specs.Run.{asked, performed, run, sent_all, sent_asked, sent_by, sent_opened, sent_settled}
 use Rattle.service_desk.specs.service_events.specs.Step.{brought_by, brought_derived, finished, message_of, put_out, served, terms_of}
-use Rattle.service_desk.specs.service_events.proofs.RunLemmas.{plan_for}
+use Rattle.service_desk.specs.service_events.proofs.RunLemmas.{keeps-run, plan_for}
 use Rattle.connection_worker.specs.Replies.{is_reply, key_outputs}
 use Rattle.connection_worker.proofs.ServingLemmas.{same}
 use Rattle.service_desk.specs.service_tables.specs.Opened.{contents_of}
@@ -79,8 +79,6 @@ change-signals caller (Derive_key prompt round) state = tt
 change-signals caller (Count_wrong prompt) state = tt
 change-signals caller (Clear_wrong prompt) state = tt
 change-signals caller (Go_on prompt) state = go_on-signals (asked_collections (contents_of state)) state.collections state.prompts.agent (row_at prompt state.prompts)
-change-signals caller (Finish_target prompt) state = tt
-change-signals caller (Drop_target prompt) state = tt
 change-signals caller (End_prompt prompt dismissed created) state = completed-signals prompt dismissed created state.prompts
 change-signals caller Become_agent state = each-signals state.collections (registered caller state.prompts) (asks (registered caller state.prompts))
 change-signals caller Leave_agent state = tt
@@ -92,21 +90,16 @@ all-signals caller (change ∷ changes) state =
     each-append (λ (one : Sent). is_reply one.out ≡ false) (sent_by caller change state) (sent_all caller changes next) (change-signals caller change state) (all-signals caller changes next)
 
 run-signals : (caller : ConnId) (brought : Brought) (plan : Plan) (fates : List Fate) (state : State) → AreSignals (run caller brought plan fates state).sends
-run-signals caller brought (Ends answer changes) fates state = all-signals caller changes state
-run-signals caller brought (After changes next) fates state =
-    let mid = performed_all caller changes state in
-    each-append (λ (one : Sent). is_reply one.out ≡ false) (sent_all caller changes state) (run caller brought (next (asked caller brought mid)) fates mid).sends (all-signals caller changes state)
-    (run-signals caller brought (next (asked caller brought mid)) fates mid)
-run-signals caller brought (Asks demand next) [] state = tt
-run-signals caller brought (Asks demand next) (fate ∷ fates) state = run-signals caller brought (next fate) fates (demanded brought demand fate state)
-run-signals caller brought (Opens stem terms next) fates state = run-signals caller brought next fates (unlocked_with brought stem terms state)
-
-led-signals : (caller : ConnId) (brought : Brought) (plan : Plan) (fates : List Fate) (state : State) → AreSignals (led caller brought plan fates state).sends
-led-signals caller brought (Ends answer []) fates state = tt
-led-signals caller brought (Ends answer (change ∷ changes)) fates state = all-signals caller (change ∷ changes) state
-led-signals caller brought (After changes next) fates state = run-signals caller brought (After changes next) fates state
-led-signals caller brought (Asks demand next) fates state = run-signals caller brought (Asks demand next) fates state
-led-signals caller brought (Opens stem terms next) fates state = run-signals caller brought (Opens stem terms next) fates state
+run-signals caller brought =
+    let both : (one more : List Sent) → AreSignals one → AreSignals more → AreSignals (one ++ more) = each-append (λ (one : Sent). is_reply one.out ≡ false) in
+    keeps-run caller brought (λ before ran. AreSignals ran.sends)
+    (record {
+      ends = λ answer changes state small. all-signals caller changes state;
+      fails = λ name state. tt;
+      asks = λ demand ended state ran are. both (sent_asked brought demand ended state) ran.sends tt are;
+      settles = λ reading ended state ran are. both (sent_settled reading ended state) ran.sends tt are;
+      opens = λ stem terms state ran are. both (sent_opened brought stem terms state) ran.sends tt are;
+    })
 
 -- ---- the replies among the outputs
 
@@ -117,7 +110,7 @@ no-reply conn (one ∷ more) are =
     let rest = no-reply conn more are.1 in
     let here : filter is_reply (one.out ∷ sent_to conn more) ≡ [] = ap (λ b. cond b (one.out ∷ filter is_reply (sent_to conn more)) (filter is_reply (sent_to conn more))) are.0 ∙ rest in
     let pass : (b : Bool) → filter is_reply (cond b (one.out ∷ sent_to conn more) (sent_to conn more)) ≡ [] = elim [ true ↦ here | false ↦ rest ] in
-    pass (one.to.0 == conn.0)
+    pass (is_for one.to conn)
 
 -- nor among what the key of work sends, if it was recorded
 pub key-replies : (conn : ConnId) (state : State) (work : Option Work) (key : Option TimedKey) → filter is_reply (key_outputs conn state work key) ≡ []
@@ -126,7 +119,7 @@ key-replies conn state (Some work) None = refl
 key-replies conn state (Some work) (Some key) =
     let came : Derivation = record { conn = conn; prompt = work.prompt; round = work.round; password = work.password; salt = work.salt; iterations = work.iterations; now = key.now; fates = key.fates } in
     no-reply conn (finished came state).sends
-    (led-signals conn (brought_derived came) (derived came.prompt came.round (terms_of came) (asked conn (brought_derived came) state)) came.fates state)
+    (run-signals conn (brought_derived came) (derived came.prompt came.round (terms_of came) (asked conn (brought_derived came) state)) came.fates state)
 
 -- the message that answers a call is a reply
 message-replies : (serial : Serial) (answer : Result Body ErrorName) → is_reply (message_of serial answer) ≡ true
@@ -134,7 +127,7 @@ message-replies serial (Ok body) = refl
 message-replies serial (Err name) = refl
 
 first-reply : (wanted : Bool) (conn : ConnId) (reply : Out) (sends : List Sent) → is_reply reply ≡ true → AreSignals sends
-    → filter is_reply (sent_to conn (cond wanted (record { to = conn; out = reply } ∷ []) [] ++ sends)) ≡ cond wanted (reply ∷ []) []
+    → filter is_reply (sent_to conn (cond wanted (record { to = One conn; out = reply } ∷ []) [] ++ sends)) ≡ cond wanted (reply ∷ []) []
 first-reply true conn reply sends is are =
     let rest = no-reply conn sends are in
     ap (λ b. filter is_reply (cond b (reply ∷ sent_to conn sends) (sent_to conn sends))) (same conn.0)
@@ -148,4 +141,4 @@ pub ran-replies : (came : Recorded) (state : State)
 ran-replies came state =
     let ran = served came state in
     first-reply came.arrival.request.wants_reply came.arrival.conn (message_of came.arrival.request.serial ran.answer) ran.sends (message-replies came.arrival.request.serial ran.answer)
-    (led-signals came.arrival.conn (brought_by came.arrival) (plan_for came state) came.fates state)
+    (run-signals came.arrival.conn (brought_by came.arrival) (plan_for came state) came.fates state)

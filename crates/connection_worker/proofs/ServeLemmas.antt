@@ -1,5 +1,5 @@
 -- Calls are served, and more bytes are read, turn after turn.
-use Rattle.std.proofs.Common.{◌≡◌, ℕ, inr, List, [], ◌++◌, Ok, Err, refl, sym, ◌∙◌, arith, subst, append_assoc, append-nil, ◌==◌}
+use Rattle.std.proofs.Common.{◌≡◌, ℕ, inl, inr, List, [], ◌++◌, Ok, Err, refl, sym, ◌∙◌, arith, subst, append_assoc, append-nil, ◌==◌}
 use Rattle.std.proofs.lemmas.List.{map-append}
 use Rattle.std.proofs.lemmas.List.Elements.{filter-append}
 use Rattle.dbus_framing.specs.declared.violation.Violation.{Violation}
@@ -193,6 +193,7 @@ broke-end has from now left old mid new next sink o to why most so early =
       few = early-refused why has bytes all refused early.1.late most broke.early early.1.few next_so;
       cause = ends.0;
       wrote = ends.1;
+      stopped = broke.stops 0 refl;
     }
 
 -- a violation that bytes show isn't EndInside
@@ -242,6 +243,7 @@ answers-end has from now left more old mid new next behind sink o to (end.Violat
       few = (refl, refl);
       cause = ((more.rest, served, shown cause now more.rest (subst (λ m. Breaks m more.rest cause) (so.most ∙ most) answers.2)), so.still);
       wrote = (going.answered.wrote 0 refl).0;
+      stopped = tt;
     }
 answers-end has from now left more old mid new next behind sink o to end.EventsSpent most so answers = broke-end has from now left old mid new next sink o to end.EventsSpent most so answers
 answers-end has from now left more old mid new next behind sink o to end.WriteFault most so answers = broke-end has from now left old mid new next sink o to end.WriteFault most so answers
@@ -266,6 +268,7 @@ feeds-end has from now later left fed old new behind sink o end.ReadFault most s
   few = (refl, refl);
   cause = (rose-later from.faults now.faults later.faults so.so_far.took.later feeds.1, inr (left.rest, all-served has from now left old new behind sink o most so, quiet));
   wrote = gave-so has from now left old new behind sink o so.so_far;
+  stopped = tt;
 }
 feeds-end has from now later left fed old new behind sink o end.Done most so quiet feeds = record {
   read = so.so_far.read;
@@ -279,6 +282,7 @@ feeds-end has from now later left fed old new behind sink o end.Done most so qui
   few = (refl, refl);
   cause = (rw (sym feeds.2) (all-served has from now left old new behind sink o most so), feeds.1, feeds.3 ∙ so.so_far.still);
   wrote = gave-so has from now left old new behind sink o so.so_far;
+  stopped = tt;
 }
 feeds-end has from now later left fed old new behind sink o (end.Violation violation.EndInside) most so quiet feeds = record {
   read = so.so_far.read;
@@ -292,6 +296,7 @@ feeds-end has from now later left fed old new behind sink o (end.Violation viola
   few = (refl, refl);
   cause = ((left.rest, all-served has from now left old new behind sink o most so, (feeds.2, feeds.1, quiet)), feeds.3 ∙ so.so_far.still);
   wrote = gave-so has from now left old new behind sink o so.so_far;
+  stopped = tt;
 }
 feeds-end has from now later left fed old new behind sink o end.Memory most so quiet feeds =
     let bytes : has.rest ++ (so.so_far.read ++ feeds.0) ≡ (has.rest ++ so.so_far.read) ++ feeds.0 = sym (append_assoc has.rest so.so_far.read feeds.0) in
@@ -317,6 +322,7 @@ feeds-end has from now later left fed old new behind sink o end.Memory most so q
       few = none-refused (silent (opened (has.rest ++ (so.so_far.read ++ feeds.0)))) asked served;
       cause = (served, feeds.2 ∙ so.so_far.still);
       wrote = GaveFront-whole sink o (written_after old.told.conn 0 old.told.state (turns old.told.conn old.told.state asked)) (gave-so has from now left old new behind sink o so.so_far);
+      stopped = inl (gave-so has from now left old new behind sink o so.so_far);
     }
 feeds-end has from now later left fed old new behind sink o _ most so quiet feeds = absurd feeds
 
@@ -337,4 +343,5 @@ never-served has from w sink most idle =
       few = none-refused (silent (opened (has.rest ++ so.read))) so.going.asked served;
       cause = (served, so.still);
       wrote = GaveFront-whole sink sink (written_after w.told.conn 0 w.told.state (turns w.told.conn w.told.state so.going.asked)) (gave-so has from from has w w 0 sink sink so);
+      stopped = inl (gave-so has from from has w w 0 sink sink so);
     }

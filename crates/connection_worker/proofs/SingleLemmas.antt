@@ -178,6 +178,7 @@ served-behind uid guid from mid to sink o out old served new framing how shakes 
       wrote =
           rw (whole, single-text old serves.asked joined)
           (written-behind how sink o out (concat run.answers) (written_after old.told.conn 0 old.told.state (turns old.told.conn old.told.state serves.asked)) shakes.ends.3 serves.wrote);
+      stopped = rw whole (inr (o, shakes.ends.3, serves.stopped));
     }
 
 pub served-not : (uid : ℕ) (guid : List ℕ) (from to : Input) (sink out : Output) (old : World) (new : Place) (how : End)
@@ -200,4 +201,5 @@ served-not uid guid from to sink out old new how shakes gone =
       salts = refl;
       cause = ends.0;
       wrote = ends.1;
+      stopped = inl refl;
     }

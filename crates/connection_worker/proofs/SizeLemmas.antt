@@ -35,7 +35,7 @@ use Rattle.service_desk.specs.secret_calls.proofs.LengthLemmas.{AllAtMost, AtMos
 use Rattle.service_desk.specs.secret_calls.proofs.SizeLemmas.{completed-values, fields-most, label-short, prompt-short, result_body}
 use Rattle.service_desk.specs.service_tables.specs.Connections.{size_of}
 use Rattle.service_desk.specs.service_tables.specs.Targets.{weight, weight_of}
-use Rattle.service_desk.specs.service_tables.specs.declared.rows.Sent.{Sent}
+use Rattle.service_desk.specs.service_tables.specs.Sent.{Sent}
 use Rattle.service_desk.specs.service_prompts.specs.Prompting.{ask_signal, ask_signal_in, asks_sent, completed_signal, completion_of, label_asked, purpose_of}
 use Rattle.service_desk.specs.service_prompts.specs.Unlocking.{given_of}
 

@@ -10,6 +10,7 @@ use Rattle.connection_worker.specs.Arrivals.{calls_in, AreRequests, FirstRequest
 use Rattle.connection_worker.specs.Sending.{AreBehind}
 use Rattle.connection_worker.specs.Serving.{World, IsOwed, Recorded, EndsEarly}
 use Rattle.service_desk.specs.service_events.specs.Single.{AllFinished, AreFinished, TimedRequest, requests_of, turns}
+use Rattle.connection_worker.specs.Stopping.{StopsFor}
 use Rattle.connection_worker.specs.Streams.{Output, StaysAsOpen, Gave}
 use Rattle.connection_worker.specs.Written.{given_by, written_after}
 
@@ -36,9 +37,10 @@ IsEarly end.WriteFault = Unit {0}
 IsEarly end.Memory = Unit {0}
 IsEarly _ = ⊥
 
--- at which of these ends a request, or a key of which this moment was taken, may have been refused
+-- at which of these ends a request, or a key of which this moment was taken, was refused: one if the desk refused since no further event can
+-- be counted; one or none if memory ran out, since the serving may lack it too; and none if the sink failed
 abbrev pub MayRefuse : End → List TimedRequest → List ℕ → Type 0
-MayRefuse end.EventsSpent refused late = length refused + length late ≤ 1
+MayRefuse end.EventsSpent refused late = length refused + length late ≡ 1
 MayRefuse end.Memory refused late = length refused + length late ≤ 1
 MayRefuse _ refused late = (refused ≡ []) × (late ≡ [])
 
@@ -53,6 +55,8 @@ pub record Broke (old new : World) (serials : ℕ) (from to : Output) (asked : L
   pub idle : IsOwed new.told []
   pub wrote : (taken : ℕ) → AreBehind taken serials
       → EndsEarly why new.told.count from to (written_after old.told.conn taken old.told.state (turns old.told.conn old.told.state asked))
+  pub stops : (taken : ℕ) → AreBehind taken serials
+      → StopsFor why from to old.told.conn taken old.told.state (turns old.told.conn old.told.state asked)
 
 -- the call was answered, or the serving ended early
 abbrev pub AnswersCall : Parts → World → World → ℕ → ℕ → Output → Output → Result Unit End → Type 0

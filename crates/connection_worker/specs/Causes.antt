@@ -61,9 +61,9 @@ HasWritten end.Memory sink after text = GaveFront sink after text
 HasWritten _ sink after text = Gave sink after text
 
 -- The requests for which a moment and a salt were taken and which weren't recorded, after those that were, and the moments that were taken
--- for keys which weren't: at most one of either, the next one, if no further event can be counted or memory ran out; none at every other end.
+-- for keys which weren't: the next one, if no further event can be counted; the next one or none, if memory ran out; none at every other end.
 abbrev pub HasRefused : End → shaking.Run → List TimedRequest → List TimedRequest → List ℕ → Type 0
-HasRefused end.EventsSpent run asked refused late = (length refused + length late ≤ 1) × FirstServed run (asked ++ refused)
+HasRefused end.EventsSpent run asked refused late = (length refused + length late ≡ 1) × FirstServed run (asked ++ refused)
 HasRefused end.Memory run asked refused late = (length refused + length late ≤ 1) × FirstServed run (asked ++ refused)
 HasRefused _ run asked refused late = (refused ≡ []) × (late ≡ [])
 

@@ -14,6 +14,7 @@ pub mod Sending
 pub mod Serving
 pub mod ServingOn
 pub mod Sides
+pub mod Stopping
 pub mod Streams
 pub mod Writing
 pub mod Written

@@ -12,6 +12,7 @@ use Rattle.connection_worker.specs.Answering.{ServedPrefix}
 use Rattle.connection_worker.specs.Causes.{HasCause, HasFinished, HasWritten, HasRefused}
 use Rattle.connection_worker.specs.Serving.{World, IsOwed, Recorded}
 use Rattle.service_desk.specs.service_events.specs.Single.{TimedRequest, turns}
+use Rattle.connection_worker.specs.Stopping.{StopsFor}
 use Rattle.connection_worker.specs.Streams.{Input, Output, Took, IsStill}
 use Rattle.connection_worker.specs.Written.{written_after}
 
@@ -38,6 +39,7 @@ pub record ServesOn (has : Framing) (from to : Input) (old new : World) (sink af
   pub few : HasRefused how (silent (opened (has.rest ++ read))) asked refused late
   pub cause : HasCause how (silent (opened (has.rest ++ read))) asked new.told.count from to sink after
   pub wrote : HasWritten how sink after (written_after old.told.conn 0 old.told.state (turns old.told.conn old.told.state asked))
+  pub stopped : StopsFor how sink after old.told.conn 0 old.told.state (turns old.told.conn old.told.state asked)
 
 -- So far: these bytes were read, and the messages so far in them and in what the framer held are served.
 pub record ServedSoFar (has : Framing) (from now : Input) (left : Framing) (old new : World) (behind : ℕ) (sink out : Output) : Type 0 where

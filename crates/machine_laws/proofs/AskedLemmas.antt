@@ -1,5 +1,5 @@
 -- A prompt that is asked in a round in which it wasn't asked before: the change that asks it puts out Ask, if there is an agent.
-use Rattle.std.proofs.Common.{◌≡◌, ℕ, ◌+◌, ◌<◌, ◌≤◌, Bool, true, false, cond, not, ◌&&◌, nat_eq, List, [], ◌∷◌, ◌++◌, filter, find, length, map, Option, Some, None, Result, Ok, refl, sym, ap, subst, ◌∙◌, arith}
+use Rattle.std.proofs.Common.{◌≡◌, ⊎_elim, ℕ, ◌+◌, ◌<◌, ◌≤◌, Bool, true, false, cond, not, ◌&&◌, nat_eq, List, [], ◌∷◌, ◌++◌, filter, find, length, map, Option, Some, None, refl, sym, ap, subst, ◌∙◌, arith}
 use Rattle.std.specs.List.{AllByRecursion, cons_option}
 use Rattle.std.specs.Option.{option_and_then, option_map}
 use Rattle.std.proofs.lemmas.Bool.{eqb-true}
@@ -10,19 +10,13 @@ use Rattle.std.proofs.lemmas.Option.{same_Some}
 use Rattle.kr_base.specs.declared.ids.ConnId.{ConnId}
 use Rattle.kr_base.specs.declared.ids.PromptId.{PromptId}
 use Rattle.service_events.specs.collection_table.specs.Rows.{Rows}
-use Rattle.prompt_state.specs.Prompts.{AreRising, ask_at, ask_of, asked_again, changed, ended, is_agent, is_asked_in, is_of, is_prompt, kind_with, next_round, one_more, round_of, row_at, unregistered, without}
-use Rattle.prompt_state.specs.Targets.{first_done, first_dropped}
+use Rattle.prompt_state.specs.Prompts.{AreRising, ask_at, ask_of, asked_again, changed, ended, is_agent, is_asked_in, is_of, is_prompt, next_round, one_more, round_of, row_at, unregistered, without}
 use Rattle.prompt_state.specs.declared.row.Ask.{Ask}
 use Rattle.prompt_state.specs.declared.row.PromptKind.{PromptKind}
 use Rattle.prompt_state.specs.declared.row.PromptRow.{PromptRow}
 use Rattle.prompt_state.specs.declared.row.Prompts.{Prompts}
 use Rattle.prompt_state.specs.declared.row.Stage.{Stage}
 use Rattle.prompt_state.specs.declared.row.Stage.TheVariants.{Made, Asked, Deriving}
-use Rattle.service_events.specs.secret_calls.specs.declared.call.Call.{Call}
-use Rattle.service_events.specs.secret_calls.specs.declared.call.Call.TheVariants as call
-use Rattle.service_events.specs.secret_calls.specs.declared.call.CallFault.{CallFault}
-use Rattle.service_events.specs.secret_calls.specs.declared.out.Body.TheVariants as body
-use Rattle.service_events.specs.secret_calls.specs.declared.out.ErrorName.TheVariants as name
 use Rattle.service_events.specs.service_prompts.specs.Prompting.{ask_sent, ask_signal, ask_signal_in}
 use Rattle.service_events.specs.service_tables.specs.Opened.{contents_of}
 use Rattle.service_events.specs.service_tables.specs.Questions.{CollectionQuestions}
@@ -31,18 +25,19 @@ use Rattle.service_events.specs.service_tables.specs.Sound.{IsSound}
 use Rattle.service_events.specs.service_tables.specs.State.{State}
 use Rattle.service_events.specs.service_tables.specs.Storing.{Brought}
 use Rattle.service_events.specs.service_tables.specs.declared.fate.Fate.{Fate}
-use Rattle.service_events.specs.service_tables.specs.declared.rows.Sent.{Sent}
+use Rattle.service_events.specs.service_tables.specs.Sent.{Sent}
 use Rattle.service_events.specs.Derivation.{derived}
-use Rattle.service_events.specs.Plan.{Change, Open_session, Close_session, Lock_collection, Begin_prompt, Ask_prompt, Derive_key, Count_wrong, Clear_wrong, Go_on, Finish_target, Drop_target, End_prompt, Become_agent, Leave_agent, Plan, Ends, After, Asks, Opens, answered, refused}
+use Rattle.service_events.specs.Plan.{Returns, Change, Open_session, Close_session, Lock_collection, Begin_prompt, Ask_prompt, Derive_key, Count_wrong, Clear_wrong, Go_on, End_prompt, Become_agent, Leave_agent, Plan}
 use Rattle.service_events.specs.PromptCalls.{asks_for, completes, go_on_sent, gone_on, is_over_row, passed_kind, passed_over, passed_row}
-use Rattle.service_events.specs.Run.{asked, demanded, led, performed, performed_all, run, sent_all, sent_by, unlocked_with}
-use Rattle.service_events.specs.Step.{brought_by, brought_derived, plan_of, puts_out, replies, served, step, terms_of}
+use Rattle.service_events.specs.PublicBody as public
+use Rattle.service_events.specs.Run.{asked, performed, performed_all, run, sent_by}
+use Rattle.service_events.specs.Step.{brought_by, brought_derived, puts_out, replies, served, step, terms_of}
 use Rattle.service_events.specs.declared.event.Event.{Event}
 use Rattle.service_events.specs.declared.event.Event.TheVariants as event
 use Rattle.service_events.proofs.AdvanceLemmas.{row-changed, row-number}
-use Rattle.service_events.proofs.RunLemmas.{sends-limited, state-limited}
+use Rattle.service_events.proofs.EndLemmas.{AllEnds, AreInTurn, AreQuiet, IsAny, IsEnd, IsQuiet, call-in-turn, ends-run, in-turn, key-in-turn, prompts-settled, quiet-all}
+use Rattle.service_events.proofs.RunLemmas.{plan_for}
 use Rattle.machine_laws.specs.Asks.{asks_in, asks_of, is_asked, is_asked_row}
-use Rattle.machine_laws.proofs.AgentLemmas.{KeepsAgent, KeepAgent, KeepsPlan, all-kept, run-kept, keeps-call, keeps-derived}
 
 -- 1 or 0
 abbrev count-of : Bool → ℕ
@@ -285,95 +280,80 @@ gone-told p r prompt asks collections agent prompts is =
 
 -- ---- changes and plans
 
-performed-told : (p : PromptId) (r : ℕ) (agent caller : ConnId) (change : Change) (state : State) → KeepsAgent change → state.prompts.agent ≡ Some agent
-    → IsTold p r (sent_by caller change state) (performed caller change state).prompts state.prompts
-performed-told p r agent caller Become_agent state keeps is = absurd keeps
-performed-told p r agent caller Leave_agent state keeps is = absurd keeps
-performed-told p r agent caller Open_session state keeps is = omega arith
-performed-told p r agent caller (Close_session session) state keeps is = omega arith
-performed-told p r agent caller (Lock_collection stem) state keeps is = omega arith
-performed-told p r agent caller (Begin_prompt kind) state keeps is = let fewer = begun-row p r (record { prompt = record { 0 = state.prompts.next }; owner = caller; kind = kind; stage = Made; wrong = 0 }) state.prompts.rows refl in omega (arith, fewer)
-performed-told p r agent caller (Ask_prompt prompt) state keeps is =
-    again-told p r (ask_sent prompt (asked_again prompt state.prompts) state.collections) prompt state.prompts (ask-put prompt r state.collections agent state.prompts is)
-performed-told p r agent caller (Derive_key prompt round) state keeps is = deriving-told p r prompt round state.prompts
-performed-told p r agent caller (Count_wrong prompt) state keeps is = keep-told p r [] prompt (λ row. record row { wrong = one_more row.wrong }) (λ row. refl) (λ row. refl) state.prompts
-performed-told p r agent caller (Clear_wrong prompt) state keeps is = keep-told p r [] prompt (λ row. record row { wrong = 0 }) (λ row. refl) (λ row. refl) state.prompts
-performed-told p r agent caller (Go_on prompt) state keeps is = gone-told p r prompt (asked_collections (contents_of state)) state.collections agent state.prompts is
-performed-told p r agent caller (Finish_target prompt) state keeps is = keep-told p r [] prompt (λ row. record row { kind = kind_with first_done row.kind }) (λ row. refl) (λ row. refl) state.prompts
-performed-told p r agent caller (Drop_target prompt) state keeps is = keep-told p r [] prompt (λ row. record row { kind = kind_with first_dropped row.kind }) (λ row. refl) (λ row. refl) state.prompts
-performed-told p r agent caller (End_prompt prompt dismissed created) state keeps is = let fewer = ended-row p prompt r state.prompts.rows in omega (arith, fewer)
+module _ (p : PromptId) (r : ℕ) (caller : ConnId) where
+  -- a quiet change asks none
+  quiet-told : (change : Change) (state : State) → IsQuiet change → IsTold p r [] (performed caller change state).prompts state.prompts
+  quiet-told Open_session state quiet = omega arith
+  quiet-told (Close_session session) state quiet = omega arith
+  quiet-told (Lock_collection stem) state quiet = omega arith
+  quiet-told (Begin_prompt kind) state quiet = let fewer = begun-row p r (record { prompt = record { 0 = state.prompts.next }; owner = caller; kind = kind; stage = Made; wrong = 0 }) state.prompts.rows refl in omega (arith, fewer)
+  quiet-told (Derive_key prompt round) state quiet = deriving-told p r prompt round state.prompts
+  quiet-told (Count_wrong prompt) state quiet = keep-told p r [] prompt (λ row. record row { wrong = one_more row.wrong }) (λ row. refl) (λ row. refl) state.prompts
+  quiet-told (Clear_wrong prompt) state quiet = keep-told p r [] prompt (λ row. record row { wrong = 0 }) (λ row. refl) (λ row. refl) state.prompts
+  quiet-told (Ask_prompt prompt) state quiet = absurd quiet
+  quiet-told (Go_on prompt) state quiet = absurd quiet
+  quiet-told (End_prompt prompt dismissed created) state quiet = absurd quiet
+  quiet-told Become_agent state quiet = absurd quiet
+  quiet-told Leave_agent state quiet = absurd quiet
 
-all-told : (p : PromptId) (r : ℕ) (agent caller : ConnId) (changes : List Change) (state : State) → KeepAgent changes → state.prompts.agent ≡ Some agent
-    → IsTold p r (sent_all caller changes state) (performed_all caller changes state).prompts state.prompts
-all-told p r agent caller [] state keeps is = omega arith
-all-told p r agent caller (change ∷ changes) state keeps is =
-    let next = performed caller change state in
-    let one : next.prompts.agent ≡ state.prompts.agent = (all-kept caller (change ∷ []) state (keeps.0, tt)).same in
-    let first = performed-told p r agent caller change state keeps.0 is in
-    let rest = all-told p r agent caller changes next keeps.1 (one ∙ is) in
-    let both = asks-append p r (sent_by caller change state) (sent_all caller changes next) in
-    omega (arith, first, rest, both)
+  quiets-told : (changes : List Change) (state : State) → AreQuiet changes → IsTold p r [] (performed_all caller changes state).prompts state.prompts
+  quiets-told [] state quiet = omega arith
+  quiets-told (change ∷ changes) state quiet = omega (arith, quiet-told change state quiet.0, quiets-told changes (performed caller change state) quiet.1)
 
-run-told : (p : PromptId) (r : ℕ) (agent caller : ConnId) (brought : Brought) (plan : Plan) (fates : List Fate) (state : State) → KeepsPlan plan → state.prompts.agent ≡ Some agent
-    → IsTold p r (run caller brought plan fates state).sends (run caller brought plan fates state).state.prompts state.prompts
-run-told p r agent caller brought (Ends answer changes) fates state keeps is = all-told p r agent caller changes state keeps is
-run-told p r agent caller brought (After changes next) fates state keeps is =
-    let mid = performed_all caller changes state in
-    let then = run caller brought (next (asked caller brought mid)) fates mid in
-    let first = all-told p r agent caller changes state keeps.0 is in
-    let rest = run-told p r agent caller brought (next (asked caller brought mid)) fates mid (keeps.1 (asked caller brought mid)) ((all-kept caller changes state keeps.0).same ∙ is) in
-    let both = asks-append p r (sent_all caller changes state) then.sends in
-    omega (arith, first, rest, both)
-run-told p r agent caller brought (Asks demand next) [] state keeps is = omega arith
-run-told p r agent caller brought (Asks demand next) (fate ∷ fates) state keeps is = run-told p r agent caller brought (next fate) fates (demanded brought demand fate state) (keeps fate) is
-run-told p r agent caller brought (Opens stem terms next) fates state keeps is = run-told p r agent caller brought next fates (unlocked_with brought stem terms state) keeps is
+  -- any change, if there is an agent after it
+  performed-told : (agent : ConnId) (change : Change) (state : State) → (performed caller change state).prompts.agent ≡ Some agent → IsTold p r (sent_by caller change state) (performed caller change state).prompts state.prompts
+  performed-told agent Open_session state is = quiet-told Open_session state tt
+  performed-told agent (Close_session session) state is = quiet-told (Close_session session) state tt
+  performed-told agent (Lock_collection stem) state is = quiet-told (Lock_collection stem) state tt
+  performed-told agent (Begin_prompt kind) state is = quiet-told (Begin_prompt kind) state tt
+  performed-told agent (Derive_key prompt round) state is = quiet-told (Derive_key prompt round) state tt
+  performed-told agent (Count_wrong prompt) state is = quiet-told (Count_wrong prompt) state tt
+  performed-told agent (Clear_wrong prompt) state is = quiet-told (Clear_wrong prompt) state tt
+  performed-told agent (Ask_prompt prompt) state is =
+      again-told p r (ask_sent prompt (asked_again prompt state.prompts) state.collections) prompt state.prompts (ask-put prompt r state.collections agent state.prompts is)
+  performed-told agent (Go_on prompt) state is =
+      let over = passed_over prompt (asked_collections (contents_of state)) state.prompts in
+      let pass : (b : Bool) → (cond b (ended prompt over) (asked_again prompt over)).agent ≡ Some agent → state.prompts.agent ≡ Some agent = elim [ true ↦ λ same. same | false ↦ λ same. same ] in
+      gone-told p r prompt (asked_collections (contents_of state)) state.collections agent state.prompts (pass (is_over_row (row_at prompt over)) is)
+  performed-told agent (End_prompt prompt dismissed created) state is = let fewer = ended-row p prompt r state.prompts.rows in omega (arith, fewer)
+  performed-told agent Become_agent state is = omega arith
+  performed-told agent Leave_agent state is = absurd (let no : None ≡ Some agent = is in cc)
+
+  run-told : (agent : ConnId) (brought : Brought) (plan : Plan) (fates : List Fate) (state : State) → AllEnds (IsEnd true (AreInTurn IsAny)) plan → (run caller brought plan fates state).state.prompts.agent ≡ Some agent
+      → IsTold p r (run caller brought plan fates state).sends (run caller brought plan fates state).state.prompts state.prompts
+  run-told agent brought =
+      let Tells : State → List Sent → State → Type 0 = λ old sent new. new.prompts.agent ≡ Some agent → IsTold p r sent new.prompts old.prompts in
+      ends-run (IsEnd true (AreInTurn IsAny)) caller brought (λ before ran. Tells before ran.sends ran.state)
+      (record {
+        ends = λ answer changes state is. ⊎_elim
+            (λ (quiet : AreQuiet changes) its. subst (λ sent. IsTold p r sent (performed_all caller changes state).prompts state.prompts) (sym (quiet-all caller changes state quiet)) (quiets-told changes state quiet))
+            (λ (turn : (answer ≡ Returns public.Empty) × AreInTurn IsAny changes).
+            in-turn caller IsAny Tells (λ change state sent new quiet rest its. let first = quiet-told change state quiet in let told = rest its in omega (arith, first, told))
+            (λ change state any. performed-told agent change state) changes state turn.1)
+            is.1;
+        fails = λ name state its. omega arith;
+        asks = λ demand ended state ran told. told;
+        settles = λ reading ended state ran told. subst (λ (q : Prompts). ran.state.prompts.agent ≡ Some agent → IsTold p r ran.sends ran.state.prompts q) (prompts-settled reading ended state) told;
+        opens = λ stem terms state ran told. told;
+      })
 
 -- ---- events
 
 module _ (p : PromptId) (r : ℕ) (agent : ConnId) where
-  led-told : (caller : ConnId) (brought : Brought) (plan : Plan) (fates : List Fate) (state : State) → KeepsPlan plan → (led caller brought plan fates state).state.prompts.agent ≡ Some agent
-      → IsTold p r (led caller brought plan fates state).sends (led caller brought plan fates state).state.prompts state.prompts
-  led-told caller brought plan fates state keeps is =
-      let ran = run caller brought plan fates state in
-      let whole = state-limited plan ran in
-      let was : state.prompts.agent ≡ Some agent =
-      sym (run-kept caller brought plan fates state keeps).same ∙ sym (ap (λ (s : State). s.prompts.agent) whole) ∙ is in
-      let told = run-told p r agent caller brought plan fates state keeps was in
-      let sends = ap (asks_in p r) (sends-limited plan ran) in
-      let rows = ap (λ (s : State). row-now r (row_at p s.prompts)) whole in
-      omega (arith, told, sends, rows)
-
-  -- what a request's call puts out
-  call-told : (caller : ConnId) (brought : Brought) (salt : List ℕ) (given : Result Call CallFault) (fates : List Fate) (state : State)
-      → (led caller brought (plan_of salt given (asked caller brought state)) fates state).state.prompts.agent ≡ Some agent
-      → IsTold p r (led caller brought (plan_of salt given (asked caller brought state)) fates state).sends (led caller brought (plan_of salt given (asked caller brought state)) fates state).state.prompts state.prompts
-  call-told caller brought salt (Ok call.Register) fates state =
-      let pass : (b : Bool)
-      → IsTold p r (led caller brought (cond b (refused name.AgentTaken) (answered body.Empty (Become_agent ∷ []))) fates state).sends
-      (led caller brought (cond b (refused name.AgentTaken) (answered body.Empty (Become_agent ∷ []))) fates state).state.prompts state.prompts =
-      elim [ true ↦ omega arith | false ↦ omega arith ] in
-      λ is. pass (asked caller brought state).prompts.is_taken
-  call-told caller brought salt (Ok call.Unregister) fates state =
-      let pass : (b : Bool)
-      → (led caller brought (cond b (answered body.Empty (Leave_agent ∷ [])) (refused name.AccessDenied)) fates state).state.prompts.agent ≡ Some agent
-      → IsTold p r (led caller brought (cond b (answered body.Empty (Leave_agent ∷ [])) (refused name.AccessDenied)) fates state).sends
-      (led caller brought (cond b (answered body.Empty (Leave_agent ∷ [])) (refused name.AccessDenied)) fates state).state.prompts state.prompts =
-      elim [ true ↦ λ is. absurd (let no : None ≡ Some agent = is in cc) | false ↦ λ is. omega arith ] in
-      pass (asked caller brought state).prompts.is_agent
-  call-told caller brought salt given fates state = led-told caller brought (plan_of salt given (asked caller brought state)) fates state (keeps-call salt given (asked caller brought state) tt)
-
   event-told : (state : State) (event : Event) → IsSound state → (step state event).prompts.agent ≡ Some agent → IsTold p r (puts_out state event) (step state event).prompts state.prompts
   event-told state (event.Connect conn) sound is = omega arith
   event-told state (event.Arrive came) sound is =
       let caller = came.arrival.conn in
+      let brought = brought_by came.arrival in
       let ran = served came state in
-      let told = call-told caller (brought_by came.arrival) came.arrival.salt came.arrival.request.call came.fates state is in
+      let ends = call-in-turn came.arrival.salt came.arrival.request.call (asked caller brought state) in
+      let told = run-told p r caller agent brought (plan_for came state) came.fates state ends is in
       let both = asks-append p r (replies caller came.arrival.request ran.answer) ran.sends in
       omega (arith, told, both)
   event-told state (event.Derived came) sound is =
       let brought = brought_derived came in
       let questions = asked came.conn brought state in
-      led-told came.conn brought (derived came.prompt came.round (terms_of came) questions) came.fates state (keeps-derived came.prompt came.round (terms_of came) questions) is
+      run-told p r came.conn agent brought (derived came.prompt came.round (terms_of came) questions) came.fates state (key-in-turn came.prompt came.round (terms_of came) questions) is
   event-told state (event.Leave conn) sound is = omega arith
   event-told state (event.Take conn) sound is = omega arith
   event-told state (event.Gone conn) sound is =

@@ -1,6 +1,6 @@
 -- While a prompt is there, or its number hasn't been given yet, one Completed is left for it, and otherwise none. Whatever an event puts out
 -- is taken from what is left.
-use Rattle.std.proofs.Common.{◌≡◌, ℕ, ◌+◌, ◌<◌, ◌≤◌, Bool, true, false, cond, not, nat_eq, nat_le, List, [], ◌∷◌, ◌++◌, length, map, filter, find, Option, Some, None, Result, Ok, Err, refl, sym, ap, ◌∙◌, arith}
+use Rattle.std.proofs.Common.{◌≡◌, ℕ, ◌+◌, ◌<◌, ◌≤◌, Bool, true, false, cond, not, nat_eq, nat_le, List, [], ◌∷◌, ◌++◌, length, map, filter, find, Option, Some, None, Result, Ok, Err, refl, sym, ap, subst, ◌∙◌, arith}
 use Rattle.std.specs.List.{AllByRecursion, cons_option, filter_map}
 use Rattle.std.specs.Option.{option_and_then, option_map}
 use Rattle.std.proofs.lemmas.Bool.Decides.{nat_tests}
@@ -26,18 +26,19 @@ use Rattle.service_events.specs.service_tables.specs.Sound.{IsSound}
 use Rattle.service_events.specs.service_tables.specs.State.{State}
 use Rattle.service_events.specs.service_tables.specs.Storing.{Brought}
 use Rattle.service_events.specs.service_tables.specs.declared.fate.Fate.{Fate}
-use Rattle.service_events.specs.service_tables.specs.declared.rows.Sent.{Sent}
+use Rattle.service_events.specs.service_tables.specs.Sent.{One, Sent}
 use Rattle.service_events.specs.Derivation.{derived, row_derived}
-use Rattle.service_events.specs.Plan.{Change, Open_session, Close_session, Lock_collection, Begin_prompt, Ask_prompt, Derive_key, Count_wrong, Clear_wrong, Go_on, Finish_target, Drop_target, End_prompt, Become_agent, Leave_agent, Plan, Ends, After, Asks, Opens}
+use Rattle.service_events.specs.Plan.{Change, Open_session, Close_session, Lock_collection, Begin_prompt, Ask_prompt, Derive_key, Count_wrong, Clear_wrong, Go_on, End_prompt, Become_agent, Leave_agent, Plan}
 use Rattle.service_events.specs.PromptCalls.{asks_for, completes as completed_for, go_on_sent, gone_on, is_over_row, passed_kind, passed_over, passed_row}
 use Rattle.service_events.specs.Replay.{replay}
-use Rattle.service_events.specs.Run.{asked, demanded, led, performed, performed_all, run, sent_all, sent_by, unlocked_with}
+use Rattle.service_events.specs.Run.{asked, performed, performed_all, run, sent_all, sent_by}
 use Rattle.service_events.specs.Step.{brought_by, brought_derived, message_of, puts_out, replies, served, step, terms_of, with_delivered}
 use Rattle.service_events.specs.declared.event.Derivation.{Derivation}
 use Rattle.service_events.specs.declared.event.Event.{Event}
 use Rattle.service_events.specs.declared.event.Event.TheVariants as event
 use Rattle.service_events.proofs.AdvanceLemmas.{row-changed}
-use Rattle.service_events.proofs.RunLemmas.{plan_for, sends-limited, state-limited}
+use Rattle.service_events.proofs.EndLemmas.{prompts-settled}
+use Rattle.service_events.proofs.RunLemmas.{keeps-run, plan_for}
 use Rattle.machine_laws.specs.Completions.{completes, completions, completions_in, IsOver}
 
 -- how many rows have the prompt's number
@@ -48,9 +49,9 @@ count p rows = length (filter (is_prompt p) rows)
 abbrev left : PromptId → Prompts → ℕ
 left p prompts = count p prompts.rows + cond (nat_le prompts.next p.0) 1 0
 
--- what is sent, and what is left after it, are no more than what was left
+-- if one Completed was left at most, what is sent of it and what is left after that are what was left
 abbrev IsPaid : PromptId → List Sent → Prompts → Prompts → Type 0
-IsPaid p sent new old = completions_in p sent + left p new ≤ left p old
+IsPaid p sent new old = left p old ≤ 1 → completions_in p sent + left p new ≡ left p old
 
 -- ---- how many have a number
 
@@ -214,34 +215,51 @@ module _ (p : PromptId) (collections : Rows) (prompts : Prompts) where
       elim [ None ↦ refl | Some ask ↦ asks-told (ask ∷ []) ] in
       pass (ask_at prompt prompts)
 
--- Completed is sent for a row that is found
-ends-told : (p prompt : PromptId) (dismissed : Bool) (created : Option (List ℕ)) (rows : List PromptRow)
-    → completions_in p (cons_option (option_map (λ (row : PromptRow). completed_signal dismissed created (ended_row row)) (find (is_prompt prompt) rows)) []) ≤ count p (filter (is_prompt prompt) rows)
-ends-told p prompt dismissed created [] = omega arith
-ends-told p prompt dismissed created (x ∷ xs) =
-    let rest = ends-told p prompt dismissed created xs in
+-- rows that have another number
+count-other : (p prompt : PromptId) (rows : List PromptRow) → nat_eq prompt.0 p.0 ≡ false → count p (filter (is_prompt prompt) rows) ≡ 0
+count-other p prompt [] off = refl
+count-other p prompt (x ∷ xs) off =
+    let rest = count-other p prompt xs off in
+    let more : List PromptRow = filter (is_prompt prompt) xs in
+    let step : (b : Bool) → is_prompt prompt x ≡ b → count p (cond b (x ∷ more) more) ≡ 0 =
+    elim [
+      | true ↦ λ is. let far : nat_eq x.prompt.0 p.0 ≡ false = grind (arith, nat_tests) in rw far rest
+      | false ↦ λ is. rest
+    ] in
+    step (is_prompt prompt x) refl
+
+-- Completed is sent for the only row that has the number
+ends-told : (p prompt : PromptId) (dismissed : Bool) (created : Option (List ℕ)) (rows : List PromptRow) → count p (filter (is_prompt prompt) rows) ≤ 1
+    → completions_in p (cons_option (option_map (λ (row : PromptRow). completed_signal dismissed created (ended_row row)) (find (is_prompt prompt) rows)) []) ≡ count p (filter (is_prompt prompt) rows)
+ends-told p prompt dismissed created [] few = refl
+ends-told p prompt dismissed created (x ∷ xs) few =
     let sent = completed_signal dismissed created (ended_row x) in
     let more : List PromptRow = filter (is_prompt prompt) xs in
-    let one : (b : Bool) → length (cond b (sent ∷ []) []) ≤ length (cond b (x ∷ filter (is_prompt p) more) (filter (is_prompt p) more)) =
-    elim [ true ↦ omega arith | false ↦ omega arith ] in
-    let step : (b : Bool) → is_prompt prompt x ≡ b
+    let others = filter (is_prompt p) more in
+    let one : (b : Bool) → is_prompt prompt x ≡ true → is_prompt p x ≡ b → length (cond b (x ∷ others) others) ≤ 1 → length (cond b (sent ∷ []) []) ≡ length (cond b (x ∷ others) others) =
+    elim [
+      | true ↦ λ its own some. omega (arith, some)
+      | false ↦ λ its off some. let far : nat_eq prompt.0 p.0 ≡ false = grind (arith, nat_tests) in let none = count-other p prompt xs far in omega (arith, none)
+    ] in
+    let step : (b : Bool) → is_prompt prompt x ≡ b → count p (cond b (x ∷ more) more) ≤ 1
     → completions_in p (cons_option (option_map (λ (row : PromptRow). completed_signal dismissed created (ended_row row)) (cond b (Some x) (find (is_prompt prompt) xs))) [])
-    ≤ count p (cond b (x ∷ more) more) =
-    elim [ true ↦ λ is. one (is_prompt p x) | false ↦ λ off. rest ] in
-    step (is_prompt prompt x) refl
+    ≡ count p (cond b (x ∷ more) more) =
+    elim [ true ↦ λ is some. one (is_prompt p x) is refl some | false ↦ λ off some. ends-told p prompt dismissed created xs some ] in
+    step (is_prompt prompt x) refl few
 
 -- ---- changes of the prompts
 
 ended-paid : (p prompt : PromptId) (dismissed : Bool) (created : Option (List ℕ)) (prompts : Prompts) → IsPaid p (completed_sent prompt dismissed created prompts) (ended prompt prompts) prompts
-ended-paid p prompt dismissed created prompts =
-    let told = ends-told p prompt dismissed created prompts.rows in
+ended-paid p prompt dismissed created prompts = λ few.
     let split = count-split p (is_prompt prompt) prompts.rows in
+    let once : count p (filter (is_prompt prompt) prompts.rows) ≤ 1 = omega (arith, few, split) in
+    let told = ends-told p prompt dismissed created prompts.rows once in
     omega (arith, told, split)
 
 module _ (p : PromptId) (sent : List Sent) (none : completions_in p sent ≡ 0) where
   map-paid : (h : PromptRow → PromptRow) → ((row : PromptRow) → (h row).prompt ≡ row.prompt) → (prompts : Prompts) (agent : Option ConnId)
       → IsPaid p sent (record { rows = map h prompts.rows; agent = agent; next = prompts.next }) prompts
-  map-paid h keeps prompts agent = let same = count-kept p h keeps prompts.rows in omega (arith, none, same)
+  map-paid h keeps prompts agent = λ few. let same = count-kept p h keeps prompts.rows in omega (arith, none, same)
 
   changed-paid : (prompt : PromptId) (f : PromptRow → PromptRow) → ((row : PromptRow) → (f row).prompt ≡ row.prompt) → (prompts : Prompts) → IsPaid p sent (changed prompt f prompts) prompts
   changed-paid prompt f keeps prompts =
@@ -251,28 +269,14 @@ module _ (p : PromptId) (sent : List Sent) (none : completions_in p sent ≡ 0) 
       step (is_prompt prompt row) in
       map-paid (λ row. cond (is_prompt prompt row) (f row) row) its prompts prompts.agent
 
-room-moves : (next number : ℕ) → cond (nat_eq next number) 1 0 + cond (nat_le (next + 1) number) 1 0 ≤ cond (nat_le next number) 1 0
+room-moves : (next number : ℕ) → cond (nat_eq next number) 1 0 + cond (nat_le (next + 1) number) 1 0 ≡ cond (nat_le next number) 1 0
 room-moves next number = grind (arith, nat_tests)
 
 begun-paid : (p : PromptId) (owner : ConnId) (kind : PromptKind) (prompts : Prompts) → IsPaid p [] (begun owner kind prompts) prompts
-begun-paid p owner kind prompts =
+begun-paid p owner kind prompts = λ few.
     let more : count p (begun owner kind prompts).rows ≡ count p prompts.rows + cond (nat_eq prompts.next p.0) 1 0 = count-more p prompts.rows _ in
     let moved = room-moves prompts.next p.0 in
     omega (arith, more, moved)
-
--- no more is left once a connection is gone than without its prompts
-abandoned-left : (p : PromptId) (conn : ConnId) (prompts : Prompts) → left p (abandoned conn prompts) ≤ left p (without conn prompts)
-abandoned-left p conn prompts =
-    let quiet = map-paid p [] refl unanswered_row (λ row. refl) (without conn prompts) None in
-    let step : (b : Bool) → left p (cond b (unregistered (without conn prompts)) (without conn prompts)) ≤ left p (without conn prompts) =
-    elim [ true ↦ omega (arith, quiet) | false ↦ omega arith ] in
-    step (is_agent conn prompts)
-
-abandoned-paid : (p : PromptId) (conn : ConnId) (prompts : Prompts) → IsPaid p [] (abandoned conn prompts) prompts
-abandoned-paid p conn prompts =
-    let split = count-split p (is_of conn) prompts.rows in
-    let fewer = abandoned-left p conn prompts in
-    omega (arith, split, fewer)
 
 -- a prompt that continues
 module _ (p prompt : PromptId) (asks : CollectionQuestions) (collections : Rows) (prompts : Prompts) where
@@ -299,20 +303,22 @@ module _ (p prompt : PromptId) (asks : CollectionQuestions) (collections : Rows)
       ap (λ b. completions_in p (cond b (completed_for row kind) (asks_for collections row kind prompts.agent))) is ∙ asks-none row kind prompts.agent
 
   gone_on-paid : IsPaid p (go_on_sent asks collections prompts.agent (row_at prompt prompts)) (gone_on prompt asks prompts) prompts
-  gone_on-paid =
+  gone_on-paid = λ few.
       let row = row_at prompt prompts in
-      let passed = changed-paid p [] refl prompt (passed_row asks) (λ row. refl) prompts in
-      let pass : (b : Bool) → is_over_row (row_at prompt over) ≡ b → IsPaid p (go_on_sent asks collections prompts.agent row) (cond b (ended prompt over) (asked_again prompt over)) prompts =
+      let passed = changed-paid p [] refl prompt (passed_row asks) (λ row. refl) prompts few in
+      let one : left p over ≤ 1 = omega (arith, passed, few) in
+      let pass : (b : Bool) → is_over_row (row_at prompt over) ≡ b
+      → completions_in p (go_on_sent asks collections prompts.agent row) + left p (cond b (ended prompt over) (asked_again prompt over)) ≡ left p prompts =
       elim [
         | true ↦ λ is.
             let same : go_on_sent asks collections prompts.agent row ≡ completed_sent prompt false None over =
             end-sends row (sym (ap is_over_row row-passed) ∙ is) ∙ ap (λ o. cons_option (option_map (λ (row : PromptRow). completed_signal false None (ended_row row)) o) []) (sym row-passed) in
             let told = ap (completions_in p) same in
-            let paid = ended-paid p prompt false None over in
+            let paid = ended-paid p prompt false None over one in
             omega (arith, passed, told, paid)
         | false ↦ λ is.
             let none = ask-sends row (sym (ap is_over_row row-passed) ∙ is) in
-            let paid : IsPaid p [] (asked_again prompt over) over = changed-paid p [] refl prompt _ (λ row. refl) over in
+            let paid = changed-paid p [] refl prompt (λ row. record row { stage = Asked (next_round (row_at prompt over)) }) (λ row. refl) over one in
             omega (arith, passed, none, paid)
       ] in
       pass (is_over_row (row_at prompt over)) refl
@@ -320,9 +326,9 @@ module _ (p prompt : PromptId) (asks : CollectionQuestions) (collections : Rows)
 -- ---- changes of the state
 
 performed-paid : (p : PromptId) (caller : ConnId) (change : Change) (state : State) → IsPaid p (sent_by caller change state) (performed caller change state).prompts state.prompts
-performed-paid p caller Open_session state = omega arith
-performed-paid p caller (Close_session session) state = omega arith
-performed-paid p caller (Lock_collection stem) state = omega arith
+performed-paid p caller Open_session state = λ few. omega arith
+performed-paid p caller (Close_session session) state = λ few. omega arith
+performed-paid p caller (Lock_collection stem) state = λ few. omega arith
 performed-paid p caller (Begin_prompt kind) state = begun-paid p caller kind state.prompts
 performed-paid p caller (Ask_prompt prompt) state =
     changed-paid p (ask_sent prompt (asked_again prompt state.prompts) state.collections) (ask-told p state.collections (asked_again prompt state.prompts) prompt) prompt _ (λ row. refl) state.prompts
@@ -330,20 +336,19 @@ performed-paid p caller (Derive_key prompt round) state = changed-paid p [] refl
 performed-paid p caller (Count_wrong prompt) state = changed-paid p [] refl prompt _ (λ row. refl) state.prompts
 performed-paid p caller (Clear_wrong prompt) state = changed-paid p [] refl prompt _ (λ row. refl) state.prompts
 performed-paid p caller (Go_on prompt) state = gone_on-paid p prompt (asked_collections (contents_of state)) state.collections state.prompts
-performed-paid p caller (Finish_target prompt) state = changed-paid p [] refl prompt _ (λ row. refl) state.prompts
-performed-paid p caller (Drop_target prompt) state = changed-paid p [] refl prompt _ (λ row. refl) state.prompts
 performed-paid p caller (End_prompt prompt dismissed created) state = ended-paid p prompt dismissed created state.prompts
-performed-paid p caller Become_agent state =
+performed-paid p caller Become_agent state = λ few.
     let none = asks-told p state.collections (registered caller state.prompts) (asks (registered caller state.prompts)) in
     omega (arith, none)
 performed-paid p caller Leave_agent state = map-paid p [] refl unanswered_row (λ row. refl) state.prompts None
 
 all-paid : (p : PromptId) (caller : ConnId) (changes : List Change) (state : State) → IsPaid p (sent_all caller changes state) (performed_all caller changes state).prompts state.prompts
-all-paid p caller [] state = omega arith
-all-paid p caller (change ∷ changes) state =
+all-paid p caller [] state = λ few. omega arith
+all-paid p caller (change ∷ changes) state = λ few.
     let next = performed caller change state in
-    let first = performed-paid p caller change state in
-    let rest = all-paid p caller changes next in
+    let first = performed-paid p caller change state few in
+    let one : left p next.prompts ≤ 1 = omega (arith, first, few) in
+    let rest = all-paid p caller changes next one in
     let both = told-append p (sent_by caller change state) (sent_all caller changes next) in
     omega (arith, first, rest, both)
 
@@ -351,242 +356,81 @@ all-paid p caller (change ∷ changes) state =
 
 run-paid : (p : PromptId) (caller : ConnId) (brought : Brought) (plan : Plan) (fates : List Fate) (state : State)
     → IsPaid p (run caller brought plan fates state).sends (run caller brought plan fates state).state.prompts state.prompts
-run-paid p caller brought (Ends answer changes) fates state = all-paid p caller changes state
-run-paid p caller brought (After changes next) fates state =
-    let mid = performed_all caller changes state in
-    let then = run caller brought (next (asked caller brought mid)) fates mid in
-    let first = all-paid p caller changes state in
-    let rest = run-paid p caller brought (next (asked caller brought mid)) fates mid in
-    let both = told-append p (sent_all caller changes state) then.sends in
-    omega (arith, first, rest, both)
-run-paid p caller brought (Asks demand next) [] state = omega arith
-run-paid p caller brought (Asks demand next) (fate ∷ fates) state = run-paid p caller brought (next fate) fates (demanded brought demand fate state)
-run-paid p caller brought (Opens stem terms next) fates state = run-paid p caller brought next fates (unlocked_with brought stem terms state)
-
-led-paid : (p : PromptId) (caller : ConnId) (brought : Brought) (plan : Plan) (fates : List Fate) (state : State)
-    → IsPaid p (led caller brought plan fates state).sends (led caller brought plan fates state).state.prompts state.prompts
-led-paid p caller brought plan fates state =
-    let ran = run caller brought plan fates state in
-    let paid = run-paid p caller brought plan fates state in
-    let told = ap (completions_in p) (sends-limited plan ran) in
-    let kept = ap (λ (s : State). left p s.prompts) (state-limited plan ran) in
-    omega (arith, paid, told, kept)
+run-paid p caller brought =
+    keeps-run caller brought (λ before ran. IsPaid p ran.sends ran.state.prompts before.prompts)
+    (record {
+      ends = λ answer changes state small. all-paid p caller changes state;
+      fails = λ name state few. omega arith;
+      asks = λ demand ended state ran paid. paid;
+      settles = λ reading ended state ran paid. subst (IsPaid p ran.sends ran.state.prompts) (prompts-settled reading ended state) paid;
+      opens = λ stem terms state ran paid. paid;
+    })
 
 -- a reply isn't Completed
 pub reply-told : (p : PromptId) (caller : ConnId) (request : Request) (answer : Result Body ErrorName) → completions_in p (replies caller request answer) ≡ 0
 reply-told p caller request answer =
-    let pass : (wanted : Bool) (answer : Result Body ErrorName) → completions_in p (cond wanted (record { to = caller; out = message_of request.serial answer } ∷ []) []) ≡ 0 =
+    let pass : (wanted : Bool) (answer : Result Body ErrorName) → completions_in p (cond wanted (record { to = One caller; out = message_of request.serial answer } ∷ []) []) ≡ 0 =
     elim [ true ↦ elim [ Ok body ↦ refl | Err name ↦ refl ] | false ↦ λ answer. refl ] in
     pass request.wants_reply answer
 
-event-paid : (p : PromptId) (state : State) (event : Event) → IsPaid p (puts_out state event) (step state event).prompts state.prompts
-event-paid p state (event.Connect conn) = omega arith
-event-paid p state (event.Arrive came) =
+-- the event isn't that a connection is gone
+abbrev IsStay : Event → Type 0
+IsStay (event.Gone conn) = ⊥
+IsStay _ = Unit {0}
+
+event-paid : (p : PromptId) (state : State) (event : Event) → IsStay event → IsPaid p (puts_out state event) (step state event).prompts state.prompts
+event-paid p state (event.Connect conn) stay = λ few. omega arith
+event-paid p state (event.Arrive came) stay = λ few.
     let caller = came.arrival.conn in
     let ran = served came state in
-    let paid = led-paid p caller (brought_by came.arrival) (plan_for came state) came.fates state in
+    let paid = run-paid p caller (brought_by came.arrival) (plan_for came state) came.fates state few in
     let none = reply-told p caller came.arrival.request ran.answer in
     let both = told-append p (replies caller came.arrival.request ran.answer) ran.sends in
     omega (arith, paid, none, both)
-event-paid p state (event.Derived came) =
+event-paid p state (event.Derived came) stay =
     let brought = brought_derived came in
-    led-paid p came.conn brought (derived came.prompt came.round (terms_of came) (asked came.conn brought state)) came.fates state
-event-paid p state (event.Leave conn) = omega arith
-event-paid p state (event.Take conn) = omega arith
-event-paid p state (event.Gone conn) = abandoned-paid p conn state.prompts
+    run-paid p came.conn brought (derived came.prompt came.round (terms_of came) (asked came.conn brought state)) came.fates state
+event-paid p state (event.Leave conn) stay = λ few. omega arith
+event-paid p state (event.Take conn) stay = λ few. omega arith
+event-paid p state (event.Gone conn) stay = absurd stay
 
-list-paid : (p : PromptId) (state : State) (events : List Event) → completions p state events + left p (replay state events).prompts ≤ left p state.prompts
-list-paid p state [] = omega arith
-list-paid p state (event ∷ events) =
-    let first = event-paid p state event in
-    let rest = list-paid p (step state event) events in
+-- once a connection is gone, as much is left as without its prompts
+abandoned-left : (p : PromptId) (conn : ConnId) (prompts : Prompts) → left p (abandoned conn prompts) ≡ left p (without conn prompts)
+abandoned-left p conn prompts =
+    let same = count-kept p unanswered_row (λ row. refl) (without conn prompts).rows in
+    let step : (b : Bool) → left p (cond b (unregistered (without conn prompts)) (without conn prompts)) ≡ left p (without conn prompts) = elim [ true ↦ omega (arith, same) | false ↦ refl ] in
+    step (is_agent conn prompts)
+
+-- no event leaves more
+event-fewer : (p : PromptId) (state : State) (event : Event) → left p state.prompts ≤ 1 → completions_in p (puts_out state event) + left p (step state event).prompts ≤ left p state.prompts
+event-fewer p state (event.Gone conn) few =
+    let split = count-split p (is_of conn) state.prompts.rows in
+    let same = abandoned-left p conn state.prompts in
+    omega (arith, split, same)
+event-fewer p state some few = let paid = event-paid p state some tt few in omega (arith, paid)
+
+list-fewer : (p : PromptId) (state : State) (events : List Event) → left p state.prompts ≤ 1 → completions p state events + left p (replay state events).prompts ≤ left p state.prompts
+list-fewer p state [] few = omega arith
+list-fewer p state (event ∷ events) few =
+    let first = event-fewer p state event few in
+    let one : left p (step state event).prompts ≤ 1 = omega (arith, first, few) in
+    let rest = list-fewer p (step state event) events one in
     omega (arith, first, rest)
 
--- ---- whatever isn't left any more was put out
-
--- if no more than one Completed is left, it is still left or was put out
-abbrev IsDue : PromptId → List Sent → Prompts → Prompts → Type 0
-IsDue p sent new old = left p old ≤ 1 → left p old ≤ completions_in p sent + left p new
-
--- rows that have another number
-count-other : (p prompt : PromptId) (rows : List PromptRow) → nat_eq prompt.0 p.0 ≡ false → count p (filter (is_prompt prompt) rows) ≡ 0
-count-other p prompt [] off = refl
-count-other p prompt (x ∷ xs) off =
-    let rest = count-other p prompt xs off in
-    let more : List PromptRow = filter (is_prompt prompt) xs in
-    let step : (b : Bool) → is_prompt prompt x ≡ b → count p (cond b (x ∷ more) more) ≡ 0 =
-    elim [
-      | true ↦ λ is. let far : nat_eq x.prompt.0 p.0 ≡ false = grind (arith, nat_tests) in rw far rest
-      | false ↦ λ is. rest
-    ] in
-    step (is_prompt prompt x) refl
-
--- Completed is sent for the only row that has the number
-found-due : (p prompt : PromptId) (dismissed : Bool) (created : Option (List ℕ)) (rows : List PromptRow) → nat_eq prompt.0 p.0 ≡ true → count p (filter (is_prompt prompt) rows) ≤ 1
-    → count p (filter (is_prompt prompt) rows) ≤ completions_in p (cons_option (option_map (λ (row : PromptRow). completed_signal dismissed created (ended_row row)) (find (is_prompt prompt) rows)) [])
-found-due p prompt dismissed created [] same few = omega arith
-found-due p prompt dismissed created (x ∷ xs) same few =
-    let sent = completed_signal dismissed created (ended_row x) in
-    let more : List PromptRow = filter (is_prompt prompt) xs in
-    let one : (b : Bool) → b ≡ true → length (cond b (x ∷ filter (is_prompt p) more) (filter (is_prompt p) more)) ≤ 1
-    → length (cond b (x ∷ filter (is_prompt p) more) (filter (is_prompt p) more)) ≤ length (cond b (sent ∷ []) []) =
-    elim [ true ↦ λ is some. omega (arith, some) | false ↦ λ off some. absurd (let no : false ≡ true = off in cc) ] in
-    let step : (b : Bool) → is_prompt prompt x ≡ b → count p (cond b (x ∷ more) more) ≤ 1
-    → count p (cond b (x ∷ more) more)
-    ≤ completions_in p (cons_option (option_map (λ (row : PromptRow). completed_signal dismissed created (ended_row row)) (cond b (Some x) (find (is_prompt prompt) xs))) []) =
-    elim [
-      | true ↦ λ is some. let own : is_prompt p x ≡ true = grind (arith, nat_tests) in one (is_prompt p x) own some
-      | false ↦ λ off some. found-due p prompt dismissed created xs same some
-    ] in
-    step (is_prompt prompt x) refl few
-
-ends-due : (p prompt : PromptId) (dismissed : Bool) (created : Option (List ℕ)) (rows : List PromptRow) → count p (filter (is_prompt prompt) rows) ≤ 1
-    → count p (filter (is_prompt prompt) rows) ≤ completions_in p (cons_option (option_map (λ (row : PromptRow). completed_signal dismissed created (ended_row row)) (find (is_prompt prompt) rows)) [])
-ends-due p prompt dismissed created rows few =
-    let step : (b : Bool) → nat_eq prompt.0 p.0 ≡ b
-    → count p (filter (is_prompt prompt) rows) ≤ completions_in p (cons_option (option_map (λ (row : PromptRow). completed_signal dismissed created (ended_row row)) (find (is_prompt prompt) rows)) []) =
-    elim [ true ↦ λ same. found-due p prompt dismissed created rows same few | false ↦ λ off. let none = count-other p prompt rows off in omega (arith, none) ] in
-    step (nat_eq prompt.0 p.0) refl
-
-ended-due : (p prompt : PromptId) (dismissed : Bool) (created : Option (List ℕ)) (prompts : Prompts) → IsDue p (completed_sent prompt dismissed created prompts) (ended prompt prompts) prompts
-ended-due p prompt dismissed created prompts = λ few.
-    let split = count-split p (is_prompt prompt) prompts.rows in
-    let once : count p (filter (is_prompt prompt) prompts.rows) ≤ 1 = omega (arith, few, split) in
-    let told = ends-due p prompt dismissed created prompts.rows once in
-    omega (arith, told, split)
-
-module _ (p : PromptId) (sent : List Sent) where
-  map-due : (h : PromptRow → PromptRow) → ((row : PromptRow) → (h row).prompt ≡ row.prompt) → (prompts : Prompts) (agent : Option ConnId)
-      → IsDue p sent (record { rows = map h prompts.rows; agent = agent; next = prompts.next }) prompts
-  map-due h keeps prompts agent = λ few. let same = count-kept p h keeps prompts.rows in omega (arith, same)
-
-  changed-due : (prompt : PromptId) (f : PromptRow → PromptRow) → ((row : PromptRow) → (f row).prompt ≡ row.prompt) → (prompts : Prompts) → IsDue p sent (changed prompt f prompts) prompts
-  changed-due prompt f keeps prompts =
-      let its : (row : PromptRow) → (cond (is_prompt prompt row) (f row) row).prompt ≡ row.prompt =
-      λ row.
-      let step : (b : Bool) → (cond b (f row) row).prompt ≡ row.prompt = elim [ true ↦ keeps row | false ↦ refl ] in
-      step (is_prompt prompt row) in
-      map-due (λ row. cond (is_prompt prompt row) (f row) row) its prompts prompts.agent
-
-room-stays : (next number : ℕ) → cond (nat_le next number) 1 0 ≤ cond (nat_eq next number) 1 0 + cond (nat_le (next + 1) number) 1 0
-room-stays next number = grind (arith, nat_tests)
-
-begun-due : (p : PromptId) (owner : ConnId) (kind : PromptKind) (prompts : Prompts) → IsDue p [] (begun owner kind prompts) prompts
-begun-due p owner kind prompts = λ few.
-    let more : count p (begun owner kind prompts).rows ≡ count p prompts.rows + cond (nat_eq prompts.next p.0) 1 0 = count-more p prompts.rows _ in
-    let stays = room-stays prompts.next p.0 in
-    omega (arith, more, stays)
-
--- a prompt that continues
-gone_on-due : (p prompt : PromptId) (questions : CollectionQuestions) (collections : Rows) (prompts : Prompts)
-    → IsDue p (go_on_sent questions collections prompts.agent (row_at prompt prompts)) (gone_on prompt questions prompts) prompts
-gone_on-due p prompt questions collections prompts = λ few.
-    let after = passed_over prompt questions prompts in
-    let row = row_at prompt prompts in
-    let sent = go_on_sent questions collections prompts.agent row in
-    let same-row = row-changed prompt (passed_row questions) prompts (λ row. refl) in
-    let paid : IsPaid p [] after prompts = changed-paid p [] refl prompt (passed_row questions) (λ row. refl) prompts in
-    let passed = changed-due p [] prompt (passed_row questions) (λ row. refl) prompts few in
-    let one : left p after ≤ 1 = omega (arith, paid, few) in
-    let pass : (b : Bool) → is_over_row (row_at prompt after) ≡ b → left p prompts ≤ completions_in p sent + left p (cond b (ended prompt after) (asked_again prompt after)) =
-    elim [
-      | true ↦ λ is.
-          let same : sent ≡ completed_sent prompt false None after =
-          end-sends p prompt questions collections prompts row (sym (ap is_over_row same-row) ∙ is)
-          ∙ ap (λ o. cons_option (option_map (λ (row : PromptRow). completed_signal false None (ended_row row)) o) []) (sym same-row) in
-          let told = ap (completions_in p) same in
-          let due = ended-due p prompt false None after one in
-          omega (arith, passed, told, due)
-      | false ↦ λ is. let due = changed-due p sent prompt (λ row. record row { stage = Asked (next_round (row_at prompt after)) }) (λ row. refl) after one in omega (arith, passed, due)
-    ] in
-    pass (is_over_row (row_at prompt after)) refl
-
-performed-due : (p : PromptId) (caller : ConnId) (change : Change) (state : State) → IsDue p (sent_by caller change state) (performed caller change state).prompts state.prompts
-performed-due p caller Open_session state = λ few. omega arith
-performed-due p caller (Close_session session) state = λ few. omega arith
-performed-due p caller (Lock_collection stem) state = λ few. omega arith
-performed-due p caller (Begin_prompt kind) state = begun-due p caller kind state.prompts
-performed-due p caller (Ask_prompt prompt) state = changed-due p (ask_sent prompt (asked_again prompt state.prompts) state.collections) prompt _ (λ row. refl) state.prompts
-performed-due p caller (Derive_key prompt round) state = changed-due p [] prompt _ (λ row. refl) state.prompts
-performed-due p caller (Count_wrong prompt) state = changed-due p [] prompt _ (λ row. refl) state.prompts
-performed-due p caller (Clear_wrong prompt) state = changed-due p [] prompt _ (λ row. refl) state.prompts
-performed-due p caller (Go_on prompt) state = gone_on-due p prompt (asked_collections (contents_of state)) state.collections state.prompts
-performed-due p caller (Finish_target prompt) state = changed-due p [] prompt _ (λ row. refl) state.prompts
-performed-due p caller (Drop_target prompt) state = changed-due p [] prompt _ (λ row. refl) state.prompts
-performed-due p caller (End_prompt prompt dismissed created) state = ended-due p prompt dismissed created state.prompts
-performed-due p caller Become_agent state = λ few. omega arith
-performed-due p caller Leave_agent state = map-due p [] unanswered_row (λ row. refl) state.prompts None
-
-all-due : (p : PromptId) (caller : ConnId) (changes : List Change) (state : State) → IsDue p (sent_all caller changes state) (performed_all caller changes state).prompts state.prompts
-all-due p caller [] state = λ few. omega arith
-all-due p caller (change ∷ changes) state = λ few.
-    let next = performed caller change state in
-    let paid = performed-paid p caller change state in
-    let one : left p next.prompts ≤ 1 = omega (arith, paid, few) in
-    let first = performed-due p caller change state few in
-    let rest = all-due p caller changes next one in
-    let both = told-append p (sent_by caller change state) (sent_all caller changes next) in
-    omega (arith, first, rest, both)
-
-run-due : (p : PromptId) (caller : ConnId) (brought : Brought) (plan : Plan) (fates : List Fate) (state : State)
-    → IsDue p (run caller brought plan fates state).sends (run caller brought plan fates state).state.prompts state.prompts
-run-due p caller brought (Ends answer changes) fates state = all-due p caller changes state
-run-due p caller brought (After changes next) fates state = λ few.
-    let mid = performed_all caller changes state in
-    let then = run caller brought (next (asked caller brought mid)) fates mid in
-    let paid = all-paid p caller changes state in
-    let one : left p mid.prompts ≤ 1 = omega (arith, paid, few) in
-    let first = all-due p caller changes state few in
-    let rest = run-due p caller brought (next (asked caller brought mid)) fates mid one in
-    let both = told-append p (sent_all caller changes state) then.sends in
-    omega (arith, first, rest, both)
-run-due p caller brought (Asks demand next) [] state = λ few. omega arith
-run-due p caller brought (Asks demand next) (fate ∷ fates) state = run-due p caller brought (next fate) fates (demanded brought demand fate state)
-run-due p caller brought (Opens stem terms next) fates state = run-due p caller brought next fates (unlocked_with brought stem terms state)
-
-led-due : (p : PromptId) (caller : ConnId) (brought : Brought) (plan : Plan) (fates : List Fate) (state : State)
-    → IsDue p (led caller brought plan fates state).sends (led caller brought plan fates state).state.prompts state.prompts
-led-due p caller brought plan fates state = λ few.
-    let ran = run caller brought plan fates state in
-    let due = run-due p caller brought plan fates state few in
-    let told = ap (completions_in p) (sends-limited plan ran) in
-    let kept = ap (λ (s : State). left p s.prompts) (state-limited plan ran) in
-    omega (arith, due, told, kept)
-
--- once a connection is gone, its prompts and no others aren't left
-abandoned-due : (p : PromptId) (conn : ConnId) (prompts : Prompts) (row : PromptRow) → row_at p prompts ≡ Some row → (conn ≡ row.owner → ⊥) → left p prompts ≤ 1 → left p prompts ≤ left p (abandoned conn prompts)
-abandoned-due p conn prompts row found another few =
-    let others = without conn prompts in
+-- once a connection is gone, the prompts of others are left
+event-kept : (p : PromptId) (state : State) (row : PromptRow) (some : Event) → row_at p state.prompts ≡ Some row → (some ≡ event.Gone row.owner → ⊥) → IsPaid p (puts_out state some) (step state some).prompts state.prompts
+event-kept p state row (event.Gone conn) found another = λ few.
+    let prompts = state.prompts in
     let not_its : (b : Bool) → is_of conn row ≡ b → not b ≡ true =
     elim [
-      | true ↦ λ is. absurd (let same : conn.0 ≡ row.owner.0 = grind (arith, nat_tests) in another (λ i. record { 0 = same i }))
+      | true ↦ λ is. absurd (let same : conn.0 ≡ row.owner.0 = grind (arith, nat_tests) in another (λ i. event.Gone (record { 0 = same i })))
       | false ↦ λ off. refl
     ] in
     let stays = count-own p (λ (other : PromptRow). not (is_of conn other)) prompts.rows row (not_its (is_of conn row) refl) found in
     let split = count-split p (is_of conn) prompts.rows in
-    let one : left p others ≤ 1 = omega (arith, few, split) in
-    let quiet = map-due p [] unanswered_row (λ row. refl) others None one in
-    let step : (b : Bool) → left p others ≤ left p (cond b (unregistered others) others) = elim [ true ↦ omega (arith, quiet) | false ↦ omega arith ] in
-    let kept = step (is_agent conn prompts) in
-    omega (arith, few, stays, split, kept)
-
-event-due : (p : PromptId) (state : State) (row : PromptRow) (some : Event) → row_at p state.prompts ≡ Some row → (some ≡ event.Gone row.owner → ⊥) → IsDue p (puts_out state some) (step state some).prompts state.prompts
-event-due p state row (event.Connect conn) found another = λ few. omega arith
-event-due p state row (event.Arrive came) found another = λ few.
-    let caller = came.arrival.conn in
-    let ran = served came state in
-    let due = led-due p caller (brought_by came.arrival) (plan_for came state) came.fates state few in
-    let none = reply-told p caller came.arrival.request ran.answer in
-    let both = told-append p (replies caller came.arrival.request ran.answer) ran.sends in
-    omega (arith, due, none, both)
-event-due p state row (event.Derived came) found another =
-    let brought = brought_derived came in
-    led-due p came.conn brought (derived came.prompt came.round (terms_of came) (asked came.conn brought state)) came.fates state
-event-due p state row (event.Leave conn) found another = λ few. omega arith
-event-due p state row (event.Take conn) found another = λ few. omega arith
-event-due p state row (event.Gone conn) found another = λ few.
-    let kept = abandoned-due p conn state.prompts row found (λ same. another (ap event.Gone same)) few in
-    omega (arith, kept)
+    let same = abandoned-left p conn prompts in
+    omega (arith, few, stays, split, same)
+event-kept p state row some found another = event-paid p state some tt
 
 -- ---- the law
 
@@ -594,10 +438,12 @@ sound-left : (p : PromptId) (state : State) → IsSound state → left p state.p
 sound-left p state sound = left-once p state.prompts sound.prompts.kept.given sound.prompts.kept.rising
 
 pub completes_once : (p : PromptId) (state : State) (events : List Event) → IsSound state → completions p state events ≤ 1
-completes_once p state events sound = omega (arith, list-paid p state events, sound-left p state sound)
+completes_once p state events sound = let few = sound-left p state sound in omega (arith, list-fewer p state events few, few)
 
 pub over_once_completed : (p : PromptId) (state : State) (events : List Event) → IsSound state → 1 ≤ completions p state events → IsOver p (replay state events).prompts
-over_once_completed p state events sound some = none-over p (replay state events).prompts (omega (arith, list-paid p state events, sound-left p state sound, some))
+over_once_completed p state events sound some =
+    let few = sound-left p state sound in
+    none-over p (replay state events).prompts (omega (arith, list-fewer p state events few, few, some))
 
 pub over_once_gone : (p : PromptId) (state : State) (row : PromptRow) → IsSound state → row_at p state.prompts ≡ Some row → IsOver p (step state (event.Gone row.owner)).prompts
 over_once_gone p state row sound found =
@@ -608,17 +454,19 @@ over_once_gone p state row sound found =
     none-over p (abandoned row.owner state.prompts) (omega (arith, own, split, fewer, sound-left p state sound))
 
 pub over_for_good : (p : PromptId) (state : State) (events : List Event) → IsOver p state.prompts → IsOver p (replay state events).prompts
-over_for_good p state events over = none-over p (replay state events).prompts (omega (arith, list-paid p state events, over-none p state.prompts over))
+over_for_good p state events over =
+    let none = over-none p state.prompts over in
+    none-over p (replay state events).prompts (omega (arith, list-fewer p state events (omega (arith, none)), none))
 
 pub over_is_silent : (p : PromptId) (state : State) (events : List Event) → IsOver p state.prompts → completions p state events ≡ 0
-over_is_silent p state events over = omega (arith, list-paid p state events, over-none p state.prompts over)
+over_is_silent p state events over = let none = over-none p state.prompts over in omega (arith, list-fewer p state events (omega (arith, none)), none)
 
 pub derived_for_none : (state : State) (came : Derivation) → IsOver came.prompt state.prompts → puts_out state (event.Derived came) ≡ []
 derived_for_none state came over =
     let brought = brought_derived came in
     let terms = terms_of came in
     let asks = asked came.conn brought state in
-    ap (λ (o : Option PromptRow). (led came.conn brought (row_derived came.prompt came.round o terms asks) came.fates state).sends) over.gone
+    ap (λ (o : Option PromptRow). (run came.conn brought (row_derived came.prompt came.round o terms asks) came.fates state).sends) over.gone
 
 pub derived_is_nothing : (state : State) (came : Derivation) → IsOver came.prompt state.prompts → step state (event.Derived came) ≡ state
 derived_is_nothing state came over =
@@ -626,7 +474,7 @@ derived_is_nothing state came over =
     let terms = terms_of came in
     let asks = asked came.conn brought state in
     ap (λ (o : Option PromptRow).
-    let ran = led came.conn brought (row_derived came.prompt came.round o terms asks) came.fates state in
+    let ran = run came.conn brought (row_derived came.prompt came.round o terms asks) came.fates state in
     with_delivered ran.sends ran.state) over.gone
 
 -- a prompt that is over by an event other than that its owner is gone has completed
@@ -637,7 +485,6 @@ completes_at_its_end p state row some sound found another ends =
     let own = count-own p (is_of row.owner) state.prompts.rows row itself found in
     let split = count-split p (is_of row.owner) state.prompts.rows in
     let few = sound-left p state sound in
-    let due = event-due p state row some found another few in
-    let paid = event-paid p state some in
+    let paid = event-kept p state row some found another few in
     let none = over-none p (step state some).prompts ends in
-    omega (arith, own, split, few, due, paid, none)
+    omega (arith, own, split, few, paid, none)

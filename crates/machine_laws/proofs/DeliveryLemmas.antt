@@ -1,46 +1,34 @@
 -- What is true of each message that an event puts out, and of each that waits at first, is true of each that waits after the events.
-use Rattle.std.proofs.Common.{◌≡◌, ℕ, suc, ◌+◌, ◌==◌, Bool, true, false, nat_le, not, cond, List, [], ◌∷◌, ◌++◌, map, Contains, refl, sym, ap, subst, ◌∙◌}
+use Rattle.std.proofs.Common.{◌≡◌, ℕ, suc, ◌+◌, ◌==◌, Bool, true, false, nat_le, not, cond, List, [], ◌∷◌, ◌++◌, map, Contains, refl, sym, subst}
 use Rattle.std.specs.List.{AllByRecursion}
 use Rattle.std.proofs.lemmas.Bool.{eqb-true}
 use Rattle.std.proofs.lemmas.List.Elements.{All-contains, All-contains_itself, All-from_recursion, recursion_from_All}
 use Rattle.kr_base.specs.declared.ids.ConnId.{ConnId}
 use Rattle.service_events.specs.secret_calls.specs.declared.out.Out.{Out}
 use Rattle.service_events.specs.secret_calls.specs.Outs.{most_waiting}
-use Rattle.service_events.specs.service_tables.specs.Connections.{changed, delivered, emptied, is_row, left, new_row, size_of, size_waiting, waiting_for, with_out}
+use Rattle.service_events.specs.service_tables.specs.Connections.{changed, delivered, emptied, given_out, is_row, left, new_row, size_of, size_waiting, waiting_for, with_out}
 use Rattle.service_events.specs.service_tables.specs.Opened.{Contents, opened_state}
 use Rattle.service_events.specs.service_tables.specs.State.{State}
-use Rattle.service_events.specs.service_tables.specs.Storing.{Brought}
-use Rattle.service_events.specs.service_tables.specs.declared.fate.Fate.{Fate}
 use Rattle.service_events.specs.service_tables.specs.declared.rows.ConnRow.{ConnRow}
 use Rattle.service_events.specs.service_tables.specs.declared.rows.ConnRows.{ConnRows}
-use Rattle.service_events.specs.service_tables.specs.declared.rows.Sent.{Sent}
+use Rattle.service_events.specs.service_tables.specs.Sent.{Sent, is_for}
 use Rattle.service_events.specs.service_tables.proofs.EachLemmas.{each-append, each-filter}
 use Rattle.service_events.specs.declared.event.Derivation.{Derivation}
 use Rattle.service_events.specs.declared.event.Event.{Event}
 use Rattle.service_events.specs.declared.event.Event.TheVariants as event
 use Rattle.service_events.specs.Derivation.{derived}
-use Rattle.service_events.specs.Plan.{Plan, Ends, After, Asks, Opens}
 use Rattle.service_events.specs.Replay.{replay}
-use Rattle.service_events.specs.Run.{asked, demanded, performed_all, run, unlocked_with}
+use Rattle.service_events.specs.Run.{asked}
 use Rattle.service_events.specs.Step.{brought_derived, finished, put_out, puts_out, served, step, terms_of}
-use Rattle.service_events.proofs.RunLemmas.{connections-all, connections-served, state-limited}
+use Rattle.service_events.proofs.RunLemmas.{connections-run, connections-served}
 use Rattle.machine_laws.specs.Delivery.{PutsOutAt, WasPutOut}
 
 -- ---- the connections after a derived key, before its signals are delivered
 
-connections-run : (caller : ConnId) (brought : Brought) (plan : Plan) (fates : List Fate) (state : State) → (run caller brought plan fates state).state.connections ≡ state.connections
-connections-run caller brought (Ends answer changes) fates state = connections-all caller changes state
-connections-run caller brought (After changes next) fates state =
-    connections-run caller brought (next (asked caller brought (performed_all caller changes state))) fates (performed_all caller changes state) ∙ connections-all caller changes state
-connections-run caller brought (Asks demand next) [] state = refl
-connections-run caller brought (Asks demand next) (fate ∷ fates) state = connections-run caller brought (next fate) fates (demanded brought demand fate state)
-connections-run caller brought (Opens stem terms next) fates state = connections-run caller brought next fates (unlocked_with brought stem terms state)
-
 connections-finished : (came : Derivation) (state : State) → (finished came state).state.connections ≡ state.connections
 connections-finished came state =
     let brought = brought_derived came in
-    let plan = derived came.prompt came.round (terms_of came) (asked came.conn brought state) in
-    ap (λ (s : State). s.connections) (state-limited plan (run came.conn brought plan came.fates state)) ∙ connections-run came.conn brought plan came.fates state
+    connections-run came.conn brought (derived came.prompt came.round (terms_of came) (asked came.conn brought state)) came.fates state
 
 -- ---- rows of connections
 
@@ -53,9 +41,9 @@ module _ (Q : ℕ → Out → Type 0) where
   abbrev AllWait : List ConnRow → Type 0
   AllWait rows = AllByRecursion WaitsWith rows
 
-  -- it is true of a message on its way
+  -- it is true of a message on its way, for each connection to which it goes
   abbrev IsOnWay : Sent → Type 0
-  IsOnWay sent = Q sent.to.0 sent.out
+  IsOnWay sent = (conn : ConnId) → is_for sent.to conn ≡ true → Q conn.0 sent.out
 
   wait-map : (change : ConnRow → ConnRow) → ((row : ConnRow) → WaitsWith row → WaitsWith (change row)) → (rows : List ConnRow) → AllWait rows → AllWait (map change rows)
   wait-map change keeps [] all = tt
@@ -70,18 +58,24 @@ module _ (Q : ℕ → Out → Type 0) where
       pass (row.conn.0 == conn.0) refl in
       wait-map (λ row. cond (is_row conn row) (change row) row) one rows all
 
-  wait-out : (sent : Sent) → IsOnWay sent → (row : ConnRow) → row.conn.0 ≡ sent.to.0 → WaitsWith row → WaitsWith (with_out sent.out row)
-  wait-out sent is row its wait =
-      let here : Q row.conn.0 sent.out = subst (λ n. Q n sent.out) (sym its) is in
-      let fits : (b : Bool) → WaitsWith (cond b (record row { waiting = row.waiting ++ sent.out ∷ [] }) (record row { overrun = true })) =
-      elim [ true ↦ each-append (Q row.conn.0) row.waiting (sent.out ∷ []) wait (here, tt) | false ↦ wait ] in
-      let pass : (lost fit : Bool) → WaitsWith (cond lost row (cond fit (record row { waiting = row.waiting ++ sent.out ∷ [] }) (record row { overrun = true }))) =
+  wait-out : (message : Out) (row : ConnRow) → Q row.conn.0 message → WaitsWith row → WaitsWith (with_out message row)
+  wait-out message row here wait =
+      let fits : (b : Bool) → WaitsWith (cond b (record row { waiting = row.waiting ++ message ∷ [] }) (record row { overrun = true })) =
+      elim [ true ↦ each-append (Q row.conn.0) row.waiting (message ∷ []) wait (here, tt) | false ↦ wait ] in
+      let pass : (lost fit : Bool) → WaitsWith (cond lost row (cond fit (record row { waiting = row.waiting ++ message ∷ [] }) (record row { overrun = true }))) =
       elim [ true ↦ λ fit. wait | false ↦ fits ] in
-      pass row.overrun (nat_le (size_waiting row.waiting + size_of sent.out) most_waiting)
+      pass row.overrun (nat_le (size_waiting row.waiting + size_of message) most_waiting)
+
+  wait-given : (sent : Sent) → IsOnWay sent → (rows : List ConnRow) → AllWait rows → AllWait (given_out sent rows)
+  wait-given sent is =
+      wait-map (λ row. cond (is_for sent.to row.conn) (with_out sent.out row) row)
+      (λ row wait.
+      let pass : (b : Bool) → is_for sent.to row.conn ≡ b → WaitsWith (cond b (with_out sent.out row) row) = elim [ true ↦ λ its. wait-out sent.out row (is row.conn its) wait | false ↦ λ other. wait ] in
+      pass (is_for sent.to row.conn) refl)
 
   wait-delivered : (sent : List Sent) → AllByRecursion IsOnWay sent → (rows : List ConnRow) → AllWait rows → AllWait (delivered sent rows)
   wait-delivered [] are rows all = all
-  wait-delivered (one ∷ more) are rows all = wait-delivered more are.1 (changed one.to (with_out one.out) rows) (wait-changed one.to (with_out one.out) (wait-out one are.0) rows all)
+  wait-delivered (one ∷ more) are rows all = wait-delivered more are.1 (given_out one rows) (wait-given one are.0 rows all)
 
   -- ---- an event
 
@@ -122,7 +116,7 @@ pub waiting_put_out : (contents : Contents) (events : List Event) (conn : ConnId
 waiting_put_out contents events conn message there =
     let start = opened_state contents in
     let rows = (replay start events).connections.rows in
-    let all = wait-replay (λ number out. WasPutOut start events (record { 0 = number }) out) start events tt (λ place sent is. (place, is)) in
+    let all = wait-replay (λ number out. WasPutOut start events (record { 0 = number }) out) start events tt (λ place sent is conn its. (place, sent.to, its, is)) in
     let waiting = waiting_for conn rows in
     All-contains (λ out. WasPutOut start events conn out) waiting message
     (All-from_recursion (λ out. WasPutOut start events conn out) waiting (wait-for (λ number out. WasPutOut start events (record { 0 = number }) out) conn rows all)) there

@@ -4,3 +4,4 @@ pub mod CompletionLemmas
 pub mod DeliveryLemmas
 pub mod OwnerLemmas
 pub mod SecretLemmas
+pub mod SignalLemmas

@@ -1,5 +1,5 @@
 -- Completed of a prompt goes to its owner: while the prompt is there, only its owner's row has its number, and no other row gets it.
-use Rattle.std.proofs.Common.{◌≡◌, ℕ, ◌<◌, Bool, true, false, cond, not, nat_eq, IsTrue, List, [], ◌∷◌, ◌++◌, length, map, filter, find, Option, Some, None, refl, sym, ap, subst, ◌∙◌, arith}
+use Rattle.std.proofs.Common.{◌≡◌, ℕ, ◌<◌, Bool, true, false, cond, not, nat_eq, IsTrue, List, [], ◌∷◌, ◌++◌, length, map, filter, find, Option, Some, None, Result, refl, sym, ap, subst, ◌∙◌, arith}
 use Rattle.std.specs.List.{AllByRecursion, cons_option}
 use Rattle.std.specs.Option.{option_map}
 use Rattle.std.proofs.lemmas.Bool.Decides.{nat_tests}
@@ -18,19 +18,24 @@ use Rattle.service_events.specs.service_tables.specs.Reading.{asked_collections}
 use Rattle.service_events.specs.service_tables.specs.Sound.{IsSound}
 use Rattle.service_events.specs.service_tables.specs.State.{State}
 use Rattle.service_events.specs.service_tables.specs.Storing.{Brought}
+use Rattle.service_events.specs.secret_calls.specs.declared.call.Request.{Request}
+use Rattle.service_events.specs.secret_calls.specs.declared.out.Body.{Body}
+use Rattle.service_events.specs.secret_calls.specs.declared.out.ErrorName.{ErrorName}
 use Rattle.service_events.specs.service_tables.specs.declared.fate.Fate.{Fate}
-use Rattle.service_events.specs.service_tables.specs.declared.rows.Sent.{Sent}
-use Rattle.service_events.specs.service_tables.proofs.EachLemmas.{each-append, each-filter}
+use Rattle.service_events.specs.service_tables.specs.Sent.{One, Sent}
+use Rattle.service_events.specs.service_tables.proofs.EachLemmas.{each-append, each-filter, each-weaker}
 use Rattle.service_events.specs.Derivation.{derived}
-use Rattle.service_events.specs.Plan.{Change, Open_session, Close_session, Lock_collection, Begin_prompt, Ask_prompt, Derive_key, Count_wrong, Clear_wrong, Go_on, Finish_target, Drop_target, End_prompt, Become_agent, Leave_agent, Plan, Ends, After, Asks, Opens}
+use Rattle.service_events.specs.Plan.{Change, Open_session, Close_session, Lock_collection, Begin_prompt, Ask_prompt, Derive_key, Count_wrong, Clear_wrong, Go_on, End_prompt, Become_agent, Leave_agent, Plan}
 use Rattle.service_events.specs.PromptCalls.{go_on_sent, gone_on, is_over_row, passed_over, passed_row}
-use Rattle.service_events.specs.Run.{asked, demanded, led, performed, performed_all, run, sent_all, sent_by, unlocked_with}
-use Rattle.service_events.specs.Step.{brought_by, brought_derived, puts_out, replies, served, step, terms_of}
+use Rattle.service_events.specs.Run.{asked, performed, performed_all, run, sent_all, sent_by}
+use Rattle.service_events.specs.Step.{brought_by, brought_derived, finished, message_of, puts_out, replies, served, step, terms_of}
 use Rattle.service_events.specs.declared.event.Event.{Event}
 use Rattle.service_events.specs.declared.event.Event.TheVariants as event
 use Rattle.service_events.proofs.AdvanceLemmas.{row-number}
-use Rattle.service_events.proofs.RunLemmas.{plan_for, sends-limited, state-limited}
-use Rattle.machine_laws.specs.Completions.{AreFor, AreAllFor, completes, completions_in}
+use Rattle.service_events.proofs.EndLemmas.{prompts-settled}
+use Rattle.service_events.proofs.RunLemmas.{keeps-run, plan_for}
+use Rattle.machine_laws.specs.Completions.{AreFor, AreForOne, AreAllFor, IsOne, completes, completions_in}
+use Rattle.machine_laws.proofs.SignalLemmas.{IsSignal, signal-run}
 use Rattle.machine_laws.proofs.CompletionLemmas.{ask-told, ask-sends, asks-told, end-sends, reply-told, row-passed}
 
 -- a row with the prompt's number is one of this owner
@@ -96,7 +101,7 @@ module _ (p : PromptId) (owner : ConnId) where
   end-to prompt dismissed created prompts owned =
       let pass : (o : Option PromptRow) → row_at prompt prompts ≡ o
       → AreFor p owner (cons_option (option_map (λ (row : PromptRow). completed_signal dismissed created (ended_row row)) o) []) =
-      elim [ None ↦ λ is. tt | Some row ↦ λ is. (found-row (IsRowOf p owner) prompt prompts row owned.rows is, tt) ] in
+      elim [ None ↦ λ is. tt | Some row ↦ λ is. (λ here. ap One (found-row (IsRowOf p owner) prompt prompts row owned.rows is here), tt) ] in
       pass (row_at prompt prompts) refl
 
   -- ---- changes of the prompts
@@ -183,8 +188,6 @@ module _ (p : PromptId) (owner : ConnId) where
   performed-of caller (Count_wrong prompt) state owned = record { to = tt; owned = changed-of prompt _ (λ row. refl) (λ row. refl) state.prompts owned }
   performed-of caller (Clear_wrong prompt) state owned = record { to = tt; owned = changed-of prompt _ (λ row. refl) (λ row. refl) state.prompts owned }
   performed-of caller (Go_on prompt) state owned = gone_on-of prompt (asked_collections (contents_of state)) state.collections state.prompts owned
-  performed-of caller (Finish_target prompt) state owned = record { to = tt; owned = changed-of prompt _ (λ row. refl) (λ row. refl) state.prompts owned }
-  performed-of caller (Drop_target prompt) state owned = record { to = tt; owned = changed-of prompt _ (λ row. refl) (λ row. refl) state.prompts owned }
   performed-of caller (End_prompt prompt dismissed created) state owned = record { to = end-to prompt dismissed created state.prompts owned; owned = ended-of prompt state.prompts owned }
   performed-of caller Become_agent state owned = record {
     to = none-to (asks_sent (registered caller state.prompts) state.collections) (asks-told p state.collections (registered caller state.prompts) (asks (registered caller state.prompts)));
@@ -194,7 +197,7 @@ module _ (p : PromptId) (owner : ConnId) where
 
   -- what is sent first, and what is sent after it
   both-to : (sent more : List Sent) → AreFor p owner sent → AreFor p owner more → AreFor p owner (sent ++ more)
-  both-to sent more first rest = each-append (λ (one : Sent). IsTrue (completes p one.out) → one.to ≡ owner) sent more first rest
+  both-to sent more first rest = each-append (λ (one : Sent). IsTrue (completes p one.out) → one.to ≡ One owner) sent more first rest
 
   all-of : (caller : ConnId) (changes : List Change) (state : State) → IsOwners p owner state.prompts → IsKept p owner (sent_all caller changes state) (performed_all caller changes state).prompts
   all-of caller [] state owned = record { to = tt; owned = owned }
@@ -208,37 +211,27 @@ module _ (p : PromptId) (owner : ConnId) where
 
   run-of : (caller : ConnId) (brought : Brought) (plan : Plan) (fates : List Fate) (state : State) → IsOwners p owner state.prompts
       → IsKept p owner (run caller brought plan fates state).sends (run caller brought plan fates state).state.prompts
-  run-of caller brought (Ends answer changes) fates state owned = all-of caller changes state owned
-  run-of caller brought (After changes next) fates state owned =
-      let mid = performed_all caller changes state in
-      let first = all-of caller changes state owned in
-      let rest = run-of caller brought (next (asked caller brought mid)) fates mid first.owned in
-      record { to = both-to (sent_all caller changes state) (run caller brought (next (asked caller brought mid)) fates mid).sends first.to rest.to; owned = rest.owned }
-  run-of caller brought (Asks demand next) [] state owned = record { to = tt; owned = owned }
-  run-of caller brought (Asks demand next) (fate ∷ fates) state owned = run-of caller brought (next fate) fates (demanded brought demand fate state) owned
-  run-of caller brought (Opens stem terms next) fates state owned = run-of caller brought next fates (unlocked_with brought stem terms state) owned
-
-  led-of : (caller : ConnId) (brought : Brought) (plan : Plan) (fates : List Fate) (state : State) → IsOwners p owner state.prompts
-      → IsKept p owner (led caller brought plan fates state).sends (led caller brought plan fates state).state.prompts
-  led-of caller brought plan fates state owned =
-      let ran = run caller brought plan fates state in
-      let kept = run-of caller brought plan fates state owned in
-      record {
-        to = subst (AreFor p owner) (sym (sends-limited plan ran)) kept.to;
-        owned = subst (λ (s : State). IsOwners p owner s.prompts) (sym (state-limited plan ran)) kept.owned;
-      }
+  run-of caller brought =
+      keeps-run caller brought (λ before ran. IsOwners p owner before.prompts → IsKept p owner ran.sends ran.state.prompts)
+      (record {
+        ends = λ answer changes state small. all-of caller changes state;
+        fails = λ name state owned. record { to = tt; owned = owned };
+        asks = λ demand ended state ran kept. kept;
+        settles = λ reading ended state ran kept owned. kept (subst (IsOwners p owner) (sym (prompts-settled reading ended state)) owned);
+        opens = λ stem terms state ran kept. kept;
+      })
 
   event-of : (state : State) (event : Event) → IsOwners p owner state.prompts → IsKept p owner (puts_out state event) (step state event).prompts
   event-of state (event.Connect conn) owned = record { to = tt; owned = owned }
   event-of state (event.Arrive came) owned =
       let caller = came.arrival.conn in
       let ran = served came state in
-      let kept = led-of caller (brought_by came.arrival) (plan_for came state) came.fates state owned in
+      let kept = run-of caller (brought_by came.arrival) (plan_for came state) came.fates state owned in
       let reply = replies caller came.arrival.request ran.answer in
       record { to = both-to reply ran.sends (none-to reply (reply-told p caller came.arrival.request ran.answer)) kept.to; owned = kept.owned }
   event-of state (event.Derived came) owned =
       let brought = brought_derived came in
-      led-of came.conn brought (derived came.prompt came.round (terms_of came) (asked came.conn brought state)) came.fates state owned
+      run-of came.conn brought (derived came.prompt came.round (terms_of came) (asked came.conn brought state)) came.fates state owned
   event-of state (event.Leave conn) owned = record { to = tt; owned = owned }
   event-of state (event.Take conn) owned = record { to = tt; owned = owned }
   event-of state (event.Gone conn) owned = record { to = tt; owned = abandoned-of conn state.prompts owned }
@@ -251,3 +244,28 @@ module _ (p : PromptId) (owner : ConnId) where
 
 pub goes_to_owner : (p : PromptId) (state : State) (row : PromptRow) (events : List Event) → IsSound state → row_at p state.prompts ≡ Some row → AreAllFor p row.owner state events
 goes_to_owner p state row events sound found = list-of p row.owner state events (owners-of p state row sound found)
+
+-- ---- to one connection
+
+-- whatever a signal is, it goes to one connection, and so does a reply
+signals-to-one : (p : PromptId) (sent : List Sent) → AllByRecursion IsSignal sent → AreForOne p sent
+signals-to-one p = each-weaker IsSignal (λ (one : Sent). IsTrue (completes p one.out) → IsOne one.to) (λ one is its. is.0)
+
+reply-to-one : (p : PromptId) (caller : ConnId) (request : Request) (answer : Result Body ErrorName) → AreForOne p (replies caller request answer)
+reply-to-one p caller request answer =
+    let pass : (wanted : Bool) → AreForOne p (cond wanted (record { to = One caller; out = message_of request.serial answer } ∷ []) []) = elim [ true ↦ (λ its. tt, tt) | false ↦ tt ] in
+    pass request.wants_reply
+
+pub goes_to_one : (p : PromptId) (state : State) (event : Event) → AreForOne p (puts_out state event)
+goes_to_one p state (event.Connect conn) = tt
+goes_to_one p state (event.Arrive came) =
+    let caller = came.arrival.conn in
+    let ran = served came state in
+    each-append (λ (one : Sent). IsTrue (completes p one.out) → IsOne one.to) (replies caller came.arrival.request ran.answer) ran.sends (reply-to-one p caller came.arrival.request ran.answer)
+    (signals-to-one p ran.sends (signal-run caller (brought_by came.arrival) (plan_for came state) came.fates state))
+goes_to_one p state (event.Derived came) =
+    let brought = brought_derived came in
+    signals-to-one p (finished came state).sends (signal-run came.conn brought (derived came.prompt came.round (terms_of came) (asked came.conn brought state)) came.fates state)
+goes_to_one p state (event.Leave conn) = tt
+goes_to_one p state (event.Take conn) = tt
+goes_to_one p state (event.Gone conn) = tt

@@ -10,7 +10,7 @@ use Rattle.service_events.specs.secret_calls.specs.declared.out.Out.{Out}
 use Rattle.service_events.specs.secret_calls.specs.declared.out.Out.TheVariants as out
 use Rattle.service_events.specs.secret_calls.specs.declared.signal.Signal.{Signal}
 use Rattle.service_events.specs.secret_calls.specs.declared.signal.Signal.TheVariants as signal
-use Rattle.service_events.specs.service_tables.specs.declared.rows.Sent.{Sent}
+use Rattle.service_events.specs.service_tables.specs.Sent.{Recipient, One, Sent}
 
 -- whether a signal is Ask
 abbrev pub is_ask_signal : Signal → Bool
@@ -23,9 +23,14 @@ is_ask (out.Return serial body) = false
 is_ask (out.Error serial name) = false
 is_ask (out.Signal signal) = is_ask_signal signal
 
--- each Ask among these outputs is for the agent, and there is none without one
+-- the recipient is the agent alone, which is there
+abbrev pub IsAgent : Option ConnId → Recipient → Type 0
+IsAgent None to = ⊥
+IsAgent (Some agent) to = to ≡ One agent
+
+-- each Ask among these outputs is for the agent alone, and there is none without one
 abbrev pub AreForAgent : Option ConnId → List Sent → Type 0
-AreForAgent agent sent = AllByRecursion (λ (one : Sent). IsTrue (is_ask one.out) → agent ≡ Some one.to) sent
+AreForAgent agent sent = AllByRecursion (λ (one : Sent). IsTrue (is_ask one.out) → IsAgent agent one.to) sent
 
 -- whether a signal is Ask of the prompt in this round
 abbrev pub is_ask_of : PromptId → ℕ → Signal → Bool

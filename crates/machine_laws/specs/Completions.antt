@@ -13,7 +13,7 @@ use Rattle.service_events.specs.secret_calls.specs.declared.signal.Signal.TheVar
 use Rattle.service_events.specs.Step.{puts_out, step}
 use Rattle.service_events.specs.declared.event.Event.{Event}
 use Rattle.service_events.specs.service_tables.specs.State.{State}
-use Rattle.service_events.specs.service_tables.specs.declared.rows.Sent.{Sent}
+use Rattle.service_events.specs.service_tables.specs.Sent.{Recipient, One, Everyone, Sent}
 
 -- whether a signal is Completed of the prompt
 abbrev pub is_completed : PromptId → Signal → Bool
@@ -26,7 +26,7 @@ completes prompt (out.Return serial body) = false
 completes prompt (out.Error serial name) = false
 completes prompt (out.Signal signal) = is_completed prompt signal
 
--- how many of these outputs are Completed of the prompt, whichever connection they are for
+-- how many of these outputs are Completed of the prompt, whomever they are for
 abbrev pub completions_in : PromptId → List Sent → ℕ
 completions_in prompt sent = length (filter (λ one. completes prompt one.out) sent)
 
@@ -40,9 +40,18 @@ pub record IsOver (prompt : PromptId) (prompts : Prompts) : Type 0 where
   pub given : prompt.0 < prompts.next
   pub gone : row_at prompt prompts ≡ None
 
--- each Completed of the prompt among these outputs is for this connection
+-- the recipient is one connection
+abbrev pub IsOne : Recipient → Type 0
+IsOne (One conn) = Unit {0}
+IsOne Everyone = ⊥
+
+-- each Completed of the prompt among these outputs is for one connection
+abbrev pub AreForOne : PromptId → List Sent → Type 0
+AreForOne prompt sent = AllByRecursion (λ (one : Sent). IsTrue (completes prompt one.out) → IsOne one.to) sent
+
+-- each Completed of the prompt among these outputs is for this connection alone
 abbrev pub AreFor : PromptId → ConnId → List Sent → Type 0
-AreFor prompt conn sent = AllByRecursion (λ (one : Sent). IsTrue (completes prompt one.out) → one.to ≡ conn) sent
+AreFor prompt conn sent = AllByRecursion (λ (one : Sent). IsTrue (completes prompt one.out) → one.to ≡ One conn) sent
 
 -- the same of all that the events put out, one after the other, from a state on
 abbrev pub AreAllFor : PromptId → ConnId → State → List Event → Type 0

@@ -2,7 +2,8 @@
 -- GetSecret returns the secret of the item on which it is called, and GetSecrets those of several items, each with the path of its item. The
 -- values of no other message have room for a secret.
 use Rattle.std.specs.Prelude.{◌≡◌, ℕ, IsSomeAnd, IsTrue, List, [], ◌∷◌, Contains, filter, slice_get, take, Some, Result, Ok}
-use Rattle.std.specs.List.{filter_map}
+use Rattle.std.specs.List.{AllByRecursion, filter_map}
+use Rattle.kr_base.specs.declared.ids.ConnId.{ConnId}
 use Rattle.kr_base.specs.declared.ids.ItemId.{ItemId}
 use Rattle.kr_base.specs.declared.ids.SessionId.{SessionId}
 use Rattle.kr_names.specs.declared.object_name.ObjectName.{ObjectName}
@@ -12,19 +13,26 @@ use Rattle.service_events.specs.collection_table.specs.Rows.{Rows, is_open}
 use Rattle.service_events.specs.secret_calls.specs.declared.call.Call.{Call}
 use Rattle.service_events.specs.secret_calls.specs.declared.call.Call.TheVariants as call
 use Rattle.service_events.specs.secret_calls.specs.declared.call.CallFault.{CallFault}
+use Rattle.service_events.specs.secret_calls.specs.declared.out.Body.{Body}
 use Rattle.service_events.specs.secret_calls.specs.declared.out.Body.TheVariants as body
+use Rattle.service_events.specs.secret_calls.specs.declared.out.ErrorName.{ErrorName}
 use Rattle.service_events.specs.secret_calls.specs.declared.out.Out.{Out}
 use Rattle.service_events.specs.secret_calls.specs.declared.out.Out.TheVariants as out
 use Rattle.service_events.specs.secret_calls.specs.declared.secret.ItemSecret.{ItemSecret}
 use Rattle.service_events.specs.secret_calls.specs.declared.serial.Serial.{Serial}
-use Rattle.service_events.specs.service_tables.specs.declared.rows.Sent.{Sent}
+use Rattle.session_table.specs.Sessions.{owns}
+use Rattle.service_events.specs.service_tables.specs.Sent.{One, Sent}
 use Rattle.service_events.specs.service_tables.specs.Objects.{is_open_item, once}
 use Rattle.service_events.specs.service_tables.specs.Opened.{contents_of}
 use Rattle.service_events.specs.service_tables.specs.Reading.{asked_collections, item_secret, secret_of}
 use Rattle.service_events.specs.service_tables.specs.State.{State}
+use Rattle.service_events.specs.service_tables.specs.Storing.{Brought}
+use Rattle.service_events.specs.service_tables.specs.declared.fate.Fate.{Fate}
 use Rattle.service_events.specs.declared.event.Event.{Event}
 use Rattle.service_events.specs.declared.event.Event.TheVariants as event
+use Rattle.service_events.specs.Plan.{Plan, Ends, Asks, Settles, Opens}
 use Rattle.service_events.specs.Replay.{replay}
+use Rattle.service_events.specs.Run.{asked, by_read, by_reading, by_store, by_test, demanded, is_in_doubt, settled, unlocked_with}
 use Rattle.service_events.specs.Step.{puts_out}
 
 -- ---- what is shown
@@ -64,9 +72,9 @@ abbrev pub IsReturn : Serial → Out → Type 0
 IsReturn serial (out.Return to body) = to ≡ serial
 IsReturn serial _ = ⊥
 
--- the event is a request of the connection to which the message goes, and the message is its return
+-- the event is a request of a connection, and the message is its return, which goes to this connection alone
 abbrev pub IsReturnOf : Event → Sent → Type 0
-IsReturnOf (event.Arrive came) sent = (sent.to ≡ came.arrival.conn) × IsReturn came.arrival.request.serial sent.out
+IsReturnOf (event.Arrive came) sent = (sent.to ≡ One came.arrival.conn) × IsReturn came.arrival.request.serial sent.out
 IsReturnOf _ sent = ⊥
 
 -- The path is that of an item whose collection is unlocked, and the value and the content type of the secret are those of that item.
@@ -76,6 +84,30 @@ pub record IsOfOpenItem (rows : Rows) (shown : ItemSecret) : Type 0 where
   pub named : shown.item ≡ path_text (object.Item stem item)
   pub unlocked : IsTrue (is_open stem rows)
   pub whose : secret_of shown.secret.session rows stem item ≡ Some shown.secret
+
+-- ---- what any plan answers
+
+-- the secret is for a session that the caller owns, and that of an item whose collection is unlocked
+abbrev pub IsOwnAndOpen : ConnId → State → ItemSecret → Type 0
+IsOwnAndOpen caller state shown = IsTrue (owns caller shown.secret.session state.sessions) × IsOfOpenItem state.collections shown
+
+-- each secret in an answer is; one that comes without the path of its item is that of some item
+abbrev pub AreOwnAndOpen : ConnId → State → Result Body ErrorName → Type 0
+AreOwnAndOpen caller state (Ok (body.Secret secret)) = (path : List ℕ) × IsOwnAndOpen caller state (record { item = path; secret = secret })
+AreOwnAndOpen caller state (Ok (body.Secrets secrets)) = AllByRecursion (IsOwnAndOpen caller state) secrets
+AreOwnAndOpen caller state _ = Unit {0}
+
+-- the state in which a plan answers: after all that it asked of the disk, read again and unlocked, and before its changes
+abbrev pub ended_in : ConnId → Brought → Plan → List Fate → State → State
+ended_in caller brought (Ends answer changes) fates state = state
+ended_in caller brought (Asks demand next) fates state = by_store state (λ ended rest. ended_in caller brought (next ended) rest (demanded brought demand ended state)) fates
+ended_in caller brought (Settles reading unread next) fates state =
+    by_test (is_in_doubt reading state)
+    (by_read state
+    (λ ended rest. by_reading ended (ended_in caller brought unread rest (settled reading ended state))
+    (ended_in caller brought (next (asked caller brought (settled reading ended state))) rest (settled reading ended state))) fates)
+    (ended_in caller brought (next (asked caller brought state)) fates state)
+ended_in caller brought (Opens stem terms next) fates state = ended_in caller brought next fates (unlocked_with brought stem terms state)
 
 -- ---- what GetSecrets shows
 

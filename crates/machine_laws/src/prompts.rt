@@ -2,7 +2,7 @@
 // nothing.
 ghost use Rattle.std.specs.Prelude.{◌≡◌, ◌≤◌, [], List, Some};
 ghost use Rattle.kr_base.specs.declared.ids.PromptId.{PromptId};
-ghost use Rattle.machine_laws.specs.Completions.{completions, completions_in, AreAllFor, IsOver};
+ghost use Rattle.machine_laws.specs.Completions.{completions, completions_in, AreAllFor, AreForOne, IsOver};
 ghost use Rattle.prompt_state.specs.Prompts.{row_at};
 ghost use Rattle.prompt_state.specs.declared.row.PromptRow.{PromptRow};
 ghost use Rattle.service_events.specs.Replay.{replay};
@@ -54,9 +54,12 @@ pub fn a_prompt_that_is_over_stays_so()
 {}
 
 /// Completed goes to the owner alone: from a state on in which the prompt is there, whatever events
-/// come, each Completed that they put out for it is for the connection that owns it.
+/// come, each Completed that they put out for it is for the connection that owns it, and for no other.
+/// In any state, whether the event fits or not, each Completed is for one connection.
 pub fn completed_goes_to_the_owner()
-    ensures { (prompt : PromptId) (state : State) (row : PromptRow) (events : List Event)
+    ensures owner { (prompt : PromptId) (state : State) (row : PromptRow) (events : List Event)
         → IsSound state → row_at prompt state.prompts ≡ Some row
         → AreAllFor prompt row.owner state events }
+    ensures one { (prompt : PromptId) (state : State) (event : Event)
+        → AreForOne prompt (puts_out state event) }
 {}

@@ -1,5 +1,5 @@
 -- The row of Answer: which plan it is, what is sent if a collection is gone, and what the resolve of its file leads to.
-use Rattle.std.proofs.Common.{◌≡◌, ℕ, ◌+◌, ◌<◌, ◌≤◌, Bool, true, false, cond, nat_eq, List, [], ◌∷◌, ◌++◌, length, Option, Some, None, Err, refl, sym, ap, subst, ◌∙◌, arith}
+use Rattle.std.proofs.Common.{◌≡◌, ℕ, ◌+◌, ◌<◌, ◌≤◌, Bool, true, false, cond, nat_eq, List, [], ◌∷◌, ◌++◌, Option, Some, None, refl, sym, ap, subst, ◌∙◌, arith}
 use Rattle.std.specs.Option.{is_some, option_map, option_map_or}
 use Rattle.std.proofs.lemmas.Bool.{eqb-true}
 use Rattle.std.proofs.lemmas.Bool.Decides.{nat_tests}
@@ -10,7 +10,6 @@ use Rattle.std.specs.Ordering.{nat_cmp}
 use Rattle.kr_base.specs.Attributes.{is_name, value_at}
 use Rattle.kr_base.specs.declared.ids.ConnId.{ConnId}
 use Rattle.kr_base.specs.declared.ids.PromptId.{PromptId}
-use Rattle.kr_outside.specs.RenameDisk.{Image}
 use Rattle.service_calls.specs.collection_table.specs.Entries.{changed, without}
 use Rattle.service_calls.specs.collection_table.specs.Rows.{CollectionRow, Rows, has, is_open, is_unlocked}
 use Rattle.prompt_state.specs.Prompts.{first_of_kind, first_of_row, is_agent, is_asked_in, last_round, next_round, refusal, refusal_of, round_of, row_at}
@@ -24,38 +23,32 @@ use Rattle.prompt_state.specs.declared.row.Stage.TheVariants.{Made, Asked, Deriv
 use Rattle.prompt_state.specs.declared.table.PromptRefused.{PromptRefused}
 use Rattle.prompt_state.specs.declared.table.PromptRefused.TheVariants as refused_by
 use Rattle.prompt_state.specs.declared.targets.Target.{Target}
-use Rattle.service_calls.specs.secret_calls.specs.declared.out.Body.TheVariants as body
-use Rattle.service_calls.specs.secret_calls.specs.declared.out.ErrorName.TheVariants as name
+use Rattle.service_calls.specs.service_events.specs.PublicBody as public
 use Rattle.service_calls.specs.secret_calls.specs.declared.out.Out.TheVariants as out
 use Rattle.service_calls.specs.secret_calls.specs.declared.signal.Signal.TheVariants as signal
-use Rattle.service_calls.specs.secret_calls.specs.Outs.{shown_label, spelled_body}
+use Rattle.service_calls.specs.secret_calls.specs.Outs.{shown_label}
 use Rattle.service_calls.specs.service_disk.specs.Resolving.{is_doubtful, row_resolved, rows_resolved, stays}
 use Rattle.service_calls.specs.service_disk.proofs.ResolvingLemmas.{resolved-goes, resolved-stays}
 use Rattle.service_calls.specs.service_prompts.specs.Prompting.{label_asked, purpose_of}
 use Rattle.service_calls.specs.service_tables.specs.Aliases.{is_doubt}
-use Rattle.service_calls.specs.service_tables.specs.Connections.{HasRoom}
+use Rattle.service_calls.specs.service_tables.specs.Connections.{HasRoom, spread}
 use Rattle.service_calls.specs.service_tables.specs.Desks.{Table}
-use Rattle.service_calls.specs.service_tables.specs.Disk.{DiskState}
-use Rattle.service_calls.specs.service_tables.specs.Limits.{most_body}
 use Rattle.service_calls.specs.service_tables.specs.Opened.{Contents, contents_of}
 use Rattle.service_calls.specs.service_tables.specs.Questions.{CollectionQuestions}
 use Rattle.service_calls.specs.service_tables.specs.Reading.{asked_collections, label_of}
-use Rattle.service_calls.specs.service_tables.specs.Slots.{StoresAt, file_at}
+use Rattle.service_calls.specs.service_tables.specs.Slots.{IsReadFault, file_at}
 use Rattle.service_calls.specs.service_tables.specs.State.{State}
-use Rattle.service_calls.specs.service_tables.specs.Storing.{Brought, IsResolve}
-use Rattle.service_calls.specs.service_tables.specs.declared.fate.Fate.{Fate}
-use Rattle.service_calls.specs.service_tables.specs.declared.fate.Fate.TheVariants as fate
-use Rattle.service_calls.specs.service_tables.specs.declared.rows.Sent.{Sent}
+use Rattle.service_calls.specs.service_tables.specs.declared.fate.ReadFate.{ReadFate}
+use Rattle.service_calls.specs.service_tables.specs.declared.fate.ReadFate.TheVariants as read
+use Rattle.service_calls.specs.service_tables.specs.declared.rows.ConnRow.{ConnRow}
+use Rattle.service_calls.specs.service_tables.specs.declared.rows.Delivery.{Delivery}
+use Rattle.service_calls.specs.service_tables.specs.Sent.{One}
 use Rattle.service_calls.specs.service_tables.proofs.DiskLemmas.{without-apart, without-here}
-use Rattle.service_calls.specs.service_events.specs.AliasCalls.{once_read}
 use Rattle.service_calls.specs.service_events.specs.AnswerCalls.{creates, creates_row, deriving_key, going_on, kind_answered, left_answered, row_answered, target_answered, target_settled}
-use Rattle.service_calls.specs.service_events.specs.Fates.{fates_of}
-use Rattle.service_calls.specs.service_events.specs.Plan.{Plan, Questions, After, Asks, End_prompt, Go_on, Read_collection, answered, refused}
+use Rattle.service_calls.specs.service_events.specs.Plan.{Plan, Questions, End_prompt, Go_on, answered}
 use Rattle.service_calls.specs.service_events.specs.PromptCalls.{advance_sent, completes, go_on_sent, is_over, passed, passed_kind}
-use Rattle.service_calls.specs.service_events.specs.Run.{AreFates, asked, demanded, led, run, sent_by}
-use Rattle.service_calls.specs.service_events.specs.Stored.{StoresOf}
-use Rattle.service_calls.specs.Done.{HasRoomToReply, Leads, fates_in}
-use Rattle.service_calls.specs.declared.storing.Done.{Done}
+use Rattle.service_calls.specs.service_events.specs.Run.{sent_by}
+use Rattle.service_calls.specs.Done.{HasRoomToReply}
 use Rattle.service_calls.proofs.LeadsLemmas.{room-silent}
 
 -- ---- numbers of rounds
@@ -94,81 +87,67 @@ taken-round prompt round conn prompts taken below =
 
 -- ---- which plan it is
 
-module _ (prompt : PromptId) (round : ℕ) (questions : Questions) where
+module _ (prompt : PromptId) (round : ℕ) where
   abbrev ends-prompt : Plan
-  ends-prompt = answered body.Empty (End_prompt prompt true None ∷ [])
+  ends-prompt = answered public.Empty (End_prompt prompt true None ∷ [])
 
   abbrev in-round : PromptRow → Bool → Plan
-  in-round row last = cond last ends-prompt (kind_answered prompt round row.kind questions)
+  in-round row last = cond last ends-prompt (kind_answered prompt round row.kind)
 
   -- in the greatest round the prompt ends
-  pub answered-last : (row : Option PromptRow) → is_some row ≡ true → round ≡ last_round → row_answered prompt round row questions ≡ answered body.Empty (End_prompt prompt true None ∷ [])
+  pub answered-last : (row : Option PromptRow) → is_some row ≡ true → round ≡ last_round → row_answered prompt round row ≡ answered public.Empty (End_prompt prompt true None ∷ [])
   answered-last None there last = absurd (let no : false ≡ true = there in cc)
   answered-last (Some row) there last = ap (in-round row) (same-round round last_round last)
 
-  left-target : (left : List Target) (stem : List ℕ) → option_map (λ (target : Target). target.stem) (first_of left) ≡ Some stem → left_answered prompt round left questions ≡ target_settled prompt round stem questions
+  left-target : (left : List Target) (stem : List ℕ) → option_map (λ (target : Target). target.stem) (first_of left) ≡ Some stem → left_answered prompt round left ≡ target_settled prompt round stem
   left-target [] stem first = absurd (let no : None ≡ Some stem = first in cc)
-  left-target (target ∷ left) stem first = let same : target.stem ≡ stem = (let is : Some target.stem ≡ Some stem = first in cc) in ap (λ s. target_settled prompt round s questions) same
+  left-target (target ∷ left) stem first = let same : target.stem ≡ stem = (let is : Some target.stem ≡ Some stem = first in cc) in ap (target_settled prompt round) same
 
-  kind-target : (k : PromptKind) (stem : List ℕ) → option_map (λ (target : Target). target.stem) (first_of_kind k) ≡ Some stem → kind_answered prompt round k questions ≡ target_settled prompt round stem questions
+  kind-target : (k : PromptKind) (stem : List ℕ) → option_map (λ (target : Target). target.stem) (first_of_kind k) ≡ Some stem → kind_answered prompt round k ≡ target_settled prompt round stem
   kind-target (Unlock targets) stem first = left-target targets.left stem first
   kind-target (Create label alias salt) stem first = absurd (let no : None ≡ Some stem = first in cc)
 
   -- there is a first target
   pub answered-target : (row : Option PromptRow) (stem : List ℕ) → round < last_round → option_map (λ (target : Target). target.stem) (first_of_row row) ≡ Some stem
-      → row_answered prompt round row questions ≡ target_settled prompt round stem questions
+      → row_answered prompt round row ≡ target_settled prompt round stem
   answered-target None stem below first = absurd (let no : None ≡ Some stem = first in cc)
   answered-target (Some row) stem below first = ap (in-round row) (less-round round last_round below) ∙ kind-target row.kind stem first
 
-  kind-creates : (k : PromptKind) → creates k ≡ true → kind_answered prompt round k questions ≡ deriving_key prompt round
+  kind-creates : (k : PromptKind) → creates k ≡ true → kind_answered prompt round k ≡ deriving_key prompt round
   kind-creates (Unlock targets) is = absurd (let no : false ≡ true = is in cc)
   kind-creates (Create label alias salt) is = refl
 
   -- it creates a collection
-  pub answered-creates : (row : Option PromptRow) → round < last_round → creates_row row ≡ true → row_answered prompt round row questions ≡ deriving_key prompt round
+  pub answered-creates : (row : Option PromptRow) → round < last_round → creates_row row ≡ true → row_answered prompt round row ≡ deriving_key prompt round
   answered-creates None below is = absurd (let no : false ≡ true = is in cc)
   answered-creates (Some row) below is = ap (in-round row) (less-round round last_round below) ∙ kind-creates row.kind is
 
-  left-over : (left : List Target) → first_of left ≡ None → left_answered prompt round left questions ≡ going_on prompt
+  left-over : (left : List Target) → first_of left ≡ None → left_answered prompt round left ≡ going_on prompt
   left-over [] none = refl
   left-over (target ∷ left) none = absurd (let no : Some target ≡ None = none in cc)
 
-  kind-over : (k : PromptKind) → creates k ≡ false → first_of_kind k ≡ None → kind_answered prompt round k questions ≡ going_on prompt
+  kind-over : (k : PromptKind) → creates k ≡ false → first_of_kind k ≡ None → kind_answered prompt round k ≡ going_on prompt
   kind-over (Unlock targets) is none = left-over targets.left none
   kind-over (Create label alias salt) is none = absurd (let no : true ≡ false = is in cc)
 
   -- no target is left
-  pub answered-over : (row : Option PromptRow) → is_some row ≡ true → round < last_round → creates_row row ≡ false → first_of_row row ≡ None → row_answered prompt round row questions ≡ going_on prompt
+  pub answered-over : (row : Option PromptRow) → is_some row ≡ true → round < last_round → creates_row row ≡ false → first_of_row row ≡ None → row_answered prompt round row ≡ going_on prompt
   answered-over None there below is none = absurd (let no : false ≡ true = there in cc)
   answered-over (Some row) there below is none = ap (in-round row) (less-round round last_round below) ∙ kind-over row.kind is none
-
-  -- the file of the first target is in doubt, or it is known
-  pub target-doubt : (stem : List ℕ) → questions.files.in_doubt stem ≡ true → target_settled prompt round stem questions ≡ Asks (Read_collection stem) (once_read (target_answered prompt round stem))
-  target-doubt stem doubt = ap (λ b. cond b (Asks (Read_collection stem) (once_read (target_answered prompt round stem))) (target_answered prompt round stem questions)) doubt
-
-  pub target-known : (stem : List ℕ) → questions.files.in_doubt stem ≡ false → target_settled prompt round stem questions ≡ target_answered prompt round stem questions
-  target-known stem known = ap (λ b. cond b (Asks (Read_collection stem) (once_read (target_answered prompt round stem))) (target_answered prompt round stem questions)) known
 
   abbrev by-state : Bool → Bool → Plan
   by-state there unlocked = cond there (cond unlocked (going_on prompt) (deriving_key prompt round)) (going_on prompt)
 
   -- its collection is locked, or gone, or unlocked
-  pub target-locked : (stem : List ℕ) → questions.collections.has stem ≡ true → questions.collections.is_open stem ≡ false → target_answered prompt round stem questions ≡ deriving_key prompt round
-  target-locked stem there locked = λ i. by-state (there i) (locked i)
+  pub target-locked : (questions : Questions) (stem : List ℕ) → questions.collections.has stem ≡ true → questions.collections.is_open stem ≡ false
+      → target_answered prompt round stem questions ≡ deriving_key prompt round
+  target-locked questions stem there locked = λ i. by-state (there i) (locked i)
 
-  pub target-gone : (stem : List ℕ) → questions.collections.has stem ≡ false → target_answered prompt round stem questions ≡ going_on prompt
-  target-gone stem gone = ap (λ b. by-state b (questions.collections.is_open stem)) gone
+  pub target-gone : (questions : Questions) (stem : List ℕ) → questions.collections.has stem ≡ false → target_answered prompt round stem questions ≡ going_on prompt
+  target-gone questions stem gone = ap (λ b. by-state b (questions.collections.is_open stem)) gone
 
-  pub target-open : (stem : List ℕ) → questions.collections.has stem ≡ true → questions.collections.is_open stem ≡ true → target_answered prompt round stem questions ≡ going_on prompt
-  target-open stem there unlocked = λ i. by-state (there i) (unlocked i)
-
-  -- what it leads to isn't bounded, since it changes something
-  pub target-whole : (stem : List ℕ) (caller : ConnId) (brought : Brought) (fates : List Fate) (state : State)
-      → led caller brought (target_answered prompt round stem questions) fates state ≡ run caller brought (target_answered prompt round stem questions) fates state
-  target-whole stem caller brought fates state =
-      let pass : (there unlocked : Bool) → led caller brought (by-state there unlocked) fates state ≡ run caller brought (by-state there unlocked) fates state =
-      elim [ true ↦ elim [ true ↦ refl | false ↦ refl ] | false ↦ λ unlocked. refl ] in
-      pass (questions.collections.has stem) (questions.collections.is_open stem)
+  pub target-open : (questions : Questions) (stem : List ℕ) → questions.collections.has stem ≡ true → questions.collections.is_open stem ≡ true → target_answered prompt round stem questions ≡ going_on prompt
+  target-open questions stem there unlocked = λ i. by-state (there i) (unlocked i)
 
 -- there is no first target if it has no stem
 pub none-first : (first : Option Target) → option_map (λ (target : Target). target.stem) first ≡ None → first ≡ None
@@ -181,7 +160,7 @@ none-first (Some target) none = absurd (let no : Some target.stem ≡ None = non
 sent-label : (one other : Rows) (row : PromptRow) (k : PromptKind) (agent : Option ConnId) → label_asked one k ≡ label_asked other k → advance_sent one row k agent ≡ advance_sent other row k agent
 sent-label one other row k agent same =
     λ i. cond (is_over k) (completes row k)
-    (option_map_or (λ (to : ConnId). (record { to = to; out = out.Signal (signal.Ask row.prompt (round_of row.stage + 1) (purpose_of k) (shown_label (same i)) row.wrong) }) ∷ []) agent [])
+    (option_map_or (λ (to : ConnId). (record { to = One to; out = out.Signal (signal.Ask row.prompt (round_of row.stage + 1) (purpose_of k) (shown_label (same i)) row.wrong) }) ∷ []) agent [])
 
 module _ (stem : List ℕ) (contents : Contents) where
   -- the collections without that of the stem
@@ -259,17 +238,17 @@ shut f locks (Some row) = locks row
 
 module _ (stem : List ℕ) (rows : Rows) where
   -- one that isn't there any more is the only change
-  pub resolved-gone : (read : Fate) → is_doubtful stem rows ≡ true → has stem (rows_resolved stem read rows) ≡ false → rows_resolved stem read rows ≡ without stem rows
-  resolved-gone read doubt gone =
-      let pass : (b : Bool) → stays read (file_at stem rows) ≡ b → rows_resolved stem read rows ≡ without stem rows =
+  pub resolved-gone : (some : ReadFate) → is_doubtful stem rows ≡ true → has stem (rows_resolved stem some rows) ≡ false → rows_resolved stem some rows ≡ without stem rows
+  resolved-gone some doubt gone =
+      let pass : (b : Bool) → stays some (file_at stem rows) ≡ b → rows_resolved stem some rows ≡ without stem rows =
       elim [
         | true ↦ λ is.
-            let there : has stem (rows_resolved stem read rows) ≡ true =
-            ap (has stem) (resolved-stays stem read rows is) ∙ ap is_some (changed-at stem (row_resolved read) rows) ∙ some-mapped (row_resolved read) (value_at stem rows) ∙ passed-there is_doubt (λ (row : CollectionRow). row.file) _ (value_at stem rows) doubt refl in
+            let there : has stem (rows_resolved stem some rows) ≡ true =
+            ap (has stem) (resolved-stays stem some rows is) ∙ ap is_some (changed-at stem (row_resolved some) rows) ∙ some-mapped (row_resolved some) (value_at stem rows) ∙ passed-there is_doubt (λ (row : CollectionRow). row.file) _ (value_at stem rows) doubt refl in
             absurd (let no : true ≡ false = sym there ∙ gone in cc)
-        | false ↦ λ off. resolved-goes stem read rows off
+        | false ↦ λ off. resolved-goes stem some rows off
       ] in
-      pass (stays read (file_at stem rows)) refl
+      pass (stays some (file_at stem rows)) refl
 
   without-shut : is_open stem (without stem rows) ≡ false
   without-shut = ap (λ o. option_map_or is_unlocked o false) (without-here stem rows)
@@ -279,124 +258,49 @@ module _ (stem : List ℕ) (rows : Rows) where
   found-shut false f locks = without-shut
 
   -- one that is still there is locked
-  pub resolved-shut : (read : Fate) → IsResolve read → (read ≡ fate.ReadFailed → ⊥) → is_open stem (rows_resolved stem read rows) ≡ false
-  resolved-shut fate.Stored kind well = absurd kind
-  resolved-shut fate.Before kind well = absurd kind
-  resolved-shut fate.Unsure kind well = absurd kind
-  resolved-shut fate.Old kind well = found-shut (stays fate.Old (file_at stem rows)) (row_resolved fate.Old) (λ row. refl)
-  resolved-shut fate.New kind well = found-shut (stays fate.New (file_at stem rows)) (row_resolved fate.New) (λ row. refl)
-  resolved-shut fate.Other kind well = without-shut
-  resolved-shut fate.ReadFailed kind well = absurd (well refl)
+  pub resolved-shut : (some : ReadFate) → (some ≡ read.ReadFailed → ⊥) → is_open stem (rows_resolved stem some rows) ≡ false
+  resolved-shut read.Old well = found-shut (stays read.Old (file_at stem rows)) (row_resolved read.Old) (λ row. refl)
+  resolved-shut read.New well = found-shut (stays read.New (file_at stem rows)) (row_resolved read.New) (λ row. refl)
+  resolved-shut read.Other well = without-shut
+  resolved-shut read.ReadFailed well = absurd (well refl)
 
--- ---- what the resolve leads to
-
-module _ {F S : Type 0} (folder_honest folder_steady : F → Bool) (folder_faults : F → ℕ) (images : F → List ℕ → Image) (folder_leaves : F → List ℕ → Image → Type 0) (names_made : F → List (List ℕ)) (is_honest is_steady : S → Bool) (faults moment : S → ℕ) (left_since : S → ℕ → Image → Type 0) (may_leave : S → Image → Type 0) (caller : ConnId) (brought : Brought)
-    (stem : List ℕ) (next : Questions → Plan) (before : State) (old : DiskState F S) where
-  -- the state after it
-  abbrev reread : Fate → State
-  reread read = demanded brought (Read_collection stem) read before
-
-  abbrev Reads : Fate → DiskState F S → Type 0
-  Reads read mid = StoresAt is_honest is_steady faults moment left_since may_leave stem read before.collections (rows_resolved stem read before.collections) old mid
-
-  abbrev To : Plan → State → State → DiskState F S → DiskState F S → Done → Type 0
-  To plan first last one other done =
-      Leads folder_honest folder_steady folder_faults images folder_leaves names_made is_honest is_steady faults moment left_since may_leave caller brought plan first last one other done
-
-  -- the plan after it
-  abbrev after-it : Fate → Plan
-  after-it read = next (asked caller brought (reread read))
-
-  module _ (after : State) (mid new : DiskState F S) (read : Fate) (done : Done) (none : done.read ≡ None) (stores : Reads read mid)
-      (whole : (fates : List Fate) → led caller brought (after-it read) fates (reread read) ≡ run caller brought (after-it read) fates (reread read))
-      (leads : To (after-it read) (reread read) after mid new done) where
-    only : fates_in done ≡ fates_of done.fate
-    only = ap (λ r. fates_of r ++ fates_of done.fate) none
-
-    -- if what was found continues so
-    goes-on : once_read next read ≡ After [] next → IsResolve read → To (Asks (Read_collection stem) (once_read next)) before after old new (record { answer = done.answer; sends = done.sends; read = Some read; fate = done.fate })
-    goes-on goes kind = record {
-      answer = leads.answer ∙ ap (λ f. (led caller brought (after-it read) f (reread read)).answer) only ∙ ap (λ (r : _). r.answer) (whole (fates_of done.fate))
-          ∙ sym (ap (λ p. (run caller brought p (fates_of done.fate) (reread read)).answer) goes);
-      state = leads.state ∙ ap (λ f. (led caller brought (after-it read) f (reread read)).state) only ∙ ap (λ (r : _). r.state) (whole (fates_of done.fate))
-          ∙ sym (ap (λ p. (run caller brought p (fates_of done.fate) (reread read)).state) goes);
-      sends = leads.sends ∙ ap (λ f. (led caller brought (after-it read) f (reread read)).sends) only ∙ ap (λ (r : _). r.sends) (whole (fates_of done.fate))
-          ∙ sym (ap (λ p. (run caller brought p (fates_of done.fate) (reread read)).sends) goes);
-      fates = (
-        kind,
-        subst (λ p. AreFates caller brought p (fates_of done.fate) (reread read)) (sym goes)
-            (subst (λ f. AreFates caller brought (after-it read) f (reread read)) only leads.fates),
-      );
-      disk = (
-        mid,
-        stores,
-        subst (λ p. StoresOf folder_honest folder_steady folder_faults images folder_leaves names_made is_honest is_steady faults moment left_since may_leave caller brought p (fates_of done.fate) (reread read) mid new) (sym goes)
-            (subst (λ f. StoresOf folder_honest folder_steady folder_faults images folder_leaves names_made is_honest is_steady faults moment left_since may_leave caller brought (after-it read) f (reread read) mid new) only leads.disk),
-      );
-    }
-
-  -- the file was read
-  pub leads-found : (after : State) (mid new : DiskState F S) (read : Fate) (done : Done) → done.read ≡ None → IsResolve read → (read ≡ fate.ReadFailed → ⊥) → Reads read mid
-      → ((fates : List Fate) → led caller brought (after-it read) fates (reread read) ≡ run caller brought (after-it read) fates (reread read))
-      → To (after-it read) (reread read) after mid new done
-      → To (Asks (Read_collection stem) (once_read next)) before after old new (record { answer = done.answer; sends = done.sends; read = Some read; fate = done.fate })
-  leads-found after mid new fate.Stored done none kind well stores whole leads = absurd kind
-  leads-found after mid new fate.Before done none kind well stores whole leads = absurd kind
-  leads-found after mid new fate.Unsure done none kind well stores whole leads = absurd kind
-  leads-found after mid new fate.Old done none kind well stores whole leads = goes-on after mid new fate.Old done none stores whole leads refl tt
-  leads-found after mid new fate.New done none kind well stores whole leads = goes-on after mid new fate.New done none stores whole leads refl tt
-  leads-found after mid new fate.Other done none kind well stores whole leads = goes-on after mid new fate.Other done none stores whole leads refl tt
-  leads-found after mid new fate.ReadFailed done none kind well stores whole leads = absurd (well refl)
-
-  -- it couldn't be read
-  pub leads-failed : (after : State) (new : DiskState F S) (read : Fate) → read ≡ fate.ReadFailed → after ≡ reread read → Reads read new
-      → To (Asks (Read_collection stem) (once_read next)) before after old new (record { answer = Err name.IOError; sends = []; read = Some read; fate = None })
-  leads-failed after new read is state stores =
-      let goes : once_read next read ≡ refused name.IOError = ap (once_read next) is in
-      record {
-        answer = sym (ap (λ p. (run caller brought p [] (reread read)).answer) goes);
-        state = state ∙ sym (ap (λ p. (run caller brought p [] (reread read)).state) goes);
-        sends = sym (ap (λ p. (run caller brought p [] (reread read)).sends) goes);
-        fates = (subst IsResolve (sym is) tt, subst (λ p. AreFates caller brought p [] (reread read)) (sym goes) tt);
-        disk = (new, stores, subst (λ p. StoresOf folder_honest folder_steady folder_faults images folder_leaves names_made is_honest is_steady faults moment left_since may_leave caller brought p [] (reread read) new new) (sym goes) refl);
-      }
+-- a resolve that didn't fail is no fault
+pub read-well : (some : ReadFate) → (some ≡ read.ReadFailed → ⊥) → IsReadFault some → ⊥
+read-well read.Old well is = is
+read-well read.New well is = is
+read-well read.Other well is = is
+read-well read.ReadFailed well is = well refl
 
 -- ---- the state after it, by what the calls of the disk say
 
-module _ (stem taken : List ℕ) (read : Fate) (old mid : State) (prepared resolved : Contents) (same : taken ≡ stem) (first : prepared ≡ contents_of old)
-    (second : resolved ≡ record prepared { collections = rows_resolved taken read prepared.collections })
+module _ (stem taken : List ℕ) (some : ReadFate) (old mid : State) (prepared resolved : Contents) (same : taken ≡ stem) (first : prepared ≡ contents_of old)
+    (second : resolved ≡ record prepared { collections = rows_resolved taken some prepared.collections })
     (third : mid ≡ record old { collections = resolved.collections; aliases = resolved.aliases; used = resolved.used }) where
-  all-read : resolved ≡ record (contents_of old) { collections = rows_resolved stem read old.collections }
-  all-read = second ∙ (λ i. record (first i) { collections = rows_resolved (same i) read (first i).collections })
+  all-read : resolved ≡ record (contents_of old) { collections = rows_resolved stem some old.collections }
+  all-read = second ∙ (λ i. record (first i) { collections = rows_resolved (same i) some (first i).collections })
 
-  pub rows-read : resolved.collections ≡ rows_resolved stem read old.collections
+  pub rows-read : resolved.collections ≡ rows_resolved stem some old.collections
   rows-read = ap (λ (contents : Contents). contents.collections) all-read
 
-  pub state-read : mid ≡ record old { collections = rows_resolved stem read old.collections }
+  pub state-read : mid ≡ record old { collections = rows_resolved stem some old.collections }
   state-read = third ∙ (λ i. record old { collections = (all-read i).collections; aliases = (all-read i).aliases; used = (all-read i).used })
 
-module _ (conn : ConnId) (prompt : PromptId) (stem : List ℕ) (read : Fate) (old mid : State) (same : mid ≡ record old { collections = rows_resolved stem read old.collections }) where
+module _ (conn : ConnId) (prompt : PromptId) (stem : List ℕ) (some : ReadFate) (old mid : State) (same : mid ≡ record old { collections = rows_resolved stem some old.collections }) where
   -- what was made to be sent is sent if the collection is gone
-  pub sends-gone : (sends : List Sent) → is_doubtful stem old.collections ≡ true
-      → sends ≡ go_on_sent (asked_collections (record (contents_of old) { collections = without stem old.collections })) (without stem old.collections) old.prompts.agent (row_at prompt old.prompts)
-      → has stem mid.collections ≡ false → sends ≡ sent_by conn (Go_on prompt) mid
-  sends-gone sends doubt made gone =
-      let its : has stem (rows_resolved stem read old.collections) ≡ false = sym (ap (λ (s : State). has stem s.collections) same) ∙ gone in
-      let left : rows_resolved stem read old.collections ≡ without stem old.collections = resolved-gone stem old.collections read doubt its in
-      made ∙ ap (λ rows. sent_by conn (Go_on prompt) (record old { collections = rows })) (sym left) ∙ sym (ap (sent_by conn (Go_on prompt)) same)
+  pub sends-gone : (sends : List Delivery) → is_doubtful stem old.collections ≡ true
+      → ((rows : List ConnRow) → sends ≡ spread rows (go_on_sent (asked_collections (record (contents_of old) { collections = without stem old.collections })) (without stem old.collections) old.prompts.agent (row_at prompt old.prompts)))
+      → has stem mid.collections ≡ false → (rows : List ConnRow) → sends ≡ spread rows (sent_by conn (Go_on prompt) mid)
+  sends-gone sends doubt made gone rows =
+      let its : has stem (rows_resolved stem some old.collections) ≡ false = sym (ap (λ (s : State). has stem s.collections) same) ∙ gone in
+      let left : rows_resolved stem some old.collections ≡ without stem old.collections = resolved-gone stem old.collections some doubt its in
+      made rows ∙ ap (λ these. spread rows (sent_by conn (Go_on prompt) (record old { collections = these }))) (sym left) ∙ sym (ap (λ s. spread rows (sent_by conn (Go_on prompt) s)) same)
 
   -- the collection is locked if it is there
-  pub locked-read : IsResolve read → (read ≡ fate.ReadFailed → ⊥) → is_open stem mid.collections ≡ false
-  locked-read kind well = ap (λ (s : State). is_open stem s.collections) same ∙ resolved-shut stem old.collections read kind well
-
--- ---- the reply
-
--- an empty return is small
-pub small-empty : length (spelled_body body.Empty) ≤ most_body
-small-empty = omega arith
+  pub locked-read : (some ≡ read.ReadFailed → ⊥) → is_open stem mid.collections ≡ false
+  locked-read well = ap (λ (s : State). is_open stem s.collections) same ∙ resolved-shut stem old.collections some well
 
 -- ---- room for the reply
 
 -- a call that sends nothing else leaves the room as it was
-pub room-kept : (caller : ConnId) (sends : List Sent) (old new : Table) → sends ≡ [] → new ≡ old → HasRoom 1 caller old.rooms → HasRoomToReply caller sends new.rooms
+pub room-kept : (caller : ConnId) (sends : List Delivery) (old new : Table) → sends ≡ [] → new ≡ old → HasRoom 1 caller old.rooms → HasRoomToReply caller sends new.rooms
 room-kept caller sends old new none same room = subst (λ (table : Table). HasRoomToReply caller sends table.rooms) (sym same) (room-silent caller sends old.rooms none room)

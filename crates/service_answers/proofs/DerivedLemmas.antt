@@ -1,7 +1,7 @@
 -- What a derived key leads to: a collection that it opens or doesn't, a prompt that is asked again, and what that prompt is for.
 use Rattle.std.proofs.Common.{◌≡◌, ℕ, ◌+◌, ◌^◌, ◌<◌, ◌≤◌, Bool, true, false, cond, IfOk, IfSome, OnErr, OnOk, List, [], ◌∷◌, ◌++◌, ◌⊎◌, inl, inr, find, Option, Some, None, Result, Ok, Err, refl, sym, ap, subst, ◌∙◌, arith}
-use Rattle.std.specs.List.{AllByRecursion}
-use Rattle.std.specs.Option.{is_some, option_map, option_map_or}
+use Rattle.std.specs.List.{AllByRecursion, cons_option}
+use Rattle.std.specs.Option.{is_some, option_and_then, option_map, option_map_or}
 use Rattle.std.proofs.lemmas.List.{append-nil}
 use Rattle.kr_base.specs.Attributes.{IsInOrder, is_name, value_at}
 use Rattle.kr_base.specs.declared.ids.ConnId.{ConnId}
@@ -15,6 +15,7 @@ use Rattle.service_calls.specs.collection_table.proofs.EntryLemmas.{unchanged_no
 use Rattle.prompt_state.specs.Prompts as prompts
 use Rattle.prompt_state.specs.Prompts.{last_round, next_round, one_more, row_at}
 use Rattle.prompt_state.specs.Targets.{first_left, first_of}
+use Rattle.prompt_state.specs.declared.row.Ask.{Ask}
 use Rattle.prompt_state.specs.declared.row.PromptKind.{PromptKind}
 use Rattle.prompt_state.specs.declared.row.PromptKind.TheVariants as kind
 use Rattle.prompt_state.specs.declared.row.PromptRow.{PromptRow}
@@ -28,32 +29,38 @@ use Rattle.service_calls.specs.service_disk.specs.declared.opening.Opening.{Open
 use Rattle.service_calls.specs.service_disk.specs.declared.opening.Opening.TheVariants as ends
 use Rattle.service_calls.specs.service_disk.proofs.OpeningLemmas.{row-stays}
 use Rattle.kr_outside.specs.RenameDisk.{Image}
-use Rattle.service_calls.specs.secret_calls.specs.declared.out.Body.{Body}
+use Rattle.service_calls.specs.service_prompts.specs.Prompting.{ask_signal, ask_signal_in}
+use Rattle.service_calls.specs.secret_calls.specs.declared.out.ErrorName.TheVariants as name
+use Rattle.service_calls.specs.service_events.specs.PublicBody.{PublicBody}
+use Rattle.service_calls.specs.service_events.specs.PublicBody as public
 use Rattle.service_calls.specs.secret_calls.specs.declared.out.Body.TheVariants as body
 use Rattle.service_calls.specs.service_tables.specs.Disk.{DiskState}
 use Rattle.service_calls.specs.service_tables.specs.Opened.{contents_of}
 use Rattle.service_calls.specs.service_tables.specs.Reading.{asked_collections}
 use Rattle.service_calls.specs.service_tables.specs.State.{State}
 use Rattle.service_calls.specs.service_tables.specs.Sound.{IsSoundKind, IsSoundPrompt}
-use Rattle.service_calls.specs.service_tables.specs.Storing.{Brought, IsStoring}
-use Rattle.service_calls.specs.service_tables.specs.declared.fate.Fate.{Fate}
-use Rattle.service_calls.specs.service_tables.specs.declared.fate.Fate.TheVariants as fate
-use Rattle.service_calls.specs.service_tables.specs.declared.rows.Sent.{Sent}
+use Rattle.service_calls.specs.service_tables.specs.Connections.{spread}
+use Rattle.service_calls.specs.service_tables.specs.Storing.{Brought}
+use Rattle.service_calls.specs.service_tables.specs.declared.fate.StoreFate.{StoreFate}
+use Rattle.service_calls.specs.service_tables.specs.declared.fate.StoreFate.TheVariants as stored
+use Rattle.service_calls.specs.service_tables.specs.declared.rows.ConnRow.{ConnRow}
+use Rattle.service_calls.specs.service_tables.specs.declared.rows.Delivery.{Delivery}
 use Rattle.service_calls.specs.service_tables.proofs.AliasLemmas.{is-alias}
 use Rattle.service_calls.specs.service_tables.proofs.DiskLemmas.{changed-as, changed-back}
-use Rattle.service_calls.specs.service_events.specs.Derivation.{collection_made, kind_derived, left_derived, making_ended, opening_ended, quietly, row_derived}
+use Rattle.service_calls.specs.service_events.specs.Derivation.{alias_given, collection_made, kind_derived, left_derived, making_ended, opening_ended, quietly, row_derived}
 use Rattle.service_answers.specs.Purposes.{IsPurposeOf, purpose_of}
 use Rattle.service_answers.specs.declared.derived_key.Purpose.TheVariants as purpose
 use Rattle.service_answers.specs.declared.derived_key.Settled.{Settled}
 use Rattle.service_calls.specs.declared.storing.Done.{Done}
 use Rattle.service_calls.specs.service_events.specs.Plan.{Ask_prompt, Asks, Change, Clear_wrong, Count_wrong, Go_on, KeyTerms, Make, Opens, Plan, Questions, answered}
-use Rattle.service_calls.specs.service_events.specs.PromptCalls.{advance_sent, asks_for, go_on_sent, passed_kind}
-use Rattle.service_calls.specs.service_events.specs.Run.{demanded, sent_all, unlocked_with}
-use Rattle.service_calls.specs.service_events.specs.Stored.{KeepsSlotOrAll}
-use Rattle.service_calls.specs.Done.{Leads}
-use Rattle.service_answers.specs.Settled.{Settles}
-use Rattle.service_calls.specs.service_events.proofs.AdvanceLemmas.{KeepsPrompt, row-changed}
-use Rattle.service_calls.specs.service_events.proofs.SendLemmas.{ask-sends}
+use Rattle.service_calls.specs.service_events.specs.PromptCalls.{advance_sent, ask_for, asks_for, go_on_sent, passed_kind}
+use Rattle.service_calls.specs.service_events.specs.Run.{AreFates, AreNone, Ran, by_test, demanded, failing, fits, promised, run, sending, sent_all, unlocked_with}
+use Rattle.service_calls.specs.service_events.specs.Stored.{KeepsSlotOrAll, StoresOf}
+use Rattle.service_calls.specs.Done.{Leads, fates_in}
+use Rattle.service_answers.specs.Settled.{Settles, settled_fates}
+use Rattle.service_calls.specs.service_events.proofs.AdvanceLemmas.{KeepsPrompt, row-changed, row-number}
+use Rattle.service_calls.specs.service_events.proofs.SmallLemmas.{empty-small}
+use Rattle.service_calls.proofs.LeadsLemmas.{leads-changes}
 
 -- ---- a collection that a key opens, or doesn't
 
@@ -126,6 +133,25 @@ module _ (prompt : PromptId) (f : PromptRow → PromptRow) (state : Prompts) (ke
       let pass : (o : Option PromptRow) → next_round (option_map f o) ≡ next_round o = elim [ None ↦ refl | Some row ↦ ap (λ s. prompts.round_of s + 1) (same row) ] in
       ap next_round (row-changed prompt f state keeps) ∙ pass (row_at prompt state)
 
+-- what is sent when a prompt is asked
+ask-sends : (conn : ConnId) (prompt : PromptId) (state : State) (row : PromptRow) → row_at prompt state.prompts ≡ Some row
+    → sent_all conn (Ask_prompt prompt ∷ []) state ≡ asks_for state.collections row row.kind state.prompts.agent
+ask-sends conn prompt state row is =
+    let round = next_round (row_at prompt state.prompts) in
+    let f : PromptRow → PromptRow = λ r. record r { stage = stage.Asked round } in
+    let after = prompts.changed prompt f state.prompts in
+    let its : row_at prompt after ≡ Some (record row { stage = stage.Asked (prompts.round_of row.stage + 1) }) =
+    row-changed prompt f state.prompts (λ r. refl) ∙ ap (option_map f) is ∙ ap (λ n. Some (record row { stage = stage.Asked n })) (ap next_round is) in
+    let signal : (agent : ConnId) → cons_option (option_and_then (ask_signal_in state.collections after) (prompts.ask_of (Some agent) (row_at prompt after))) [] ++ [] ≡ ask_for state.collections row row.kind agent =
+    λ agent.
+    let ask : Ask = record { agent = agent; prompt = row.prompt; round = prompts.round_of row.stage + 1; wrong = row.wrong } in
+    let found : row_at row.prompt after ≡ Some (record row { stage = stage.Asked (prompts.round_of row.stage + 1) }) = ap (λ p. row_at p after) (row-number prompt state.prompts row is) ∙ its in
+    ap (λ (o : Option PromptRow). cons_option (option_and_then (ask_signal_in state.collections after) (prompts.ask_of (Some agent) o)) [] ++ []) its
+    ∙ ap (λ (o : Option PromptRow). cons_option (option_map (λ (r : PromptRow). ask_signal state.collections r.kind ask) o) [] ++ []) found in
+    let pass : (o : Option ConnId) → cons_option (option_and_then (ask_signal_in state.collections after) (prompts.ask_of o (row_at prompt after))) [] ++ [] ≡ asks_for state.collections row row.kind o =
+    elim [ None ↦ refl | Some agent ↦ signal agent ] in
+    pass state.prompts.agent
+
 -- a few wrong answers are counted
 few-more : (wrong : ℕ) → wrong + 1 < 2 ^ 32 → one_more wrong ≡ wrong + 1
 few-more wrong few = omega (arith, few)
@@ -152,7 +178,7 @@ module _ (conn : ConnId) (prompt : PromptId) (state : State) (row : PromptRow) (
 
 -- ---- what was made to be sent is what the changes send
 
-module _ (conn : ConnId) (prompt : PromptId) (state : State) (sends : List Sent) (wrong : ℕ) where
+module _ (conn : ConnId) (prompt : PromptId) (state : State) (sends : List Delivery) (wrong : ℕ) where
   abbrev its-row : Option PromptRow
   its-row = row_at prompt state.prompts
 
@@ -160,26 +186,27 @@ module _ (conn : ConnId) (prompt : PromptId) (state : State) (sends : List Sent)
   HasWrong o = IfSome o (λ row. wrong ≡ row.wrong)
 
   abbrev AsksWith : ℕ → Option PromptRow → Type 0
-  AsksWith told o = IfSome o (λ row. sends ≡ asks_for state.collections (record row { wrong = told }) row.kind state.prompts.agent)
+  AsksWith told o = IfSome o (λ row. (rows : List ConnRow) → sends ≡ spread rows (asks_for state.collections (record row { wrong = told }) row.kind state.prompts.agent))
 
-  pub again-sends : is_some its-row ≡ true → HasWrong its-row → AsksWith wrong its-row → sends ≡ sent_all conn (Ask_prompt prompt ∷ []) state
-  again-sends there has asks =
-      let pass : (o : Option PromptRow) → its-row ≡ o → is_some o ≡ true → HasWrong o → AsksWith wrong o → sends ≡ sent_all conn (Ask_prompt prompt ∷ []) state =
+  pub again-sends : is_some its-row ≡ true → HasWrong its-row → AsksWith wrong its-row → (rows : List ConnRow) → sends ≡ spread rows (sent_all conn (Ask_prompt prompt ∷ []) state)
+  again-sends there has asks rows =
+      let pass : (o : Option PromptRow) → its-row ≡ o → is_some o ≡ true → HasWrong o → AsksWith wrong o → sends ≡ spread rows (sent_all conn (Ask_prompt prompt ∷ []) state) =
       elim [
         | None ↦ λ at some is made. absurd (let no : false ≡ true = some in cc)
         | Some row ↦ λ at some is made.
-            made ∙ ap (λ n. asks_for state.collections (record row { wrong = n }) row.kind state.prompts.agent) is ∙ sym (ask-sends conn prompt state row at)
+            made rows ∙ ap (λ n. spread rows (asks_for state.collections (record row { wrong = n }) row.kind state.prompts.agent)) is ∙ sym (ap (spread rows) (ask-sends conn prompt state row at))
       ] in
       pass its-row refl there has asks
 
-  pub wronged-sends : wrong + 1 < 2 ^ 32 → is_some its-row ≡ true → HasWrong its-row → AsksWith (wrong + 1) its-row → sends ≡ sent_all conn (Count_wrong prompt ∷ Ask_prompt prompt ∷ []) state
-  wronged-sends few there has asks =
-      let pass : (o : Option PromptRow) → its-row ≡ o → is_some o ≡ true → HasWrong o → AsksWith (wrong + 1) o → sends ≡ sent_all conn (Count_wrong prompt ∷ Ask_prompt prompt ∷ []) state =
+  pub wronged-sends : wrong + 1 < 2 ^ 32 → is_some its-row ≡ true → HasWrong its-row → AsksWith (wrong + 1) its-row
+      → (rows : List ConnRow) → sends ≡ spread rows (sent_all conn (Count_wrong prompt ∷ Ask_prompt prompt ∷ []) state)
+  wronged-sends few there has asks rows =
+      let pass : (o : Option PromptRow) → its-row ≡ o → is_some o ≡ true → HasWrong o → AsksWith (wrong + 1) o → sends ≡ spread rows (sent_all conn (Count_wrong prompt ∷ Ask_prompt prompt ∷ []) state) =
       elim [
         | None ↦ λ at some is made. absurd (let no : false ≡ true = some in cc)
         | Some row ↦ λ at some is made.
-            made ∙ ap (λ n. asks_for state.collections (record row { wrong = n + 1 }) row.kind state.prompts.agent) is
-            ∙ sym (wrong-sends conn prompt state row at (subst (λ n. n + 1 < 2 ^ 32) is few))
+            made rows ∙ ap (λ n. spread rows (asks_for state.collections (record row { wrong = n + 1 }) row.kind state.prompts.agent)) is
+            ∙ sym (ap (spread rows) (wrong-sends conn prompt state row at (subst (λ n. n + 1 < 2 ^ 32) is few)))
       ] in
       pass its-row refl there has asks
 
@@ -193,18 +220,18 @@ if-some (Some x) P Q weaker is = weaker x is
 -- a call that asks for no storing leaves the disk alone
 module _ {F S : Type 0} (folder_honest folder_steady : F → Bool) (folder_faults : F → ℕ) (images : F → List ℕ → Image) (folder_leaves : F → List ℕ → Image → Type 0) (names_made : F → List (List ℕ)) (is_honest is_steady : S → Bool) (faults moment : S → ℕ) (left_since : S → ℕ → Image → Type 0) (may_leave : S → Image → Type 0) (caller : ConnId) (brought : Brought)
     (before after : State) (old new : DiskState F S) where
-  pub disk-kept : {E : Type 0} (result : Result Done E) (body : Body) (changes : List Change)
-      → IfOk result (λ done. (b : Brought) → Leads folder_honest folder_steady folder_faults images folder_leaves names_made is_honest is_steady faults moment left_since may_leave caller b (answered body changes) before after old new done)
+  pub disk-kept : {E : Type 0} (result : Result Done E) (its_body : PublicBody) (changes : List Change)
+      → IfOk result (λ done. (b : Brought) → Leads folder_honest folder_steady folder_faults images folder_leaves names_made is_honest is_steady faults moment left_since may_leave caller b (answered its_body changes) before after old new done)
       → OnErr result ((after ≡ before) × (new ≡ old)) → new ≡ old
-  disk-kept (Ok done) body changes leads unchanged = (leads brought).disk
-  disk-kept (Err e) body changes leads unchanged = unchanged.1
+  disk-kept (Ok done) its_body changes leads unchanged = (leads brought).disk
+  disk-kept (Err e) its_body changes leads unchanged = unchanged.1
 
   -- what a collection leads to that opened
-  pub leads-opened : (stem : List ℕ) (terms : KeyTerms) (body : Body) (change : Change) (changes : List Change) (mid : State) (done : Done) → mid ≡ unlocked_with brought stem terms before
-      → Leads folder_honest folder_steady folder_faults images folder_leaves names_made is_honest is_steady faults moment left_since may_leave caller brought (answered body (change ∷ changes)) mid after old new done
-      → Leads folder_honest folder_steady folder_faults images folder_leaves names_made is_honest is_steady faults moment left_since may_leave caller brought (Opens stem terms (answered body (change ∷ changes))) before after old new done
-  leads-opened stem terms body change changes mid done same leads =
-      let its = subst (λ s. Leads folder_honest folder_steady folder_faults images folder_leaves names_made is_honest is_steady faults moment left_since may_leave caller brought (answered body (change ∷ changes)) s after old new done) same leads in
+  pub leads-opened : (stem : List ℕ) (terms : KeyTerms) (its_body : PublicBody) (change : Change) (changes : List Change) (mid : State) (done : Done) → mid ≡ unlocked_with brought stem terms before
+      → Leads folder_honest folder_steady folder_faults images folder_leaves names_made is_honest is_steady faults moment left_since may_leave caller brought (answered its_body (change ∷ changes)) mid after old new done
+      → Leads folder_honest folder_steady folder_faults images folder_leaves names_made is_honest is_steady faults moment left_since may_leave caller brought (Opens stem terms (answered its_body (change ∷ changes))) before after old new done
+  leads-opened stem terms its_body change changes mid done same leads =
+      let its = subst (λ s. Leads folder_honest folder_steady folder_faults images folder_leaves names_made is_honest is_steady faults moment left_since may_leave caller brought (answered its_body (change ∷ changes)) s after old new done) same leads in
       record { answer = its.answer; state = its.state; sends = its.sends; fates = its.fates; disk = its.disk }
 
 -- two facts of it are one
@@ -340,6 +367,11 @@ keeps-as folder_honest folder_steady folder_faults images folder_leaves names_ma
 
 -- ---- what a derived key leads to
 
+-- what is answered once a collection was made
+given-promised : (caller : ConnId) (state : State) (prompt : PromptId) (alias stem : List ℕ) → promised caller state (alias_given prompt alias stem) ≡ Ok body.Empty
+given-promised caller state prompt [] stem = refl
+given-promised caller state prompt (byte ∷ bytes) stem = refl
+
 module _ {F S : Type 0} (folder_honest folder_steady : F → Bool) (folder_faults : F → ℕ) (images : F → List ℕ → Image) (folder_leaves : F → List ℕ → Image → Type 0) (names_made : F → List (List ℕ)) (is_honest is_steady : S → Bool) (faults moment : S → ℕ) (left_since : S → ℕ → Image → Type 0) (may_leave : S → Image → Type 0) (caller : ConnId) (brought : Brought)
     (before after : State) (old new : DiskState F S) where
   abbrev Ends-in : Plan → Done → Type 0
@@ -357,8 +389,10 @@ module _ {F S : Type 0} (folder_honest folder_steady : F → Bool) (folder_fault
   pub settles-late : (plan : Plan) (done : Done) (settled : Settled) → settled ≡ record { made = None; done = done } → done ≡ record { answer = Ok body.Empty; sends = []; read = None; fate = None }
       → plan ≡ quietly [] → after ≡ before → new ≡ old → Settles-in plan settled
   settles-late plan done settled first second same state disk =
-      subst (Settles-in plan) (sym (first ∙ ap (λ (d : Done). record { made = None; done = d }) second))
-      (subst (λ p. Settles-in p (record { made = None; done = record { answer = Ok body.Empty; sends = []; read = None; fate = None } })) (sym same) (record { state = state; sends = refl; fates = tt; disk = disk }))
+      settles-unmade plan done settled first
+      (subst (λ (p : Plan). Ends-in p done) (sym same)
+      (leads-changes folder_honest folder_steady folder_faults images folder_leaves names_made is_honest is_steady faults moment left_since may_leave caller brought before after old new public.Empty [] done
+      (ap (λ (d : Done). d.answer) second) (ap (λ (d : Done). d.sends) second) (ap (λ (d : Done). d.read) second) (ap (λ (d : Done). d.fate) second) empty-small state disk))
 
   -- one plan is another
   pub settles-as : (plan other : Plan) (settled : Settled) → plan ≡ other → Settles-in other settled → Settles-in plan settled
@@ -369,28 +403,38 @@ module _ {F S : Type 0} (folder_honest folder_steady : F → Bool) (folder_fault
     abbrev Made-plan : Plan
     Made-plan = Asks (Make stem label terms) (making_ended prompt alias stem)
 
-    abbrev After-making : Fate → State → Done → Type 0
+    abbrev After-making : StoreFate → State → Done → Type 0
     After-making some from done =
         Settles folder_honest folder_steady folder_faults images folder_leaves names_made is_honest is_steady faults moment left_since may_leave caller brought (making_ended prompt alias stem some) from after mid new (record { made = None; done = done })
 
-    abbrev Was-made : Fate → Rows → Rows → DiskState F S → Type 0
+    abbrev Was-made : StoreFate → Rows → Rows → DiskState F S → Type 0
     Was-made some these those was = MakesAt folder_honest folder_steady folder_faults images folder_leaves names_made is_honest is_steady faults moment left_since may_leave stem some these those was mid
 
-    made-settles : (some : Fate) (done : Done) → IsStoring some → Was-made some before.collections (demanded brought (Make stem label terms) some before).collections old
+    abbrev would-answer : Bool
+    would-answer = fits (promised caller before (making_ended prompt alias stem stored.Stored))
+
+    would-fit : would-answer ≡ true
+    would-fit = ap fits (given-promised caller before prompt alias stem) ∙ empty-small
+
+    made-settles : (some : StoreFate) (done : Done) → Was-made some before.collections (demanded brought (Make stem label terms) some before).collections old
         → After-making some (demanded brought (Make stem label terms) some before) done → Settles-in Made-plan (record { made = Some some; done = done })
-    made-settles fate.Stored done storing made its = record { state = its.state; sends = its.sends; fates = (storing, its.fates); disk = (mid, made, its.disk) }
-    made-settles fate.Before done storing made its = record { state = its.state; sends = its.sends; fates = (storing, its.fates); disk = (mid, made, its.disk) }
-    made-settles fate.Unsure done storing made its = record { state = its.state; sends = its.sends; fates = (storing, its.fates); disk = (mid, made, its.disk) }
-    made-settles fate.Old done storing made its = absurd storing
-    made-settles fate.New done storing made its = absurd storing
-    made-settles fate.Other done storing made its = absurd storing
-    made-settles fate.ReadFailed done storing made its = absurd storing
+    made-settles some done made its =
+        let from = demanded brought (Make stem label terms) some before in
+        let ran : run caller brought Made-plan (settled_fates (record { made = Some some; done = done })) before ≡ sending [] (run caller brought (making_ended prompt alias stem some) (fates_in done) from) =
+        ap (λ b. by_test b (sending [] (run caller brought (making_ended prompt alias stem some) (fates_in done) from)) (failing name.LimitsExceeded before)) would-fit in
+        record {
+          state = its.state ∙ ap (λ (r : Ran). r.state) (sym ran);
+          sends = its.sends ∙ ap (λ (r : Ran). spread before.connections.rows r.sends) (sym ran);
+          fates = subst (λ b. by_test b (AreFates caller brought (making_ended prompt alias stem some) (fates_in done) from) (AreNone (settled_fates (record { made = Some some; done = done })))) (sym would-fit) its.fates;
+          disk = subst (λ b. by_test b ((at : DiskState F S) × MakesAt folder_honest folder_steady folder_faults images folder_leaves names_made is_honest is_steady faults moment left_since may_leave stem some before.collections from.collections old at
+              × StoresOf folder_honest folder_steady folder_faults images folder_leaves names_made is_honest is_steady faults moment left_since may_leave caller brought (making_ended prompt alias stem some) (fates_in done) from at new) (new ≡ old)) (sym would-fit) (mid, made, its.disk);
+        }
 
     -- from a state and a disk that are equal
-    pub settles-made : (some : Fate) (done : Done) (these : Rows) (was : DiskState F S) → IsStoring some → middle ≡ demanded brought (Make stem label terms) some before → these ≡ before.collections → was ≡ old
+    pub settles-made : (some : StoreFate) (done : Done) (these : Rows) (was : DiskState F S) → middle ≡ demanded brought (Make stem label terms) some before → these ≡ before.collections → was ≡ old
         → Was-made some these middle.collections was → After-making some middle done → Settles-in Made-plan (record { made = Some some; done = done })
-    settles-made some done these was storing state rows disk made its =
-        made-settles some done storing
+    settles-made some done these was state rows disk made its =
+        made-settles some done
         (subst (λ r. Was-made some r (demanded brought (Make stem label terms) some before).collections old) rows
         (subst (λ (s : State). Was-made some these s.collections old) state (subst (Was-made some these middle.collections) disk made)))
         (subst (λ s. After-making some s done) state its)

@@ -24,29 +24,36 @@ use Rattle.prompt_state.specs.Prompts.{row_at}
 use Rattle.prompt_state.specs.declared.row.PromptRow.{PromptRow}
 use Rattle.prompt_state.specs.declared.row.Prompts.{Prompts}
 use Rattle.service_calls.specs.secret_calls.specs.declared.out.Body.TheVariants as body
+use Rattle.service_calls.specs.secret_calls.specs.declared.out.ErrorName.TheVariants as name
 use Rattle.service_calls.specs.secret_calls.specs.declared.out.Out.{Out}
 use Rattle.stem_choice.specs.UsedStems.{is_used}
 use Rattle.service_calls.specs.service_prompts.specs.Prompting.{completed_sent, completed_signal}
 use Rattle.service_calls.specs.service_disk.specs.Making.{AreFree}
-use Rattle.service_calls.specs.service_tables.specs.Aliases.{IsPreparedFor, IsPreparedIn}
-use Rattle.service_calls.specs.service_tables.specs.Connections.{HasRoom, Rooms}
+use Rattle.service_calls.specs.service_tables.specs.Aliases.{IsPreparedFor, IsPreparedIn, are_doubtful}
+use Rattle.service_calls.specs.service_tables.specs.Connections.{HasRoom, Rooms, spread}
 use Rattle.service_calls.specs.service_tables.specs.Disk.{DiskState}
 use Rattle.service_calls.specs.service_tables.specs.Opened.{contents_of}
 use Rattle.service_calls.specs.service_tables.specs.State.{State}
 use Rattle.service_calls.specs.service_tables.specs.Storing.{Brought}
-use Rattle.service_calls.specs.service_tables.specs.declared.fate.Fate.{Fate}
-use Rattle.service_calls.specs.service_tables.specs.declared.fate.Fate.TheVariants as fate
-use Rattle.service_calls.specs.service_tables.specs.declared.rows.Sent.{Sent}
-use Rattle.service_calls.specs.service_events.specs.AliasCalls.{alias_settled}
+use Rattle.service_calls.specs.service_tables.specs.declared.fate.ReadFate.{ReadFate}
+use Rattle.service_calls.specs.service_tables.specs.declared.fate.StoreFate.{StoreFate}
+use Rattle.service_calls.specs.service_tables.specs.declared.fate.StoreFate.TheVariants as stored
+use Rattle.service_calls.specs.service_tables.specs.declared.rows.ConnRow.{ConnRow}
+use Rattle.service_calls.specs.service_tables.specs.declared.rows.Delivery.{Delivery}
+use Rattle.service_calls.specs.service_events.specs.AliasCalls.{alias_settled, alias_stored}
 use Rattle.service_calls.specs.service_events.specs.Derivation.{alias_given, are_terms, can_make, collection_made, completing, dismissing, making_ended, new_iterations, quietly}
-use Rattle.service_calls.specs.service_events.specs.Plan.{After, Asks, KeyTerms, Make, Plan, Questions, followed}
+use Rattle.service_calls.specs.service_events.specs.Plan.{Aliases_file, Asks, Change, End_prompt, KeyTerms, Make, Plan, Questions, Set_alias, followed, refused}
 use Rattle.service_answers.specs.Purposes.{SetsAlias}
-use Rattle.service_calls.specs.service_events.specs.Run.{AreFates, asked, run, sent_all}
-use Rattle.service_calls.specs.service_events.specs.Stored.{StoresOf}
-use Rattle.service_calls.specs.Done.{HasRoomToReply, Leads, fates_in}
+use Rattle.service_calls.specs.service_events.specs.Run.{asked, performed_all, sent_all}
+use Rattle.service_calls.specs.service_events.specs.CollectionCalls.{by_fate}
+use Rattle.service_calls.specs.service_events.specs.PublicBody as public
+use Rattle.service_calls.specs.Done.{HasRoomToReply, Leads}
 use Rattle.service_answers.specs.Settled.{Settles}
 use Rattle.service_calls.specs.declared.storing.Done.{Done}
-use Rattle.service_answers.proofs.FollowedLemmas.{leads-followed}
+use Rattle.service_calls.specs.service_events.proofs.SmallLemmas.{empty-small}
+use Rattle.service_calls.proofs.LeadsLemmas.{leads-changes, settles-known}
+use Rattle.service_answers.proofs.DerivedLemmas.{settles-unmade}
+use Rattle.service_answers.proofs.FollowedLemmas.{AreShort, leads-followed}
 
 -- ---- a new collection
 
@@ -103,11 +110,11 @@ same-count true false reply one other = refl
 same-count false true reply one other = refl
 same-count false false reply one other = refl
 
-pub room-either : (caller : ConnId) (prompt : PromptId) (created : Option (List ℕ)) (state : Prompts) (rooms : Rooms)
-    → HasRoomToReply caller (completed_sent prompt false created state) rooms → HasRoomToReply caller (completed_sent prompt true None state) rooms
-room-either caller prompt created state rooms room =
-    let pass : (o : Option PromptRow) → HasRoomToReply caller (cons_option (option_map (λ (row : PromptRow). completed_signal false created (prompts.ended_row row)) o) []) rooms
-    → HasRoomToReply caller (cons_option (option_map (λ (row : PromptRow). completed_signal true None (prompts.ended_row row)) o) []) rooms =
+pub room-either : (caller : ConnId) (prompt : PromptId) (created : Option (List ℕ)) (state : Prompts) (these : List ConnRow) (rooms : Rooms)
+    → HasRoomToReply caller (spread these (completed_sent prompt false created state)) rooms → HasRoomToReply caller (spread these (completed_sent prompt true None state)) rooms
+room-either caller prompt created state these rooms room =
+    let pass : (o : Option PromptRow) → HasRoomToReply caller (spread these (cons_option (option_map (λ (row : PromptRow). completed_signal false created (prompts.ended_row row)) o) [])) rooms
+    → HasRoomToReply caller (spread these (cons_option (option_map (λ (row : PromptRow). completed_signal true None (prompts.ended_row row)) o) [])) rooms =
     elim [
       | None ↦ λ has. has
       | Some row ↦ λ has reply conn.
@@ -120,83 +127,105 @@ room-either caller prompt created state rooms room =
 -- ---- its prompt ends
 
 -- it wasn't stored, or that isn't known
-pub ended-dismissed : (prompt : PromptId) (alias stem : List ℕ) (some : Fate) → (some ≡ fate.Stored → ⊥) → making_ended prompt alias stem some ≡ dismissing prompt
-ended-dismissed prompt alias stem fate.Stored apart = absurd (apart refl)
-ended-dismissed prompt alias stem fate.Before apart = refl
-ended-dismissed prompt alias stem fate.Unsure apart = refl
-ended-dismissed prompt alias stem fate.Old apart = refl
-ended-dismissed prompt alias stem fate.New apart = refl
-ended-dismissed prompt alias stem fate.Other apart = refl
-ended-dismissed prompt alias stem fate.ReadFailed apart = refl
+pub ended-dismissed : (prompt : PromptId) (alias stem : List ℕ) (some : StoreFate) → (some ≡ stored.Stored → ⊥) → making_ended prompt alias stem some ≡ dismissing prompt
+ended-dismissed prompt alias stem stored.Stored apart = absurd (apart refl)
+ended-dismissed prompt alias stem stored.Before apart = refl
+ended-dismissed prompt alias stem stored.Unsure apart = refl
 
-given-followed : (prompt : PromptId) (alias stem : List ℕ) (asks : Questions) → (alias ≡ [] → ⊥) → alias_given prompt alias stem asks ≡ followed (completing prompt stem) (alias_settled alias (Some stem) asks)
-given-followed prompt [] stem asks given = absurd (given refl)
-given-followed prompt (byte ∷ bytes) stem asks given = refl
+given-followed : (prompt : PromptId) (alias stem : List ℕ) → (alias ≡ [] → ⊥) → alias_given prompt alias stem ≡ followed (completing prompt stem) (alias_settled alias (Some stem))
+given-followed prompt [] stem given = absurd (given refl)
+given-followed prompt (byte ∷ bytes) stem given = refl
 
-given-left : (caller : ConnId) (brought : Brought) (prompt : PromptId) (alias stem : List ℕ) (state : State) → state.aliases ≡ None → alias_given prompt alias stem (asked caller brought state) ≡ quietly (completing prompt stem)
-given-left caller brought prompt [] stem state left = refl
-given-left caller brought prompt (byte ∷ bytes) stem state left =
-    ap (λ (aliases : Option AliasRows). alias_given prompt (byte ∷ bytes) stem (asked caller brought (record state { aliases = aliases }))) left
+-- none of the answers of what sets an alias is large
+fate-short : (ended : StoreFate) → AreShort (by_fate public.Empty ended)
+fate-short stored.Stored = empty-small
+fate-short stored.Before = tt
+fate-short stored.Unsure = tt
 
-given-none : (caller : ConnId) (brought : Brought) (prompt : PromptId) (alias stem : List ℕ) (state : State) → (alias ≡ []) ⊎ (state.aliases ≡ None)
-    → alias_given prompt alias stem (asked caller brought state) ≡ quietly (completing prompt stem)
-given-none caller brought prompt alias stem state why =
-    elim why [ inl none ↦ ap (λ a. alias_given prompt a stem (asked caller brought state)) none | inr left ↦ given-left caller brought prompt alias stem state left ]
+stored-short : (alias : List ℕ) (stem : Option (List ℕ)) (its : Questions) → AreShort (alias_stored alias stem its)
+stored-short alias stem its =
+    let pass : (b : Bool) → AreShort (cond b (Asks (Set_alias alias stem) (by_fate public.Empty)) (refused name.LimitsExceeded)) = elim [ true ↦ fate-short | false ↦ tt ] in
+    pass (its.aliases.can_set alias stem)
+
+settled-short : (alias : List ℕ) (stem : Option (List ℕ)) → AreShort (alias_settled alias stem)
+settled-short alias stem = (tt, stored-short alias stem)
 
 module _ {F S : Type 0} (folder_honest folder_steady : F → Bool) (folder_faults : F → ℕ) (images : F → List ℕ → Image) (folder_leaves : F → List ℕ → Image → Type 0) (names_made : F → List (List ℕ)) (is_honest is_steady : S → Bool) (faults moment : S → ℕ) (left_since : S → ℕ → Image → Type 0) (may_leave : S → Image → Type 0) (caller : ConnId) (brought : Brought)
-    (prompt : PromptId) (alias stem : List ℕ) (before after : State) (sends : List Sent) where
+    (prompt : PromptId) (alias stem : List ℕ) (before after : State) (sends : List Delivery) where
   -- what this led to, of which no one gets an answer
-  abbrev Quietly-in : DiskState F S → DiskState F S → Plan → Option Fate → Option Fate → Type 0
+  abbrev done-with : Option ReadFate → Option StoreFate → Done
+  done-with read some = record { answer = Ok body.Empty; sends = sends; read = read; fate = some }
+
+  abbrev Quietly-in : DiskState F S → DiskState F S → Plan → Option ReadFate → Option StoreFate → Type 0
   Quietly-in old new plan read some =
-      Settles folder_honest folder_steady folder_faults images folder_leaves names_made is_honest is_steady faults moment left_since may_leave caller brought plan before after old new
-      (record { made = None; done = record { answer = Ok body.Empty; sends = sends; read = read; fate = some } })
+      Settles folder_honest folder_steady folder_faults images folder_leaves names_made is_honest is_steady faults moment left_since may_leave caller brought plan before after old new (record { made = None; done = done-with read some })
+
+  abbrev Done-in : DiskState F S → DiskState F S → Plan → Type 0
+  Done-in old new plan = Leads folder_honest folder_steady folder_faults images folder_leaves names_made is_honest is_steady faults moment left_since may_leave caller brought plan before after old new (done-with None None)
+
+  quiet-done : (old new : DiskState F S) (plan : Plan) → Done-in old new plan → Quietly-in old new plan None None
+  quiet-done old new plan leads =
+      settles-unmade folder_honest folder_steady folder_faults images folder_leaves names_made is_honest is_steady faults moment left_since may_leave caller brought before after old new plan (done-with None None) (record { made = None; done = done-with None None }) refl leads
+
+  -- these changes alone were performed
+  changes-done : (changes : List Change) (old new : DiskState F S) → after ≡ performed_all caller changes before → sends ≡ spread before.connections.rows (sent_all caller changes before) → new ≡ old
+      → Done-in old new (quietly changes)
+  changes-done changes old new state made disk =
+      leads-changes folder_honest folder_steady folder_faults images folder_leaves names_made is_honest is_steady faults moment left_since may_leave caller brought before after old new public.Empty changes (done-with None None) refl made refl refl empty-small state disk
 
   -- it ends dismissed
-  pub settles-dismissed : (some : Fate) (disk : DiskState F S) → (some ≡ fate.Stored → ⊥) → after ≡ record before { prompts = prompts.ended prompt before.prompts }
-      → sends ≡ completed_sent prompt true None before.prompts → Quietly-in disk disk (making_ended prompt alias stem some) None None
+  pub settles-dismissed : (some : StoreFate) (disk : DiskState F S) → (some ≡ stored.Stored → ⊥) → after ≡ record before { prompts = prompts.ended prompt before.prompts }
+      → ((rows : List ConnRow) → sends ≡ spread rows (completed_sent prompt true None before.prompts)) → Quietly-in disk disk (making_ended prompt alias stem some) None None
   settles-dismissed some disk apart state made =
       subst (λ p. Quietly-in disk disk p None None) (sym (ended-dismissed prompt alias stem some apart))
-      (record { state = state; sends = made ∙ sym (append-nil (completed_sent prompt true None before.prompts)); fates = tt; disk = refl })
+      (quiet-done disk disk (dismissing prompt)
+      (changes-done (End_prompt prompt true None ∷ []) disk disk state
+      (made before.connections.rows ∙ ap (spread before.connections.rows) (sym (append-nil (completed_sent prompt true None before.prompts)))) refl))
+
+  -- the file of the aliases was left alone, so no alias is set
+  left-alone : (given : List ℕ) → before.aliases ≡ None → (old new : DiskState F S) → Done-in old new (quietly (completing prompt stem)) → Done-in old new (alias_given prompt given stem)
+  left-alone [] left old new leads = leads
+  left-alone (byte ∷ bytes) left old new leads =
+      let next : Questions → Plan = λ its. followed (completing prompt stem) (alias_stored (byte ∷ bytes) (Some stem) its) in
+      let goes : next (asked caller brought before) ≡ quietly (completing prompt stem) = ap (λ (aliases : Option AliasRows). next (asked caller brought (record before { aliases = aliases }))) left in
+      settles-known folder_honest folder_steady folder_faults images folder_leaves names_made is_honest is_steady faults moment left_since may_leave caller brought Aliases_file (followed (completing prompt stem) (refused name.IOError)) next before after old new (done-with None None)
+      (ap are_doubtful left) (subst (Done-in old new) (sym goes) leads)
+
+  given-none : (alias ≡ []) ⊎ (before.aliases ≡ None) → (old new : DiskState F S) → Done-in old new (quietly (completing prompt stem)) → Done-in old new (alias_given prompt alias stem)
+  given-none why old new leads =
+      elim why [ inl none ↦ subst (λ a. Done-in old new (alias_given prompt a stem)) (sym none) leads | inr left ↦ left-alone alias left old new leads ]
 
   -- it ends completed
-  abbrev after-alias : Plan
-  after-alias = After [] (alias_given prompt alias stem)
-
   module _ (mid : State) (old new : DiskState F S) (set : Done) (performs : after ≡ record mid { prompts = prompts.ended prompt mid.prompts }) (same : mid.prompts ≡ before.prompts) (silent : set.sends ≡ [])
-      (made : sends ≡ completed_sent prompt false (Some stem) before.prompts) where
+      (made : (rows : List ConnRow) → sends ≡ spread rows (completed_sent prompt false (Some stem) before.prompts)) where
     abbrev Led-to : Plan → Type 0
     Led-to plan = Leads folder_honest folder_steady folder_faults images folder_leaves names_made is_honest is_steady faults moment left_since may_leave caller brought plan before mid old new set
 
-    without-alias : alias_given prompt alias stem (asked caller brought before) ≡ quietly (completing prompt stem) → mid ≡ before → new ≡ old → Quietly-in old new after-alias None None
-    without-alias plan state disk = record {
-      state = performs ∙ ap (λ (s : State). record s { prompts = prompts.ended prompt s.prompts }) state ∙ sym (ap (λ p. (run caller brought p [] before).state) plan);
-      sends = made ∙ sym (append-nil (completed_sent prompt false (Some stem) before.prompts)) ∙ sym (ap (λ p. (run caller brought p [] before).sends) plan);
-      fates = subst (λ p. AreFates caller brought p [] before) (sym plan) tt;
-      disk = subst (λ p. StoresOf folder_honest folder_steady folder_faults images folder_leaves names_made is_honest is_steady faults moment left_since may_leave caller brought p [] before old new) (sym plan) disk;
-    }
+    without-alias : (alias ≡ []) ⊎ (before.aliases ≡ None) → mid ≡ before → new ≡ old → Quietly-in old new (alias_given prompt alias stem) None None
+    without-alias why state disk =
+        quiet-done old new (alias_given prompt alias stem)
+        (given-none why old new
+        (changes-done (completing prompt stem) old new (performs ∙ ap (λ (s : State). record s { prompts = prompts.ended prompt s.prompts }) state)
+        (made before.connections.rows ∙ ap (spread before.connections.rows) (sym (append-nil (completed_sent prompt false (Some stem) before.prompts)))) disk))
 
-    with-alias : (plan : Plan) → alias_given prompt alias stem (asked caller brought before) ≡ followed (completing prompt stem) plan → Led-to plan → Quietly-in old new after-alias set.read set.fate
-    with-alias plan goes leads =
-        let after-sends : sends ≡ set.sends ++ sent_all caller (completing prompt stem) mid =
-        made ∙ ap (completed_sent prompt false (Some stem)) (sym same) ∙ sym (append-nil (completed_sent prompt false (Some stem) mid.prompts)) ∙ ap (λ s. s ++ sent_all caller (completing prompt stem) mid) (sym silent) in
-        let its = leads-followed folder_honest folder_steady folder_faults images folder_leaves names_made is_honest is_steady faults moment left_since may_leave caller brought (completing prompt stem) plan before mid after old new new set sends leads performs after-sends refl in
-        let fates = fates_in set in
-        record {
-          state = its.0 ∙ sym (ap (λ p. (run caller brought p fates before).state) goes);
-          sends = its.1 ∙ sym (ap (λ p. (run caller brought p fates before).sends) goes);
-          fates = subst (λ p. AreFates caller brought p fates before) (sym goes) its.2;
-          disk = subst (λ p. StoresOf folder_honest folder_steady folder_faults images folder_leaves names_made is_honest is_steady faults moment left_since may_leave caller brought p fates before old new) (sym goes) its.3;
-        }
+    with-alias : (plan : Plan) → AreShort plan → alias_given prompt alias stem ≡ followed (completing prompt stem) plan → Led-to plan → Quietly-in old new (alias_given prompt alias stem) set.read set.fate
+    with-alias plan short goes leads =
+        let rows = before.connections.rows in
+        let after-sends : sends ≡ set.sends ++ spread rows (sent_all caller (completing prompt stem) mid) =
+        made rows ∙ ap (λ p. spread rows (completed_sent prompt false (Some stem) p)) (sym same) ∙ ap (spread rows) (sym (append-nil (completed_sent prompt false (Some stem) mid.prompts)))
+        ∙ ap (λ s. s ++ spread rows (sent_all caller (completing prompt stem) mid)) (sym silent) in
+        let its = leads-followed folder_honest folder_steady folder_faults images folder_leaves names_made is_honest is_steady faults moment left_since may_leave caller brought (completing prompt stem) plan short before mid after old new new set sends leads performs after-sends refl in
+        subst (λ p. Quietly-in old new p set.read set.fate) (sym goes) (record { state = its.0; sends = its.1; fates = its.2; disk = its.3 })
 
     pub settles-completed : (o : Option AliasChange) → SetsAlias alias stem before.collections before.aliases o
         → IfSome o (λ change. (conn : ConnId) (its : Brought) (name : List ℕ) (target : Option (List ℕ)) → IsPreparedFor name target (contents_of before) change
-        → Leads folder_honest folder_steady folder_faults images folder_leaves names_made is_honest is_steady faults moment left_since may_leave conn its (alias_settled name target (asked conn its before)) before mid old new set)
+        → Leads folder_honest folder_steady folder_faults images folder_leaves names_made is_honest is_steady faults moment left_since may_leave conn its (alias_settled name target) before mid old new set)
         → IfNone o ((mid ≡ before) × (new ≡ old) × (set ≡ record { answer = Ok body.Empty; sends = []; read = None; fate = None }))
-        → Quietly-in old new after-alias set.read set.fate
+        → Quietly-in old new (alias_given prompt alias stem) set.read set.fate
     settles-completed None sets some none =
-        subst (λ (d : Done). Quietly-in old new after-alias d.read d.fate) (sym none.2) (without-alias (given-none caller brought prompt alias stem before sets) none.0 none.1)
+        subst (λ (d : Done). Quietly-in old new (alias_given prompt alias stem) d.read d.fate) (sym none.2) (without-alias sets none.0 none.1)
     settles-completed (Some change) sets some none =
-        with-alias (alias_settled alias (Some stem) (asked caller brought before)) (given-followed prompt alias stem (asked caller brought before) sets.0) (some caller brought alias (Some stem) sets.1)
+        with-alias (alias_settled alias (Some stem)) (settled-short alias (Some stem)) (given-followed prompt alias stem sets.0) (some caller brought alias (Some stem) sets.1)
 
 -- ---- stems that aren't used
 

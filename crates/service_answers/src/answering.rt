@@ -6,28 +6,27 @@ ghost use Rattle.service_calls.specs.collection_table.specs.Entries.{without};
 ghost use Rattle.service_calls.specs.collection_table.specs.Rows.{has, is_open};
 ghost use Rattle.prompt_state.specs.Prompts.{first_of_row, last_round, next_round, refusal, row_at};
 ghost use Rattle.service_calls.specs.service_disk.specs.Resolving.{is_doubtful};
-ghost use Rattle.service_calls.specs.service_events.specs.AnswerCalls.{answer_prompt, creates_row, deriving_key, going_on, row_answered, target_answered, target_settled};
+ghost use Rattle.service_calls.specs.service_events.specs.AnswerCalls.{answer_prompt, creates_row, deriving_key, row_answered, target_answered, target_settled};
 ghost use Rattle.service_calls.specs.service_events.specs.Plan.{Go_on};
 ghost use Rattle.service_calls.specs.service_events.specs.PromptCalls.{go_on_sent, passed, passed_kind};
 ghost use Rattle.service_calls.specs.Rows.{disk_of, rows_of};
-ghost use Rattle.service_calls.specs.service_events.specs.Run.{asked, performed, sent_by};
+ghost use Rattle.service_calls.specs.service_events.specs.Run.{asked, sent_by};
 ghost use Rattle.service_calls.specs.service_events.specs.Step.{answer_work, file_terms, password_in, prompt_work, row_terms, terms_for, work_of};
 ghost use Rattle.service_calls.specs.Done.{HasRoomToReply, Leads};
-ghost use Rattle.service_calls.specs.service_tables.specs.Connections.{HasRoom};
+ghost use Rattle.service_calls.specs.service_tables.specs.Connections.{HasRoom, spread};
 ghost use Rattle.service_calls.specs.service_tables.specs.Disk.{contents_in};
 ghost use Rattle.service_calls.specs.service_tables.specs.Opened.{contents_of};
 ghost use Rattle.service_calls.specs.service_tables.specs.Reading.{asked_collections};
 ghost use Rattle.service_calls.specs.service_tables.specs.Storing.{Brought};
+ghost use Rattle.service_calls.specs.service_tables.specs.declared.rows.ConnRow.{ConnRow};
 
 use kr_base::{Bytes, ConnId, OutOfMemory, PromptId, Stem};
 use kr_outside::Folder;
 use prompt_state::{PromptKind, Targets};
 use service_calls::secret_calls::{Body, Call, Request, Work};
 use service_calls::service_disk::{is_doubtful, prepare_resolve, resolve};
-use service_calls::service_tables::{Disk, Fate, Sent};
-use service_calls::{
-    Answer, Done, Tables, error_for, pass_kind, refused, sending, unread, unstored,
-};
+use service_calls::service_tables::{Delivery, Disk, ReadFate};
+use service_calls::{Answer, Done, Tables, error_for, refused, sending, unread, unstored};
 use std::cmp::Ordering;
 
 /// An answer in this round ends its prompt.
@@ -177,8 +176,7 @@ fn take_answer<F: Folder>(
         F.may_leave F.made F.Cell.is_honest F.Cell.is_steady
         F.Cell.faults F.Cell.moment
         F.Cell.left_since F.Cell.may_leave conn brought
-        (row_answered prompt round (row_at prompt (rows_of tables.old).prompts)
-        (asked conn brought (rows_of tables.old)))
+        (row_answered prompt round (row_at prompt (rows_of tables.old).prompts))
         (rows_of tables.old) (rows_of tables.new) (disk_of tables.old) (disk_of tables.new) done) }
     ensures room { IfOk result (λ done.
         HasRoomToReply conn done.sends tables.new.connections.rooms) }
@@ -211,8 +209,7 @@ fn answer_without_target<F: Folder>(
         F.may_leave F.made F.Cell.is_honest F.Cell.is_steady
         F.Cell.faults F.Cell.moment
         F.Cell.left_since F.Cell.may_leave conn brought
-        (row_answered prompt round (row_at prompt (rows_of tables.old).prompts)
-        (asked conn brought (rows_of tables.old)))
+        (row_answered prompt round (row_at prompt (rows_of tables.old).prompts))
         (rows_of tables.old) (rows_of tables.new) (disk_of tables.old) (disk_of tables.new) done) }
     ensures room { IfOk result (λ done.
         HasRoomToReply conn done.sends tables.new.connections.rooms) }
@@ -222,7 +219,7 @@ fn answer_without_target<F: Folder>(
     if creates(tables, prompt) {
         return Ok(derive(tables, conn, prompt, round));
     }
-    go_on_alone(tables, conn, prompt)
+    tables.go_on(conn, prompt)
 }
 
 // The answer to a prompt that is asked for the collection of a stem.
@@ -241,7 +238,7 @@ fn answer_target<F: Folder>(
         F.may_leave F.made F.Cell.is_honest F.Cell.is_steady
         F.Cell.faults F.Cell.moment
         F.Cell.left_since F.Cell.may_leave conn brought
-        (target_settled prompt round stem.now (asked conn brought (rows_of tables.old)))
+        (target_settled prompt round stem.now)
         (rows_of tables.old) (rows_of tables.new) (disk_of tables.old) (disk_of tables.new) done) }
     ensures room { IfOk result (λ done.
         HasRoomToReply conn done.sends tables.new.connections.rooms) }
@@ -278,10 +275,10 @@ fn answer_known<F: Folder>(
         × (disk_of tables.new ≡ disk_of tables.old)) }
 {
     if !tables.disk.collections.has(stem) {
-        return go_on_alone(tables, conn, prompt);
+        return tables.go_on(conn, prompt);
     }
     if tables.disk.collections.is_open(stem) {
-        return go_on_alone(tables, conn, prompt);
+        return tables.go_on(conn, prompt);
     }
     Ok(derive(tables, conn, prompt, round))
 }
@@ -304,7 +301,7 @@ fn answer_in_doubt<F: Folder>(
         F.may_leave F.made F.Cell.is_honest F.Cell.is_steady
         F.Cell.faults F.Cell.moment
         F.Cell.left_since F.Cell.may_leave conn brought
-        (target_settled prompt round stem.now (asked conn brought (rows_of tables.old)))
+        (target_settled prompt round stem.now)
         (rows_of tables.old) (rows_of tables.new) (disk_of tables.old) (disk_of tables.new) done) }
     ensures room { IfOk result (λ done.
         HasRoomToReply conn done.sends tables.new.connections.rooms) }
@@ -317,7 +314,7 @@ fn answer_in_doubt<F: Folder>(
     let mut buffer = prepare_resolve(tables.alloc, &mut tables.disk, stem)?;
     let read = resolve(&mut tables.disk, taken, &mut buffer);
     match read {
-        Fate::ReadFailed => Ok(unread(tables.alloc, read)),
+        ReadFate::ReadFailed => Ok(unread(tables.alloc, read)),
         _ => Ok(answer_found(tables, conn, prompt, round, stem, sends).after(read)),
     }
 }
@@ -329,13 +326,14 @@ fn answer_found<F: Folder>(
     prompt: PromptId,
     round: u64,
     stem: &Stem,
-    sends: Vec<Sent>,
+    sends: Vec<Delivery>,
 ) -> Done
     requires taken { refusal prompt round conn (rows_of tables.old).prompts ≡ None }
     requires below { round < last_round }
     requires locked { is_open stem.now (rows_of tables.old).collections ≡ false }
     requires sends { has stem.now (rows_of tables.old).collections ≡ false
-        → sends.items ≡ sent_by conn (Go_on prompt) (rows_of tables.old) }
+        → (rows : List ConnRow)
+        → sends.items ≡ spread rows (sent_by conn (Go_on prompt) (rows_of tables.old)) }
     requires room { HasRoomToReply conn sends.items tables.old.connections.rooms }
     ensures leads { (brought : Brought)
         → Leads F.is_honest F.is_steady F.faults F.images
@@ -350,7 +348,7 @@ fn answer_found<F: Folder>(
     if tables.disk.collections.has(stem) {
         return derive(tables, conn, prompt, round);
     }
-    go_on_now(tables, conn, prompt);
+    tables.go_on_now(conn, prompt);
     sending(Ok(Body::Empty), sends)
 }
 
@@ -374,65 +372,19 @@ fn derive<F: Folder>(tables: &mut Tables<F>, conn: ConnId, prompt: PromptId, rou
     }
 }
 
-/// A prompt that is there, and has a next round, advances after it was asked. All memory is taken before the
-/// prompt changes.
-pub fn go_on_alone<F: Folder>(
-    tables: &mut Tables<F>,
-    conn: ConnId,
-    prompt: PromptId,
-) -> Result<Done, OutOfMemory>
-    requires there { is_some (row_at prompt (rows_of tables.old).prompts) ≡ true }
-    requires round { next_round (row_at prompt (rows_of tables.old).prompts) ≤ last_round }
-    ensures leads { IfOk result (λ done. (brought : Brought)
-        → Leads F.is_honest F.is_steady F.faults F.images
-        F.may_leave F.made F.Cell.is_honest F.Cell.is_steady
-        F.Cell.faults F.Cell.moment
-        F.Cell.left_since F.Cell.may_leave conn brought (going_on prompt)
-        (rows_of tables.old) (rows_of tables.new) (disk_of tables.old) (disk_of tables.new) done) }
-    ensures room { IfOk result (λ done.
-        HasRoomToReply conn done.sends tables.new.connections.rooms) }
-    ensures unchanged { OnErr result ((rows_of tables.new ≡ rows_of tables.old)
-        × (disk_of tables.new ≡ disk_of tables.old)) }
-{
-    let sends = go_on_sends(tables, conn, prompt)?;
-    tables.connections.reserve_for(conn, &sends)?;
-    go_on_now(tables, conn, prompt);
-    Ok(sending(Ok(Body::Empty), sends))
-}
-
-// What is sent when a prompt advances that is there and has a next round.
-fn go_on_sends<F: Folder>(
-    tables: &Tables<F>,
-    conn: ConnId,
-    prompt: PromptId,
-) -> Result<Vec<Sent>, OutOfMemory>
-    requires there { is_some (row_at prompt (rows_of tables.now).prompts) ≡ true }
-    requires round { next_round (row_at prompt (rows_of tables.now).prompts) ≤ last_round }
-    ensures { IfOk result (λ sends. sends.items
-        ≡ sent_by conn (Go_on prompt) (rows_of tables.now)) }
-{
-    let _ = conn;
-    let Some(row) = tables.prompts.row(prompt) else {
-        unreachable!();
-    };
-    let mut kind = row.kind.copy()?;
-    pass_kind(&tables.disk, &mut kind);
-    tables.advance_sent(row, row.wrong, &kind)
-}
-
-// The same if the collection of a stem weren't there.
+// What is sent when a prompt advances that is there and has a next round, if the collection of a stem weren't there.
 fn sends_without<F: Folder>(
     tables: &Tables<F>,
     prompt: PromptId,
     stem: &Stem,
-) -> Result<Vec<Sent>, OutOfMemory>
+) -> Result<Vec<Delivery>, OutOfMemory>
     requires there { is_some (row_at prompt (rows_of tables.now).prompts) ≡ true }
     requires round { next_round (row_at prompt (rows_of tables.now).prompts) ≤ last_round }
-    ensures { IfOk result (λ sends. sends.items
-        ≡ go_on_sent (asked_collections (record (contents_of (rows_of tables.now)) {
+    ensures { IfOk result (λ sends. (rows : List ConnRow) → sends.items
+        ≡ spread rows (go_on_sent (asked_collections (record (contents_of (rows_of tables.now)) {
           collections = without stem.now (rows_of tables.now).collections;
         })) (without stem.now (rows_of tables.now).collections)
-        (rows_of tables.now).prompts.agent (row_at prompt (rows_of tables.now).prompts)) }
+        (rows_of tables.now).prompts.agent (row_at prompt (rows_of tables.now).prompts))) }
 {
     let Some(row) = tables.prompts.row(prompt) else {
         unreachable!();
@@ -440,22 +392,6 @@ fn sends_without<F: Folder>(
     let mut kind = row.kind.copy()?;
     pass_kind_without(&tables.disk, stem, &mut kind);
     tables.advance_sent(row, row.wrong, &kind)
-}
-
-/// A prompt that is there, and has a next round, advances. It takes no memory.
-pub fn go_on_now<F: Folder>(tables: &mut Tables<F>, conn: ConnId, prompt: PromptId)
-    requires there { is_some (row_at prompt (rows_of tables.old).prompts) ≡ true }
-    requires round { next_round (row_at prompt (rows_of tables.old).prompts) ≤ last_round }
-    ensures rows { rows_of tables.new ≡ performed conn (Go_on prompt) (rows_of tables.old) }
-    ensures room { tables.new.connections ≡ tables.old.connections }
-    ensures disk { disk_of tables.new ≡ disk_of tables.old }
-{
-    tables.pass_targets(conn, prompt);
-    if tables.has_ended(prompt) {
-        let _ended = tables.prompts.end(prompt);
-    } else {
-        let _round = tables.prompts.again(prompt);
-    }
 }
 
 // The stem of the first target of a prompt that is left, if it has targets.

@@ -12,13 +12,13 @@ ghost use Rattle.service_calls.specs.service_disk.specs.Making.{AreFree, has_roo
 ghost use Rattle.stem_choice.specs.Choice.{chosen};
 ghost use Rattle.service_calls.specs.service_prompts.specs.Prompting.{completed_sent};
 ghost use Rattle.service_calls.specs.secret_calls.specs.declared.out.Body.TheVariants as body;
-ghost use Rattle.service_calls.specs.service_tables.specs.declared.fate.Fate.TheVariants as Fate;
+ghost use Rattle.service_calls.specs.service_tables.specs.declared.fate.StoreFate.TheVariants as StoreFate;
 ghost use Rattle.service_calls.specs.service_disk.specs.Opening.{opening_of, rows_opened};
 ghost use Rattle.service_calls.specs.service_disk.specs.declared.opening.Opening.TheVariants as Opening;
 ghost use Rattle.service_calls.specs.service_events.specs.AliasCalls.{alias_settled};
 ghost use Rattle.service_calls.specs.service_events.specs.Derivation.{alias_given, can_make, collection_made, making_ended, new_iterations, derived, most_wrong_answers, opening_ended, quietly, wrong_again};
 ghost use Rattle.service_calls.specs.service_events.specs.Fates.{is_steady};
-ghost use Rattle.service_calls.specs.service_events.specs.Plan.{After, Asks, Ask_prompt, Clear_wrong, Go_on, Make};
+ghost use Rattle.service_calls.specs.service_events.specs.Plan.{Asks, Ask_prompt, Clear_wrong, Go_on, Make};
 ghost use Rattle.service_calls.specs.service_events.specs.PromptCalls.{asks_for};
 ghost use Rattle.service_calls.specs.Rows.{disk_of, rows_of};
 ghost use Rattle.service_calls.specs.service_events.specs.Run.{asked, sent_all};
@@ -28,12 +28,13 @@ ghost use Rattle.service_calls.specs.service_events.specs.Stored.{KeepsSlotOrAll
 ghost use Rattle.service_calls.specs.Done.{HasRoomToReply, Leads};
 ghost use Rattle.service_answers.specs.Settled.{Settles};
 ghost use Rattle.service_calls.specs.service_tables.specs.Aliases.{IsPreparedFor};
-ghost use Rattle.service_calls.specs.service_tables.specs.Connections.{HasRoomFor};
+ghost use Rattle.service_calls.specs.service_tables.specs.Connections.{HasRoomFor, spread};
 ghost use Rattle.service_calls.specs.service_tables.specs.Opened.{contents_of};
 ghost use Rattle.service_calls.specs.service_tables.specs.Sound.{IsSound};
 ghost use Rattle.service_calls.specs.service_tables.specs.Storing.{Brought};
+ghost use Rattle.service_calls.specs.service_tables.specs.declared.rows.ConnRow.{ConnRow};
 
-use crate::answering::{NEW_ITERATIONS, go_on_alone, go_on_now};
+use crate::answering::NEW_ITERATIONS;
 use key_derivation::Derived;
 use kr_base::{ConnId, OutOfMemory, PromptId, Stem, Text};
 use kr_outside::Folder;
@@ -43,7 +44,7 @@ use service_calls::folder_store::LIMITS;
 use service_calls::secret_calls::Body;
 use service_calls::service_disk::{Opening, has_room, make, unlock};
 use service_calls::service_prompts::{ask_signal, completed_sent};
-use service_calls::service_tables::{Fate, Sent};
+use service_calls::service_tables::{Delivery, StoreFate};
 use service_calls::{Done, Tables, pass_kind, sending, unstored};
 use std::alloc::Global;
 use stem_choice::chosen_stem;
@@ -56,7 +57,7 @@ const MOST_WRONG_ANSWERS: u32 = 3;
 #[derive(Drop)]
 pub struct Settled {
     /// How the making of a collection ended.
-    pub made: Option<Fate>,
+    pub made: Option<StoreFate>,
     /// What came after it.
     pub done: Done,
 }
@@ -67,9 +68,9 @@ pub struct Prepared {
     /// The stem of the collection.
     pub stem: Stem,
     /// What is sent if it isn't made.
-    pub dismissed: Vec<Sent>,
+    pub dismissed: Vec<Delivery>,
     /// What is sent if it is.
-    pub completed: Vec<Sent>,
+    pub completed: Vec<Delivery>,
     /// The change that sets its alias, if it gets one.
     pub change: Option<AliasChange>,
 }
@@ -223,7 +224,7 @@ fn unlock_target<F: Folder>(
 {
     match stem {
         Some(stem) => try_key(tables, conn, prompt, &stem, key),
-        None => go_on_alone(tables, conn, prompt),
+        None => tables.go_on(conn, prompt),
     }
 }
 
@@ -254,7 +255,7 @@ fn try_key<F: Folder>(
         × (disk_of tables.new ≡ disk_of tables.old)) }
 {
     match open_with(tables, stem, key)? {
-        Opening::Settled => go_on_alone(tables, conn, prompt),
+        Opening::Settled => tables.go_on(conn, prompt),
         Opening::Unfit => ask_again(tables, conn, prompt),
         Opening::WrongPassword => count_wrong(tables, conn, prompt),
         Opening::Damaged => tables.end_dismissed(conn, prompt),
@@ -316,7 +317,7 @@ fn go_on_cleared<F: Folder>(
     let sends = cleared_sends(tables, conn, prompt)?;
     tables.connections.reserve_for(conn, &sends)?;
     tables.prompts.clear_wrong(prompt);
-    go_on_now(tables, conn, prompt);
+    tables.go_on_now(conn, prompt);
     Ok(sending(Ok(Body::Empty), sends))
 }
 
@@ -325,11 +326,12 @@ fn cleared_sends<F: Folder>(
     tables: &Tables<F>,
     conn: ConnId,
     prompt: PromptId,
-) -> Result<Vec<Sent>, OutOfMemory>
+) -> Result<Vec<Delivery>, OutOfMemory>
     requires there { is_some (row_at prompt (rows_of tables.now).prompts) ≡ true }
     requires round { next_round (row_at prompt (rows_of tables.now).prompts) ≤ last_round }
-    ensures { IfOk result (λ sends. sends.items
-        ≡ sent_all conn (Clear_wrong prompt ∷ Go_on prompt ∷ []) (rows_of tables.now)) }
+    ensures { IfOk result (λ sends. (rows : List ConnRow) → sends.items
+        ≡ spread rows (sent_all conn (Clear_wrong prompt ∷ Go_on prompt ∷ [])
+        (rows_of tables.now))) }
 {
     let _ = conn;
     let Some(row) = tables.prompts.row(prompt) else {
@@ -414,12 +416,13 @@ fn ask_sends<F: Folder>(
     tables: &Tables<F>,
     prompt: PromptId,
     wrong: u32,
-) -> Result<Vec<Sent>, OutOfMemory>
+) -> Result<Vec<Delivery>, OutOfMemory>
     requires there { is_some (row_at prompt (rows_of tables.now).prompts) ≡ true }
     requires round { next_round (row_at prompt (rows_of tables.now).prompts) ≤ last_round }
     ensures { IfOk result (λ sends. IfSome (row_at prompt (rows_of tables.now).prompts) (λ row.
-        sends.items ≡ asks_for (rows_of tables.now).collections (record row { wrong = wrong })
-        row.kind (rows_of tables.now).prompts.agent)) }
+        (rows : List ConnRow) → sends.items
+        ≡ spread rows (asks_for (rows_of tables.now).collections (record row { wrong = wrong })
+        row.kind (rows_of tables.now).prompts.agent))) }
 {
     let mut sends = Vec::with_capacity(tables.alloc, 1)?;
     let Some(row) = tables.prompts.row(prompt) else {
@@ -575,10 +578,10 @@ fn prepare_new<F: Folder>(
     ensures unused { IfOk result (λ new. ¬ (Contains (rows_of tables.old).used new.stem)) }
     ensures unlisted { IfOk result (λ new.
         has_collection new.stem (rows_of tables.old).collections ≡ false) }
-    ensures dismissed { IfOk result (λ new. new.dismissed.items
-        ≡ completed_sent prompt true None (rows_of tables.old).prompts) }
-    ensures completed { IfOk result (λ new. new.completed.items
-        ≡ completed_sent prompt false (Some new.stem) (rows_of tables.old).prompts) }
+    ensures dismissed { IfOk result (λ new. (rows : List ConnRow) → new.dismissed.items
+        ≡ spread rows (completed_sent prompt true None (rows_of tables.old).prompts)) }
+    ensures completed { IfOk result (λ new. (rows : List ConnRow) → new.completed.items
+        ≡ spread rows (completed_sent prompt false (Some new.stem) (rows_of tables.old).prompts)) }
     ensures change { IfOk result (λ new. (row : CollectionRow) → SetsAlias alias new.stem
         (inserted new.stem row (rows_of tables.old).collections)
         (rows_of tables.old).aliases new.change) }
@@ -637,19 +640,21 @@ fn change_for<F: Folder>(
 fn end_made<F: Folder>(
     tables: &mut Tables<F>,
     prompt: PromptId,
-    fate: Fate,
-    dismissed: Vec<Sent>,
-    completed: Vec<Sent>,
+    fate: StoreFate,
+    dismissed: Vec<Delivery>,
+    completed: Vec<Delivery>,
     change: Option<AliasChange>,
 ) -> Done
     requires there { is_some (row_at prompt (rows_of tables.old).prompts) ≡ true }
-    requires prepared { fate ≡ Fate.Stored → IfSome change (λ change. (alias : List ℕ)
+    requires prepared { fate ≡ StoreFate.Stored → IfSome change (λ change. (alias : List ℕ)
         × (stem : Option (List ℕ))
         × IsPreparedFor alias stem (contents_of (rows_of tables.old)) change) }
     ensures settles { (conn : ConnId) (brought : Brought) (alias stem : List ℕ)
-        → dismissed.items ≡ completed_sent prompt true None (rows_of tables.old).prompts
-        → completed.items ≡ completed_sent prompt false (Some stem) (rows_of tables.old).prompts
-        → (fate ≡ Fate.Stored → SetsAlias alias stem (rows_of tables.old).collections
+        → ((rows : List ConnRow) → dismissed.items
+        ≡ spread rows (completed_sent prompt true None (rows_of tables.old).prompts))
+        → ((rows : List ConnRow) → completed.items
+        ≡ spread rows (completed_sent prompt false (Some stem) (rows_of tables.old).prompts))
+        → (fate ≡ StoreFate.Stored → SetsAlias alias stem (rows_of tables.old).collections
         (rows_of tables.old).aliases change)
         → Settles F.is_honest F.is_steady F.faults F.images
         F.may_leave F.made F.Cell.is_honest F.Cell.is_steady
@@ -663,7 +668,7 @@ fn end_made<F: Folder>(
         ≡ record (disk_of tables.old) { aliases = (disk_of tables.new).aliases } }
 {
     match fate {
-        Fate::Stored => end_completed(tables, prompt, completed, change),
+        StoreFate::Stored => end_completed(tables, prompt, completed, change),
         _ => {
             let _ended = tables.prompts.end(prompt);
             sending(Ok(Body::Empty), dismissed)
@@ -676,19 +681,20 @@ fn end_made<F: Folder>(
 fn end_completed<F: Folder>(
     tables: &mut Tables<F>,
     prompt: PromptId,
-    completed: Vec<Sent>,
+    completed: Vec<Delivery>,
     change: Option<AliasChange>,
 ) -> Done
     requires there { is_some (row_at prompt (rows_of tables.old).prompts) ≡ true }
     requires prepared { IfSome change (λ change. (alias : List ℕ) × (stem : Option (List ℕ))
         × IsPreparedFor alias stem (contents_of (rows_of tables.old)) change) }
     ensures settles { (conn : ConnId) (brought : Brought) (alias stem : List ℕ)
-        → completed.items ≡ completed_sent prompt false (Some stem) (rows_of tables.old).prompts
+        → ((rows : List ConnRow) → completed.items
+        ≡ spread rows (completed_sent prompt false (Some stem) (rows_of tables.old).prompts))
         → SetsAlias alias stem (rows_of tables.old).collections (rows_of tables.old).aliases change
         → Settles F.is_honest F.is_steady F.faults F.images
         F.may_leave F.made F.Cell.is_honest F.Cell.is_steady
         F.Cell.faults F.Cell.moment F.Cell.left_since F.Cell.may_leave conn brought
-        (After [] (alias_given prompt alias stem))
+        (alias_given prompt alias stem)
         (rows_of tables.old) (rows_of tables.new) (disk_of tables.old) (disk_of tables.new)
         (record { made = None; done = result }) }
     ensures sends { result.sends ≡ completed.items }
@@ -711,7 +717,7 @@ fn set_new_alias<F: Folder>(tables: &mut Tables<F>, change: Option<AliasChange>)
         → Leads F.is_honest F.is_steady F.faults F.images
         F.may_leave F.made F.Cell.is_honest F.Cell.is_steady
         F.Cell.faults F.Cell.moment F.Cell.left_since F.Cell.may_leave conn brought
-        (alias_settled alias stem (asked conn brought (rows_of tables.old)))
+        (alias_settled alias stem)
         (rows_of tables.old) (rows_of tables.new)
         (disk_of tables.old) (disk_of tables.new) result) }
     ensures unset { IfNone change ((rows_of tables.new ≡ rows_of tables.old)

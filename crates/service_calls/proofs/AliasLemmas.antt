@@ -1,37 +1,29 @@
 -- The plan of an alias that is set, and what was prepared for it.
-use Rattle.std.proofs.Common.{◌≡◌, ℕ, Bool, true, false, cond, List, Option, Some, None, ap, subst}
+use Rattle.std.proofs.Common.{◌≡◌, ℕ, Bool, true, cond, List, Option, Some, None, ap, subst}
 use Rattle.kr_base.specs.declared.ids.ConnId.{ConnId}
 use Rattle.kr_outside.specs.RenameDisk.{Image}
 use Rattle.service_events.specs.alias_table.specs.Table.{AliasRows, Change}
-use Rattle.service_events.specs.secret_calls.specs.declared.out.Body.TheVariants as body
 use Rattle.service_events.specs.secret_calls.specs.declared.out.ErrorName.TheVariants as name
 use Rattle.service_events.specs.service_tables.specs.declared.fate.Fate.{Fate}
-use Rattle.service_events.specs.service_tables.specs.Aliases.{IsForAliases, IsPreparedFor, IsPreparedIn, are_doubtful, asked_aliases}
+use Rattle.service_events.specs.service_tables.specs.Aliases.{IsForAliases, IsPreparedFor, IsPreparedIn, asked_aliases}
 use Rattle.service_events.specs.service_tables.specs.Disk.{DiskState}
 use Rattle.service_events.specs.service_tables.specs.Opened.{Contents, contents_of}
 use Rattle.service_events.specs.service_tables.specs.Slots.{StoresAliases}
 use Rattle.service_events.specs.service_tables.specs.State.{State}
 use Rattle.service_events.specs.service_tables.specs.Storing.{Brought}
 use Rattle.service_events.specs.collection_table.specs.Rows.{Rows}
-use Rattle.service_events.specs.AliasCalls.{alias_settled, alias_stored, once_read}
+use Rattle.service_events.specs.AliasCalls.{alias_stored}
 use Rattle.service_events.specs.CollectionCalls.{by_fate}
-use Rattle.service_events.specs.Plan.{Asks, Set_alias, Read_aliases, refused}
+use Rattle.service_events.specs.Plan.{Asks, Set_alias, refused}
+use Rattle.service_events.specs.PublicBody as public
 use Rattle.service_events.specs.Run.{asked}
 
 -- ---- the plan
 
 module _ (caller : ConnId) (brought : Brought) (alias : List ℕ) (stem : Option (List ℕ)) (state : State) where
   -- there are no more aliases than may be, so the alias is stored
-  pub stored-plan : (asked_aliases (contents_of state)).can_set alias stem ≡ true → alias_stored alias stem (asked caller brought state) ≡ Asks (Set_alias alias stem) (by_fate body.Empty)
-  stored-plan can = ap (λ b. cond b (Asks (Set_alias alias stem) (by_fate body.Empty)) (refused name.LimitsExceeded)) can
-
-  -- the file is known
-  pub settled-known : are_doubtful state.aliases ≡ false → alias_settled alias stem (asked caller brought state) ≡ alias_stored alias stem (asked caller brought state)
-  settled-known certain = ap (λ b. cond b (Asks Read_aliases (once_read (alias_stored alias stem))) (alias_stored alias stem (asked caller brought state))) certain
-
-  -- it is in doubt, and is read again
-  pub settled-doubt : are_doubtful state.aliases ≡ true → alias_settled alias stem (asked caller brought state) ≡ Asks Read_aliases (once_read (alias_stored alias stem))
-  settled-doubt doubt = ap (λ b. cond b (Asks Read_aliases (once_read (alias_stored alias stem))) (alias_stored alias stem (asked caller brought state))) doubt
+  pub stored-plan : (asked_aliases (contents_of state)).can_set alias stem ≡ true → alias_stored alias stem (asked caller brought state) ≡ Asks (Set_alias alias stem) (by_fate public.Empty)
+  stored-plan can = ap (λ b. cond b (Asks (Set_alias alias stem) (by_fate public.Empty)) (refused name.LimitsExceeded)) can
 
 -- ---- what was prepared
 

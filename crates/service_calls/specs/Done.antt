@@ -1,17 +1,17 @@
 -- What a call led to, and that it is what its plan leads to.
-use Rattle.std.specs.Prelude.{◌≡◌, ℕ, Bool, List, [], ◌∷◌, ◌++◌, Option, None, Some, Result, Ok, Err}
+use Rattle.std.specs.Prelude.{◌≡◌, ℕ, Bool, List, ◌∷◌, ◌++◌, Result, Ok, Err}
 use Rattle.kr_base.specs.declared.ids.ConnId.{ConnId}
 use Rattle.kr_base.specs.declared.ids.ItemId.{ItemId}
 use Rattle.kr_outside.specs.RenameDisk.{Image}
 use Rattle.service_events.specs.secret_calls.specs.declared.out.Body.{Body}
-use Rattle.service_events.specs.secret_calls.specs.declared.out.Body.TheVariants as body
 use Rattle.service_events.specs.secret_calls.specs.declared.out.ErrorName.{ErrorName}
 use Rattle.service_events.specs.secret_calls.specs.declared.out.ErrorName.TheVariants as name
 use Rattle.service_events.specs.secret_calls.specs.declared.out.Out.{Out}
 use Rattle.service_events.specs.service_tables.specs.declared.fate.Fate.{Fate}
-use Rattle.service_events.specs.service_tables.specs.declared.fate.Fate.TheVariants as fate
-use Rattle.service_events.specs.service_tables.specs.declared.rows.Sent.{Sent}
-use Rattle.service_events.specs.service_tables.specs.Connections.{HasRoomFor, Rooms}
+use Rattle.service_events.specs.service_tables.specs.declared.fate.StoreFate.{StoreFate}
+use Rattle.service_events.specs.service_tables.specs.declared.fate.StoreFate.TheVariants as fate
+use Rattle.service_events.specs.service_tables.specs.declared.rows.Delivery.{Delivery}
+use Rattle.service_events.specs.service_tables.specs.Connections.{HasRoomFor, Rooms, spread}
 use Rattle.service_events.specs.service_tables.specs.Disk.{DiskState}
 use Rattle.service_events.specs.service_tables.specs.State.{State}
 use Rattle.service_events.specs.service_tables.specs.Storing.{Brought}
@@ -19,42 +19,40 @@ use Rattle.service_calls.specs.declared.storing.Done.{Done}
 use Rattle.service_calls.specs.declared.storing.Returned.{Returned}
 use Rattle.service_calls.specs.declared.storing.Returned.TheVariants as returned
 use Rattle.service_events.specs.CollectionCalls.{made, no_prompt}
-use Rattle.service_events.specs.Fates.{fates_of}
+use Rattle.service_events.specs.Fates.{reads_of, stores_of}
 use Rattle.service_events.specs.Plan.{Plan}
-use Rattle.service_events.specs.Run.{AreFates, led}
+use Rattle.service_events.specs.PublicBody.{PublicBody}
+use Rattle.service_events.specs.PublicBody as public
+use Rattle.service_events.specs.Run.{AreFates, run}
 use Rattle.service_events.specs.Stored.{StoresOf}
 
--- there is room for a reply to the caller, and for what is sent after it
-abbrev pub HasRoomToReply : ConnId → List Sent → Rooms → Type 0
+-- there is room for a reply to the caller, and for what is delivered after it
+abbrev pub HasRoomToReply : ConnId → List Delivery → Rooms → Type 0
 HasRoomToReply caller sends rooms = (reply : Out) → HasRoomFor (record { to = caller; out = reply } ∷ sends) rooms
 
 -- how what a call asked for ended: a resolve first, and then a storing
 abbrev pub fates_in : Done → List Fate
-fates_in done = fates_of done.read ++ fates_of done.fate
+fates_in done = reads_of done.read ++ stores_of done.fate
 
 -- what is answered once the disk was asked
-abbrev pub answer_by : Body → Fate → Result Body ErrorName
+abbrev pub answer_by : Body → StoreFate → Result Body ErrorName
 answer_by body fate.Stored = Ok body
 answer_by body fate.Before = Err name.IOError
 answer_by body fate.Unsure = Err name.IOError
-answer_by body fate.Old = Err name.IOError
-answer_by body fate.New = Err name.IOError
-answer_by body fate.Other = Err name.IOError
-answer_by body fate.ReadFailed = Err name.IOError
 
 -- what an edit returns
-abbrev pub body_of : Returned → List ℕ → ItemId → Body
+abbrev pub body_of : Returned → List ℕ → ItemId → PublicBody
 body_of returned.Item stem item = made stem item
 body_of returned.NoPrompt stem item = no_prompt
-body_of returned.Nothing stem item = body.Empty
+body_of returned.Nothing stem item = public.Empty
 
 module _ {F S : Type 0} (folder_honest folder_steady : F → Bool) (folder_faults : F → ℕ) (images : F → List ℕ → Image)
     (folder_leaves : F → List ℕ → Image → Type 0) (names_made : F → List (List ℕ)) (is_honest is_steady : S → Bool) (faults moment : S → ℕ)
     (left_since : S → ℕ → Image → Type 0) (may_leave : S → Image → Type 0) where
-  -- A call leads to what its plan does: to this answer, to this state, to what it sends, and with these fates to this disk.
+  -- A call leads to what its plan does: to this answer, to this state, to these deliveries of what it sends, and with these fates to this disk.
   pub record Leads (caller : ConnId) (brought : Brought) (plan : Plan) (before after : State) (old new : DiskState F S) (done : Done) : Type 0 where
-    pub answer : done.answer ≡ (led caller brought plan (fates_in done) before).answer
-    pub state : after ≡ (led caller brought plan (fates_in done) before).state
-    pub sends : done.sends ≡ (led caller brought plan (fates_in done) before).sends
+    pub answer : done.answer ≡ (run caller brought plan (fates_in done) before).answer
+    pub state : after ≡ (run caller brought plan (fates_in done) before).state
+    pub sends : done.sends ≡ spread before.connections.rows (run caller brought plan (fates_in done) before).sends
     pub fates : AreFates caller brought plan (fates_in done) before
     pub disk : StoresOf folder_honest folder_steady folder_faults images folder_leaves names_made is_honest is_steady faults moment left_since may_leave caller brought plan (fates_in done) before old new

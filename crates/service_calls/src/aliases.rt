@@ -2,6 +2,7 @@
 ghost use Rattle.std.specs.Prelude.{◌≡◌, ℕ, List, Option, [], None, Some, IfOk, OnErr, false};
 ghost use Rattle.kr_base.specs.declared.ids.ConnId.{ConnId};
 ghost use Rattle.service_events.specs.AliasCalls.{alias_body, alias_settled, alias_stored, read_alias, set_alias};
+ghost use Rattle.service_events.specs.PublicBody.{body_with};
 ghost use Rattle.service_calls.specs.Rows.{disk_of, rows_of};
 ghost use Rattle.service_events.specs.Run.{asked, ran};
 ghost use Rattle.service_calls.specs.Done.{Leads};
@@ -24,7 +25,7 @@ impl<F: Folder> Tables<F> {
     // The return for an alias.
     fn alias_body(&self, alias: &Text) -> Result<Body, OutOfMemory>
         ensures { IfOk result (λ body. body
-            ≡ alias_body (alias_of alias.now (contents_of (rows_of self.now)))) }
+            ≡ body_with (alias_body (alias_of alias.now (contents_of (rows_of self.now))))) }
     {
         match self.disk.alias_of(alias) {
             Some(stem) => Ok(Body::Object(collection_path(self.alloc, stem)?)),
@@ -81,7 +82,7 @@ impl<F: Folder> Tables<F> {
             F.may_leave F.made F.Cell.is_honest F.Cell.is_steady
             F.Cell.faults F.Cell.moment
             F.Cell.left_since F.Cell.may_leave conn brought
-            (alias_settled alias stem (asked conn brought (rows_of self.old)))
+            (alias_settled alias stem)
             (rows_of self.old) (rows_of self.new) (disk_of self.old) (disk_of self.new) result }
         ensures silent { result.sends ≡ [] }
         ensures room { self.new.connections ≡ self.old.connections }

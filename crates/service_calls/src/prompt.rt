@@ -1,23 +1,25 @@
 // The calls of the interface Prompt, and how a prompt advances and ends.
-ghost use Rattle.std.specs.Prelude.{◌≡◌, ◌+◌, ◌∷◌, ◌≤◌, [], Option, None, Some, true, false, IsTrue, IfOk, IfSome, OnErr};
+ghost use Rattle.std.specs.Prelude.{◌≡◌, ◌+◌, ◌∷◌, ◌≤◌, List, [], Option, None, Some, true, false, IsTrue, IfOk, IfSome, OnErr};
 ghost use Rattle.std.specs.Option.{is_some, option_copied};
 ghost use Rattle.kr_base.specs.declared.ids.ConnId.{ConnId};
 ghost use Rattle.kr_base.specs.declared.ids.PromptId.{PromptId};
 ghost use Rattle.service_events.specs.collection_table.specs.Rows.{has, is_open};
 ghost use Rattle.prompt_state.specs.Prompts.{AreSound, first_of_row, last_round, next_round, round_of, row_at};
-ghost use Rattle.service_events.specs.secret_calls.specs.declared.out.Body.{Body};
-ghost use Rattle.service_events.specs.secret_calls.specs.declared.out.Body.TheVariants as body;
-ghost use Rattle.service_events.specs.Plan.{End_prompt, answered};
-ghost use Rattle.service_events.specs.PromptCalls.{advance_sent, are_none, call_prompt, dismiss, is_made_row, is_over, is_over_row, passed, passed_kind, passed_over, row_advance};
+ghost use Rattle.service_events.specs.AnswerCalls.{going_on};
+ghost use Rattle.service_events.specs.Plan.{End_prompt, Go_on, answered};
+ghost use Rattle.service_events.specs.PromptCalls.{advance_sent, are_none, call_prompt, dismiss, is_made_row, is_over, is_over_row, passed, passed_kind, passed_over};
+ghost use Rattle.service_events.specs.PublicBody.{PublicBody, body_with};
+ghost use Rattle.service_events.specs.PublicBody as public;
 ghost use Rattle.service_calls.specs.Rows.{disk_of, rows_of};
-ghost use Rattle.service_events.specs.Run.{asked, performed_all, sent_all};
+ghost use Rattle.service_events.specs.Run.{asked, performed, sent_by};
 ghost use Rattle.service_events.specs.ServiceCalls.{next_prompt, with_new_prompt};
 ghost use Rattle.service_calls.specs.Done.{HasRoomToReply, Leads};
-ghost use Rattle.service_events.specs.service_tables.specs.Connections.{HasRoom};
+ghost use Rattle.service_events.specs.service_tables.specs.Connections.{HasRoom, spread};
 ghost use Rattle.service_events.specs.service_tables.specs.Disk.{contents_in};
 ghost use Rattle.service_events.specs.service_tables.specs.Opened.{contents_of};
 ghost use Rattle.service_events.specs.service_tables.specs.Reading.{asked_collections};
 ghost use Rattle.service_events.specs.service_tables.specs.Storing.{Brought};
+ghost use Rattle.service_events.specs.service_tables.specs.declared.rows.ConnRow.{ConnRow};
 
 use crate::Tables;
 use crate::answer::is_small;
@@ -27,7 +29,7 @@ use kr_outside::Folder;
 use prompt_state::{Ask, PromptKind, PromptRefused, PromptRow, PromptState, Target, Targets};
 use service_events::secret_calls::{Body, ErrorName};
 use service_events::service_prompts::{ask_signal, completed_sent, completed_signal};
-use service_events::service_tables::{Disk, Sent};
+use service_events::service_tables::{Delivery, Disk};
 use std::alloc::AllocError;
 
 // The first target of a prompt that is left. Shows that no two prompts have one number.
@@ -113,7 +115,7 @@ impl<F: Folder> Tables<F> {
         if !self.is_made(prompt) {
             return Ok(unstored(self.alloc, Ok(Body::Empty)));
         }
-        self.advance(conn, prompt)
+        self.go_on(conn, prompt)
     }
 
     /// Performs the row of Dismiss. All memory is taken before the prompt ends.
@@ -145,7 +147,7 @@ impl<F: Folder> Tables<F> {
             F.may_leave F.made F.Cell.is_honest F.Cell.is_steady
             F.Cell.faults F.Cell.moment
             F.Cell.left_since F.Cell.may_leave conn brought
-            (answered body.Empty (End_prompt prompt true None ∷ []))
+            (answered public.Empty (End_prompt prompt true None ∷ []))
             (rows_of self.old) (rows_of self.new) (disk_of self.old) (disk_of self.new) done) }
         ensures room { IfOk result (λ done.
             HasRoomToReply conn done.sends self.new.connections.rooms) }
@@ -167,8 +169,10 @@ impl<F: Folder> Tables<F> {
         body: Body,
         kind: PromptKind,
     ) -> Result<Done, OutOfMemory>
-        ensures leads { IfOk result (λ done. (brought : Brought) (returned : Option PromptId → Body)
-            → body ≡ returned (Some (next_prompt (asked conn brought (rows_of self.old))))
+        ensures leads { IfOk result (λ done. (brought : Brought)
+            (returned : Option PromptId → PublicBody)
+            → body ≡ body_with (returned
+            (Some (next_prompt (asked conn brought (rows_of self.old)))))
             → Leads F.is_honest F.is_steady F.faults F.images
             F.may_leave F.made F.Cell.is_honest F.Cell.is_steady
             F.Cell.faults F.Cell.moment
@@ -207,37 +211,33 @@ impl<F: Folder> Tables<F> {
         }
     }
 
-    // A prompt that is there advances, and has a next round. All memory is taken before it changes.
-    fn advance(&mut self, conn: ConnId, prompt: PromptId) -> Result<Done, OutOfMemory>
+    /// A prompt that is there advances, and has a next round. All memory is taken before it changes.
+    pub fn go_on(&mut self, conn: ConnId, prompt: PromptId) -> Result<Done, OutOfMemory>
         requires there { is_some (row_at prompt (rows_of self.old).prompts) ≡ true }
         requires round { next_round (row_at prompt (rows_of self.old).prompts) ≤ last_round }
         ensures leads { IfOk result (λ done. (brought : Brought)
             → Leads F.is_honest F.is_steady F.faults F.images
             F.may_leave F.made F.Cell.is_honest F.Cell.is_steady
             F.Cell.faults F.Cell.moment
-            F.Cell.left_since F.Cell.may_leave conn brought
-            (answered body.Empty (row_advance prompt
-            (asked_collections (contents_of (rows_of self.old)))
-            (row_at prompt (rows_of self.old).prompts)))
+            F.Cell.left_since F.Cell.may_leave conn brought (going_on prompt)
             (rows_of self.old) (rows_of self.new) (disk_of self.old) (disk_of self.new) done) }
         ensures room { IfOk result (λ done.
             HasRoomToReply conn done.sends self.new.connections.rooms) }
         ensures unchanged { OnErr result ((rows_of self.new ≡ rows_of self.old)
             × (disk_of self.new ≡ disk_of self.old)) }
     {
-        let sends = self.advance_sends(conn, prompt)?;
+        let sends = self.go_on_sends(conn, prompt)?;
         self.connections.reserve_for(conn, &sends)?;
-        self.go_on(conn, prompt);
+        self.go_on_now(conn, prompt);
         Ok(sending(Ok(Body::Empty), sends))
     }
 
     // What is sent when a prompt that is there, and has a next round, advances.
-    fn advance_sends(&self, conn: ConnId, prompt: PromptId) -> Result<Vec<Sent>, OutOfMemory>
+    fn go_on_sends(&self, conn: ConnId, prompt: PromptId) -> Result<Vec<Delivery>, OutOfMemory>
         requires there { is_some (row_at prompt (rows_of self.now).prompts) ≡ true }
         requires round { next_round (row_at prompt (rows_of self.now).prompts) ≤ last_round }
-        ensures { IfOk result (λ sends. sends.items ≡ sent_all conn
-            (row_advance prompt (asked_collections (contents_of (rows_of self.now)))
-            (row_at prompt (rows_of self.now).prompts)) (rows_of self.now)) }
+        ensures { IfOk result (λ sends. (rows : List ConnRow) → sends.items
+            ≡ spread rows (sent_by conn (Go_on prompt) (rows_of self.now))) }
     {
         let _ = conn;
         let Some(row) = self.prompts.row(prompt) else {
@@ -255,12 +255,12 @@ impl<F: Folder> Tables<F> {
         row: &PromptRow,
         wrong: u32,
         kind: &PromptKind,
-    ) -> Result<Vec<Sent>, OutOfMemory>
+    ) -> Result<Vec<Delivery>, OutOfMemory>
         requires { round_of row.now.stage + 1 ≤ last_round }
-        ensures { IfOk result (λ sends. sends.items
-            ≡ advance_sent (rows_of self.now).collections
+        ensures { IfOk result (λ sends. (rows : List ConnRow) → sends.items
+            ≡ spread rows (advance_sent (rows_of self.now).collections
             (record row.now { wrong = wrong }) kind.now
-            (rows_of self.now).prompts.agent) }
+            (rows_of self.now).prompts.agent)) }
     {
         let mut sends = Vec::with_capacity(self.alloc, 1)?;
         if is_over(kind) {
@@ -283,17 +283,16 @@ impl<F: Folder> Tables<F> {
         Ok(sends)
     }
 
-    // A prompt that is there, and has a next round, advances. It takes no memory.
-    fn go_on(&mut self, conn: ConnId, prompt: PromptId)
+    /// A prompt that is there, and has a next round, advances. It takes no memory.
+    pub fn go_on_now(&mut self, conn: ConnId, prompt: PromptId)
         requires there { is_some (row_at prompt (rows_of self.old).prompts) ≡ true }
         requires round { next_round (row_at prompt (rows_of self.old).prompts) ≤ last_round }
-        ensures rows { rows_of self.new ≡ performed_all conn
-            (row_advance prompt (asked_collections (contents_of (rows_of self.old)))
-            (row_at prompt (rows_of self.old).prompts)) (rows_of self.old) }
+        ensures rows { rows_of self.new ≡ performed conn (Go_on prompt) (rows_of self.old) }
         ensures room { self.new.connections ≡ self.old.connections }
         ensures disk { disk_of self.new ≡ disk_of self.old }
     {
-        self.pass_targets(conn, prompt);
+        let _ = conn;
+        self.pass_targets(prompt);
         if self.has_ended(prompt) {
             let _ended = self.prompts.end(prompt);
         } else {
@@ -301,8 +300,8 @@ impl<F: Folder> Tables<F> {
         }
     }
 
-    /// Passes over the first targets of a prompt that are left. It takes no memory.
-    pub fn pass_targets(&mut self, conn: ConnId, prompt: PromptId)
+    // Passes over the first targets of a prompt that are left. It takes no memory.
+    fn pass_targets(&mut self, prompt: PromptId)
         requires there { is_some (row_at prompt (rows_of self.old).prompts) ≡ true }
         ensures there { is_some (row_at prompt (rows_of self.new).prompts) ≡ true }
         ensures round { next_round (row_at prompt (rows_of self.new).prompts)
@@ -314,18 +313,9 @@ impl<F: Folder> Tables<F> {
         ensures left { IfSome (first_of_row (row_at prompt (rows_of self.new).prompts)) (λ target.
             IsTrue (has target.stem (rows_of self.new).collections)
             × (is_open target.stem (rows_of self.new).collections ≡ false)) }
-
-        // What is left to be done leads to the same as before.
-        ensures rows { performed_all conn
-            (row_advance prompt (asked_collections (contents_of (rows_of self.new)))
-            (row_at prompt (rows_of self.new).prompts)) (rows_of self.new)
-            ≡ performed_all conn
-            (row_advance prompt (asked_collections (contents_of (rows_of self.old)))
-            (row_at prompt (rows_of self.old).prompts)) (rows_of self.old) }
         ensures room { self.new.connections ≡ self.old.connections }
         ensures disk { disk_of self.new ≡ disk_of self.old }
     {
-        let _ = conn;
         while let Some(target) = first_open(&self.prompts, prompt) {
             let there = self.disk.collections.has(&target.stem);
             let open = self.disk.collections.is_open(&target.stem);
@@ -339,8 +329,8 @@ impl<F: Folder> Tables<F> {
         }
     }
 
-    /// Whether there is such a prompt, and nothing more to ask for.
-    pub fn has_ended(&self, prompt: PromptId) -> bool
+    // Whether there is such a prompt, and nothing more to ask for.
+    fn has_ended(&self, prompt: PromptId) -> bool
         ensures { result ≡ is_over_row (row_at prompt (rows_of self.now).prompts) }
     {
         match self.prompts.row(prompt) {

@@ -7,6 +7,7 @@ ghost use Rattle.service_events.specs.service_tables.specs.Storing.{Add_item, Br
 ghost use Rattle.service_events.specs.CollectionCalls.{create_item, delete_collection, secret_stored, storing};
 ghost use Rattle.service_events.specs.ItemCalls.{delete_item, set_secret};
 ghost use Rattle.service_calls.specs.Rows.{disk_of, rows_of};
+ghost use Rattle.service_events.specs.PublicBody.{body_with};
 ghost use Rattle.service_events.specs.Run.{asked};
 ghost use Rattle.service_calls.specs.Done.{Leads, answer_by, body_of};
 
@@ -18,7 +19,7 @@ use kr_names::{ObjectName, path_of};
 use kr_outside::Folder;
 use service_events::collection_store::Change;
 use service_events::secret_calls::{Body, ErrorName, Secret};
-use service_events::service_tables::{Fate, Sent, item_path};
+use service_events::service_tables::{Delivery, ReadFate, StoreFate, item_path};
 use std::alloc::Global;
 
 /// The most bytes that the content type of a secret may have.
@@ -42,16 +43,16 @@ pub struct Done {
     /// The answer.
     pub answer: Answer,
     /// What is sent after the reply, in order.
-    pub sends: Items<Sent>,
+    pub sends: Items<Delivery>,
     /// How the resolve ended.
-    pub read: Option<Fate>,
+    pub read: Option<ReadFate>,
     /// How the storing ended.
-    pub fate: Option<Fate>,
+    pub fate: Option<StoreFate>,
 }
 
 impl Done {
     /// The answer, what is sent after the reply, and how the resolve and the storing ended.
-    pub fn into_parts(self) -> (Answer, Items<Sent>, Option<Fate>, Option<Fate>)
+    pub fn into_parts(self) -> (Answer, Items<Delivery>, Option<ReadFate>, Option<StoreFate>)
         ensures answer { result.0 ≡ self.answer }
         ensures sends { result.1 ≡ self.sends }
         ensures read { result.2 ≡ self.read }
@@ -61,7 +62,7 @@ impl Done {
     }
 
     /// The same after a resolve that ended so.
-    pub fn after(self, read: Fate) -> Done
+    pub fn after(self, read: ReadFate) -> Done
         ensures { result ≡ record {
           answer = self.answer;
           sends = self.sends;
@@ -80,7 +81,7 @@ impl Done {
 
 impl Done {
     /// The same with an empty return in place of its answer, and this sent after it.
-    pub fn followed(self, sends: Vec<Sent>) -> Done
+    pub fn followed(self, sends: Vec<Delivery>) -> Done
         ensures { result ≡ record {
           answer = Ok body.Empty;
           sends = sends.items;
@@ -98,14 +99,14 @@ impl Done {
 }
 
 /// A call that asked for a resolve, which failed.
-pub fn unread(alloc: Global, read: Fate) -> Done
+pub fn unread(alloc: Global, read: ReadFate) -> Done
     ensures { result ≡ record { answer = Err IOError; sends = []; read = Some read; fate = None } }
 {
     refused(alloc, ErrorName::IOError).after(read)
 }
 
 /// A call that asked for no storing, after whose reply this is sent.
-pub fn sending(answer: Answer, sends: Vec<Sent>) -> Done
+pub fn sending(answer: Answer, sends: Vec<Delivery>) -> Done
     ensures { result
         ≡ record { answer = answer; sends = sends.items; read = None; fate = None } }
 {
@@ -132,18 +133,14 @@ pub fn refused(alloc: Global, name: ErrorName) -> Done
 }
 
 /// A call that asked for a storing.
-pub fn ended(alloc: Global, body: Body, fate: Fate) -> Done
+pub fn ended(alloc: Global, body: Body, fate: StoreFate) -> Done
     ensures { result
         ≡ record { answer = answer_by body fate; sends = []; read = None; fate = Some fate } }
 {
     let answer = match fate {
-        Fate::Stored => Ok(body),
-        Fate::Before => Err(ErrorName::IOError),
-        Fate::Unsure => Err(ErrorName::IOError),
-        Fate::Old => Err(ErrorName::IOError),
-        Fate::New => Err(ErrorName::IOError),
-        Fate::Other => Err(ErrorName::IOError),
-        Fate::ReadFailed => Err(ErrorName::IOError),
+        StoreFate::Stored => Ok(body),
+        StoreFate::Before => Err(ErrorName::IOError),
+        StoreFate::Unsure => Err(ErrorName::IOError),
     };
     Done {
         answer,
@@ -160,7 +157,7 @@ fn body_of(
     stem: &Stem,
     item: ItemId,
 ) -> Result<Body, OutOfMemory>
-    ensures { IfOk result (λ body. body ≡ body_of returned stem.now item) }
+    ensures { IfOk result (λ body. body ≡ body_with (body_of returned stem.now item)) }
 {
     match returned {
         Returned::Item => Ok(Body::ObjectAndPrompt {

@@ -2,8 +2,10 @@
 ghost use Rattle.std.specs.Prelude.{◌≡◌, [], IfOk, OnErr};
 ghost use Rattle.kr_base.specs.declared.ids.ConnId.{ConnId};
 ghost use Rattle.service_calls.specs.Rows.{disk_of, rows_of};
+ghost use Rattle.service_events.specs.Plan.{answered};
+ghost use Rattle.service_events.specs.PublicBody.{PublicBody, body_with};
 ghost use Rattle.service_events.specs.Run.{asked};
-ghost use Rattle.service_events.specs.ServiceCalls.{answered_if_small, unlock};
+ghost use Rattle.service_events.specs.ServiceCalls.{unlock};
 ghost use Rattle.service_calls.specs.Done.{Leads};
 ghost use Rattle.service_events.specs.service_tables.specs.Disk.{DiskState};
 ghost use Rattle.service_events.specs.service_tables.specs.Storing.{Brought};
@@ -24,11 +26,12 @@ impl<F: Folder> Tables<F> {
     // The return of a call that changes nothing, if it isn't too large.
     fn small(&self, body: Body) -> Done
         ensures done { (conn : ConnId) (brought : Brought) (disk : DiskState F F.Cell)
+            (returned : PublicBody) → body ≡ body_with returned
             → Leads F.is_honest F.is_steady F.faults F.images
             F.may_leave F.made F.Cell.is_honest F.Cell.is_steady
             F.Cell.faults F.Cell.moment
             F.Cell.left_since F.Cell.may_leave conn brought
-            (answered_if_small body []) (rows_of self.now) (rows_of self.now) disk disk result }
+            (answered returned []) (rows_of self.now) (rows_of self.now) disk disk result }
         ensures silent { result.sends ≡ [] }
     {
         unstored(self.alloc, bounded(Ok(body)))

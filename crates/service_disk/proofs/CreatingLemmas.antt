@@ -13,8 +13,9 @@ use Rattle.replace_slot.specs.Cell.{File, Known, Doubt, IsOneOf}
 use Rattle.service_tables.specs.collection_table.specs.Entries.{inserted}
 use Rattle.service_tables.specs.collection_table.specs.Rows.{CollectionRow, Rows, has}
 use Rattle.service_tables.specs.Slots.{StoresIn, file_at}
-use Rattle.service_tables.specs.declared.fate.Fate.{Fate}
-use Rattle.service_tables.specs.declared.fate.Fate.TheVariants as fate
+use Rattle.service_tables.specs.declared.fate.Fate.TheVariants.{Store}
+use Rattle.service_tables.specs.declared.fate.StoreFate.{StoreFate}
+use Rattle.service_tables.specs.declared.fate.StoreFate.TheVariants as fate
 use Rattle.service_tables.proofs.SlotLemmas.{leaves-weaker, no-rise}
 use Rattle.service_disk.proofs.InsertedLemmas.{value-inserted}
 
@@ -41,8 +42,8 @@ module _ {S : Type 0} (is_honest is_steady : S → Bool) (faults moment : S → 
   abbrev Nature : Type 0 → S → S → Type 0
   Nature fault old new = KeepsNature is_honest is_steady faults fault old new
 
-  abbrev In : Fate → File → File → S → S → Type 0
-  In some before after was is = StoresIn is_honest is_steady faults moment left_since may_leave some before after was is
+  abbrev In : StoreFate → File → File → S → S → Type 0
+  In some before after was is = StoresIn is_honest is_steady faults moment left_since may_leave (Store some) before after was is
 
   -- none, or the file
   abbrev NoneOr : List ℕ → Image → Type 0
@@ -107,7 +108,7 @@ module _ {S : Type 0} (is_honest is_steady : S → Bool) (faults moment : S → 
       (stores-unsure (sealed content key vector) was is (subst (λ (f : File). IsTrue (is_honest was) → Leaves (IsOldOrSealed f content key vector) was is) none leaves) kept)
 
   -- the same of the file of a stem
-  pub stores-at : (stem : List ℕ) (some : Fate) (before after : Rows) (first last : File) (was is : S) → file_at stem before ≡ first → file_at stem after ≡ last → In some first last was is
+  pub stores-at : (stem : List ℕ) (some : StoreFate) (before after : Rows) (first last : File) (was is : S) → file_at stem before ≡ first → file_at stem after ≡ last → In some first last was is
       → In some (file_at stem before) (file_at stem after) was is
   stores-at stem some before after first last was is from to stores =
       subst (λ (f : File). In some f (file_at stem after) was is) (sym from) (subst (λ (f : File). In some first f was is) (sym to) stores)

@@ -14,7 +14,8 @@ use Rattle.service_tables.specs.collection_table.specs.Rows.{Rows}
 use Rattle.stem_choice.specs.UsedStems.{with_stem}
 use Rattle.service_tables.specs.Disk.{DiskState}
 use Rattle.service_tables.specs.Slots.{StoresIn, file_at, slot_at}
-use Rattle.service_tables.specs.declared.fate.Fate.{Fate}
+use Rattle.service_tables.specs.declared.fate.Fate.TheVariants.{Store}
+use Rattle.service_tables.specs.declared.fate.StoreFate.{StoreFate}
 use Rattle.service_disk.specs.Making.{AreFree, IsFreeStem, KeepsFolder, KeepsSlot, MakesAt, MakesSlot, is_steady_with}
 use Rattle.service_disk.specs.Taking.{RefusesSlot, TakesSlot}
 use Rattle.service_disk.proofs.InsertedLemmas.{all-inserted, value-beside, value-inserted}
@@ -176,8 +177,8 @@ module _ {F S : Type 0} (folder_honest folder_steady : F → Bool) (folder_fault
   }
 
   module _ (moment : S → ℕ) where
-    pub makes-at : (some : Fate) (before after : Rows) (was is : S) (old mid new : DiskState F S) → Takes was old mid → Puts is mid new
-        → StoresIn is_honest is_steady faults moment left_since may_leave some (file_at stem before) (file_at stem after) was is → new.used ≡ with_stem stem old.used
+    pub makes-at : (some : StoreFate) (before after : Rows) (was is : S) (old mid new : DiskState F S) → Takes was old mid → Puts is mid new
+        → StoresIn is_honest is_steady faults moment left_since may_leave (Store some) (file_at stem before) (file_at stem after) was is → new.used ≡ with_stem stem old.used
         → new.left_alone ≡ old.left_alone → new.aliases ≡ old.aliases
         → MakesAt folder_honest folder_steady folder_faults images folder_leaves made is_honest is_steady faults moment left_since may_leave stem some before after old new
     makes-at some before after was is old mid new takes puts stores used left aliases = record {
@@ -199,9 +200,9 @@ module _ {F S : Type 0} (folder_honest folder_steady : F → Bool) (folder_fault
     }
 
     -- a collection was put among the others
-    pub makes-listed : (some : Fate) (before after : Rows) (was is : S) (old start mid new : DiskState F S) → start ≡ old → value_at stem old.slots ≡ None → Takes was start mid
+    pub makes-listed : (some : StoreFate) (before after : Rows) (was is : S) (old start mid new : DiskState F S) → start ≡ old → value_at stem old.slots ≡ None → Takes was start mid
         → new ≡ record mid { slots = inserted stem is mid.slots; used = with_stem stem mid.used }
-        → StoresIn is_honest is_steady faults moment left_since may_leave some (file_at stem before) (file_at stem after) was is
+        → StoresIn is_honest is_steady faults moment left_since may_leave (Store some) (file_at stem before) (file_at stem after) was is
         → MakesAt folder_honest folder_steady folder_faults images folder_leaves made is_honest is_steady faults moment left_since may_leave stem some before after old new
     makes-listed some before after was is old start mid new begins none taken made stores =
         let takes : Takes was old mid = subst (λ (d : DiskState F S). Takes was d mid) begins taken in
@@ -212,9 +213,9 @@ module _ {F S : Type 0} (folder_honest folder_steady : F → Bool) (folder_fault
         (ap (λ (d : DiskState F S). d.aliases) made ∙ ap (λ (d : DiskState F S). d.aliases) takes.rest)
 
     -- its cell is kept, since nothing was stored
-    pub makes-kept : (some : Fate) (before after : Rows) (was is : S) (old start mid new : DiskState F S) → start ≡ old → value_at stem old.slots ≡ None → Takes was start mid
+    pub makes-kept : (some : StoreFate) (before after : Rows) (was is : S) (old start mid new : DiskState F S) → start ≡ old → value_at stem old.slots ≡ None → Takes was start mid
         → new ≡ record mid { spare = (stem, is) ∷ mid.spare; used = with_stem stem mid.used }
-        → StoresIn is_honest is_steady faults moment left_since may_leave some (file_at stem before) (file_at stem after) was is
+        → StoresIn is_honest is_steady faults moment left_since may_leave (Store some) (file_at stem before) (file_at stem after) was is
         → MakesAt folder_honest folder_steady folder_faults images folder_leaves made is_honest is_steady faults moment left_since may_leave stem some before after old new
     makes-kept some before after was is old start mid new begins none taken made stores =
         let takes : Takes was old mid = subst (λ (d : DiskState F S). Takes was d mid) begins taken in

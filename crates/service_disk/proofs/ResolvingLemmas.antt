@@ -16,9 +16,9 @@ use Rattle.service_tables.specs.collection_table.specs.Rows.{CollectionRow, Rows
 use Rattle.service_tables.specs.collection_table.proofs.RowLemmas.{value-rows}
 use Rattle.service_tables.specs.Aliases.{is_doubt}
 use Rattle.service_tables.specs.Slots.{StoresIn, file_at}
-use Rattle.service_tables.specs.declared.fate.Fate.{Fate}
-use Rattle.service_tables.specs.declared.fate.Fate.TheVariants as fate
-use Rattle.service_tables.specs.Storing.{IsResolve}
+use Rattle.service_tables.specs.declared.fate.Fate.TheVariants.{Read}
+use Rattle.service_tables.specs.declared.fate.ReadFate.{ReadFate}
+use Rattle.service_tables.specs.declared.fate.ReadFate.TheVariants as fate
 use Rattle.service_tables.proofs.DiskLemmas.{file-there}
 use Rattle.service_disk.specs.Resolving.{is_doubtful, row_found, row_resolved, rows_resolved, stays}
 
@@ -79,20 +79,14 @@ same-values stem (e ∷ more) =
     λ i. pass (is_name stem e.0) i ∷ same-values stem more i
 
 -- those that stay are changed
-pub resolved-stays : (stem : List ℕ) (some : Fate) (these : Rows) → stays some (file_at stem these) ≡ true → rows_resolved stem some these ≡ changed stem (row_resolved some) these
-resolved-stays stem fate.Stored these is = sym (same-values stem these)
-resolved-stays stem fate.Before these is = sym (same-values stem these)
-resolved-stays stem fate.Unsure these is = sym (same-values stem these)
+pub resolved-stays : (stem : List ℕ) (some : ReadFate) (these : Rows) → stays some (file_at stem these) ≡ true → rows_resolved stem some these ≡ changed stem (row_resolved some) these
 resolved-stays stem fate.Old these is = ap (λ b. cond b (changed stem (row_found image.Old) these) (without stem these)) is
 resolved-stays stem fate.New these is = ap (λ b. cond b (changed stem (row_found image.New) these) (without stem these)) is
 resolved-stays stem fate.Other these is = absurd (let no : false ≡ true = is in cc)
 resolved-stays stem fate.ReadFailed these is = sym (same-values stem these)
 
 -- and those that go are taken away
-pub resolved-goes : (stem : List ℕ) (some : Fate) (these : Rows) → stays some (file_at stem these) ≡ false → rows_resolved stem some these ≡ without stem these
-resolved-goes stem fate.Stored these is = absurd (let no : true ≡ false = is in cc)
-resolved-goes stem fate.Before these is = absurd (let no : true ≡ false = is in cc)
-resolved-goes stem fate.Unsure these is = absurd (let no : true ≡ false = is in cc)
+pub resolved-goes : (stem : List ℕ) (some : ReadFate) (these : Rows) → stays some (file_at stem these) ≡ false → rows_resolved stem some these ≡ without stem these
 resolved-goes stem fate.Old these is = ap (λ b. cond b (changed stem (row_found image.Old) these) (without stem these)) is
 resolved-goes stem fate.New these is = ap (λ b. cond b (changed stem (row_found image.New) these) (without stem these)) is
 resolved-goes stem fate.Other these is = refl
@@ -106,8 +100,8 @@ no-file (Doubt old new) known off = absurd known
 -- ---- the slot of one that goes: its file isn't there, or no honest slot ends so
 
 module _ {S : Type 0} (is_honest is_steady : S → Bool) (faults moment : S → ℕ) (left_since : S → ℕ → Image → Type 0) (may_leave : S → Image → Type 0) where
-  abbrev In : Fate → File → File → S → S → Type 0
-  In some before after was is = StoresIn is_honest is_steady faults moment left_since may_leave some before after was is
+  abbrev In : ReadFate → File → File → S → S → Type 0
+  In some before after was is = StoresIn is_honest is_steady faults moment left_since may_leave (Read some) before after was is
 
   pub never-other : (before after other : File) (was is : S) → In fate.Other before after was is → In fate.Other before other was is
   never-other before after other was is stores = record {
@@ -120,14 +114,11 @@ module _ {S : Type 0} (is_honest is_steady : S → Bool) (faults moment : S → 
     one = stores.one;
   }
 
-  pub gone-stores : (some : Fate) (before after : File) (row : CollectionRow) (was is : S) → IsResolve some → row.file ≡ before → after ≡ (row_resolved some row).file → stays some before ≡ false
+  pub gone-stores : (some : ReadFate) (before after : File) (row : CollectionRow) (was is : S) → row.file ≡ before → after ≡ (row_resolved some row).file → stays some before ≡ false
       → In some before after was is → In some before (Known None) was is
-  gone-stores fate.Stored before after row was is kind at made off stores = absurd kind
-  gone-stores fate.Before before after row was is kind at made off stores = absurd kind
-  gone-stores fate.Unsure before after row was is kind at made off stores = absurd kind
-  gone-stores fate.Old before after row was is kind at made off stores =
+  gone-stores fate.Old before after row was is at made off stores =
       subst (λ (f : File). In fate.Old before f was is) (made ∙ ap (found_file image.Old) at ∙ no-file (found_file image.Old before) (found-known image.Old before) off) stores
-  gone-stores fate.New before after row was is kind at made off stores =
+  gone-stores fate.New before after row was is at made off stores =
       subst (λ (f : File). In fate.New before f was is) (made ∙ ap (found_file image.New) at ∙ no-file (found_file image.New before) (found-known image.New before) off) stores
-  gone-stores fate.Other before after row was is kind at made off stores = never-other before after (Known None) was is stores
-  gone-stores fate.ReadFailed before after row was is kind at made off stores = absurd (let no : true ≡ false = off in cc)
+  gone-stores fate.Other before after row was is at made off stores = never-other before after (Known None) was is stores
+  gone-stores fate.ReadFailed before after row was is at made off stores = absurd (let no : true ≡ false = off in cc)

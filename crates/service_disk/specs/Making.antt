@@ -16,8 +16,9 @@ use Rattle.service_tables.specs.collection_table.specs.Rows.{CollectionRow, Rows
 use Rattle.stem_choice.specs.UsedStems.{with_stem}
 use Rattle.service_tables.specs.Disk.{DiskState}
 use Rattle.service_tables.specs.Slots.{StoresIn, are_steady, file_at, slot_at}
-use Rattle.service_tables.specs.declared.fate.Fate.{Fate}
-use Rattle.service_tables.specs.declared.fate.Fate.TheVariants as fate
+use Rattle.service_tables.specs.declared.fate.Fate.TheVariants.{Store}
+use Rattle.service_tables.specs.declared.fate.StoreFate.{StoreFate}
+use Rattle.service_tables.specs.declared.fate.StoreFate.TheVariants as fate
 
 -- what a collection is made of: its label, the key that its file is encrypted with, and the moment
 pub record Plan : Type 0 where
@@ -47,14 +48,10 @@ perhaps_made plan = record {
 }
 
 -- the collections after one was to be made under a stem, by how that ended
-abbrev pub rows_made : List ℕ → Plan → Fate → Rows → Rows
+abbrev pub rows_made : List ℕ → Plan → StoreFate → Rows → Rows
 rows_made stem plan fate.Stored rows = inserted stem (stored (content_of plan) (key_of plan.key) (vector_of plan.key)) rows
 rows_made stem plan fate.Before rows = rows
 rows_made stem plan fate.Unsure rows = inserted stem (perhaps_made plan) rows
-rows_made stem plan fate.Old rows = rows
-rows_made stem plan fate.New rows = rows
-rows_made stem plan fate.Other rows = rows
-rows_made stem plan fate.ReadFailed rows = rows
 
 -- ---- slots, each of which is made of the folder once
 
@@ -116,13 +113,13 @@ pub record HasSlot {F S : Type 0} (folder_honest folder_steady : F → Bool) (fo
 -- One making of a collection: its slot is used, and no other, and stays the slot of its stem, which is used from then on.
 pub record MakesAt {F S : Type 0} (folder_honest folder_steady : F → Bool) (folder_faults : F → ℕ) (images : F → List ℕ → Image)
     (folder_leaves : F → List ℕ → Image → Type 0) (made : F → List (List ℕ)) (is_honest is_steady : S → Bool) (faults : S → ℕ) (moment : S → ℕ)
-    (left_since : S → ℕ → Image → Type 0) (may_leave : S → Image → Type 0) (stem : List ℕ) (fate : Fate) (before after : Rows)
+    (left_since : S → ℕ → Image → Type 0) (may_leave : S → Image → Type 0) (stem : List ℕ) (fate : StoreFate) (before after : Rows)
     (old new : DiskState F S) : Type 0 where
   pub was : S
   pub is : S
   pub slot : HasSlot folder_honest folder_steady folder_faults images folder_leaves made is_honest is_steady faults left_since stem was old new
   pub kept : slot_at stem new ≡ Some is
-  pub stores : StoresIn is_honest is_steady faults moment left_since may_leave fate (file_at stem before) (file_at stem after) was is
+  pub stores : StoresIn is_honest is_steady faults moment left_since may_leave (Store fate) (file_at stem before) (file_at stem after) was is
   pub used : new.used ≡ with_stem stem old.used
   pub rest : new ≡ record old { folder = new.folder; slots = new.slots; spare = new.spare; used = new.used }
 

@@ -11,8 +11,8 @@ use Rattle.service_tables.specs.collection_table.specs.Entries.{changed, without
 use Rattle.service_tables.specs.collection_table.specs.Rows.{CollectionRow, Rows}
 use Rattle.service_tables.specs.Aliases.{is_doubt}
 use Rattle.service_tables.specs.Slots.{file_at}
-use Rattle.service_tables.specs.declared.fate.Fate.{Fate}
-use Rattle.service_tables.specs.declared.fate.Fate.TheVariants as fate
+use Rattle.service_tables.specs.declared.fate.ReadFate.{ReadFate}
+use Rattle.service_tables.specs.declared.fate.ReadFate.TheVariants as fate
 use Rattle.service_disk.specs.declared.resolving.Reread.{Reread}
 use Rattle.service_disk.specs.declared.resolving.Reread.TheVariants as reread
 
@@ -32,10 +32,7 @@ row_found found row = record {
 }
 
 -- the same by how the resolve ended; a file that couldn't be read stays in doubt
-abbrev pub row_resolved : Fate → CollectionRow → CollectionRow
-row_resolved fate.Stored row = row
-row_resolved fate.Before row = row
-row_resolved fate.Unsure row = row
+abbrev pub row_resolved : ReadFate → CollectionRow → CollectionRow
 row_resolved fate.Old row = row_found image.Old row
 row_resolved fate.New row = row_found image.New row
 row_resolved fate.Other row = row_found image.Other row
@@ -47,17 +44,14 @@ is_file found file = is_some (old_image (found_file found file))
 
 -- whether the collection is still there: the image that was found is a file, or nothing was read. One whose file has neither of its images
 -- goes.
-abbrev pub stays : Fate → File → Bool
-stays fate.Stored file = true
-stays fate.Before file = true
-stays fate.Unsure file = true
+abbrev pub stays : ReadFate → File → Bool
 stays fate.Old file = is_file image.Old file
 stays fate.New file = is_file image.New file
 stays fate.Other file = false
 stays fate.ReadFailed file = true
 
 -- how the resolve of one collection's file ended
-abbrev pub fate_in : Reread → Fate
+abbrev pub fate_in : Reread → ReadFate
 fate_in (reread.Stays fate) = fate
 fate_in (reread.Goes fate) = fate
 
@@ -73,10 +67,7 @@ abbrev pub rows_found : List ℕ → Found → Rows → Rows
 rows_found stem found rows = if is_file found (file_at stem rows) then changed stem (row_found found) rows else without stem rows
 
 -- the collections after the file of a stem was to be read again, by how that ended; if it has neither of its images, the collection goes
-abbrev pub rows_resolved : List ℕ → Fate → Rows → Rows
-rows_resolved stem fate.Stored rows = rows
-rows_resolved stem fate.Before rows = rows
-rows_resolved stem fate.Unsure rows = rows
+abbrev pub rows_resolved : List ℕ → ReadFate → Rows → Rows
 rows_resolved stem fate.Old rows = rows_found stem image.Old rows
 rows_resolved stem fate.New rows = rows_found stem image.New rows
 rows_resolved stem fate.Other rows = without stem rows

@@ -8,7 +8,6 @@ ghost use Rattle.service_tables.specs.keyring_seal.specs.Whole.{most_bytes};
 ghost use Rattle.service_disk.specs.Making.{AreFree, KeepsSlot, MakesAt, has_room, rows_made};
 ghost use Rattle.stem_choice.specs.UsedStems.{with_stem};
 ghost use Rattle.service_tables.specs.Disk.{contents_in, disk_state};
-ghost use Rattle.service_tables.specs.Storing.{IsStoring};
 
 use crate::taking::{keep, keep_used, list, take_cell};
 use key_derivation::Derived;
@@ -16,7 +15,7 @@ use keyring_file::FILE_LIMIT;
 use kr_base::{OutOfMemory, Stem, Text};
 use kr_outside::Folder;
 use service_tables::collection_store::{Collection, CreateRefused};
-use service_tables::{Disk, Fate};
+use service_tables::{Disk, StoreFate};
 use std::alloc::{AllocError, Global};
 
 /// The bytes of the file of a collection without items, beside its label.
@@ -88,7 +87,7 @@ pub fn make<F: Folder>(
     label: Text,
     key: Derived,
     now: u64,
-) -> Result<Fate, OutOfMemory>
+) -> Result<StoreFate, OutOfMemory>
     requires unused { ¬ (Contains (disk_state disk.old).used stem) }
     requires unlisted { has stem (contents_in disk.old).collections ≡ false }
     requires free { AreFree F.is_honest F.images F.may_leave F.made F.Cell.is_honest
@@ -101,7 +100,6 @@ pub fn make<F: Folder>(
           (contents_in disk.old).collections;
       used = with_stem stem (contents_in disk.old).used;
     }) }
-    ensures kind { IfOk result IsStoring }
     ensures disk { IfOk result (λ fate. MakesAt F.is_honest F.is_steady F.faults F.images
         F.may_leave F.made F.Cell.is_honest F.Cell.is_steady F.Cell.faults F.Cell.moment
         F.Cell.left_since F.Cell.may_leave stem fate
@@ -123,15 +121,15 @@ pub fn make<F: Folder>(
         Ok(collection) => {
             collection.untouched();
             list(disk, stem, copy, collection);
-            Ok(Fate::Stored)
+            Ok(StoreFate::Stored)
         }
         Err(CreateRefused::FaultUnsure(collection)) => {
             list(disk, stem, copy, collection);
-            Ok(Fate::Unsure)
+            Ok(StoreFate::Unsure)
         }
         Err(CreateRefused::FaultBefore(cell)) => {
             keep_used(disk, stem, copy, cell);
-            Ok(Fate::Before)
+            Ok(StoreFate::Before)
         }
         Err(CreateRefused::OutOfMemory(cell)) => {
             keep(disk, stem, cell);

@@ -6,13 +6,12 @@ ghost use Rattle.replace_slot.specs.Cell.{IsKnown, longest_of, old_image};
 ghost use Rattle.service_disk.specs.Resolving.{fate_in, is_doubtful, is_left, row_resolved, rows_resolved, stays};
 ghost use Rattle.service_tables.specs.Disk.{contents_in, disk_state};
 ghost use Rattle.service_tables.specs.Slots.{StoresAt, StoresIn, file_at};
-ghost use Rattle.service_tables.specs.Storing.{IsResolve};
 
 use kr_base::{OutOfMemory, Stem};
 use kr_outside::{Folder, Slot};
 use replace_slot::Found;
 use service_tables::collection_store::Collection;
-use service_tables::{Disk, Fate};
+use service_tables::{Disk, Fate, ReadFate};
 use std::alloc::{AllocError, Global};
 
 /// Whether there is a collection of the stem, and two images of its file are known, of which it has
@@ -83,13 +82,13 @@ fn has_file<S: Slot>(collection: &Collection<S>) -> bool
 #[derive(Clone, Copy)]
 pub enum Reread {
     /// The collection is still there.
-    Stays(Fate),
+    Stays(ReadFate),
     /// It has no file, or neither of its two images, so it goes.
-    Goes(Fate),
+    Goes(ReadFate),
 }
 
 // The way in which a resolve ended, with whether the collection is still there.
-fn ended(fate: Fate, left: bool) -> Reread
+fn ended(fate: ReadFate, left: bool) -> Reread
     ensures fate { fate_in result ≡ fate }
     ensures left { is_left result ≡ left }
 {
@@ -106,23 +105,22 @@ fn resolve_in<S: Slot>(collection: &mut Collection<S>, buffer: &mut [u8]) -> Rer
     requires room { longest_of collection.old.file < length buffer.old }
     ensures row { row_of collection.new ≡ row_resolved (fate_in result) (row_of collection.old) }
     ensures stays { is_left result ≡ stays (fate_in result) collection.old.file }
-    ensures kind { IsResolve (fate_in result) }
     ensures slot { StoresIn S.is_honest S.is_steady S.faults S.moment S.left_since S.may_leave
-        (fate_in result) collection.old.file collection.new.file
+        (Fate.Read (fate_in result)) collection.old.file collection.new.file
         collection.old.slot collection.new.slot }
 {
     match collection.resolve(buffer) {
-        Ok(Found::Old) => ended(Fate::Old, has_file(collection)),
-        Ok(Found::New) => ended(Fate::New, has_file(collection)),
-        Ok(Found::Other) => Reread::Goes(Fate::Other),
-        Err(_) => Reread::Stays(Fate::ReadFailed),
+        Ok(Found::Old) => ended(ReadFate::Old, has_file(collection)),
+        Ok(Found::New) => ended(ReadFate::New, has_file(collection)),
+        Ok(Found::Other) => Reread::Goes(ReadFate::Other),
+        Err(_) => Reread::Stays(ReadFate::ReadFailed),
     }
 }
 
 /// Reads the file of a stem again, which is in doubt, and returns how that ended. The collection goes if it
 /// is found to have no file, or neither of its two images; the disk keeps its slot then. The buffer and the
 /// room for that slot are those of `prepare_resolve`. It takes no memory.
-pub fn resolve<F: Folder>(disk: &mut Disk<F>, stem: Stem, buffer: &mut [u8]) -> Fate
+pub fn resolve<F: Folder>(disk: &mut Disk<F>, stem: Stem, buffer: &mut [u8]) -> ReadFate
     requires doubt { is_doubtful stem (contents_in disk.old).collections ≡ true }
     requires buffer { longest_of (file_at stem (contents_in disk.old).collections)
         < length buffer.old }
@@ -131,10 +129,9 @@ pub fn resolve<F: Folder>(disk: &mut Disk<F>, stem: Stem, buffer: &mut [u8]) -> 
       collections = rows_resolved stem result (contents_in disk.old).collections;
     } }
     ensures disk { StoresAt F.Cell.is_honest F.Cell.is_steady F.Cell.faults F.Cell.moment
-        F.Cell.left_since F.Cell.may_leave stem result
+        F.Cell.left_since F.Cell.may_leave stem (Fate.Read result)
         (contents_in disk.old).collections (contents_in disk.new).collections
         (disk_state disk.old) (disk_state disk.new) }
-    ensures kind { IsResolve result }
 {
     let _ordered = disk.collections.entries();
     let Some(collection) = disk.collections.get_mut(&stem) else {

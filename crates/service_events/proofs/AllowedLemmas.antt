@@ -1,5 +1,5 @@
 -- A plan that may be run leaves a sound state sound; what it sends can wait, and what it answers has its types.
-use Rattle.std.proofs.Common.{◌≡◌, ℕ, ◌+◌, ◌^◌, ◌<◌, ◌≤◌, Bool, true, false, not, nat_le, cond, IfSome, List, Result, Ok, Err, [], ◌∷◌, length, Some, refl, ap, ◌∙◌, arith}
+use Rattle.std.proofs.Common.{◌≡◌, ℕ, ◌+◌, ◌^◌, ◌<◌, ◌≤◌, Bool, true, false, not, nat_le, IfSome, List, Result, Ok, Err, [], ◌∷◌, length, Some, refl, ap, ◌∙◌, arith}
 use Rattle.std.specs.List.{AllByRecursion}
 use Rattle.std.proofs.lemmas.Bool.{leb-false}
 use Rattle.kr_base.specs.declared.ids.ConnId.{ConnId}
@@ -7,8 +7,7 @@ use Rattle.kr_base.specs.declared.ids.PromptId.{PromptId}
 use Rattle.kr_base.specs.Stem.{IsStem}
 use Rattle.kr_names.specs.Path.{IsAliasName}
 use Rattle.prompt_state.specs.Prompts as prompts
-use Rattle.prompt_state.specs.Prompts.{asked_again, begun, ended, is_made, kind_with, last_round, next_round, registered, round_of, row_at, targeted, unregistered, cleared, staged, wronged}
-use Rattle.prompt_state.specs.Targets.{TargetLists, first_done, first_dropped}
+use Rattle.prompt_state.specs.Prompts.{asked_again, begun, ended, is_made, last_round, next_round, registered, round_of, row_at, unregistered, cleared, staged, wronged}
 use Rattle.prompt_state.specs.declared.row.PromptRow.{PromptRow}
 use Rattle.prompt_state.specs.declared.row.Prompts.{Prompts}
 use Rattle.prompt_state.specs.declared.row.Stage.{Stage}
@@ -17,24 +16,26 @@ use Rattle.service_prompts.specs.collection_table.specs.Rows.{locked}
 use Rattle.service_prompts.specs.secret_calls.specs.declared.out.Body.{Body}
 use Rattle.service_prompts.specs.secret_calls.specs.declared.out.ErrorName.{ErrorName}
 use Rattle.service_prompts.specs.secret_calls.specs.declared.out.ErrorName.TheVariants as name
-use Rattle.service_prompts.specs.secret_calls.specs.Outs.{spelled_body, AreTyped}
+use Rattle.service_prompts.specs.secret_calls.specs.Outs.{AreTyped}
 use Rattle.session_table.specs.Sessions.{is_of, rows_of, is_full, most_sessions, last_session}
 use Rattle.service_prompts.specs.service_tables.specs.State.{State}
 use Rattle.service_prompts.specs.service_tables.specs.declared.rows.ConnRows.{ConnRows}
 use Rattle.service_prompts.specs.service_tables.specs.Connections.{has}
-use Rattle.service_prompts.specs.service_tables.specs.Limits.{most_body}
-use Rattle.service_events.specs.CollectionCalls.{made}
 use Rattle.service_prompts.specs.service_tables.specs.Opened.{contents_of}
 use Rattle.service_prompts.specs.service_tables.specs.Reading.{asked_collections}
-use Rattle.service_events.specs.Plan.{Change, Open_session, Close_session, Lock_collection, Begin_prompt, Ask_prompt, Derive_key, Count_wrong, Clear_wrong, Go_on, Finish_target, Drop_target, End_prompt, Become_agent, Leave_agent, Demand, Store, Erase, Set_alias, Read_aliases, Read_collection, Make, KeyTerms, Plan, Ends, After, Asks, Opens}
+use Rattle.service_events.specs.Plan.{Change, Open_session, Close_session, Lock_collection, Begin_prompt, Ask_prompt, Derive_key, Count_wrong, Clear_wrong, Go_on, End_prompt, Become_agent, Leave_agent, Demand, Store, Erase, Set_alias, Make, Reading, Aliases_file, Collection_file, KeyTerms, Plan, Ends, Asks, Settles, Opens}
 use Rattle.service_events.specs.PromptCalls.{gone_on}
-use Rattle.service_events.specs.Run.{key_with, made_of, asked, demanded, performed, performed_all, sent_all, sent_by, filled, Ran, run, bounded, limited, unlocked_with}
+use Rattle.service_events.specs.Run.{key_with, made_of, asked, by_read, by_reading, by_test, demanded, failing, performed, performed_all, promised, sending, sent_all, sent_asked, sent_by, sent_opened, sent_settled, settled, filled, is_in_doubt, Ran, run, unlocked_with}
 use Rattle.service_events.specs.Step.{AreByteFiles}
 use Rattle.service_prompts.specs.service_tables.specs.Storing.{AreEditTypes, Brought, change_of, row_changed}
 use Rattle.service_prompts.specs.service_tables.specs.declared.fate.Fate.{Fate}
+use Rattle.service_prompts.specs.service_tables.specs.declared.fate.ReadFate.{ReadFate}
+use Rattle.service_prompts.specs.service_tables.specs.declared.fate.StoreFate.{StoreFate}
+use Rattle.service_prompts.specs.service_tables.specs.declared.fate.StoreFate.TheVariants as stored
+use Rattle.service_prompts.specs.service_tables.specs.Sent.{Sent}
 use Rattle.service_prompts.specs.service_tables.specs.Sound.{AreSoundPrompts, CanWait, HasLeft, IsSoundKind, IsTypedText, IsSound}
 use Rattle.service_prompts.specs.service_tables.proofs.CollectionLemmas.{sound-locked}
-use Rattle.service_prompts.proofs.PromptLemmas.{prompts-asked_again, prompts-begun, prompts-ended, prompts-registered, prompts-staged, prompts-targeted, prompts-wronged, prompts-cleared, prompts-unregistered, targets-done, targets-dropped}
+use Rattle.service_prompts.proofs.PromptLemmas.{prompts-asked_again, prompts-begun, prompts-ended, prompts-registered, prompts-staged, prompts-wronged, prompts-cleared, prompts-unregistered}
 use Rattle.service_prompts.proofs.SignalLemmas.{ask_sent-can, asks_sent-can, completed_sent-can}
 use Rattle.service_prompts.specs.service_tables.proofs.EachLemmas.{each-append}
 use Rattle.service_prompts.specs.service_tables.proofs.KeptLemmas.{sound-resolved, sound-set}
@@ -46,7 +47,7 @@ use Rattle.service_prompts.specs.service_tables.proofs.TypedLemmas.{text-known}
 use Rattle.service_events.proofs.MadeLemmas.{sound-made, sound-reread}
 use Rattle.service_events.proofs.OpenedLemmas.{sound-opened}
 use Rattle.service_events.proofs.StemLemmas.{stems-changed, stems-erased, stems-made, stems-resolved}
-use Rattle.service_events.proofs.RunLemmas.{connections-performed, connections-all}
+use Rattle.service_events.proofs.RunLemmas.{connections-performed, fits-either, read-either, reading-either, store-either}
 use Rattle.service_prompts.specs.service_tables.proofs.TableLemmas.{sessions-opened, sessions-fewer}
 
 -- ---- a plan
@@ -54,10 +55,6 @@ use Rattle.service_prompts.specs.service_tables.proofs.TableLemmas.{sessions-ope
 -- there is something to ask for
 abbrev pub HasMore : PromptId → State → Type 0
 HasMore prompt state = (row : PromptRow) → row_at prompt state.prompts ≡ Some row → HasLeft row.kind
-
--- there is something to ask for after a change of the targets, or Prompt wasn't called yet
-abbrev pub KeepsMore : PromptId → (TargetLists → TargetLists) → State → Type 0
-KeepsMore prompt change state = (row : PromptRow) → row_at prompt state.prompts ≡ Some row → is_made row.stage ≡ false → HasLeft (kind_with change row.kind)
 
 -- A change keeps a sound state sound if this holds: a session is opened, and a prompt begun, only by a caller that can do so, and a prompt is
 -- asked only if there is something to ask for.
@@ -71,8 +68,6 @@ IsAllowed caller (Derive_key prompt round) state = (1 ≤ round) × (round < las
 IsAllowed caller (Count_wrong prompt) state = Unit {0}
 IsAllowed caller (Clear_wrong prompt) state = Unit {0}
 IsAllowed caller (Go_on prompt) state = next_round (row_at prompt state.prompts) ≤ last_round
-IsAllowed caller (Finish_target prompt) state = KeepsMore prompt first_done state
-IsAllowed caller (Drop_target prompt) state = KeepsMore prompt first_dropped state
 IsAllowed caller (End_prompt prompt dismissed created) state = IfSome created IsStem
 IsAllowed caller Become_agent state = Unit {0}
 IsAllowed caller Leave_agent state = Unit {0}
@@ -92,21 +87,21 @@ abbrev pub IsTypedDemand : Brought → Demand → Type 0
 IsTypedDemand brought (Store stem edit) = (brought.now < 2 ^ 64) × AreEditTypes brought.value edit
 IsTypedDemand brought (Erase stem) = Unit {0}
 IsTypedDemand brought (Set_alias alias stem) = IsAliasName alias × IfSome stem IsStem
-IsTypedDemand brought Read_aliases = Unit {0}
-IsTypedDemand brought (Read_collection stem) = Unit {0}
 IsTypedDemand brought (Make stem label terms) = IsTypedText label × IsStem stem
 
--- each change of a plan is allowed, and what it asks of the disk, the files that it may open and the values of its answer are of their types
-abbrev pub MayRun : ConnId → Brought → Plan → List Fate → State → Type 0
-MayRun caller brought (Ends answer changes) fates state = AreAllowed caller changes state × IsTypedAnswer (filled state answer)
-MayRun caller brought (After changes next) fates state =
-    AreAllowed caller changes state × MayRun caller brought (next (asked caller brought (performed_all caller changes state))) fates (performed_all caller changes state)
-MayRun caller brought (Asks demand next) [] state = Unit {0}
-MayRun caller brought (Asks demand next) (fate ∷ fates) state = IsTypedDemand brought demand × MayRun caller brought (next fate) fates (demanded brought demand fate state)
-MayRun caller brought (Opens stem terms next) fates state = AreByteFiles state.collections × MayRun caller brought next fates (unlocked_with brought stem terms state)
+-- Each change of a plan is allowed, and what it asks of the disk, the files that it may open and the values of its answer are of their types, however
+-- what it asks of the disk ends.
+abbrev pub MayRun : ConnId → Brought → Plan → State → Type 0
+MayRun caller brought (Ends answer changes) state = AreAllowed caller changes state × IsTypedAnswer (filled caller state answer)
+MayRun caller brought (Asks demand next) state =
+    IsTypedDemand brought demand × ((ended : StoreFate) → MayRun caller brought (next ended) (demanded brought demand ended state))
+MayRun caller brought (Settles reading unread next) state =
+    ((ended : ReadFate) → MayRun caller brought unread (settled reading ended state) × MayRun caller brought (next (asked caller brought (settled reading ended state))) (settled reading ended state))
+    × MayRun caller brought (next (asked caller brought state)) state
+MayRun caller brought (Opens stem terms next) state = AreByteFiles state.collections × MayRun caller brought next (unlocked_with brought stem terms state)
 
 -- what a demand leaves of a sound state
-sound-demanded : (brought : Brought) (demand : Demand) (some : Fate) (state : State) → IsTypedDemand brought demand → IsSound state → IsSound (demanded brought demand some state)
+sound-demanded : (brought : Brought) (demand : Demand) (some : StoreFate) (state : State) → IsTypedDemand brought demand → IsSound state → IsSound (demanded brought demand some state)
 sound-demanded brought (Store stem edit) some state typed sound = record {
   connections = sound.connections;
   sessions = sound.sessions;
@@ -131,22 +126,6 @@ sound-demanded brought (Set_alias alias stem) some state typed sound = record {
   aliases = sound-set alias stem some (contents_of state) typed.0 typed.1 sound.aliases;
   stems = sound.stems;
 }
-sound-demanded brought Read_aliases some state typed sound = record {
-  connections = sound.connections;
-  sessions = sound.sessions;
-  prompts = sound.prompts;
-  collections = sound.collections;
-  aliases = sound-resolved some state.aliases sound.aliases;
-  stems = sound.stems;
-}
-sound-demanded brought (Read_collection stem) some state typed sound = record {
-  connections = sound.connections;
-  sessions = sound.sessions;
-  prompts = sound.prompts;
-  collections = sound-reread stem some state.collections sound.collections;
-  aliases = sound.aliases;
-  stems = stems-resolved stem some state.collections state.used sound.stems;
-}
 sound-demanded brought (Make stem label terms) some state typed sound = record {
   connections = sound.connections;
   sessions = sound.sessions;
@@ -154,6 +133,25 @@ sound-demanded brought (Make stem label terms) some state typed sound = record {
   collections = sound-made stem (made_of brought terms label) typed.1 (text-known label typed.0) some state.collections sound.collections;
   aliases = sound.aliases;
   stems = stems-made stem (made_of brought terms label) some state.collections state.used sound.stems;
+}
+
+-- what a file that is read again leaves of it
+sound-settled : (reading : Reading) (some : ReadFate) (state : State) → IsSound state → IsSound (settled reading some state)
+sound-settled Aliases_file some state sound = record {
+  connections = sound.connections;
+  sessions = sound.sessions;
+  prompts = sound.prompts;
+  collections = sound.collections;
+  aliases = sound-resolved some state.aliases sound.aliases;
+  stems = sound.stems;
+}
+sound-settled (Collection_file stem) some state sound = record {
+  connections = sound.connections;
+  sessions = sound.sessions;
+  prompts = sound.prompts;
+  collections = sound-reread stem some state.collections sound.collections;
+  aliases = sound.aliases;
+  stems = stems-resolved stem some state.collections state.used sound.stems;
 }
 
 -- what an attempt to unlock a collection leaves of it
@@ -220,10 +218,6 @@ sound-performed caller (Clear_wrong prompt) state there allowed sound =
 sound-performed caller (Go_on prompt) state there allowed sound =
     with-prompts (gone_on prompt (asked_collections (contents_of state)) state.prompts) state sound
     (prompts-gone_on state.connections.rows prompt (asked_collections (contents_of state)) state.prompts allowed sound.prompts)
-sound-performed caller (Finish_target prompt) state there allowed sound =
-    with-prompts (targeted prompt first_done state.prompts) state sound (prompts-targeted first_done targets-done state.connections.rows prompt state.prompts allowed sound.prompts)
-sound-performed caller (Drop_target prompt) state there allowed sound =
-    with-prompts (targeted prompt first_dropped state.prompts) state sound (prompts-targeted first_dropped targets-dropped state.connections.rows prompt state.prompts allowed sound.prompts)
 sound-performed caller (End_prompt prompt dismissed created) state there allowed sound =
     with-prompts (ended prompt state.prompts) state sound (prompts-ended state.connections.rows prompt state.prompts sound.prompts)
 sound-performed caller Become_agent state there allowed sound = with-prompts (registered caller state.prompts) state sound (prompts-registered state.connections.rows caller state.prompts there sound.prompts)
@@ -235,18 +229,6 @@ sound-all caller [] state there allowed sound = sound
 sound-all caller (change ∷ changes) state there allowed sound =
     sound-all caller changes (performed caller change state) (ap (λ (c : ConnRows). has caller c.rows) (connections-performed caller change state) ∙ there) allowed.1
     (sound-performed caller change state there allowed.0 sound)
-
-pub sound-run : (caller : ConnId) (brought : Brought) (plan : Plan) (fates : List Fate) (state : State) → has caller state.connections.rows ≡ true → MayRun caller brought plan fates state → IsSound state
-    → IsSound (run caller brought plan fates state).state
-sound-run caller brought (Ends answer changes) fates state there may sound = sound-all caller changes state there may.0 sound
-sound-run caller brought (After changes next) fates state there may sound =
-    let mid = performed_all caller changes state in
-    sound-run caller brought (next (asked caller brought mid)) fates mid (ap (λ (c : ConnRows). has caller c.rows) (connections-all caller changes state) ∙ there) may.1 (sound-all caller changes state there may.0 sound)
-sound-run caller brought (Asks demand next) [] state there may sound = sound
-sound-run caller brought (Asks demand next) (some ∷ fates) state there may sound =
-    sound-run caller brought (next some) fates (demanded brought demand some state) there may.1 (sound-demanded brought demand some state may.0 sound)
-sound-run caller brought (Opens stem terms next) fates state there may sound =
-    sound-run caller brought next fates (unlocked_with brought stem terms state) there may.1 (sound-unlocked brought stem terms state may.0 sound)
 
 -- ---- what is sent
 
@@ -262,8 +244,6 @@ waits-sent caller (Derive_key prompt round) state there allowed sound = tt
 waits-sent caller (Count_wrong prompt) state there allowed sound = tt
 waits-sent caller (Clear_wrong prompt) state there allowed sound = tt
 waits-sent caller (Go_on prompt) state there allowed sound = go_on-can state prompt allowed sound
-waits-sent caller (Finish_target prompt) state there allowed sound = tt
-waits-sent caller (Drop_target prompt) state there allowed sound = tt
 waits-sent caller (End_prompt prompt dismissed created) state there allowed sound = completed_sent-can state.connections.rows state.prompts prompt dismissed created sound.prompts allowed
 waits-sent caller Become_agent state there allowed sound =
     asks_sent-can state.connections.rows (registered caller state.prompts) state.collections (sound-performed caller Become_agent state there tt sound).prompts sound.collections
@@ -277,39 +257,58 @@ waits-all caller (change ∷ changes) state there allowed sound =
     (waits-all caller changes (performed caller change state) (ap (λ (c : ConnRows). has caller c.rows) (connections-performed caller change state) ∙ there) allowed.1
     (sound-performed caller change state there allowed.0 sound))
 
-pub waits-run : (caller : ConnId) (brought : Brought) (plan : Plan) (fates : List Fate) (state : State) → has caller state.connections.rows ≡ true → MayRun caller brought plan fates state → IsSound state
-    → AllByRecursion CanWait (run caller brought plan fates state).sends
-waits-run caller brought (Ends answer changes) fates state there may sound = waits-all caller changes state there may.0 sound
-waits-run caller brought (After changes next) fates state there may sound =
-    let mid = performed_all caller changes state in
-    each-append CanWait (sent_all caller changes state) (run caller brought (next (asked caller brought mid)) fates mid).sends (waits-all caller changes state there may.0 sound)
-    (waits-run caller brought (next (asked caller brought mid)) fates mid (ap (λ (c : ConnRows). has caller c.rows) (connections-all caller changes state) ∙ there) may.1 (sound-all caller changes state there may.0 sound))
-waits-run caller brought (Asks demand next) [] state there may sound = tt
-waits-run caller brought (Asks demand next) (some ∷ fates) state there may sound =
-    waits-run caller brought (next some) fates (demanded brought demand some state) there may.1 (sound-demanded brought demand some state may.0 sound)
-waits-run caller brought (Opens stem terms next) fates state there may sound =
-    waits-run caller brought next fates (unlocked_with brought stem terms state) there may.1 (sound-unlocked brought stem terms state may.0 sound)
+-- ---- a run
 
-pub typed-run : (caller : ConnId) (brought : Brought) (plan : Plan) (fates : List Fate) (state : State) → MayRun caller brought plan fates state → IsTypedAnswer (run caller brought plan fates state).answer
-typed-run caller brought (Ends answer changes) fates state may = may.1
-typed-run caller brought (After changes next) fates state may =
-    typed-run caller brought (next (asked caller brought (performed_all caller changes state))) fates (performed_all caller changes state) may.1
-typed-run caller brought (Asks demand next) [] state may = tt
-typed-run caller brought (Asks demand next) (some ∷ fates) state may = typed-run caller brought (next some) fates (demanded brought demand some state) may.1
-typed-run caller brought (Opens stem terms next) fates state may = typed-run caller brought next fates (unlocked_with brought stem terms state) may.1
+-- what a plan leads to is sound, what it sends can wait, and what it answers has its types
+pub record IsWell (ran : Ran) : Type 0 where
+  pub sound : IsSound ran.state
+  pub waits : AllByRecursion CanWait ran.sends
+  pub typed : IsTypedAnswer ran.answer
 
-pub typed-bounded : (answer : Result Body ErrorName) → IsTypedAnswer answer → IsTypedAnswer (bounded answer)
-typed-bounded (Ok body) typed =
-    let pass : (b : Bool) → IsTypedAnswer (cond b (Ok body) (Err name.LimitsExceeded)) = elim [ true ↦ typed | false ↦ tt ] in
-    pass (nat_le (length (spelled_body body)) most_body)
-typed-bounded (Err name) typed = tt
+-- an error that changes nothing
+failing-well : (name : ErrorName) (state : State) → IsSound state → IsWell (failing name state)
+failing-well name state sound = record { sound = sound; waits = tt; typed = tt }
 
-pub typed-limited : (plan : Plan) (ran : Ran) → IsTypedAnswer ran.answer → IsTypedAnswer (limited plan ran).answer
-typed-limited (Ends answer []) ran typed = typed-bounded ran.answer typed
-typed-limited (Ends answer (change ∷ changes)) ran typed = typed
-typed-limited (After changes next) ran typed = typed
-typed-limited (Asks demand next) ran typed = typed
-typed-limited (Opens stem terms next) ran typed = typed
+-- the same after something was sent that can wait
+sending-well : (sends : List Sent) (ran : Ran) → AllByRecursion CanWait sends → IsWell ran → IsWell (sending sends ran)
+sending-well sends ran wait well = record { sound = well.sound; waits = each-append CanWait sends ran.sends wait well.waits; typed = well.typed }
+
+there-settled : (caller : ConnId) (reading : Reading) (ended : ReadFate) (state : State) → has caller state.connections.rows ≡ true → has caller (settled reading ended state).connections.rows ≡ true
+there-settled caller Aliases_file ended state there = there
+there-settled caller (Collection_file stem) ended state there = there
+
+pub well-run : (caller : ConnId) (brought : Brought) (plan : Plan) (fates : List Fate) (state : State) → has caller state.connections.rows ≡ true → MayRun caller brought plan state → IsSound state
+    → IsWell (run caller brought plan fates state)
+well-run caller brought (Ends answer changes) fates state there may sound =
+    fits-either IsWell (filled caller state answer) _ (failing name.LimitsExceeded state)
+    (λ is. record { sound = sound-all caller changes state there may.0 sound; waits = waits-all caller changes state there may.0 sound; typed = may.1 })
+    (failing-well name.LimitsExceeded state sound)
+well-run caller brought (Asks demand next) fates state there may sound =
+    fits-either IsWell (promised caller state (next stored.Stored)) _ (failing name.LimitsExceeded state)
+    (λ is. store-either IsWell (failing name.IOError state) _ fates (failing-well name.IOError state sound)
+    (λ ended rest. sending-well (sent_asked brought demand ended state) (run caller brought (next ended) rest (demanded brought demand ended state)) tt
+    (well-run caller brought (next ended) rest (demanded brought demand ended state) there (may.1 ended) (sound-demanded brought demand ended state may.0 sound))))
+    (failing-well name.LimitsExceeded state sound)
+well-run caller brought (Settles reading unread next) fates state there may sound =
+    let after : ReadFate → State = λ ended. settled reading ended state in
+    let its : (ended : ReadFate) → IsSound (after ended) = λ ended. sound-settled reading ended state sound in
+    let here : (ended : ReadFate) → has caller (after ended).connections.rows ≡ true = λ ended. there-settled caller reading ended state there in
+    let ran_unread : ReadFate → List Fate → Ran = λ ended rest. run caller brought unread rest (after ended) in
+    let ran_known : ReadFate → List Fate → Ran = λ ended rest. run caller brought (next (asked caller brought (after ended))) rest (after ended) in
+    let pass : (b : Bool) → IsWell (by_test b (by_read (failing name.IOError state) (λ ended rest. sending (sent_settled reading ended state) (by_reading ended (ran_unread ended rest) (ran_known ended rest))) fates)
+    (run caller brought (next (asked caller brought state)) fates state)) =
+    elim [
+      | true ↦ read-either IsWell (failing name.IOError state) _ fates (failing-well name.IOError state sound)
+          (λ ended rest. sending-well (sent_settled reading ended state) (by_reading ended (ran_unread ended rest) (ran_known ended rest)) tt
+          (reading-either IsWell ended (ran_unread ended rest) (ran_known ended rest)
+          (well-run caller brought unread rest (after ended) (here ended) (may.0 ended).0 (its ended))
+          (well-run caller brought (next (asked caller brought (after ended))) rest (after ended) (here ended) (may.0 ended).1 (its ended))))
+      | false ↦ well-run caller brought (next (asked caller brought state)) fates state there may.1 sound
+    ] in
+    pass (is_in_doubt reading state)
+well-run caller brought (Opens stem terms next) fates state there may sound =
+    sending-well (sent_opened brought stem terms state) (run caller brought next fates (unlocked_with brought stem terms state)) tt
+    (well-run caller brought next fates (unlocked_with brought stem terms state) there may.1 (sound-unlocked brought stem terms state may.0 sound))
 
 pub some-same : (one other : PromptRow) → Some one ≡ Some other → one ≡ other
 some-same one other is = cc

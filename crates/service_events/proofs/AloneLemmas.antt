@@ -1,7 +1,7 @@
 -- What waits for connections after a request: what it put out, and for a connection that is the only one, all of that which is for it, in
 -- order, if there is room for it.
-use Rattle.std.proofs.Common.{◌≡◌, ℕ, ◌+◌, ◌≤◌, ◌==◌, Bool, true, false, cond, List, [], ◌∷◌, ◌++◌, refl, sym, ap, ◌∙◌, append-nil, append_assoc, arith, rules}
-use Rattle.std.proofs.lemmas.Bool.{eqb-true, le-leb}
+use Rattle.std.proofs.Common.{◌≡◌, ℕ, ◌+◌, ◌≤◌, ◌==◌, Bool, true, false, cond, List, [], ◌∷◌, ◌++◌, refl, sym, ap, ◌∙◌, append-nil, append_assoc, arith}
+use Rattle.std.proofs.lemmas.Bool.{le-leb}
 use Rattle.std.proofs.lemmas.List.Sums.{sum_by-append, sum_by-cons}
 use Rattle.kr_base.specs.declared.ids.ConnId.{ConnId}
 use Rattle.service_prompts.specs.secret_calls.specs.declared.out.Out.{Out}
@@ -10,7 +10,7 @@ use Rattle.service_prompts.specs.service_tables.specs.Connections.{delivered, se
 use Rattle.service_prompts.specs.service_tables.specs.State.{State}
 use Rattle.service_prompts.specs.service_tables.specs.declared.rows.ConnRow.{ConnRow}
 use Rattle.service_prompts.specs.service_tables.specs.declared.rows.ConnRows.{ConnRows}
-use Rattle.service_prompts.specs.service_tables.specs.declared.rows.Sent.{Sent}
+use Rattle.service_prompts.specs.service_tables.specs.Sent.{Sent, is_for}
 use Rattle.service_events.specs.Step.{put_out, served, step}
 use Rattle.service_events.specs.declared.event.Event.TheVariants as event
 use Rattle.service_events.specs.declared.event.Recorded.{Recorded}
@@ -26,20 +26,6 @@ arrived-connections came state =
 abbrev pub waiting_row : ConnId → List Out → ℕ → ConnRow
 waiting_row conn outs taken = record { conn = conn; waiting = outs; overrun = false; leaving = false; taken = taken }
 
--- a test of two numbers doesn't depend on their order
-same-number : (n : ℕ) → (n == n) ≡ true
-same-number n = search rules
-
-eq-turned : (a b : ℕ) → (a == b) ≡ (b == a)
-eq-turned a b =
-    let turned : (x y : ℕ) → (x == y) ≡ true → (y == x) ≡ true = λ x y is. ap (λ n. n == x) (sym (eqb-true x y is)) ∙ same-number x in
-    let pass : (p q : Bool) → (a == b) ≡ p → (b == a) ≡ q → (a == b) ≡ (b == a) =
-    elim [
-      | true ↦ λ q one other. one ∙ sym (turned a b one)
-      | false ↦ elim [ true ↦ λ one other. turned b a other ∙ sym other | false ↦ λ one other. one ∙ sym other ]
-    ] in
-    pass (a == b) (b == a) refl refl
-
 -- the row with one more output, which fits
 one-more : (conn : ConnId) (out : Out) (waiting : List Out) (taken : ℕ) → size_waiting waiting + size_of out ≤ most_waiting → with_out out (waiting_row conn waiting taken) ≡ waiting_row conn (waiting ++ out ∷ []) taken
 one-more conn out waiting taken short =
@@ -53,7 +39,7 @@ delivered-alone conn (sent ∷ outs) waiting taken short =
     let rest = sent_to conn outs in
     let row = waiting_row conn waiting taken in
     let its : (b : Bool) → List Out = λ b. cond b (out ∷ rest) rest in
-    let pass : (b : Bool) → (sent.to.0 == conn.0) ≡ b → size_waiting (waiting ++ its b) ≤ most_waiting → delivered outs (cond b (with_out out row) row ∷ []) ≡ waiting_row conn (waiting ++ its b) taken ∷ [] =
+    let pass : (b : Bool) → is_for sent.to conn ≡ b → size_waiting (waiting ++ its b) ≤ most_waiting → delivered outs (cond b (with_out out row) row ∷ []) ≡ waiting_row conn (waiting ++ its b) taken ∷ [] =
     elim [
       | true ↦ λ is few.
           let joined = append_assoc waiting (out ∷ []) rest in
@@ -62,4 +48,4 @@ delivered-alone conn (sent ∷ outs) waiting taken short =
           ap (λ r. delivered outs (r ∷ [])) (one-more conn out waiting taken first) ∙ delivered-alone conn outs (waiting ++ out ∷ []) taken all ∙ ap (λ w. waiting_row conn w taken ∷ []) joined
       | false ↦ λ is few. delivered-alone conn outs waiting taken few
     ] in
-    ap (λ b. delivered outs (cond b (with_out out row) row ∷ [])) (eq-turned conn.0 sent.to.0) ∙ pass (sent.to.0 == conn.0) refl short
+    pass (is_for sent.to conn) refl short

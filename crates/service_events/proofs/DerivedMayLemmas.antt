@@ -23,13 +23,13 @@ use Rattle.service_prompts.proofs.SignalLemmas.{found-row}
 use Rattle.service_prompts.specs.service_tables.specs.Sound.{HasLeft, IsSound, IsSoundKind, IsSoundPrompt, IsTypedAlias, IsTypedText}
 use Rattle.service_prompts.specs.service_tables.specs.State.{State}
 use Rattle.service_prompts.specs.service_tables.specs.Storing.{Brought}
-use Rattle.service_prompts.specs.service_tables.specs.declared.fate.Fate.{Fate}
-use Rattle.service_prompts.specs.service_tables.specs.declared.fate.Fate.TheVariants as fate
+use Rattle.service_prompts.specs.service_tables.specs.declared.fate.StoreFate.{StoreFate}
+use Rattle.service_prompts.specs.service_tables.specs.declared.fate.StoreFate.TheVariants as stored
 use Rattle.service_prompts.specs.service_tables.proofs.AliasLemmas.{is-alias}
 use Rattle.service_events.specs.AliasCalls.{alias_settled}
 use Rattle.service_events.specs.Derivation.{alias_given, can_make, collection_made, completing, derived, dismissing, kind_derived, left_derived, making_ended, most_wrong_answers, opening_ended, quietly, row_derived, wrong_again}
-use Rattle.service_events.specs.Plan.{Change, KeyTerms, Plan, Ends, After, Asks, Opens, Ask_prompt, Clear_wrong, Count_wrong, Go_on, Make, followed}
-use Rattle.service_events.specs.Run.{asked, demanded, key_with, performed, performed_all, unlocked_with}
+use Rattle.service_events.specs.Plan.{Change, KeyTerms, Plan, Ends, Asks, Settles, Opens, Ask_prompt, Clear_wrong, Count_wrong, Go_on, Make, followed}
+use Rattle.service_events.specs.Run.{asked, demanded, key_with, performed, settled, unlocked_with}
 use Rattle.service_events.specs.Step.{AreByteFiles}
 use Rattle.service_events.proofs.AdvanceLemmas.{KeepsPrompt, row-changed}
 use Rattle.service_events.proofs.AllowedLemmas.{AreAllowed, HasMore, IsAllowed, MayRun, some-same}
@@ -43,14 +43,17 @@ module _ (caller : ConnId) (brought : Brought) (more : List Change) (may_more : 
   append-allowed (change ∷ changes) state all = (all.0, append-allowed changes (performed caller change state) all.1)
 
   -- a plan whose answer is dropped, and after which changes come that are always allowed
-  pub followed-may : (plan : Plan) (fates : List Fate) (state : State) → MayRun caller brought plan fates state → MayRun caller brought (followed more plan) fates state
-  followed-may (Ends answer changes) fates state may = (append-allowed changes state may.0, tt)
-  followed-may (After changes next) fates state may =
-      let mid = performed_all caller changes state in
-      (may.0, followed-may (next (asked caller brought mid)) fates mid may.1)
-  followed-may (Asks demand next) [] state may = tt
-  followed-may (Asks demand next) (some ∷ fates) state may = (may.0, followed-may (next some) fates (demanded brought demand some state) may.1)
-  followed-may (Opens stem terms next) fates state may = (may.0, followed-may next fates (unlocked_with brought stem terms state) may.1)
+  pub followed-may : (plan : Plan) (state : State) → MayRun caller brought plan state → MayRun caller brought (followed more plan) state
+  followed-may (Ends answer changes) state may = (append-allowed changes state may.0, tt)
+  followed-may (Asks demand next) state may = (may.0, λ ended. followed-may (next ended) (demanded brought demand ended state) (may.1 ended))
+  followed-may (Settles reading unread next) state may = (
+    λ ended. (
+      followed-may unread (settled reading ended state) (may.0 ended).0,
+      followed-may (next (asked caller brought (settled reading ended state))) (settled reading ended state) (may.0 ended).1,
+    ),
+    followed-may (next (asked caller brought state)) state may.1,
+  )
+  followed-may (Opens stem terms next) state may = (may.0, followed-may next (unlocked_with brought stem terms state) may.1)
 
 -- ---- a prompt whose answers are counted
 
@@ -85,90 +88,84 @@ module _ (caller : ConnId) (brought : Brought) (prompt : PromptId) where
   stage-deriving round (Asked other) is = absurd (let no : false ≡ true = is in cc)
   stage-deriving round (Deriving other) is = ap Deriving (eqb-true other round is)
 
-  wrong-may : (wrong : ℕ) (fates : List Fate) (state : State) → IsAllowed caller (Ask_prompt prompt) state → MayRun caller brought (wrong_again prompt wrong) fates state
-  wrong-may wrong fates state ask =
+  wrong-may : (wrong : ℕ) (state : State) → IsAllowed caller (Ask_prompt prompt) state → MayRun caller brought (wrong_again prompt wrong) state
+  wrong-may wrong state ask =
       let keeps : KeepsAsked (λ row. record row { wrong = one_more row.wrong }) = record { number = λ row. refl; stage = λ row. refl; kind = λ row. refl } in
       let after : IsAllowed caller (Ask_prompt prompt) (performed caller (Count_wrong prompt) state) =
       (subst (λ n. n ≤ last_round) (sym (round-kept prompt _ keeps state.prompts)) ask.0, left-kept prompt _ keeps state.prompts ask.1) in
-      let pass : (b : Bool) → MayRun caller brought (cond b (dismissing prompt) (quietly (Count_wrong prompt ∷ Ask_prompt prompt ∷ []))) fates state =
+      let pass : (b : Bool) → MayRun caller brought (cond b (dismissing prompt) (quietly (Count_wrong prompt ∷ Ask_prompt prompt ∷ []))) state =
       elim [ true ↦ ((tt, tt), tt) | false ↦ ((tt, (after, tt)), tt) ] in
       pass (nat_le most_wrong_answers (wrong + 1))
 
-  opening-may : (wrong : ℕ) (stem : List ℕ) (terms : KeyTerms) (how : Opening) (fates : List Fate) (state : State) → AreByteFiles state.collections → IsAllowed caller (Ask_prompt prompt) state
-      → MayRun caller brought (opening_ended prompt wrong stem terms how) fates state
-  opening-may wrong stem terms ends.Settled fates state files ask = ((ask.0, tt), tt)
-  opening-may wrong stem terms ends.Unfit fates state files ask = ((ask, tt), tt)
-  opening-may wrong stem terms ends.WrongPassword fates state files ask = wrong-may wrong fates state ask
-  opening-may wrong stem terms ends.Damaged fates state files ask = ((tt, tt), tt)
-  opening-may wrong stem terms ends.Opened fates state files ask =
+  opening-may : (wrong : ℕ) (stem : List ℕ) (terms : KeyTerms) (how : Opening) (state : State) → AreByteFiles state.collections → IsAllowed caller (Ask_prompt prompt) state
+      → MayRun caller brought (opening_ended prompt wrong stem terms how) state
+  opening-may wrong stem terms ends.Settled state files ask = ((ask.0, tt), tt)
+  opening-may wrong stem terms ends.Unfit state files ask = ((ask, tt), tt)
+  opening-may wrong stem terms ends.WrongPassword state files ask = wrong-may wrong state ask
+  opening-may wrong stem terms ends.Damaged state files ask = ((tt, tt), tt)
+  opening-may wrong stem terms ends.Opened state files ask =
       let keeps : KeepsAsked (λ row. record row { wrong = 0 }) = record { number = λ row. refl; stage = λ row. refl; kind = λ row. refl } in
       let after : IsAllowed caller (Go_on prompt) (performed caller (Clear_wrong prompt) (unlocked_with brought stem terms state)) =
       subst (λ n. n ≤ last_round) (sym (round-kept prompt _ keeps state.prompts)) ask.0 in
       (files, ((tt, (after, tt)), tt))
 
-  left-may : (wrong : ℕ) (left : List Target) (terms : KeyTerms) (fates : List Fate) (state : State) → AreByteFiles state.collections → IsAllowed caller (Ask_prompt prompt) state
-      → MayRun caller brought (left_derived prompt wrong left terms (asked caller brought state)) fates state
-  left-may wrong [] terms fates state files ask = ((ask.0, tt), tt)
-  left-may wrong (target ∷ left) terms fates state files ask =
-      opening-may wrong target.stem terms (opening_of (key_with brought terms) target.stem state.collections) fates state files ask
+  left-may : (wrong : ℕ) (left : List Target) (terms : KeyTerms) (state : State) → AreByteFiles state.collections → IsAllowed caller (Ask_prompt prompt) state
+      → MayRun caller brought (left_derived prompt wrong left terms (asked caller brought state)) state
+  left-may wrong [] terms state files ask = ((ask.0, tt), tt)
+  left-may wrong (target ∷ left) terms state files ask =
+      opening-may wrong target.stem terms (opening_of (key_with brought terms) target.stem state.collections) state files ask
 
   -- ---- a collection that is made
 
-  alias-may : (alias stem : List ℕ) (fates : List Fate) (state : State) → (alias ≡ []) ⊎ IsTypedAlias alias → IsStem stem
-      → MayRun caller brought (alias_given prompt alias stem (asked caller brought state)) fates state
-  alias-may [] stem fates state typed is = ((is, tt), tt)
-  alias-may (byte ∷ bytes) stem fates state typed is =
+  alias-may : (alias stem : List ℕ) (state : State) → (alias ≡ []) ⊎ IsTypedAlias alias → IsStem stem
+      → MayRun caller brought (alias_given prompt alias stem) state
+  alias-may [] stem state typed is = ((is, tt), tt)
+  alias-may (byte ∷ bytes) stem state typed is =
       let named : IsAliasName (byte ∷ bytes) = elim typed [ inl empty ↦ absurd (let no : byte ∷ bytes ≡ [] = empty in cc) | inr some ↦ is-alias (byte ∷ bytes) some ] in
-      followed-may caller brought (completing prompt stem) (λ any. (is, tt)) (alias_settled (byte ∷ bytes) (Some stem) (asked caller brought state)) fates state
-      (settled-may caller brought fates (byte ∷ bytes) (Some stem) state (named, is))
+      followed-may caller brought (completing prompt stem) (λ any. (is, tt)) (alias_settled (byte ∷ bytes) (Some stem)) state
+      (settled-may caller brought (byte ∷ bytes) (Some stem) state (named, is))
 
-  ended-may : (alias stem : List ℕ) (some : Fate) (fates : List Fate) (state : State) → (alias ≡ []) ⊎ IsTypedAlias alias → IsStem stem
-      → MayRun caller brought (making_ended prompt alias stem some) fates state
-  ended-may alias stem fate.Stored fates state typed is = (tt, alias-may alias stem fates state typed is)
-  ended-may alias stem fate.Before fates state typed is = ((tt, tt), tt)
-  ended-may alias stem fate.Unsure fates state typed is = ((tt, tt), tt)
-  ended-may alias stem fate.Old fates state typed is = ((tt, tt), tt)
-  ended-may alias stem fate.New fates state typed is = ((tt, tt), tt)
-  ended-may alias stem fate.Other fates state typed is = ((tt, tt), tt)
-  ended-may alias stem fate.ReadFailed fates state typed is = ((tt, tt), tt)
+  ended-may : (alias stem : List ℕ) (some : StoreFate) (state : State) → (alias ≡ []) ⊎ IsTypedAlias alias → IsStem stem → MayRun caller brought (making_ended prompt alias stem some) state
+  ended-may alias stem stored.Stored state typed is = alias-may alias stem state typed is
+  ended-may alias stem stored.Before state typed is = ((tt, tt), tt)
+  ended-may alias stem stored.Unsure state typed is = ((tt, tt), tt)
 
-  asks-made : (label alias stem : List ℕ) (terms : KeyTerms) (fates : List Fate) (state : State) → IsTypedText label → (alias ≡ []) ⊎ IsTypedAlias alias → IsStem stem
-      → MayRun caller brought (Asks (Make stem label terms) (making_ended prompt alias stem)) fates state
-  asks-made label alias stem terms [] state text typed is = tt
-  asks-made label alias stem terms (some ∷ fates) state text typed is = ((text, is), ended-may alias stem some fates (demanded brought (Make stem label terms) some state) typed is)
+  asks-made : (label alias stem : List ℕ) (terms : KeyTerms) (state : State) → IsTypedText label → (alias ≡ []) ⊎ IsTypedAlias alias → IsStem stem
+      → MayRun caller brought (Asks (Make stem label terms) (making_ended prompt alias stem)) state
+  asks-made label alias stem terms state text typed is = ((text, is), λ ended. ended-may alias stem ended (demanded brought (Make stem label terms) ended state) typed is)
 
-  made-may : (label alias salt : List ℕ) (terms : KeyTerms) (fates : List Fate) (state : State) → IsTypedText label → (alias ≡ []) ⊎ IsTypedAlias alias
-      → MayRun caller brought (collection_made prompt label alias salt terms (asked caller brought state)) fates state
-  made-may label alias salt terms fates state text typed =
+  made-may : (label alias salt : List ℕ) (terms : KeyTerms) (state : State) → IsTypedText label → (alias ≡ []) ⊎ IsTypedAlias alias
+      → MayRun caller brought (collection_made prompt label alias salt terms (asked caller brought state)) state
+  made-may label alias salt terms state text typed =
       let stem = chosen label state.used in
-      let pass : (b : Bool) → MayRun caller brought (cond b (Asks (Make stem label terms) (making_ended prompt alias stem)) (dismissing prompt)) fates state =
-      elim [ true ↦ asks-made label alias stem terms fates state text typed (IsStem-chosen label state.used) | false ↦ ((tt, tt), tt) ] in
+      let pass : (b : Bool) → MayRun caller brought (cond b (Asks (Make stem label terms) (making_ended prompt alias stem)) (dismissing prompt)) state =
+      elim [ true ↦ asks-made label alias stem terms state text typed (IsStem-chosen label state.used) | false ↦ ((tt, tt), tt) ] in
       pass (can_make label salt terms (asked caller brought state))
 
   -- ---- either
 
-  kind-may : (wrong : ℕ) (k : PromptKind) (terms : KeyTerms) (fates : List Fate) (state : State) → AreByteFiles state.collections → IsSoundKind k → IsAllowed caller (Ask_prompt prompt) state
-      → MayRun caller brought (kind_derived prompt wrong k terms (asked caller brought state)) fates state
-  kind-may wrong (kind.Unlock targets) terms fates state files is ask = left-may wrong targets.left terms fates state files ask
-  kind-may wrong (kind.Create label alias salt) terms fates state files is ask = made-may label alias salt terms fates state is.label is.alias
+  kind-may : (wrong : ℕ) (k : PromptKind) (terms : KeyTerms) (state : State) → AreByteFiles state.collections → IsSoundKind k → IsAllowed caller (Ask_prompt prompt) state
+      → MayRun caller brought (kind_derived prompt wrong k terms (asked caller brought state)) state
+  kind-may wrong (kind.Unlock targets) terms state files is ask = left-may wrong targets.left terms state files ask
+  kind-may wrong (kind.Create label alias salt) terms state files is ask = made-may label alias salt terms state is.label is.alias
 
-  row-may : (round : ℕ) (row : PromptRow) (terms : KeyTerms) (fates : List Fate) (state : State) → IsSound state → AreByteFiles state.collections → row_at prompt state.prompts ≡ Some row
-      → is_deriving_in round row.stage ≡ true → MayRun caller brought (kind_derived prompt row.wrong row.kind terms (asked caller brought state)) fates state
-  row-may round row terms fates state sound files found derives =
+  row-may : (round : ℕ) (row : PromptRow) (terms : KeyTerms) (state : State) → IsSound state → AreByteFiles state.collections → row_at prompt state.prompts ≡ Some row
+      → is_deriving_in round row.stage ≡ true → MayRun caller brought (kind_derived prompt row.wrong row.kind terms (asked caller brought state)) state
+  row-may round row terms state sound files found derives =
       let stage : row.stage ≡ Deriving round = stage-deriving round row.stage derives in
       let is : IsStage (Deriving round) = subst IsStage stage (found-row (λ (row : PromptRow). IsStage row.stage) prompt state.prompts row sound.prompts.kept.rounds found) in
       let its : IsSoundPrompt row = found-row IsSoundPrompt prompt state.prompts row sound.prompts.each found in
       let left : HasLeft row.kind = its.left (ap is_made stage) in
       let more : HasMore prompt state = λ other at. subst (λ (r : PromptRow). HasLeft r.kind) (some-same row other (sym found ∙ at)) left in
       let next : next_round (row_at prompt state.prompts) ≡ round + 1 = ap next_round found ∙ ap (λ s. round_of s + 1) stage in
-      kind-may row.wrong row.kind terms fates state files its.kind (omega (arith, next, is.1), more)
+      kind-may row.wrong row.kind terms state files its.kind (omega (arith, next, is.1), more)
 
-  pub derived-may : (round : ℕ) (terms : KeyTerms) (fates : List Fate) (state : State) → IsSound state → AreByteFiles state.collections
-      → MayRun caller brought (derived prompt round terms (asked caller brought state)) fates state
-  derived-may round terms fates state sound files =
+  pub derived-may : (round : ℕ) (terms : KeyTerms) (state : State) → IsSound state → AreByteFiles state.collections
+      → MayRun caller brought (derived prompt round terms (asked caller brought state)) state
+  derived-may round terms state sound files =
       let inner : (row : PromptRow) → row_at prompt state.prompts ≡ Some row → (b : Bool) → is_deriving_in round row.stage ≡ b
-      → MayRun caller brought (cond b (kind_derived prompt row.wrong row.kind terms (asked caller brought state)) (quietly [])) fates state =
-      λ row found. elim [ true ↦ λ derives. row-may round row terms fates state sound files found derives | false ↦ λ derives. (tt, tt) ] in
-      let pass : (o : Option PromptRow) → row_at prompt state.prompts ≡ o → MayRun caller brought (row_derived prompt round o terms (asked caller brought state)) fates state =
+      → MayRun caller brought (cond b (kind_derived prompt row.wrong row.kind terms (asked caller brought state)) (quietly [])) state =
+      λ row found. elim [ true ↦ λ derives. row-may round row terms state sound files found derives | false ↦ λ derives. (tt, tt) ] in
+      let pass : (o : Option PromptRow) → row_at prompt state.prompts ≡ o → MayRun caller brought (row_derived prompt round o terms (asked caller brought state)) state =
       elim [ None ↦ λ found. (tt, tt) | Some row ↦ λ found. inner row found (is_deriving_in round row.stage) refl ] in
       pass (row_at prompt state.prompts) refl

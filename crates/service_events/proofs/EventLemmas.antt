@@ -1,5 +1,5 @@
 -- An event fits a state in one way at most.
-use Rattle.std.proofs.Common.{◌≡◌, ℕ, Bool, true, IfSome, List, [], ◌∷◌, length, Option, Some, None, Result, Ok}
+use Rattle.std.proofs.Common.{◌≡◌, ℕ, Bool, true, false, IfSome, List, [], ◌∷◌, length, Option, Some, None, Result, Ok}
 use mathlib.Core.HLevel.{×_prop, Unit-prop}
 use Rattle.std.proofs.Props.{props}
 use Rattle.std.specs.Coded.{le_prop, →_prop}
@@ -12,15 +12,19 @@ use Rattle.service_prompts.specs.secret_calls.specs.declared.call.Call.TheVarian
 use Rattle.service_prompts.specs.secret_calls.specs.declared.call.CallFault.{CallFault}
 use Rattle.service_prompts.specs.service_tables.specs.declared.fate.Fate.{Fate}
 use Rattle.service_prompts.specs.service_tables.specs.declared.fate.Fate.TheVariants as fate
+use Rattle.service_prompts.specs.service_tables.specs.declared.fate.ReadFate.{ReadFate}
+use Rattle.service_prompts.specs.service_tables.specs.declared.fate.ReadFate.TheVariants as read
+use Rattle.service_prompts.specs.service_tables.specs.declared.fate.StoreFate.{StoreFate}
+use Rattle.service_prompts.specs.service_tables.specs.declared.fate.StoreFate.TheVariants as stored
 use Rattle.service_prompts.specs.service_tables.specs.Sound.{IsTypedText}
 use Rattle.service_prompts.specs.service_tables.specs.State.{State}
-use Rattle.service_prompts.specs.service_tables.specs.Storing.{Brought, IsResolve, IsStoring}
+use Rattle.service_prompts.specs.service_tables.specs.Storing.{Brought}
 use Rattle.service_prompts.specs.service_tables.proofs.TypedLemmas.{alias-prop, item-prop, secret-prop}
 use Rattle.service_events.specs.declared.event.Event.{Event}
 use Rattle.service_events.specs.declared.event.Event.TheVariants as event
 use Rattle.service_events.specs.declared.event.Recorded.{Recorded}
-use Rattle.service_events.specs.Plan.{Demand, Store, Erase, Set_alias, Read_aliases, Read_collection, Make, Plan, Ends, After, Asks, Opens}
-use Rattle.service_events.specs.Run.{AreFates, AreNone, IsFateOf, asked, demanded, performed_all, unlocked_with}
+use Rattle.service_events.specs.Plan.{Plan, Ends, Asks, Settles, Opens}
+use Rattle.service_events.specs.Run.{AreFates, AreNone, asked, by_read, by_reading, by_store, by_test, demanded, fits, is_in_doubt, promised, settled, unlocked_with}
 use Rattle.replace_slot.specs.Cell.{new_image, old_image}
 use Rattle.service_events.specs.Step.{AreByteFiles, AreByteImages, Fits, FitsRequest, HasTypes, IsSalt, IsTypedName, brought_by, plan_of, FitsDerivation, brought_derived, terms_of}
 use Rattle.service_events.specs.Derivation.{derived}
@@ -31,39 +35,37 @@ none-prop : (fates : List Fate) → IsProp (AreNone fates)
 none-prop [] = Unit-prop
 none-prop (fate ∷ fates) = λ a b. absurd a
 
-storing-prop : (some : Fate) → IsProp (IsStoring some)
-storing-prop fate.Stored = Unit-prop
-storing-prop fate.Before = Unit-prop
-storing-prop fate.Unsure = Unit-prop
-storing-prop fate.Old = λ a b. absurd a
-storing-prop fate.New = λ a b. absurd a
-storing-prop fate.Other = λ a b. absurd a
-storing-prop fate.ReadFailed = λ a b. absurd a
+-- what has at most one proof in each case has at most one
+test-prop : (b : Bool) (one other : Type 0) → IsProp one → IsProp other → IsProp (by_test b one other)
+test-prop true one other first second = first
+test-prop false one other first second = second
 
-resolve-prop : (some : Fate) → IsProp (IsResolve some)
-resolve-prop fate.Stored = λ a b. absurd a
-resolve-prop fate.Before = λ a b. absurd a
-resolve-prop fate.Unsure = λ a b. absurd a
-resolve-prop fate.Old = Unit-prop
-resolve-prop fate.New = Unit-prop
-resolve-prop fate.Other = Unit-prop
-resolve-prop fate.ReadFailed = Unit-prop
+store-prop : (next : StoreFate → List Fate → Type 0) → ((ended : StoreFate) (rest : List Fate) → IsProp (next ended rest)) → (fates : List Fate) → IsProp (by_store ⊥ next fates)
+store-prop next each [] = λ a b. absurd a
+store-prop next each (fate.Store ended ∷ rest) = each ended rest
+store-prop next each (fate.Read ended ∷ rest) = λ a b. absurd a
 
-fate-prop : (demand : Demand) (some : Fate) → IsProp (IsFateOf demand some)
-fate-prop (Store stem edit) some = storing-prop some
-fate-prop (Erase stem) some = storing-prop some
-fate-prop (Set_alias alias stem) some = storing-prop some
-fate-prop Read_aliases some = resolve-prop some
-fate-prop (Read_collection stem) some = resolve-prop some
-fate-prop (Make stem label terms) some = storing-prop some
+read-prop : (next : ReadFate → List Fate → Type 0) → ((ended : ReadFate) (rest : List Fate) → IsProp (next ended rest)) → (fates : List Fate) → IsProp (by_read ⊥ next fates)
+read-prop next each [] = λ a b. absurd a
+read-prop next each (fate.Store ended ∷ rest) = λ a b. absurd a
+read-prop next each (fate.Read ended ∷ rest) = each ended rest
+
+reading-prop : (ended : ReadFate) (one other : Type 0) → IsProp one → IsProp other → IsProp (by_reading ended one other)
+reading-prop read.ReadFailed one other first second = first
+reading-prop read.Old one other first second = second
+reading-prop read.New one other first second = second
+reading-prop read.Other one other first second = second
 
 fates-prop : (caller : ConnId) (brought : Brought) (plan : Plan) (fates : List Fate) (state : State) → IsProp (AreFates caller brought plan fates state)
 fates-prop caller brought (Ends answer changes) fates state = none-prop fates
-fates-prop caller brought (After changes next) fates state =
-    let after = performed_all caller changes state in
-    fates-prop caller brought (next (asked caller brought after)) fates after
-fates-prop caller brought (Asks demand next) [] state = λ a b. absurd a
-fates-prop caller brought (Asks demand next) (some ∷ fates) state = ×_prop (fate-prop demand some) (fates-prop caller brought (next some) fates (demanded brought demand some state))
+fates-prop caller brought (Asks demand next) fates state =
+    test-prop (fits (promised caller state (next stored.Stored))) _ (AreNone fates)
+    (store-prop _ (λ ended rest. fates-prop caller brought (next ended) rest (demanded brought demand ended state)) fates) (none-prop fates)
+fates-prop caller brought (Settles reading unread next) fates state =
+    test-prop (is_in_doubt reading state) _ _
+    (read-prop _
+    (λ ended rest. reading-prop ended _ _ (fates-prop caller brought unread rest (settled reading ended state)) (fates-prop caller brought (next (asked caller brought (settled reading ended state))) rest (settled reading ended state))) fates)
+    (fates-prop caller brought (next (asked caller brought state)) fates state)
 fates-prop caller brought (Opens stem terms next) fates state = fates-prop caller brought next fates (unlocked_with brought stem terms state)
 
 truth-prop : (b : Bool) → IsProp (b ≡ true)

@@ -4,6 +4,7 @@ pub mod AllowedLemmas
 pub mod AloneLemmas
 pub mod CertainLemmas
 pub mod DerivedMayLemmas
+pub mod EndLemmas
 pub mod EventLemmas
 pub mod FateLemmas
 pub mod GoneOnLemmas
@@ -12,7 +13,6 @@ pub mod OpenedLemmas
 pub mod ReplayLemmas
 pub mod RowsMayLemmas
 pub mod RunLemmas
-pub mod SendLemmas
 pub mod SmallLemmas
 pub mod SoundLemmas
 pub mod StemLemmas

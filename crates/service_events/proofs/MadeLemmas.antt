@@ -18,8 +18,10 @@ use Rattle.service_disk.specs.Making.{Plan, content_of, perhaps_made, rows_made}
 use Rattle.service_disk.specs.Resolving.{is_file, row_found, rows_found, rows_resolved}
 use Rattle.service_prompts.specs.service_tables.specs.Slots.{file_at}
 use Rattle.service_prompts.specs.service_tables.specs.Sound.{AreShown, AreSoundCollections, IsSoundCollection}
-use Rattle.service_prompts.specs.service_tables.specs.declared.fate.Fate.{Fate}
-use Rattle.service_prompts.specs.service_tables.specs.declared.fate.Fate.TheVariants as fate
+use Rattle.service_prompts.specs.service_tables.specs.declared.fate.ReadFate.{ReadFate}
+use Rattle.service_prompts.specs.service_tables.specs.declared.fate.ReadFate.TheVariants as read
+use Rattle.service_prompts.specs.service_tables.specs.declared.fate.StoreFate.{StoreFate}
+use Rattle.service_prompts.specs.service_tables.specs.declared.fate.StoreFate.TheVariants as fate
 use Rattle.service_prompts.specs.service_tables.proofs.EachLemmas.{each-append, each-filter}
 
 -- ---- a file in doubt that was read again
@@ -50,14 +52,11 @@ sound-found stem found these sound =
     pass (is_file found (file_at stem these))
 
 -- a resolve of a collection's file, however it ended
-pub sound-reread : (stem : List ℕ) (some : Fate) (these : Rows) → AreSoundCollections these → AreSoundCollections (rows_resolved stem some these)
-sound-reread stem fate.Stored these sound = sound
-sound-reread stem fate.Before these sound = sound
-sound-reread stem fate.Unsure these sound = sound
-sound-reread stem fate.Old these sound = sound-found stem image.Old these sound
-sound-reread stem fate.New these sound = sound-found stem image.New these sound
-sound-reread stem fate.Other these sound = sound-without stem these sound
-sound-reread stem fate.ReadFailed these sound = sound
+pub sound-reread : (stem : List ℕ) (some : ReadFate) (these : Rows) → AreSoundCollections these → AreSoundCollections (rows_resolved stem some these)
+sound-reread stem read.Old these sound = sound-found stem image.Old these sound
+sound-reread stem read.New these sound = sound-found stem image.New these sound
+sound-reread stem read.Other these sound = sound-without stem these sound
+sound-reread stem read.ReadFailed these sound = sound
 
 -- ---- a collection that was made
 
@@ -73,12 +72,8 @@ module _ (stem : List ℕ) (plan : Plan) (is : IsStem stem) (label : IsText plan
   shown-made = record { label = label; items = tt }
 
   -- a making of a collection, however it ended
-  pub sound-made : (some : Fate) (these : Rows) → AreSoundCollections these → AreSoundCollections (rows_made stem plan some these)
+  pub sound-made : (some : StoreFate) (these : Rows) → AreSoundCollections these → AreSoundCollections (rows_made stem plan some these)
   sound-made fate.Stored these sound =
       sound-inserted stem (stored (content_of plan) (key_of plan.key) (vector_of plan.key)) these (record { stem = is; shown = shown-made; other = tt; held = tt }) sound
   sound-made fate.Before these sound = sound
   sound-made fate.Unsure these sound = sound-inserted stem (perhaps_made plan) these (record { stem = is; shown = shown-made; other = tt; held = tt }) sound
-  sound-made fate.Old these sound = sound
-  sound-made fate.New these sound = sound
-  sound-made fate.Other these sound = sound
-  sound-made fate.ReadFailed these sound = sound

@@ -1,5 +1,5 @@
 -- What a plan leaves alone, whatever it does, and which plans ask nothing of the disk.
-use Rattle.std.proofs.Common.{◌≡◌, ℕ, Bool, true, false, cond, nat_le, List, [], ◌∷◌, ◌++◌, filter, map, Option, Some, None, Result, Ok, refl, ap, ◌∙◌}
+use Rattle.std.proofs.Common.{◌≡◌, ℕ, Bool, true, false, cond, nat_le, List, [], ◌∷◌, ◌++◌, map, Option, Some, None, Result, Ok, refl, ap, ◌∙◌}
 use Rattle.std.specs.List.{AllByRecursion, filter_map}
 use Rattle.std.specs.Option.{option_and_then}
 use Rattle.kr_base.specs.declared.ids.ConnId.{ConnId}
@@ -16,11 +16,16 @@ use Rattle.service_prompts.specs.secret_calls.specs.declared.call.Call.{Call}
 use Rattle.service_prompts.specs.secret_calls.specs.declared.call.Call.TheVariants as call
 use Rattle.service_prompts.specs.secret_calls.specs.declared.call.CallFault.{CallFault}
 use Rattle.service_prompts.specs.secret_calls.specs.declared.out.Body.{Body}
-use Rattle.service_prompts.specs.secret_calls.specs.declared.out.Body.TheVariants as body
+use Rattle.service_prompts.specs.secret_calls.specs.declared.out.ErrorName.{ErrorName}
 use Rattle.service_prompts.specs.secret_calls.specs.declared.out.ErrorName.TheVariants as name
 use Rattle.service_prompts.specs.service_tables.specs.declared.fate.Fate.{Fate}
+use Rattle.service_prompts.specs.service_tables.specs.declared.fate.Fate.TheVariants as fate
+use Rattle.service_prompts.specs.service_tables.specs.declared.fate.ReadFate.{ReadFate}
+use Rattle.service_prompts.specs.service_tables.specs.declared.fate.ReadFate.TheVariants as read
+use Rattle.service_prompts.specs.service_tables.specs.declared.fate.StoreFate.{StoreFate}
+use Rattle.service_prompts.specs.service_tables.specs.declared.fate.StoreFate.TheVariants as stored
 use Rattle.service_prompts.specs.service_tables.specs.Disk.{DiskState}
-use Rattle.service_prompts.specs.service_tables.specs.Objects.{collection_around, collection_named, is_there, once, paths_of}
+use Rattle.service_prompts.specs.service_tables.specs.Objects.{collection_around, collection_named}
 use Rattle.service_prompts.specs.service_tables.specs.Targets.{are_light}
 use Rattle.service_prompts.specs.Unlocking.{targets_of, unlocked_there}
 use Rattle.service_prompts.specs.service_tables.specs.State.{State}
@@ -29,9 +34,11 @@ use Rattle.service_events.specs.declared.event.Recorded.{Recorded}
 use Rattle.service_events.specs.AgentCalls.{in_round, unless_refused}
 use Rattle.service_events.specs.CollectionCalls.{on_collection}
 use Rattle.service_events.specs.ItemCalls.{secret_if_open}
-use Rattle.service_events.specs.Plan.{Change, Open_session, Close_session, Lock_collection, Begin_prompt, Ask_prompt, Derive_key, Count_wrong, Clear_wrong, Go_on, Finish_target, Drop_target, End_prompt, Become_agent, Leave_agent, Plan, Ends, After, Asks, Opens, Questions, Secret_of, given, refused}
-use Rattle.service_events.specs.Run.{AreFates, AreNone, asked, led, demanded, performed, performed_all, sent_all, sent_by, Ran, run, limited, unlocked_with}
-use Rattle.service_events.specs.ServiceCalls.{answered_if_small, creating, is_plain, is_small, next_prompt, no_collection, there_already, unlocking, with_new_prompt}
+use Rattle.service_events.specs.Plan.{Aliases_file, Answer, Change, Collection_file, Demand, KeyTerms, Open_session, Close_session, Lock_collection, Begin_prompt, Ask_prompt, Derive_key, Count_wrong, Clear_wrong, Go_on, End_prompt, Become_agent, Leave_agent, Plan, Ends, Asks, Settles, Opens, Questions, Reading, Secret_of, given, refused}
+use Rattle.service_events.specs.PublicBody.{PublicBody}
+use Rattle.service_events.specs.PublicBody as public
+use Rattle.service_events.specs.Run.{AreFates, AreNone, asked, by_read, by_reading, by_store, by_test, demanded, failing, filled, fits, if_fits, is_in_doubt, performed, performed_all, promised, sending, sent_all, sent_asked, sent_by, sent_opened, sent_settled, settled, Ran, run, unlocked_with}
+use Rattle.service_events.specs.ServiceCalls.{creating, is_plain, no_collection, there_already, unlocking, with_new_prompt}
 use Rattle.service_events.specs.SessionCalls.{with_session}
 use Rattle.service_events.specs.Step.{brought_by, plan_of, row_of, served}
 use Rattle.service_events.specs.Stored.{IsPlain, StoresNothing, StoresOf}
@@ -47,8 +54,6 @@ connections-performed caller (Derive_key prompt round) state = refl
 connections-performed caller (Count_wrong prompt) state = refl
 connections-performed caller (Clear_wrong prompt) state = refl
 connections-performed caller (Go_on prompt) state = refl
-connections-performed caller (Finish_target prompt) state = refl
-connections-performed caller (Drop_target prompt) state = refl
 connections-performed caller (End_prompt prompt dismissed created) state = refl
 connections-performed caller Become_agent state = refl
 connections-performed caller Leave_agent state = refl
@@ -57,28 +62,83 @@ pub connections-all : (caller : ConnId) (changes : List Change) (state : State) 
 connections-all caller [] state = refl
 connections-all caller (change ∷ changes) state = connections-all caller changes (performed caller change state) ∙ connections-performed caller change state
 
-connections-run : (caller : ConnId) (brought : Brought) (plan : Plan) (fates : List Fate) (state : State) → (run caller brought plan fates state).state.connections ≡ state.connections
-connections-run caller brought (Ends answer changes) fates state = connections-all caller changes state
-connections-run caller brought (After changes next) fates state =
-    connections-run caller brought (next (asked caller brought (performed_all caller changes state))) fates (performed_all caller changes state) ∙ connections-all caller changes state
-connections-run caller brought (Asks demand next) [] state = refl
-connections-run caller brought (Asks demand next) (fate ∷ fates) state = connections-run caller brought (next fate) fates (demanded brought demand fate state)
-connections-run caller brought (Opens stem terms next) fates state = connections-run caller brought next fates (unlocked_with brought stem terms state)
+-- ---- what is true of a run
 
--- a limit changes no more than the answer
-pub state-limited : (plan : Plan) (ran : Ran) → (limited plan ran).state ≡ ran.state
-state-limited (Ends answer []) ran = refl
-state-limited (Ends answer (change ∷ changes)) ran = refl
-state-limited (After changes next) ran = refl
-state-limited (Asks demand next) ran = refl
-state-limited (Opens stem terms next) ran = refl
+-- what is true of both ends of a test of size is true of the test
+pub fits-either {ℓ} : {A : Type ℓ} (P : A → Type 0) (answer : Result Body ErrorName) (done large : A) → (fits answer ≡ true → P done) → P large → P (if_fits answer done large)
+fits-either P answer done large first second =
+    let pass : (b : Bool) → fits answer ≡ b → P (by_test b done large) = elim [ true ↦ λ is. first is | false ↦ λ is. second ] in
+    pass (fits answer) refl
 
-pub sends-limited : (plan : Plan) (ran : Ran) → (limited plan ran).sends ≡ ran.sends
-sends-limited (Ends answer []) ran = refl
-sends-limited (Ends answer (change ∷ changes)) ran = refl
-sends-limited (After changes next) ran = refl
-sends-limited (Asks demand next) ran = refl
-sends-limited (Opens stem terms next) ran = refl
+-- by the first of the fates
+pub store-either {ℓ} : {A : Type ℓ} (P : A → Type 0) (none : A) (next : StoreFate → List Fate → A) (fates : List Fate) → P none → ((ended : StoreFate) (rest : List Fate) → P (next ended rest)) → P (by_store none next fates)
+store-either P none next [] first second = first
+store-either P none next (fate.Store ended ∷ rest) first second = second ended rest
+store-either P none next (fate.Read ended ∷ rest) first second = first
+
+pub read-either {ℓ} : {A : Type ℓ} (P : A → Type 0) (none : A) (next : ReadFate → List Fate → A) (fates : List Fate) → P none → ((ended : ReadFate) (rest : List Fate) → P (next ended rest)) → P (by_read none next fates)
+read-either P none next [] first second = first
+read-either P none next (fate.Store ended ∷ rest) first second = first
+read-either P none next (fate.Read ended ∷ rest) first second = second ended rest
+
+-- by whether the file could be read
+pub reading-either {ℓ} : {A : Type ℓ} (P : A → Type 0) (ended : ReadFate) (unread known : A) → P unread → P known → P (by_reading ended unread known)
+reading-either P read.ReadFailed unread known first second = first
+reading-either P read.Old unread known first second = second
+reading-either P read.New unread known first second = second
+reading-either P read.Other unread known first second = second
+
+-- What holds from a state on of what a plan leads to, whatever the plan is: of an end, of a refusal by the step itself, and then also after something
+-- was asked of the disk, read again or unlocked.
+pub record Keeps (caller : ConnId) (brought : Brought) (R : State → Ran → Type 0) : Type 0 where
+  pub ends : (answer : Answer) (changes : List Change) (state : State) → fits (filled caller state answer) ≡ true
+      → R state (record { answer = filled caller state answer; state = performed_all caller changes state; sends = sent_all caller changes state })
+  pub fails : (name : ErrorName) (state : State) → R state (failing name state)
+  pub asks : (demand : Demand) (ended : StoreFate) (state : State) (ran : Ran) → R (demanded brought demand ended state) ran → R state (sending (sent_asked brought demand ended state) ran)
+  pub settles : (reading : Reading) (ended : ReadFate) (state : State) (ran : Ran) → R (settled reading ended state) ran → R state (sending (sent_settled reading ended state) ran)
+  pub opens : (stem : List ℕ) (terms : KeyTerms) (state : State) (ran : Ran) → R (unlocked_with brought stem terms state) ran → R state (sending (sent_opened brought stem terms state) ran)
+
+pub keeps-run : (caller : ConnId) (brought : Brought) (R : State → Ran → Type 0) → Keeps caller brought R → (plan : Plan) (fates : List Fate) (state : State) → R state (run caller brought plan fates state)
+keeps-run caller brought R keeps (Ends answer changes) fates state =
+    fits-either (R state) (filled caller state answer) _ (failing name.LimitsExceeded state) (keeps.ends answer changes state) (keeps.fails name.LimitsExceeded state)
+keeps-run caller brought R keeps (Asks demand next) fates state =
+    fits-either (R state) (promised caller state (next stored.Stored)) _ (failing name.LimitsExceeded state)
+    (λ is. store-either (R state) (failing name.IOError state) _ fates (keeps.fails name.IOError state)
+    (λ ended rest. keeps.asks demand ended state (run caller brought (next ended) rest (demanded brought demand ended state)) (keeps-run caller brought R keeps (next ended) rest (demanded brought demand ended state))))
+    (keeps.fails name.LimitsExceeded state)
+keeps-run caller brought R keeps (Settles reading unread next) fates state =
+    let after : ReadFate → State = λ ended. settled reading ended state in
+    let ran_unread : ReadFate → List Fate → Ran = λ ended rest. run caller brought unread rest (after ended) in
+    let ran_known : ReadFate → List Fate → Ran = λ ended rest. run caller brought (next (asked caller brought (after ended))) rest (after ended) in
+    let pass : (b : Bool) → R state (by_test b (by_read (failing name.IOError state) (λ ended rest. sending (sent_settled reading ended state) (by_reading ended (ran_unread ended rest) (ran_known ended rest))) fates)
+    (run caller brought (next (asked caller brought state)) fates state)) =
+    elim [
+      | true ↦ read-either (R state) (failing name.IOError state) _ fates (keeps.fails name.IOError state)
+          (λ ended rest. keeps.settles reading ended state (by_reading ended (ran_unread ended rest) (ran_known ended rest))
+          (reading-either (R (after ended)) ended (ran_unread ended rest) (ran_known ended rest) (keeps-run caller brought R keeps unread rest (after ended))
+          (keeps-run caller brought R keeps (next (asked caller brought (after ended))) rest (after ended))))
+      | false ↦ keeps-run caller brought R keeps (next (asked caller brought state)) fates state
+    ] in
+    pass (is_in_doubt reading state)
+keeps-run caller brought R keeps (Opens stem terms next) fates state =
+    keeps.opens stem terms state (run caller brought next fates (unlocked_with brought stem terms state)) (keeps-run caller brought R keeps next fates (unlocked_with brought stem terms state))
+
+-- ---- the connections
+
+connections-settled : (reading : Reading) (ended : ReadFate) (state : State) → (settled reading ended state).connections ≡ state.connections
+connections-settled Aliases_file ended state = refl
+connections-settled (Collection_file stem) ended state = refl
+
+pub connections-run : (caller : ConnId) (brought : Brought) (plan : Plan) (fates : List Fate) (state : State) → (run caller brought plan fates state).state.connections ≡ state.connections
+connections-run caller brought =
+    keeps-run caller brought (λ before ran. ran.state.connections ≡ before.connections)
+    (record {
+      ends = λ answer changes state small. connections-all caller changes state;
+      fails = λ name state. refl;
+      asks = λ demand ended state ran same. same;
+      settles = λ reading ended state ran same. same ∙ connections-settled reading ended state;
+      opens = λ stem terms state ran same. same;
+    })
 
 -- the plan of a request, in a state
 abbrev pub plan_for : Recorded → State → Plan
@@ -86,8 +146,7 @@ plan_for came state = plan_of came.arrival.salt came.arrival.request.call (asked
 
 pub connections-served : (came : Recorded) (state : State) → (served came state).state.connections ≡ state.connections
 connections-served came state =
-    ap (λ (s : State). s.connections) (state-limited (plan_for came state) (run came.arrival.conn (brought_by came.arrival) (plan_for came state) came.fates state))
-    ∙ connections-run came.arrival.conn (brought_by came.arrival) (plan_for came state) came.fates state
+    connections-run came.arrival.conn (brought_by came.arrival) (plan_for came state) came.fates state
 
 -- ---- what is sent
 
@@ -102,8 +161,6 @@ IsSilent (Derive_key prompt round) = Unit {0}
 IsSilent (Count_wrong prompt) = Unit {0}
 IsSilent (Clear_wrong prompt) = Unit {0}
 IsSilent (Go_on prompt) = ⊥
-IsSilent (Finish_target prompt) = Unit {0}
-IsSilent (Drop_target prompt) = Unit {0}
 IsSilent (End_prompt prompt dismissed created) = ⊥
 IsSilent Become_agent = ⊥
 IsSilent Leave_agent = Unit {0}
@@ -122,8 +179,6 @@ silent-one caller (Derive_key prompt round) state silent = refl
 silent-one caller (Count_wrong prompt) state silent = refl
 silent-one caller (Clear_wrong prompt) state silent = refl
 silent-one caller (Go_on prompt) state silent = absurd silent
-silent-one caller (Finish_target prompt) state silent = refl
-silent-one caller (Drop_target prompt) state silent = refl
 silent-one caller (End_prompt prompt dismissed created) state silent = absurd silent
 silent-one caller Become_agent state silent = absurd silent
 silent-one caller Leave_agent state silent = refl
@@ -144,20 +199,20 @@ silent-locks (stem ∷ stems) = (tt, silent-locks stems)
 -- a plan asks nothing of the disk, and nothing of a state in between
 abbrev pub EndsAtOnce : Plan → Type 0
 EndsAtOnce (Ends answer changes) = Unit {0}
-EndsAtOnce (After changes next) = ⊥
+EndsAtOnce (Settles reading unread next) = ⊥
 EndsAtOnce (Asks demand next) = ⊥
 EndsAtOnce (Opens stem terms next) = ⊥
 
 -- it has no fates
 pub no-fates : (caller : ConnId) (brought : Brought) (plan : Plan) (state : State) → EndsAtOnce plan → AreFates caller brought plan [] state
 no-fates caller brought (Ends answer changes) state quiet = tt
-no-fates caller brought (After changes next) state quiet = absurd quiet
+no-fates caller brought (Settles reading unread next) state quiet = absurd quiet
 no-fates caller brought (Asks demand next) state quiet = absurd quiet
 no-fates caller brought (Opens stem terms next) state quiet = absurd quiet
 
 pub fates-none : (caller : ConnId) (brought : Brought) (plan : Plan) (fates : List Fate) (state : State) → EndsAtOnce plan → AreFates caller brought plan fates state → AreNone fates
 fates-none caller brought (Ends answer changes) fates state quiet are = are
-fates-none caller brought (After changes next) fates state quiet are = absurd quiet
+fates-none caller brought (Settles reading unread next) fates state quiet are = absurd quiet
 fates-none caller brought (Asks demand next) fates state quiet are = absurd quiet
 fates-none caller brought (Opens stem terms next) fates state quiet are = absurd quiet
 
@@ -167,10 +222,9 @@ none-is [] none = refl
 none-is (fate ∷ fates) none = absurd none
 
 -- it leads to the same whatever the request brings
-pub ended-alike : (caller : ConnId) (one other : Brought) (plan : Plan) (fates : List Fate) (state : State) → EndsAtOnce plan → led caller one plan fates state ≡ led caller other plan fates state
-ended-alike caller one other (Ends answer []) fates state quiet = refl
-ended-alike caller one other (Ends answer (change ∷ changes)) fates state quiet = refl
-ended-alike caller one other (After changes next) fates state quiet = absurd quiet
+pub ended-alike : (caller : ConnId) (one other : Brought) (plan : Plan) (fates : List Fate) (state : State) → EndsAtOnce plan → run caller one plan fates state ≡ run caller other plan fates state
+ended-alike caller one other (Ends answer changes) fates state quiet = refl
+ended-alike caller one other (Settles reading unread next) fates state quiet = absurd quiet
 ended-alike caller one other (Asks demand next) fates state quiet = absurd quiet
 ended-alike caller one other (Opens stem terms next) fates state quiet = absurd quiet
 
@@ -179,7 +233,7 @@ module _ {F S : Type 0} (folder_honest folder_steady : F → Bool) (folder_fault
   pub no-storing : (caller : ConnId) (brought : Brought) (plan : Plan) (state : State) (old new : DiskState F S) → EndsAtOnce plan → new ≡ old
       → StoresOf folder_honest folder_steady folder_faults images folder_leaves names_made is_honest is_steady faults moment left_since may_leave caller brought plan [] state old new
   no-storing caller brought (Ends answer changes) state old new quiet same = same
-  no-storing caller brought (After changes next) state old new quiet same = absurd quiet
+  no-storing caller brought (Settles reading unread next) state old new quiet same = absurd quiet
   no-storing caller brought (Asks demand next) state old new quiet same = absurd quiet
   no-storing caller brought (Opens stem terms next) state old new quiet same = absurd quiet
 
@@ -197,17 +251,14 @@ quiet-collection : (named : Option (List ℕ)) (next : List ℕ → Plan) → ((
 quiet-collection None next quiet = tt
 quiet-collection (Some stem) next quiet = quiet stem
 
-quiet-small : (body : Body) (changes : List Change) → EndsAtOnce (answered_if_small body changes)
-quiet-small body changes = quiet-if (is_small body) _ (refused name.LimitsExceeded) tt tt
-
-quiet-new : (fits : Bool) (returned : Option PromptId → Body) (kind : PromptKind) (asked : Questions) → EndsAtOnce (with_new_prompt fits returned kind asked)
+quiet-new : (fits : Bool) (returned : Option PromptId → PublicBody) (kind : PromptKind) (asked : Questions) → EndsAtOnce (with_new_prompt fits returned kind asked)
 quiet-new fits returned kind asked =
     quiet-if asked.prompts.is_full (refused name.LimitsExceeded) _ tt
-    (quiet-if fits _ (refused name.LimitsExceeded) (quiet-small (returned (Some (next_prompt asked))) (Begin_prompt kind ∷ [])) tt)
+    (quiet-if fits _ (refused name.LimitsExceeded) tt tt)
 
 quiet-unlocking : (paths : List (List ℕ)) (targets : List Target) (asked : Questions) → EndsAtOnce (unlocking paths targets asked)
-quiet-unlocking paths [] asked = quiet-small (body.ObjectsAndPrompt paths None) []
-quiet-unlocking paths (target ∷ targets) asked = quiet-new (are_light (target ∷ targets)) (body.ObjectsAndPrompt paths) (kind.Unlock (all_left (target ∷ targets))) asked
+quiet-unlocking paths [] asked = tt
+quiet-unlocking paths (target ∷ targets) asked = quiet-new (are_light (target ∷ targets)) (public.ObjectsAndPrompt paths) (kind.Unlock (all_left (target ∷ targets))) asked
 
 quiet-creating : (label : List ℕ) (alias : Option (List ℕ)) (salt : List ℕ) (asked : Questions) → EndsAtOnce (creating label alias salt asked)
 quiet-creating label alias salt asked = quiet-if (nat_le the_limits.collections asked.collections.count) (refused name.LimitsExceeded) _ tt (quiet-new true no_collection _ asked)
@@ -229,7 +280,6 @@ quiet-row salt (Ok (call.OpenSession algorithm)) asked nothing =
     quiet-if (is_plain algorithm) _ (refused name.NotSupported) (quiet-if asked.sessions.is_full (refused name.LimitsExceeded) _ tt tt) tt
 quiet-row salt (Ok (call.CloseSession session)) asked nothing = quiet-if (asked.sessions.owns session) _ (refused name.NoSession) tt tt
 quiet-row salt (Ok (call.SetAlias alias object)) asked nothing = absurd nothing
-quiet-row salt (Ok (call.Lock objects)) asked nothing = quiet-if (is_small (body.ObjectsAndPrompt (paths_of (once (filter (is_there asked.collections) objects))) None)) _ (refused name.LimitsExceeded) tt tt
 quiet-row salt (Ok (call.GetSecrets items session)) asked nothing = quiet-session session asked _ (λ own. tt)
 quiet-row salt (Ok (call.SearchCollection collection wanted)) asked nothing = quiet-collection (collection_named asked.collections collection) _ (λ stem. tt)
 quiet-row salt (Ok (call.GetSecret stem item session)) asked nothing =
@@ -253,23 +303,23 @@ quiet-row salt _ asked nothing = tt
 
 abbrev pub EndsSilently : Plan → Type 0
 EndsSilently (Ends answer changes) = AreSilent changes
-EndsSilently (After changes next) = ⊥
+EndsSilently (Settles reading unread next) = ⊥
 EndsSilently (Asks demand next) = ⊥
 EndsSilently (Opens stem terms next) = ⊥
 
 pub ends-silently : (plan : Plan) → EndsSilently plan → EndsAtOnce plan
 ends-silently (Ends answer changes) silent = tt
-ends-silently (After changes next) silent = absurd silent
+ends-silently (Settles reading unread next) silent = absurd silent
 ends-silently (Asks demand next) silent = absurd silent
 ends-silently (Opens stem terms next) silent = absurd silent
 
 -- such a plan sends nothing
-pub silent-led : (caller : ConnId) (brought : Brought) (plan : Plan) (fates : List Fate) (state : State) → EndsSilently plan → (led caller brought plan fates state).sends ≡ []
-silent-led caller brought (Ends answer []) fates state silent = refl
-silent-led caller brought (Ends answer (change ∷ changes)) fates state silent = silent-all caller (change ∷ changes) state silent
-silent-led caller brought (After changes next) fates state silent = absurd silent
-silent-led caller brought (Asks demand next) fates state silent = absurd silent
-silent-led caller brought (Opens stem terms next) fates state silent = absurd silent
+pub silent-run : (caller : ConnId) (brought : Brought) (plan : Plan) (fates : List Fate) (state : State) → EndsSilently plan → (run caller brought plan fates state).sends ≡ []
+silent-run caller brought (Ends answer changes) fates state silent =
+    fits-either (λ (r : Ran). r.sends ≡ []) (filled caller state answer) _ (failing name.LimitsExceeded state) (λ is. silent-all caller changes state silent) refl
+silent-run caller brought (Settles reading unread next) fates state silent = absurd silent
+silent-run caller brought (Asks demand next) fates state silent = absurd silent
+silent-run caller brought (Opens stem terms next) fates state silent = absurd silent
 
 plain-if : (b : Bool) (one other : Plan) → EndsSilently one → EndsSilently other → EndsSilently (cond b one other)
 plain-if true one other first second = first
@@ -287,9 +337,7 @@ pub plain-row : (salt : List ℕ) (call : Call) (asked : Questions) → IsPlain 
 plain-row salt (call.OpenSession algorithm) asked plain =
     plain-if (is_plain algorithm) _ (refused name.NotSupported) (plain-if asked.sessions.is_full (refused name.LimitsExceeded) _ tt (tt, tt)) tt
 plain-row salt (call.CloseSession session) asked plain = plain-if (asked.sessions.owns session) _ (refused name.NoSession) (tt, tt) tt
-plain-row salt (call.Lock objects) asked plain =
-    plain-if (is_small (body.ObjectsAndPrompt (paths_of (once (filter (is_there asked.collections) objects))) None)) _ (refused name.LimitsExceeded)
-    (silent-locks (filter_map (collection_around asked.collections) objects)) tt
+plain-row salt (call.Lock objects) asked plain = silent-locks (filter_map (collection_around asked.collections) objects)
 plain-row salt (call.GetSecrets items session) asked plain = plain-session session asked _ (λ own. tt)
 plain-row salt (call.SearchCollection collection wanted) asked plain = plain-collection (collection_named asked.collections collection) _ (λ stem. tt)
 plain-row salt (call.GetSecret stem item session) asked plain =

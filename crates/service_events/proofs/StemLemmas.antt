@@ -23,8 +23,10 @@ use Rattle.service_disk.specs.Resolving.{is_file, row_found, rows_found, rows_re
 use Rattle.service_prompts.specs.service_tables.specs.Slots.{file_at}
 use Rattle.service_prompts.specs.service_tables.specs.Sound.{AreSoundStems}
 use Rattle.service_prompts.specs.service_tables.specs.Storing.{rows_erased}
-use Rattle.service_prompts.specs.service_tables.specs.declared.fate.Fate.{Fate}
-use Rattle.service_prompts.specs.service_tables.specs.declared.fate.Fate.TheVariants as fate
+use Rattle.service_prompts.specs.service_tables.specs.declared.fate.ReadFate.{ReadFate}
+use Rattle.service_prompts.specs.service_tables.specs.declared.fate.ReadFate.TheVariants as read
+use Rattle.service_prompts.specs.service_tables.specs.declared.fate.StoreFate.{StoreFate}
+use Rattle.service_prompts.specs.service_tables.specs.declared.fate.StoreFate.TheVariants as fate
 use Rattle.service_prompts.specs.service_tables.proofs.EachLemmas.{each-append, each-filter, each-weaker}
 
 -- ---- the stems of the collections are used
@@ -44,14 +46,10 @@ stems-changed stem f rows used sound = record { ordered = sound.ordered; taken =
 stems-without : (stem : List ℕ) (rows : Rows) (used : List (List ℕ)) → AreSoundStems rows used → AreSoundStems (without stem rows) used
 stems-without stem rows used sound = record { ordered = sound.ordered; taken = each-filter (IsTaken used) _ rows sound.taken }
 
-pub stems-erased : (stem : List ℕ) (some : Fate) (rows : Rows) (used : List (List ℕ)) → AreSoundStems rows used → AreSoundStems (rows_erased stem some rows) used
+pub stems-erased : (stem : List ℕ) (some : StoreFate) (rows : Rows) (used : List (List ℕ)) → AreSoundStems rows used → AreSoundStems (rows_erased stem some rows) used
 stems-erased stem fate.Stored rows used sound = stems-without stem rows used sound
 stems-erased stem fate.Before rows used sound = sound
 stems-erased stem fate.Unsure rows used sound = stems-changed stem perhaps_removed rows used sound
-stems-erased stem fate.Old rows used sound = sound
-stems-erased stem fate.New rows used sound = sound
-stems-erased stem fate.Other rows used sound = sound
-stems-erased stem fate.ReadFailed rows used sound = sound
 
 stems-found : (stem : List ℕ) (found : Found) (rows : Rows) (used : List (List ℕ)) → AreSoundStems rows used → AreSoundStems (rows_found stem found rows) used
 stems-found stem found rows used sound =
@@ -59,14 +57,11 @@ stems-found stem found rows used sound =
     elim [ true ↦ stems-changed stem (row_found found) rows used sound | false ↦ stems-without stem rows used sound ] in
     pass (is_file found (file_at stem rows))
 
-pub stems-resolved : (stem : List ℕ) (some : Fate) (rows : Rows) (used : List (List ℕ)) → AreSoundStems rows used → AreSoundStems (rows_resolved stem some rows) used
-stems-resolved stem fate.Stored rows used sound = sound
-stems-resolved stem fate.Before rows used sound = sound
-stems-resolved stem fate.Unsure rows used sound = sound
-stems-resolved stem fate.Old rows used sound = stems-found stem image.Old rows used sound
-stems-resolved stem fate.New rows used sound = stems-found stem image.New rows used sound
-stems-resolved stem fate.Other rows used sound = stems-without stem rows used sound
-stems-resolved stem fate.ReadFailed rows used sound = sound
+pub stems-resolved : (stem : List ℕ) (some : ReadFate) (rows : Rows) (used : List (List ℕ)) → AreSoundStems rows used → AreSoundStems (rows_resolved stem some rows) used
+stems-resolved stem read.Old rows used sound = stems-found stem image.Old rows used sound
+stems-resolved stem read.New rows used sound = stems-found stem image.New rows used sound
+stems-resolved stem read.Other rows used sound = stems-without stem rows used sound
+stems-resolved stem read.ReadFailed rows used sound = sound
 
 -- ---- a stem that is used from now on
 
@@ -193,11 +188,7 @@ stems-inserted stem value rows used sound =
       taken = each-append P (filter (λ entry. is_lt (slice_cmp nat_cmp entry.0 stem)) rows) _ (each-filter P _ rows after.taken) (now-used stem used, each-filter P _ rows after.taken);
     }
 
-pub stems-made : (stem : List ℕ) (plan : Plan) (some : Fate) (rows : Rows) (used : List (List ℕ)) → AreSoundStems rows used → AreSoundStems (rows_made stem plan some rows) (with_stem stem used)
+pub stems-made : (stem : List ℕ) (plan : Plan) (some : StoreFate) (rows : Rows) (used : List (List ℕ)) → AreSoundStems rows used → AreSoundStems (rows_made stem plan some rows) (with_stem stem used)
 stems-made stem plan fate.Stored rows used sound = stems-inserted stem _ rows used sound
 stems-made stem plan fate.Before rows used sound = stems-used stem rows used sound
 stems-made stem plan fate.Unsure rows used sound = stems-inserted stem (perhaps_made plan) rows used sound
-stems-made stem plan fate.Old rows used sound = stems-used stem rows used sound
-stems-made stem plan fate.New rows used sound = stems-used stem rows used sound
-stems-made stem plan fate.Other rows used sound = stems-used stem rows used sound
-stems-made stem plan fate.ReadFailed rows used sound = stems-used stem rows used sound

@@ -3,14 +3,14 @@ use Rattle.std.specs.Prelude.{ℕ, true, if◌then◌else◌, [], ◌∷◌, Opt
 use Rattle.kr_base.specs.declared.ids.PromptId.{PromptId}
 use Rattle.prompt_state.specs.declared.table.PromptRefused.{PromptRefused}
 use Rattle.prompt_state.specs.declared.table.PromptRefused.TheVariants as refusal
-use Rattle.service_prompts.specs.secret_calls.specs.declared.out.Body.TheVariants as body
+use Rattle.service_events.specs.PublicBody as public
 use Rattle.service_prompts.specs.secret_calls.specs.declared.out.ErrorName.{ErrorName}
 use Rattle.service_prompts.specs.secret_calls.specs.declared.out.ErrorName.TheVariants as name
 use Rattle.service_events.specs.Plan.{Questions, Plan, End_prompt, Become_agent, Leave_agent, refused, answered}
 
 -- Register: the caller is the agent; AgentTaken if another connection is
 abbrev pub register : Questions → Plan
-register asked = if asked.prompts.is_taken then refused name.AgentTaken else answered body.Empty (Become_agent ∷ [])
+register asked = if asked.prompts.is_taken then refused name.AgentTaken else answered public.Empty (Become_agent ∷ [])
 
 -- what is done for the agent: AccessDenied unless the caller is the agent
 abbrev pub for_agent : Questions → Plan → Plan
@@ -18,7 +18,7 @@ for_agent asked next = if asked.prompts.is_agent then next else refused name.Acc
 
 -- Unregister: there is no agent
 abbrev pub unregister : Questions → Plan
-unregister asked = for_agent asked (answered body.Empty (Leave_agent ∷ []))
+unregister asked = for_agent asked (answered public.Empty (Leave_agent ∷ []))
 
 -- the error for what the agent says about a prompt that doesn't wait for it, which is one of the first three
 abbrev pub error_for : PromptRefused → ErrorName
@@ -42,4 +42,4 @@ in_round (Some prompt) round asked next = unless_refused (asked.prompts.refusal 
 
 -- Refuse: the prompt ends dismissed
 abbrev pub refuse : Option PromptId → ℕ → Questions → Plan
-refuse prompt round asked = in_round prompt round asked (λ prompt. answered body.Empty (End_prompt prompt true None ∷ []))
+refuse prompt round asked = in_round prompt round asked (λ prompt. answered public.Empty (End_prompt prompt true None ∷ []))

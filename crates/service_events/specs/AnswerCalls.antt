@@ -7,11 +7,10 @@ use Rattle.prompt_state.specs.declared.row.PromptKind.TheVariants as kind
 use Rattle.prompt_state.specs.declared.row.PromptRow.{PromptRow}
 use Rattle.prompt_state.specs.declared.targets.Target.{Target}
 use Rattle.prompt_state.specs.Prompts.{last_round}
-use Rattle.service_prompts.specs.secret_calls.specs.declared.out.Body.TheVariants as body
+use Rattle.service_events.specs.PublicBody as public
 use Rattle.service_prompts.specs.secret_calls.specs.declared.out.ErrorName.TheVariants as name
 use Rattle.service_events.specs.AgentCalls.{in_round}
-use Rattle.service_events.specs.AliasCalls.{once_read}
-use Rattle.service_events.specs.Plan.{Questions, Plan, Asks, Derive_key, End_prompt, Go_on, Read_collection, refused, answered}
+use Rattle.service_events.specs.Plan.{Questions, Plan, Settles, Derive_key, End_prompt, Go_on, Collection_file, refused, answered}
 
 -- whether a kind of prompt creates a collection
 abbrev pub creates : PromptKind → Bool
@@ -20,11 +19,11 @@ creates (kind.Create label alias salt) = true
 
 -- the prompt advances
 abbrev pub going_on : PromptId → Plan
-going_on prompt = answered body.Empty (Go_on prompt ∷ [])
+going_on prompt = answered public.Empty (Go_on prompt ∷ [])
 
 -- the key for the prompt is derived in this round
 abbrev pub deriving_key : PromptId → ℕ → Plan
-deriving_key prompt round = answered body.Empty (Derive_key prompt round ∷ [])
+deriving_key prompt round = answered public.Empty (Derive_key prompt round ∷ [])
 
 -- the key of a target is derived, unless its collection is gone or unlocked by now: then the prompt advances
 abbrev pub target_answered : PromptId → ℕ → List ℕ → Questions → Plan
@@ -34,21 +33,18 @@ target_answered prompt round stem asked =
     else going_on prompt
 
 -- the same, after the file of the collection was read again if it is in doubt: IOError if it couldn't be read, and all stays
-abbrev pub target_settled : PromptId → ℕ → List ℕ → Questions → Plan
-target_settled prompt round stem asked =
-    if asked.files.in_doubt stem
-    then Asks (Read_collection stem) (once_read (target_answered prompt round stem))
-    else target_answered prompt round stem asked
+abbrev pub target_settled : PromptId → ℕ → List ℕ → Plan
+target_settled prompt round stem = Settles (Collection_file stem) (refused name.IOError) (target_answered prompt round stem)
 
 -- the same of the first target that is left
-abbrev pub left_answered : PromptId → ℕ → List Target → Questions → Plan
-left_answered prompt round [] asked = going_on prompt
-left_answered prompt round (target ∷ left) asked = target_settled prompt round target.stem asked
+abbrev pub left_answered : PromptId → ℕ → List Target → Plan
+left_answered prompt round [] = going_on prompt
+left_answered prompt round (target ∷ left) = target_settled prompt round target.stem
 
 -- the same by what the prompt is for; nothing is asked of the disk for one that creates a collection
-abbrev pub kind_answered : PromptId → ℕ → PromptKind → Questions → Plan
-kind_answered prompt round (kind.Unlock targets) asked = left_answered prompt round targets.left asked
-kind_answered prompt round (kind.Create label alias salt) asked = deriving_key prompt round
+abbrev pub kind_answered : PromptId → ℕ → PromptKind → Plan
+kind_answered prompt round (kind.Unlock targets) = left_answered prompt round targets.left
+kind_answered prompt round (kind.Create label alias salt) = deriving_key prompt round
 
 -- whether there is a prompt that creates a collection
 abbrev pub creates_row : Option PromptRow → Bool
@@ -56,13 +52,13 @@ creates_row None = false
 creates_row (Some row) = creates row.kind
 
 -- the same of a prompt that is there; in the greatest round it ends dismissed, since it can't be asked again
-abbrev pub row_answered : PromptId → ℕ → Option PromptRow → Questions → Plan
-row_answered prompt round None asked = refused name.NoSuchObject
-row_answered prompt round (Some row) asked =
+abbrev pub row_answered : PromptId → ℕ → Option PromptRow → Plan
+row_answered prompt round None = refused name.NoSuchObject
+row_answered prompt round (Some row) =
     if nat_eq round last_round
-    then answered body.Empty (End_prompt prompt true None ∷ [])
-    else kind_answered prompt round row.kind asked
+    then answered public.Empty (End_prompt prompt true None ∷ [])
+    else kind_answered prompt round row.kind
 
 -- Answer: the key for what the prompt is asked for is derived, outside the service
 abbrev pub answer_prompt : Option PromptId → ℕ → Questions → Plan
-answer_prompt prompt round asked = in_round prompt round asked (λ it. row_answered it round (asked.prompts.row it) asked)
+answer_prompt prompt round asked = in_round prompt round asked (λ it. row_answered it round (asked.prompts.row it))

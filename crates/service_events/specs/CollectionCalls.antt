@@ -7,16 +7,15 @@ use Rattle.kr_base.specs.declared.ids.SessionId.{SessionId}
 use Rattle.kr_names.specs.declared.object_name.ObjectName.{ObjectName}
 use Rattle.kr_names.specs.declared.object_name.ObjectName.TheVariants as object
 use Rattle.kr_names.specs.Path.{path_text}
-use Rattle.service_prompts.specs.secret_calls.specs.declared.out.Body.{Body}
-use Rattle.service_prompts.specs.secret_calls.specs.declared.out.Body.TheVariants as body
+use Rattle.service_events.specs.PublicBody.{PublicBody}
+use Rattle.service_events.specs.PublicBody as public
 use Rattle.service_prompts.specs.secret_calls.specs.declared.out.ErrorName.TheVariants as name
-use Rattle.service_prompts.specs.service_tables.specs.declared.fate.Fate.{Fate}
-use Rattle.service_prompts.specs.service_tables.specs.declared.fate.Fate.TheVariants as fate
+use Rattle.service_prompts.specs.service_tables.specs.declared.fate.StoreFate.{StoreFate}
+use Rattle.service_prompts.specs.service_tables.specs.declared.fate.StoreFate.TheVariants as fate
 use Rattle.service_prompts.specs.service_tables.specs.Limits.{most_content}
 use Rattle.service_prompts.specs.service_tables.specs.Objects.{collection_named, item_paths}
 use Rattle.service_prompts.specs.service_tables.specs.Storing.{Edit}
 use Rattle.service_events.specs.Plan.{Questions, Plan, Asks, Store, Erase, refused, answered}
-use Rattle.service_events.specs.ServiceCalls.{is_small}
 use Rattle.service_events.specs.SessionCalls.{with_session}
 
 -- what is done with the collection that a call is made on, or that the alias stands for: NoSuchObject if it isn't there
@@ -27,50 +26,42 @@ on_collection (Some stem) next = next stem
 -- SearchItems: the items of the collection that match
 abbrev pub search_collection : ObjectName → List (List ℕ × AttrValue) → Questions → Plan
 search_collection collection wanted asked =
-    on_collection (collection_named asked.collections collection) (λ stem. answered (body.Objects (item_paths stem (asked.collections.found_in stem wanted))) [])
+    on_collection (collection_named asked.collections collection) (λ stem. answered (public.Objects (item_paths stem (asked.collections.found_in stem wanted))) [])
 
 -- what is done with a collection that is there: IsLocked unless it is unlocked
 abbrev pub if_open : List ℕ → Questions → Plan → Plan
 if_open stem asked next = if asked.collections.is_open stem then next else refused name.IsLocked
 
 -- what is answered once the disk was asked: IOError unless it did what was asked
-abbrev pub by_fate : Body → Fate → Plan
+abbrev pub by_fate : PublicBody → StoreFate → Plan
 by_fate body fate.Stored = answered body []
 by_fate body fate.Before = refused name.IOError
 by_fate body fate.Unsure = refused name.IOError
-by_fate body fate.Old = refused name.IOError
-by_fate body fate.New = refused name.IOError
-by_fate body fate.Other = refused name.IOError
-by_fate body fate.ReadFailed = refused name.IOError
 
--- An edit of an unlocked collection is stored: LimitsExceeded if a limit is in the way or the return would be too large, which
--- never happens if the stem is one, and IOError if the disk fails.
-abbrev pub storing : List ℕ → Edit → (ItemId → Body) → Option ItemId → Plan
+-- An edit of an unlocked collection is stored: LimitsExceeded if a limit is in the way, and IOError if the disk fails.
+abbrev pub storing : List ℕ → Edit → (ItemId → PublicBody) → Option ItemId → Plan
 storing stem edit returned None = refused name.LimitsExceeded
-storing stem edit returned (Some item) =
-    if is_small (returned item)
-    then Asks (Store stem edit) (by_fate (returned item))
-    else refused name.LimitsExceeded
+storing stem edit returned (Some item) = Asks (Store stem edit) (by_fate (returned item))
 
 -- the same of an edit that brings a secret with this content type, which may be too long
-abbrev pub storing_secret : List ℕ → List ℕ → Edit → (ItemId → Body) → Questions → Plan
+abbrev pub storing_secret : List ℕ → List ℕ → Edit → (ItemId → PublicBody) → Questions → Plan
 storing_secret content stem edit returned asked =
     if nat_le (length content) most_content
     then storing stem edit returned (asked.storable stem edit)
     else refused name.LimitsExceeded
 
 -- the same for a session of the caller, if the collection is unlocked
-abbrev pub secret_stored : Option SessionId → List ℕ → List ℕ → Edit → (ItemId → Body) → Questions → Plan
+abbrev pub secret_stored : Option SessionId → List ℕ → List ℕ → Edit → (ItemId → PublicBody) → Questions → Plan
 secret_stored session stem content edit returned asked =
     with_session session asked (λ own. if_open stem asked (storing_secret content stem edit returned asked))
 
 -- the return of a call that needs no prompt
-abbrev pub no_prompt : Body
-no_prompt = body.Object (path_text object.Nothing)
+abbrev pub no_prompt : PublicBody
+no_prompt = public.Object (path_text object.Nothing)
 
 -- the return of an item that was made or replaced
-abbrev pub made : List ℕ → ItemId → Body
-made stem item = body.ObjectAndPrompt (path_text (object.Item stem item)) None
+abbrev pub made : List ℕ → ItemId → PublicBody
+made stem item = public.ObjectAndPrompt (path_text (object.Item stem item)) None
 
 -- CreateItem: an item is added or replaced
 abbrev pub create_item : ObjectName → Edit → Option SessionId → List ℕ → Questions → Plan

@@ -9,13 +9,13 @@ use Rattle.prompt_state.specs.declared.row.PromptKind.TheVariants as kind
 use Rattle.prompt_state.specs.declared.row.PromptRow.{PromptRow}
 use Rattle.prompt_state.specs.declared.targets.Target.{Target}
 use Rattle.prompt_state.specs.Prompts.{is_deriving_in}
-use Rattle.service_prompts.specs.secret_calls.specs.declared.out.Body.TheVariants as body
+use Rattle.service_events.specs.PublicBody as public
 use Rattle.service_disk.specs.declared.opening.Opening.{Opening}
 use Rattle.service_disk.specs.declared.opening.Opening.TheVariants as ends
-use Rattle.service_prompts.specs.service_tables.specs.declared.fate.Fate.{Fate}
-use Rattle.service_prompts.specs.service_tables.specs.declared.fate.Fate.TheVariants as fate
+use Rattle.service_prompts.specs.service_tables.specs.declared.fate.StoreFate.{StoreFate}
+use Rattle.service_prompts.specs.service_tables.specs.declared.fate.StoreFate.TheVariants as fate
 use Rattle.service_events.specs.AliasCalls.{alias_settled}
-use Rattle.service_events.specs.Plan.{KeyTerms, Questions, Change, Plan, After, Asks, Opens, Ask_prompt, Clear_wrong, Count_wrong, End_prompt, Go_on, Make, answered, followed}
+use Rattle.service_events.specs.Plan.{KeyTerms, Questions, Change, Plan, Asks, Opens, Ask_prompt, Clear_wrong, Count_wrong, End_prompt, Go_on, Make, answered, followed}
 
 -- at so many wrong answers, one after the other, the prompt ends
 abbrev pub most_wrong_answers : ℕ
@@ -27,7 +27,7 @@ new_iterations = 10000
 
 -- these changes, of which the caller gets no answer
 abbrev pub quietly : List Change → Plan
-quietly changes = answered body.Empty changes
+quietly changes = answered public.Empty changes
 
 -- the prompt ends dismissed
 abbrev pub dismissing : PromptId → Plan
@@ -71,19 +71,15 @@ abbrev pub completing : PromptId → List ℕ → List Change
 completing prompt stem = End_prompt prompt false (Some stem) ∷ []
 
 -- the prompt ends completed after its alias, if one is given, was set as by SetAlias, whatever that answers
-abbrev pub alias_given : PromptId → List ℕ → List ℕ → Questions → Plan
-alias_given prompt [] stem asked = quietly (completing prompt stem)
-alias_given prompt (byte ∷ bytes) stem asked = followed (completing prompt stem) (alias_settled (byte ∷ bytes) (Some stem) asked)
+abbrev pub alias_given : PromptId → List ℕ → List ℕ → Plan
+alias_given prompt [] stem = quietly (completing prompt stem)
+alias_given prompt (byte ∷ bytes) stem = followed (completing prompt stem) (alias_settled (byte ∷ bytes) (Some stem))
 
 -- by how the making of the collection ended: if it isn't stored, or that isn't known, the prompt ends dismissed
-abbrev pub making_ended : PromptId → List ℕ → List ℕ → Fate → Plan
-making_ended prompt alias stem fate.Stored = After [] (alias_given prompt alias stem)
+abbrev pub making_ended : PromptId → List ℕ → List ℕ → StoreFate → Plan
+making_ended prompt alias stem fate.Stored = alias_given prompt alias stem
 making_ended prompt alias stem fate.Before = dismissing prompt
 making_ended prompt alias stem fate.Unsure = dismissing prompt
-making_ended prompt alias stem fate.Old = dismissing prompt
-making_ended prompt alias stem fate.New = dismissing prompt
-making_ended prompt alias stem fate.Other = dismissing prompt
-making_ended prompt alias stem fate.ReadFailed = dismissing prompt
 
 -- a collection of this label is made under the first stem that is free, with the key
 abbrev pub collection_made : PromptId → List ℕ → List ℕ → List ℕ → KeyTerms → Questions → Plan

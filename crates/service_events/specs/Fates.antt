@@ -10,13 +10,21 @@ use Rattle.service_events.specs.declared.event.Arrival.{Arrival}
 use Rattle.service_events.specs.declared.event.Event.{Event}
 use Rattle.service_events.specs.declared.event.Event.TheVariants as event
 use Rattle.service_prompts.specs.service_tables.specs.declared.fate.Fate.{Fate}
+use Rattle.service_prompts.specs.service_tables.specs.declared.fate.Fate.TheVariants as fate
+use Rattle.service_prompts.specs.service_tables.specs.declared.fate.ReadFate.{ReadFate}
+use Rattle.service_prompts.specs.service_tables.specs.declared.fate.StoreFate.{StoreFate}
 
--- how something ended that was perhaps asked for
-abbrev pub fates_of : Option Fate → List Fate
-fates_of None = []
-fates_of (Some fate) = fate ∷ []
+-- the fate of a storing, if there was one
+abbrev pub stores_of : Option StoreFate → List Fate
+stores_of None = []
+stores_of (Some ended) = fate.Store ended ∷ []
 
--- the event of a request each storing of which ended so
+-- the fate of a resolve, if there was one
+abbrev pub reads_of : Option ReadFate → List Fate
+reads_of None = []
+reads_of (Some ended) = fate.Read ended ∷ []
+
+-- the event of a request, with how its storings and its resolves ended
 abbrev pub with_fates : Arrival → List Fate → Event
 with_fates arrival fates = event.Arrive (record { arrival = arrival; fates = fates })
 

@@ -3,7 +3,7 @@
 use Rattle.std.specs.Prelude.{ℕ, if◌then◌else◌, List, Option}
 use Rattle.kr_base.specs.declared.ids.ItemId.{ItemId}
 use Rattle.kr_base.specs.declared.ids.SessionId.{SessionId}
-use Rattle.service_prompts.specs.secret_calls.specs.declared.out.Body.TheVariants as body
+use Rattle.service_events.specs.PublicBody as public
 use Rattle.service_prompts.specs.secret_calls.specs.declared.out.ErrorName.TheVariants as name
 use Rattle.service_prompts.specs.service_tables.specs.Storing.{Set_secret, Remove_item}
 use Rattle.service_events.specs.CollectionCalls.{if_open, no_prompt, secret_stored, storing}
@@ -32,5 +32,5 @@ delete_item stem item asked =
 abbrev pub set_secret : List ℕ → ItemId → Option SessionId → List ℕ → Questions → Plan
 set_secret stem item session content asked =
     if asked.collections.has_item stem item
-    then secret_stored session stem content (Set_secret item content) (λ _. body.Empty) asked
+    then secret_stored session stem content (Set_secret item content) (λ _. public.Empty) asked
     else refused name.NoSuchObject

@@ -1,20 +1,21 @@
 -- A row of the table of calls is a plan: what it may ask of the state, what it answers, and what it may change. A
 -- row sees only the answers to its questions, and changes something only by these changes, so what is true of every question and
 -- of every kind of change is true of all rows. No question shows the value of a secret, a password or a key: a plan says whose secret is
--- given, and the password that an event brings is used where a collection is opened or made, and nowhere else.
+-- given, and the password that an event brings is used where a collection is opened or made, and nowhere else. What a row answers by itself has
+-- no room for a secret.
 use Rattle.std.specs.Prelude.{ℕ, Bool, List, [], ◌++◌, Option}
 use Rattle.kr_base.specs.declared.ids.ItemId.{ItemId}
 use Rattle.kr_base.specs.declared.ids.PromptId.{PromptId}
 use Rattle.kr_base.specs.declared.ids.SessionId.{SessionId}
 use Rattle.kr_names.specs.declared.object_name.ObjectName.{ObjectName}
 use Rattle.prompt_state.specs.declared.row.PromptKind.{PromptKind}
-use Rattle.service_prompts.specs.secret_calls.specs.declared.out.Body.{Body}
-use Rattle.service_prompts.specs.secret_calls.specs.declared.out.Body.TheVariants as body
 use Rattle.service_prompts.specs.secret_calls.specs.declared.out.ErrorName.{ErrorName}
 use Rattle.service_disk.specs.declared.opening.Opening.{Opening}
-use Rattle.service_prompts.specs.service_tables.specs.declared.fate.Fate.{Fate}
+use Rattle.service_prompts.specs.service_tables.specs.declared.fate.StoreFate.{StoreFate}
 use Rattle.service_prompts.specs.service_tables.specs.Questions.{AliasQuestions, CollectionQuestions, PromptQuestions}
 use Rattle.service_prompts.specs.service_tables.specs.Storing.{Edit}
+use Rattle.service_events.specs.PublicBody as public
+use Rattle.service_events.specs.PublicBody.{PublicBody}
 
 -- what a row may ask of the sessions, about its caller
 pub record SessionQuestions : Type 0 where
@@ -32,8 +33,6 @@ pub record KeyTerms : Type 0 where
 
 -- what a row may ask of the files of the collections
 pub record FileQuestions : Type 0 where
-  -- whether there is a collection of the stem, and two images of its file are known, of which it has one
-  pub in_doubt : List ℕ → Bool
   -- how an attempt ends to unlock the collection of the stem with the key of these terms and of the password that the event brings
   pub opening : KeyTerms → List ℕ → Opening
   -- the stem that a new collection of this label gets
@@ -59,12 +58,15 @@ pub data Demand : Type 0 where
   Erase : (stem : List ℕ) → Demand
   -- the alias of the name is set to the stem, or removed if there is none, and the file of the aliases is stored
   Set_alias : (alias : List ℕ) → (stem : Option (List ℕ)) → Demand
-  -- the file of the aliases, of which two images are known, is read again
-  Read_aliases : Demand
-  -- the file of the collection of the stem, of which two images are known, is read again
-  Read_collection : (stem : List ℕ) → Demand
   -- a collection of this label is made under the stem, and stored with the key of these terms and of the password that the event brings
   Make : (stem : List ℕ) → (label : List ℕ) → (terms : KeyTerms) → Demand
+
+-- a file that has to be known before a row goes on
+pub data Reading : Type 0 where
+  -- the file of the aliases
+  Aliases_file : Reading
+  -- the file of the collection of the stem
+  Collection_file : (stem : List ℕ) → Reading
 
 -- what a row may change
 pub data Change : Type 0 where
@@ -87,10 +89,6 @@ pub data Change : Type 0 where
   -- the prompt passes over its first targets that are gone or done, and is asked in its next round for the one that is left; if none is,
   -- it ends completed. The agent is sent Ask, if there is one, or the owner Completed.
   Go_on : (prompt : PromptId) → Change
-  -- the prompt's first target that is left is done
-  Finish_target : (prompt : PromptId) → Change
-  -- the prompt's first target that is left is dropped
-  Drop_target : (prompt : PromptId) → Change
   -- the prompt ends, dismissed or not, and with the collection that it created, if it did; its owner is sent Completed
   End_prompt : (prompt : PromptId) → (dismissed : Bool) → (created : Option (List ℕ)) → Change
   -- the caller is the agent; it is sent Ask for each prompt that is asked
@@ -107,20 +105,22 @@ pub data Gift : Type 0 where
 
 -- what a row answers
 pub data Answer : Type 0 where
-  -- a return with these values
-  Returns : (body : Body) → Answer
-  -- a return with secrets, as they are before the plan's changes
+  -- a return with these values, which have no secret
+  Returns : (body : PublicBody) → Answer
+  -- a return with secrets, as they are before the plan's changes; only if the caller owns the session, and only of collections that are unlocked
   Gives : (gift : Gift) → Answer
   -- an error
   Refuses : (name : ErrorName) → Answer
 
--- A plan answers and changes something; or it changes something, and continues by what it asks of the state in between; or it asks
--- something of the disk, and continues by how that ended; or it unlocks the collection of a stem with the key of these terms and of the
--- password that the event brings, if that opens it, and continues.
+-- a plan, by its first step
 pub data Plan : Type 0 where
+  -- it answers, and makes these changes
   Ends : (answer : Answer) → (changes : List Change) → Plan
-  After : (changes : List Change) → (next : Questions → Plan) → Plan
-  Asks : (demand : Demand) → (next : Fate → Plan) → Plan
+  -- it asks this of the disk, and continues by how that ended
+  Asks : (demand : Demand) → (next : StoreFate → Plan) → Plan
+  -- A file that is in doubt is read again. It continues by what it asks of the state then, or as `unread` if the file couldn't be read.
+  Settles : (reading : Reading) → (unread : Plan) → (next : Questions → Plan) → Plan
+  -- The collection of the stem is unlocked, if the key of these terms and of the password that the event brings opens it, and it continues.
   Opens : (stem : List ℕ) → (terms : KeyTerms) → (next : Plan) → Plan
 
 -- an error, with nothing changed
@@ -128,7 +128,7 @@ abbrev pub refused : ErrorName → Plan
 refused name = Ends (Refuses name) []
 
 -- a return
-abbrev pub answered : Body → List Change → Plan
+abbrev pub answered : PublicBody → List Change → Plan
 answered body changes = Ends (Returns body) changes
 
 -- a return with secrets
@@ -137,7 +137,7 @@ given gift = Ends (Gives gift) []
 
 -- a plan whose answer is dropped, and these changes after it
 abbrev pub followed : List Change → Plan → Plan
-followed more (Ends answer changes) = answered body.Empty (changes ++ more)
-followed more (After changes next) = After changes (λ asked. followed more (next asked))
-followed more (Asks demand next) = Asks demand (λ fate. followed more (next fate))
+followed more (Ends answer changes) = answered public.Empty (changes ++ more)
+followed more (Asks demand next) = Asks demand (λ ended. followed more (next ended))
+followed more (Settles reading unread next) = Settles reading (followed more unread) (λ asked. followed more (next asked))
 followed more (Opens stem terms next) = Opens stem terms (followed more next)

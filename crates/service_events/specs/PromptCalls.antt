@@ -12,28 +12,16 @@ use Rattle.prompt_state.specs.declared.row.Prompts.{Prompts}
 use Rattle.prompt_state.specs.declared.targets.Target.{Target}
 use Rattle.prompt_state.specs.Prompts.{asked_again, changed, ended, is_made, round_of, row_at}
 use Rattle.prompt_state.specs.Targets.{TargetLists}
-use Rattle.service_prompts.specs.secret_calls.specs.declared.out.Body.TheVariants as body
+use Rattle.service_events.specs.PublicBody as public
 use Rattle.service_prompts.specs.secret_calls.specs.declared.out.ErrorName.TheVariants as name
 use Rattle.service_prompts.specs.Prompting.{ask_signal, completed_signal}
 use Rattle.service_prompts.specs.service_tables.specs.Questions.{CollectionQuestions}
-use Rattle.service_prompts.specs.service_tables.specs.declared.rows.Sent.{Sent}
-use Rattle.service_events.specs.Plan.{Questions, Change, Plan, Ask_prompt, Finish_target, Drop_target, End_prompt, refused, answered}
+use Rattle.service_prompts.specs.service_tables.specs.Sent.{Sent}
+use Rattle.service_events.specs.Plan.{Questions, Change, Plan, End_prompt, Go_on, refused, answered}
 
 -- A prompt that unlocks advances by the targets that are left: each whose collection is gone is dropped, and each whose collection is unlocked
--- is done, up to the first one whose collection is locked, for which the prompt is asked. If there is none, the prompt ends completed.
-abbrev pub target_changes : PromptId → CollectionQuestions → List Target → List Change
-target_changes prompt asked [] = End_prompt prompt false None ∷ []
-target_changes prompt asked (target ∷ left) =
-    if asked.has target.stem
-    then (if asked.is_open target.stem
-    then Finish_target prompt ∷ target_changes prompt asked left
-    else Ask_prompt prompt ∷ [])
-    else Drop_target prompt ∷ target_changes prompt asked left
-
--- the changes by which a prompt of a kind advances; one that creates a collection is asked
-abbrev pub advance : PromptId → CollectionQuestions → PromptKind → List Change
-advance prompt asked (kind.Unlock targets) = target_changes prompt asked targets.left
-advance prompt asked (kind.Create label alias salt) = Ask_prompt prompt ∷ []
+-- is done, up to the first one whose collection is locked, for which the prompt is asked. If there is none, the prompt ends completed. One that
+-- creates a collection is asked.
 
 -- the targets of a prompt once those were passed over that are gone or done
 abbrev pub passed : CollectionQuestions → List Target → List Target → TargetLists
@@ -63,41 +51,26 @@ abbrev pub is_over_row : Option PromptRow → Bool
 is_over_row None = false
 is_over_row (Some row) = is_over row.kind
 
--- the changes by which the prompt of a row advances, if it is there
-abbrev pub row_advance : PromptId → CollectionQuestions → Option PromptRow → List Change
-row_advance prompt asked None = []
-row_advance prompt asked (Some row) = advance prompt asked row.kind
-
--- the targets that are left of what a prompt is for
-abbrev pub left_in : PromptKind → List Target
-left_in (kind.Unlock targets) = targets.left
-left_in (kind.Create label alias salt) = []
-
--- the same of a prompt, if it is there
-abbrev pub left_in_row : Option PromptRow → List Target
-left_in_row None = []
-left_in_row (Some row) = left_in row.kind
-
 -- whether there is a prompt on which Prompt hasn't been called yet
 abbrev pub is_made_row : Option PromptRow → Bool
 is_made_row None = false
 is_made_row (Some row) = is_made row.stage
 
 -- a prompt on which Prompt hasn't been called yet advances; otherwise nothing changes
-abbrev pub first_advance : PromptId → CollectionQuestions → Option PromptRow → List Change
-first_advance prompt asked row = if is_made_row row then row_advance prompt asked row else []
+abbrev pub first_advance : PromptId → Option PromptRow → List Change
+first_advance prompt row = if is_made_row row then Go_on prompt ∷ [] else []
 
 -- what is done with a prompt: NoSuchObject unless it is one of the caller's
 abbrev pub with_prompt : PromptId → Questions → Plan → Plan
 with_prompt prompt asked next = if asked.prompts.owns prompt then next else refused name.NoSuchObject
 
--- Prompt: the prompt is asked, unless it was asked before
+-- Prompt: the prompt advances, unless Prompt was called on it before
 abbrev pub call_prompt : PromptId → Questions → Plan
-call_prompt prompt asked = with_prompt prompt asked (answered body.Empty (first_advance prompt asked.collections (asked.prompts.row prompt)))
+call_prompt prompt asked = with_prompt prompt asked (answered public.Empty (first_advance prompt (asked.prompts.row prompt)))
 
 -- Dismiss: the prompt ends dismissed
 abbrev pub dismiss : PromptId → Questions → Plan
-dismiss prompt asked = with_prompt prompt asked (answered body.Empty (End_prompt prompt true None ∷ []))
+dismiss prompt asked = with_prompt prompt asked (answered public.Empty (End_prompt prompt true None ∷ []))
 
 -- ---- what an advance sends
 
@@ -117,7 +90,7 @@ completes row kind = completed_signal false None (record { prompt = row.prompt; 
 abbrev pub advance_sent : Rows → PromptRow → PromptKind → Option ConnId → List Sent
 advance_sent collections row kind agent = if is_over kind then completes row kind else asks_for collections row kind agent
 
--- ---- the same as one change of the prompts
+-- ---- an advance as a change of the prompts
 
 -- a row once those of its targets were passed over that are gone or done
 abbrev pub passed_row : CollectionQuestions → PromptRow → PromptRow

@@ -44,7 +44,7 @@ use Rattle.service_events.specs.AnswerCalls.{answer_prompt}
 use Rattle.service_events.specs.Derivation.{derived, new_iterations}
 use Rattle.service_events.specs.CollectionCalls.{search_collection, create_item, delete_collection}
 use Rattle.service_prompts.specs.service_tables.specs.Connections.{joined, has, changed, without, left, emptied, waiting_for, desk_of, delivered}
-use Rattle.service_prompts.specs.service_tables.specs.declared.rows.Sent.{Sent}
+use Rattle.service_prompts.specs.service_tables.specs.Sent.{One, Sent}
 use Rattle.service_events.specs.ItemCalls.{get_secret, delete_item, set_secret}
 use Rattle.service_prompts.specs.service_tables.specs.Limits.{most_connections, last_connection}
 use Rattle.service_events.specs.Plan.{KeyTerms, Questions, Plan, refused}
@@ -98,7 +98,7 @@ message_of serial (Err name) = out.Error serial name
 abbrev pub replies : ConnId → Request → Result Body ErrorName → List Sent
 replies caller request answer =
     if request.wants_reply
-    then record { to = caller; out = message_of request.serial answer } ∷ []
+    then record { to = One caller; out = message_of request.serial answer } ∷ []
     else []
 
 -- the value of the secret that a call brings, which no row sees

@@ -1,5 +1,5 @@
 -- What each storing that a plan asks for does to the disk, one after the other, and which calls ask for one, send something, or change a prompt.
-use Rattle.std.specs.Prelude.{◌≡◌, ℕ, ◌⊎◌, Bool, List, [], ◌∷◌, Result, Ok}
+use Rattle.std.specs.Prelude.{◌≡◌, ℕ, ◌⊎◌, Bool, List, ◌∷◌, Result, Ok}
 use Rattle.kr_base.specs.declared.ids.ConnId.{ConnId}
 use Rattle.kr_outside.specs.RenameDisk.{Image}
 use Rattle.service_prompts.specs.secret_calls.specs.declared.call.Call.{Call}
@@ -7,6 +7,10 @@ use Rattle.service_prompts.specs.secret_calls.specs.declared.call.Call.TheVarian
 use Rattle.service_prompts.specs.secret_calls.specs.declared.call.CallFault.{CallFault}
 use Rattle.service_disk.specs.Making.{KeepsSlot, MakesAt}
 use Rattle.service_prompts.specs.service_tables.specs.declared.fate.Fate.{Fate}
+use Rattle.service_prompts.specs.service_tables.specs.declared.fate.Fate.TheVariants as fate
+use Rattle.service_prompts.specs.service_tables.specs.declared.fate.ReadFate.{ReadFate}
+use Rattle.service_prompts.specs.service_tables.specs.declared.fate.StoreFate.{StoreFate}
+use Rattle.service_prompts.specs.service_tables.specs.declared.fate.StoreFate.TheVariants as stored
 use Rattle.service_prompts.specs.service_tables.specs.Disk.{DiskState}
 use Rattle.service_prompts.specs.service_tables.specs.Opened.{Contents, contents_of}
 use Rattle.service_prompts.specs.service_tables.specs.Slots.{StoresAliases, StoresAt}
@@ -17,8 +21,8 @@ use Rattle.service_events.specs.declared.event.Event.{Event}
 use Rattle.service_events.specs.declared.event.Event.TheVariants as event
 use Rattle.service_events.specs.declared.event.Incoming.{Incoming}
 use Rattle.service_events.specs.declared.event.Incoming.TheVariants as incoming
-use Rattle.service_events.specs.Plan.{Plan, Ends, After, Asks, Opens, Demand, Store, Erase, Set_alias, Read_aliases, Read_collection, Make, Questions}
-use Rattle.service_events.specs.Run.{asked, demanded, performed_all, unlocked_with}
+use Rattle.service_events.specs.Plan.{Plan, Ends, Asks, Settles, Opens, Demand, Store, Erase, Set_alias, Make, Reading, Aliases_file, Collection_file, Questions}
+use Rattle.service_events.specs.Run.{asked, by_read, by_reading, by_store, by_test, demanded, if_fits, is_in_doubt, promised, settled, unlocked_with}
 use Rattle.service_events.specs.Derivation.{derived}
 use Rattle.service_events.specs.Step.{brought_by, brought_derived, plan_of, terms_of}
 
@@ -91,25 +95,37 @@ module _ {F S : Type 0} (folder_honest folder_steady : F → Bool) (folder_fault
     (folder_leaves : F → List ℕ → Image → Type 0) (names_made : F → List (List ℕ)) (is_honest is_steady : S → Bool) (faults moment : S → ℕ)
     (left_since : S → ℕ → Image → Type 0) (may_leave : S → Image → Type 0) where
   -- what is asked of the disk, which ended so: the slot of its file is used, and no other
-  abbrev pub StoresDemand : Demand → Fate → Contents → Contents → DiskState F S → DiskState F S → Type 0
-  StoresDemand (Store stem edit) fate before after old new = StoresAt is_honest is_steady faults moment left_since may_leave stem fate before.collections after.collections old new
-  StoresDemand (Erase stem) fate before after old new = StoresAt is_honest is_steady faults moment left_since may_leave stem fate before.collections after.collections old new
-  StoresDemand (Set_alias alias stem) fate before after old new = StoresAliases is_honest is_steady faults moment left_since may_leave fate before.aliases after.aliases old new
-  StoresDemand Read_aliases fate before after old new = StoresAliases is_honest is_steady faults moment left_since may_leave fate before.aliases after.aliases old new
-  StoresDemand (Read_collection stem) fate before after old new = StoresAt is_honest is_steady faults moment left_since may_leave stem fate before.collections after.collections old new
-  StoresDemand (Make stem label terms) fate before after old new =
-      MakesAt folder_honest folder_steady folder_faults images folder_leaves names_made is_honest is_steady faults moment left_since may_leave stem fate before.collections after.collections old new
+  abbrev pub StoresDemand : Demand → StoreFate → Contents → Contents → DiskState F S → DiskState F S → Type 0
+  StoresDemand (Store stem edit) ended before after old new = StoresAt is_honest is_steady faults moment left_since may_leave stem (fate.Store ended) before.collections after.collections old new
+  StoresDemand (Erase stem) ended before after old new = StoresAt is_honest is_steady faults moment left_since may_leave stem (fate.Store ended) before.collections after.collections old new
+  StoresDemand (Set_alias alias stem) ended before after old new = StoresAliases is_honest is_steady faults moment left_since may_leave (fate.Store ended) before.aliases after.aliases old new
+  StoresDemand (Make stem label terms) ended before after old new =
+      MakesAt folder_honest folder_steady folder_faults images folder_leaves names_made is_honest is_steady faults moment left_since may_leave stem ended before.collections after.collections old new
+
+  -- a file that is read again, which ended so: its slot is used, and no other
+  abbrev pub StoresReading : Reading → ReadFate → Contents → Contents → DiskState F S → DiskState F S → Type 0
+  StoresReading Aliases_file ended before after old new = StoresAliases is_honest is_steady faults moment left_since may_leave (fate.Read ended) before.aliases after.aliases old new
+  StoresReading (Collection_file stem) ended before after old new =
+      StoresAt is_honest is_steady faults moment left_since may_leave stem (fate.Read ended) before.collections after.collections old new
 
   -- each storing and each resolve that a plan asks for is one of the disk, in a state of its own; no other slot is used
   abbrev pub StoresOf : ConnId → Brought → Plan → List Fate → State → DiskState F S → DiskState F S → Type 0
   StoresOf caller brought (Ends answer changes) fates state old new = new ≡ old
-  StoresOf caller brought (After changes next) fates state old new =
-      StoresOf caller brought (next (asked caller brought (performed_all caller changes state))) fates (performed_all caller changes state) old new
-  StoresOf caller brought (Asks demand next) [] state old new = ⊥
-  StoresOf caller brought (Asks demand next) (fate ∷ fates) state old new =
-      (mid : DiskState F S)
-      × StoresDemand demand fate (contents_of state) (contents_of (demanded brought demand fate state)) old mid
-      × StoresOf caller brought (next fate) fates (demanded brought demand fate state) mid new
+  StoresOf caller brought (Asks demand next) fates state old new =
+      if_fits (promised caller state (next stored.Stored))
+      (by_store ⊥
+      (λ ended rest. (mid : DiskState F S)
+      × StoresDemand demand ended (contents_of state) (contents_of (demanded brought demand ended state)) old mid
+      × StoresOf caller brought (next ended) rest (demanded brought demand ended state) mid new) fates)
+      (new ≡ old)
+  StoresOf caller brought (Settles reading unread next) fates state old new =
+      by_test (is_in_doubt reading state)
+      (by_read ⊥
+      (λ ended rest. (mid : DiskState F S)
+      × StoresReading reading ended (contents_of state) (contents_of (settled reading ended state)) old mid
+      × by_reading ended (StoresOf caller brought unread rest (settled reading ended state) mid new)
+      (StoresOf caller brought (next (asked caller brought (settled reading ended state))) rest (settled reading ended state) mid new)) fates)
+      (StoresOf caller brought (next (asked caller brought state)) fates state old new)
   StoresOf caller brought (Opens stem terms next) fates state old new = StoresOf caller brought next fates (unlocked_with brought stem terms state) old new
 
   -- the same of a row of the table of calls

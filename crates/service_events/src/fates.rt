@@ -1,7 +1,7 @@
 ghost use Rattle.std.specs.Prelude.{◌≡◌, ◌++◌, [], length};
-ghost use Rattle.service_events.specs.Fates.{fates_of};
+ghost use Rattle.service_events.specs.Fates.{reads_of, stores_of};
 
-use service_prompts::service_tables::Fate;
+use service_prompts::service_tables::{ReadFate, StoreFate};
 use std::marker::Model;
 
 /// How each storing, removal and resolve of a file ended that an event led to, in order: at most the
@@ -9,9 +9,9 @@ use std::marker::Model;
 /// takes no memory of its own.
 #[derive(Drop)]
 pub struct Fates {
-    made: Option<Fate>,
-    read: Option<Fate>,
-    stored: Option<Fate>,
+    made: Option<StoreFate>,
+    read: Option<ReadFate>,
+    stored: Option<StoreFate>,
 }
 
 impl Model for Fates {
@@ -20,14 +20,24 @@ impl Model for Fates {
 
     ghost Value = { List Fate };
 
-    ghost use Rattle.service_events.specs.Fates.{fates_of};
+    ghost use Rattle.service_events.specs.Fates.{reads_of, stores_of};
 
-    ghost view = { λ f. fates_of f.made ++ (fates_of f.read ++ fates_of f.stored) };
+    ghost view = { λ f. stores_of f.made ++ (reads_of f.read ++ stores_of f.stored) };
 }
 
-// How many fates an option has.
-fn count(fate: Option<Fate>) -> usize
-    ensures { result ≡ length (fates_of fate) }
+// How many storings there are.
+fn stores(fate: Option<StoreFate>) -> usize
+    ensures { result ≡ length (stores_of fate) }
+{
+    match fate {
+        Some(_) => 1,
+        None => 0,
+    }
+}
+
+// How many resolves there are.
+fn reads(fate: Option<ReadFate>) -> usize
+    ensures { result ≡ length (reads_of fate) }
 {
     match fate {
         Some(_) => 1,
@@ -48,15 +58,15 @@ impl Fates {
     }
 
     /// How the making of a collection, a resolve, and a storing or a removal ended, as far as they were asked for.
-    pub fn of(made: Option<Fate>, read: Option<Fate>, stored: Option<Fate>) -> Fates
-        ensures { result ≡ fates_of made ++ (fates_of read ++ fates_of stored) }
+    pub fn of(made: Option<StoreFate>, read: Option<ReadFate>, stored: Option<StoreFate>) -> Fates
+        ensures { result ≡ stores_of made ++ (reads_of read ++ stores_of stored) }
     {
         Fates { made, read, stored }
     }
 
     /// The three, in order.
-    pub fn parts(&self) -> (Option<Fate>, Option<Fate>, Option<Fate>)
-        ensures { self.now ≡ fates_of result.0 ++ (fates_of result.1 ++ fates_of result.2) }
+    pub fn parts(&self) -> (Option<StoreFate>, Option<ReadFate>, Option<StoreFate>)
+        ensures { self.now ≡ stores_of result.0 ++ (reads_of result.1 ++ stores_of result.2) }
     {
         (self.made, self.read, self.stored)
     }
@@ -65,6 +75,6 @@ impl Fates {
     pub fn len(&self) -> usize
         ensures { result ≡ length self.now }
     {
-        count(self.made) + count(self.read) + count(self.stored)
+        stores(self.made) + reads(self.read) + stores(self.stored)
     }
 }

@@ -26,6 +26,10 @@ use Rattle.service_machine.specs.collection_table.specs.Rows.{CollectionRow, Row
 use Rattle.stem_choice.specs.UsedStems.{is_used, with_stem}
 use Rattle.service_machine.specs.service_tables.specs.declared.fate.Fate.{Fate}
 use Rattle.service_machine.specs.service_tables.specs.declared.fate.Fate.TheVariants as fate
+use Rattle.service_machine.specs.service_tables.specs.declared.fate.ReadFate.{ReadFate}
+use Rattle.service_machine.specs.service_tables.specs.declared.fate.ReadFate.TheVariants as read
+use Rattle.service_machine.specs.service_tables.specs.declared.fate.StoreFate.{StoreFate}
+use Rattle.service_machine.specs.service_tables.specs.declared.fate.StoreFate.TheVariants as stored
 use Rattle.service_machine.specs.service_tables.specs.Disk.{DiskState}
 use Rattle.service_machine.specs.service_tables.specs.Opened.{contents_of}
 use Rattle.service_machine.specs.service_tables.specs.Slots.{StoresAt, file_at, slot_at}
@@ -43,9 +47,9 @@ use Rattle.service_machine.specs.service_events.specs.declared.event.Event.{Even
 use Rattle.service_machine.specs.service_events.specs.declared.event.Event.TheVariants as event
 use Rattle.service_machine.specs.service_events.specs.declared.event.Incoming.TheVariants as incoming
 use Rattle.service_machine.specs.service_events.specs.Incoming.{Records}
-use Rattle.service_machine.specs.service_events.specs.Plan.{Change, Lock_collection, Demand, Store, Erase, Set_alias, Read_aliases, Read_collection, Make, Plan, Ends, After, Asks, Opens}
-use Rattle.service_machine.specs.service_events.specs.Run.{asked, demanded, key_with, made_of, performed, performed_all, unlocked_with}
-use Rattle.service_machine.specs.service_events.specs.Stored.{StoresDemand, StoresEvent, StoresOf}
+use Rattle.service_machine.specs.service_events.specs.Plan.{Change, Lock_collection, Demand, Store, Erase, Set_alias, Make, Plan, Ends, Asks, Settles, Opens, Reading, Aliases_file, Collection_file}
+use Rattle.service_machine.specs.service_events.specs.Run.{asked, by_read, by_reading, by_store, by_test, demanded, fits, is_in_doubt, key_with, made_of, performed, performed_all, promised, settled, unlocked_with}
+use Rattle.service_machine.specs.service_events.specs.Stored.{StoresDemand, StoresEvent, StoresOf, StoresReading}
 use Rattle.service_machine.specs.service_events.specs.Step.{brought_by, plan_of}
 
 -- ---- what isn't in a list
@@ -200,9 +204,9 @@ taken-all caller (change ∷ changes) state taken = taken-all caller changes (pe
 
 -- ---- what is asked of the disk
 
-none-erased : (stem other : List ℕ) (some : Fate) (rows : Rows) → value_at other rows ≡ None → value_at other (rows_erased stem some rows) ≡ None
-none-erased stem other fate.Stored rows none = none-filter other (λ entry. not (is_name stem entry.0)) rows none
-none-erased stem other fate.Unsure rows none = none-changed other stem collections.perhaps_removed rows none
+none-erased : (stem other : List ℕ) (some : StoreFate) (rows : Rows) → value_at other rows ≡ None → value_at other (rows_erased stem some rows) ≡ None
+none-erased stem other stored.Stored rows none = none-filter other (λ entry. not (is_name stem entry.0)) rows none
+none-erased stem other stored.Unsure rows none = none-changed other stem collections.perhaps_removed rows none
 none-erased stem other _ rows none = none
 
 none-found : (stem other : List ℕ) (found : Found) (rows : Rows) → value_at other rows ≡ None → value_at other (rows_found stem found rows) ≡ None
@@ -211,24 +215,34 @@ none-found stem other found rows none =
     elim [ true ↦ none-changed other stem (row_found found) rows none | false ↦ none-filter other (λ entry. not (is_name stem entry.0)) rows none ] in
     pass (is_file found (file_at stem rows))
 
-none-resolved : (stem other : List ℕ) (some : Fate) (rows : Rows) → value_at other rows ≡ None → value_at other (rows_resolved stem some rows) ≡ None
-none-resolved stem other fate.Old rows none = none-found stem other image.Old rows none
-none-resolved stem other fate.New rows none = none-found stem other image.New rows none
-none-resolved stem other fate.Other rows none = none-filter other (λ entry. not (is_name stem entry.0)) rows none
+none-resolved : (stem other : List ℕ) (some : ReadFate) (rows : Rows) → value_at other rows ≡ None → value_at other (rows_resolved stem some rows) ≡ None
+none-resolved stem other read.Old rows none = none-found stem other image.Old rows none
+none-resolved stem other read.New rows none = none-found stem other image.New rows none
+none-resolved stem other read.Other rows none = none-filter other (λ entry. not (is_name stem entry.0)) rows none
 none-resolved stem other _ rows none = none
 
-none-made : (stem other : List ℕ) (plan : making.Plan) (some : Fate) (rows : Rows) → is_name other stem ≡ false → value_at other rows ≡ None → value_at other (rows_made stem plan some rows) ≡ None
-none-made stem other plan fate.Stored rows off none = none-inserted other stem _ rows off none
-none-made stem other plan fate.Unsure rows off none = none-inserted other stem _ rows off none
+none-made : (stem other : List ℕ) (plan : making.Plan) (some : StoreFate) (rows : Rows) → is_name other stem ≡ false → value_at other rows ≡ None → value_at other (rows_made stem plan some rows) ≡ None
+none-made stem other plan stored.Stored rows off none = none-inserted other stem _ rows off none
+none-made stem other plan stored.Unsure rows off none = none-inserted other stem _ rows off none
 none-made stem other plan _ rows off none = none
 
-taken-demanded : (brought : Brought) (demand : Demand) (some : Fate) (state : State) → AreTaken state → AreTaken (demanded brought demand some state)
+taken-demanded : (brought : Brought) (demand : Demand) (some : StoreFate) (state : State) → AreTaken state → AreTaken (demanded brought demand some state)
 taken-demanded brought (Store stem edit) some state taken = λ other off. none-changed other stem (row_changed (change_of brought.value edit) brought.now some) state.collections (taken other off)
 taken-demanded brought (Erase stem) some state taken = λ other off. none-erased stem other some state.collections (taken other off)
-taken-demanded brought (Read_collection stem) some state taken = λ other off. none-resolved stem other some state.collections (taken other off)
 taken-demanded brought (Make stem label terms) some state taken =
     λ other off. (let parts = with-off stem other state.used off in none-made stem other (made_of brought terms label) some state.collections parts.0 (taken other parts.1))
 taken-demanded brought _ some state taken = taken
+
+taken-settled : (reading : Reading) (some : ReadFate) (state : State) → AreTaken state → AreTaken (settled reading some state)
+taken-settled Aliases_file some state taken = taken
+taken-settled (Collection_file stem) some state taken = λ other off. none-resolved stem other some state.collections (taken other off)
+
+-- what follows of both ways follows of either
+either-reading : (ended : ReadFate) (one other so : Type 0) → (one → so) → (other → so) → by_reading ended one other → so
+either-reading read.ReadFailed one other so first second is = first is
+either-reading read.Old one other so first second is = second is
+either-reading read.New one other so first second is = second is
+either-reading read.Other one other so first second is = second is
 
 -- ---- the slots of free stems
 
@@ -287,7 +301,7 @@ module _ {F S : Type 0} (folder_honest folder_steady : F → Bool) (folder_fault
       pass (is_name stem other) refl
 
   -- one under which nothing was made stays free
-  free-made : (stem other : List ℕ) (some : Fate) (before after : Rows) (old new : DiskState F S) → is_name stem other ≡ false
+  free-made : (stem other : List ℕ) (some : StoreFate) (before after : Rows) (old new : DiskState F S) → is_name stem other ≡ false
       → MakesAt folder_honest folder_steady folder_faults images folder_leaves names_made is_honest is_steady faults moment left_since may_leave stem some before after old new
       → IsFreeAt other old → IsFreeAt other new
   free-made stem other some before after old new off makes free =
@@ -316,18 +330,16 @@ module _ {F S : Type 0} (folder_honest folder_steady : F → Bool) (folder_fault
         kept = subst LeavesNone (sym same) free.kept;
       }
 
-  abbrev Does : Demand → Fate → State → State → DiskState F S → DiskState F S → Type 0
+  abbrev Does : Demand → StoreFate → State → State → DiskState F S → DiskState F S → Type 0
   Does demand some state after old new =
       StoresDemand folder_honest folder_steady folder_faults images folder_leaves names_made is_honest is_steady faults moment left_since may_leave demand some (contents_of state) (contents_of after) old new
 
   -- the disk has the used stems of the state
-  used-demanded : (brought : Brought) (demand : Demand) (some : Fate) (state : State) (old new : DiskState F S) → old.used ≡ state.used → Does demand some state (demanded brought demand some state) old new
+  used-demanded : (brought : Brought) (demand : Demand) (some : StoreFate) (state : State) (old new : DiskState F S) → old.used ≡ state.used → Does demand some state (demanded brought demand some state) old new
       → new.used ≡ (demanded brought demand some state).used
   used-demanded brought (Store stem edit) some state old new same does = ap (λ (d : DiskState F S). d.used) does.rest ∙ same
   used-demanded brought (Erase stem) some state old new same does = ap (λ (d : DiskState F S). d.used) does.rest ∙ same
   used-demanded brought (Set_alias alias stem) some state old new same does = ap (λ (d : DiskState F S). d.used) does.rest ∙ same
-  used-demanded brought Read_aliases some state old new same does = ap (λ (d : DiskState F S). d.used) does.rest ∙ same
-  used-demanded brought (Read_collection stem) some state old new same does = ap (λ (d : DiskState F S). d.used) does.rest ∙ same
   used-demanded brought (Make stem label terms) some state old new same does = does.used ∙ ap (with_stem stem) same
 
   free-at : (stem other : List ℕ) (some : Fate) (before after : Rows) (old new : DiskState F S) → is_used other old.used ≡ false → value_at other after ≡ None
@@ -339,28 +351,45 @@ module _ {F S : Type 0} (folder_honest folder_steady : F → Bool) (folder_fault
       free-same other old new (ap (slot_at other) rest) (ap (λ (d : DiskState F S). d.folder) rest) (free other (unlisted other old.used off))
 
   -- what is asked of the disk leaves each free stem free
-  free-asked : (brought : Brought) (demand : Demand) (some : Fate) (state : State) (old new : DiskState F S) (other : List ℕ) → old.used ≡ state.used
+  free-asked : (brought : Brought) (demand : Demand) (some : StoreFate) (state : State) (old new : DiskState F S) (other : List ℕ) → old.used ≡ state.used
       → is_used other (demanded brought demand some state).used ≡ false → value_at other (demanded brought demand some state).collections ≡ None
       → Does demand some state (demanded brought demand some state) old new → Frees old → IsFreeAt other new
   free-asked brought (Store stem edit) some state old new other same off none does free =
-      free-at stem other some state.collections (demanded brought (Store stem edit) some state).collections old new (ap (is_used other) same ∙ off) none does free
+      free-at stem other (fate.Store some) state.collections (demanded brought (Store stem edit) some state).collections old new (ap (is_used other) same ∙ off) none does free
   free-asked brought (Erase stem) some state old new other same off none does free =
-      free-at stem other some state.collections (demanded brought (Erase stem) some state).collections old new (ap (is_used other) same ∙ off) none does free
+      free-at stem other (fate.Store some) state.collections (demanded brought (Erase stem) some state).collections old new (ap (is_used other) same ∙ off) none does free
   free-asked brought (Set_alias alias stem) some state old new other same off none does free = free-aliases other old new (ap (is_used other) same ∙ off) does.rest free
-  free-asked brought Read_aliases some state old new other same off none does free = free-aliases other old new (ap (is_used other) same ∙ off) does.rest free
-  free-asked brought (Read_collection stem) some state old new other same off none does free =
-      free-at stem other some state.collections (demanded brought (Read_collection stem) some state).collections old new (ap (is_used other) same ∙ off) none does free
   free-asked brought (Make stem label terms) some state old new other same off none does free =
       let parts = with-off stem other state.used off in
       free-made stem other some state.collections (demanded brought (Make stem label terms) some state).collections old new (name-turned other stem parts.0) does
       (free other (unlisted other old.used (ap (is_used other) same ∙ parts.1)))
 
-  free-demanded : (brought : Brought) (demand : Demand) (some : Fate) (state : State) (old new : DiskState F S) → old.used ≡ state.used → AreTaken state
+  free-demanded : (brought : Brought) (demand : Demand) (some : StoreFate) (state : State) (old new : DiskState F S) → old.used ≡ state.used → AreTaken state
       → Does demand some state (demanded brought demand some state) old new → Frees old → Frees new
   free-demanded brought demand some state old new same taken does free = λ other no.
       (let unused : is_used other (demanded brought demand some state).used ≡ false =
       ap (is_used other) (sym (used-demanded brought demand some state old new same does)) ∙ not-used other new.used no in
       free-asked brought demand some state old new other same unused (taken-demanded brought demand some state taken other unused) does free)
+
+  -- so does a file that is read again
+  abbrev Rereads : Reading → ReadFate → State → DiskState F S → DiskState F S → Type 0
+  Rereads reading some state old new =
+      StoresReading folder_honest folder_steady folder_faults images folder_leaves names_made is_honest is_steady faults moment left_since may_leave reading some (contents_of state) (contents_of (settled reading some state)) old new
+
+  used-settled : (reading : Reading) (some : ReadFate) (state : State) (old new : DiskState F S) → old.used ≡ state.used → Rereads reading some state old new → new.used ≡ (settled reading some state).used
+  used-settled Aliases_file some state old new same does = ap (λ (d : DiskState F S). d.used) does.rest ∙ same
+  used-settled (Collection_file stem) some state old new same does = ap (λ (d : DiskState F S). d.used) does.rest ∙ same
+
+  free-reread : (reading : Reading) (some : ReadFate) (state : State) (old new : DiskState F S) (other : List ℕ) → old.used ≡ state.used
+      → is_used other (settled reading some state).used ≡ false → value_at other (settled reading some state).collections ≡ None → Rereads reading some state old new → Frees old → IsFreeAt other new
+  free-reread Aliases_file some state old new other same off none does free = free-aliases other old new (ap (is_used other) same ∙ off) does.rest free
+  free-reread (Collection_file stem) some state old new other same off none does free =
+      free-at stem other (fate.Read some) state.collections (settled (Collection_file stem) some state).collections old new (ap (is_used other) same ∙ off) none does free
+
+  free-settled : (reading : Reading) (some : ReadFate) (state : State) (old new : DiskState F S) → old.used ≡ state.used → AreTaken state → Rereads reading some state old new → Frees old → Frees new
+  free-settled reading some state old new same taken does free = λ other no.
+      (let unused : is_used other (settled reading some state).used ≡ false = ap (is_used other) (sym (used-settled reading some state old new same does)) ∙ not-used other new.used no in
+      free-reread reading some state old new other same unused (taken-settled reading some state taken other unused) does free)
 
   module _ (caller : ConnId) (brought : Brought) where
     abbrev Stores : Plan → List Fate → State → DiskState F S → DiskState F S → Type 0
@@ -370,13 +399,48 @@ module _ {F S : Type 0} (folder_honest folder_steady : F → Bool) (folder_fault
     -- so does what a plan asks for
     free-stores : (plan : Plan) (fates : List Fate) (state : State) (old new : DiskState F S) → old.used ≡ state.used → AreTaken state → Stores plan fates state old new → Frees old → Frees new
     free-stores (Ends answer changes) fates state old new same taken stores free = subst Frees (sym stores) free
-    free-stores (After changes next) fates state old new same taken stores free =
-        let after = performed_all caller changes state in
-        free-stores (next (asked caller brought after)) fates after old new (same ∙ sym (used-all caller changes state)) (taken-all caller changes state taken) stores free
-    free-stores (Asks demand next) [] state old new same taken stores free = absurd stores
-    free-stores (Asks demand next) (some ∷ fates) state old new same taken stores free =
-        free-stores (next some) fates (demanded brought demand some state) stores.0 new (used-demanded brought demand some state old stores.0 same stores.1)
-        (taken-demanded brought demand some state taken) stores.2 (free-demanded brought demand some state old stores.0 same taken stores.1 free)
+    free-stores (Asks demand next) fates state old new same taken stores free =
+        let Has : List Fate → Type 0 =
+        by_store ⊥ (λ ended rest. (mid : DiskState F S) × Does demand ended state (demanded brought demand ended state) old mid × Stores (next ended) rest (demanded brought demand ended state) mid new) in
+        let asks : (these : List Fate) → Has these → Frees new =
+        elim [
+          | [] ↦ λ are. absurd are
+          | some ∷ rest ↦
+              let first : (f : Fate) → Has (f ∷ rest) → Frees new =
+              elim [
+                | fate.Read ended ↦ λ are. absurd are
+                | fate.Store ended ↦ λ are.
+                    free-stores (next ended) rest (demanded brought demand ended state) are.0 new (used-demanded brought demand ended state old are.0 same are.1) (taken-demanded brought demand ended state taken) are.2
+                    (free-demanded brought demand ended state old are.0 same taken are.1 free)
+              ] in
+              first some
+        ] in
+        let pass : (b : Bool) → by_test b (Has fates) (new ≡ old) → Frees new = elim [ true ↦ asks fates | false ↦ λ is. subst Frees (sym is) free ] in
+        pass (fits (promised caller state (next stored.Stored))) stores
+    free-stores (Settles reading unread next) fates state old new same taken stores free =
+        let Has : List Fate → Type 0 =
+        by_read ⊥ (λ ended rest. (mid : DiskState F S) × Rereads reading ended state old mid
+        × by_reading ended (Stores unread rest (settled reading ended state) mid new) (Stores (next (asked caller brought (settled reading ended state))) rest (settled reading ended state) mid new)) in
+        let reads : (these : List Fate) → Has these → Frees new =
+        elim [
+          | [] ↦ λ are. absurd are
+          | some ∷ rest ↦
+              let first : (f : Fate) → Has (f ∷ rest) → Frees new =
+              elim [
+                | fate.Store ended ↦ λ are. absurd are
+                | fate.Read ended ↦ λ are.
+                    let after = settled reading ended state in
+                    let its = used-settled reading ended state old are.0 same are.1 in
+                    let taken_then = taken-settled reading ended state taken in
+                    let free_then = free-settled reading ended state old are.0 same taken are.1 free in
+                    either-reading ended (Stores unread rest after are.0 new) (Stores (next (asked caller brought after)) rest after are.0 new) (Frees new)
+                    (λ is. free-stores unread rest after are.0 new its taken_then is free_then) (λ is. free-stores (next (asked caller brought after)) rest after are.0 new its taken_then is free_then) are.2
+              ] in
+              first some
+        ] in
+        let pass : (b : Bool) → by_test b (Has fates) (Stores (next (asked caller brought state)) fates state old new) → Frees new =
+        elim [ true ↦ reads fates | false ↦ λ is. free-stores (next (asked caller brought state)) fates state old new same taken is free ] in
+        pass (is_in_doubt reading state) stores
     free-stores (Opens stem terms next) fates state old new same taken stores free =
         free-stores next fates (unlocked_with brought stem terms state) old new same
         (λ other off. none-changed other stem (row_opened (key_with brought terms)) state.collections (taken other off)) stores free

@@ -1,8 +1,8 @@
 -- A derived key as it is recorded: what it led to is the step of its event.
-use Rattle.std.proofs.Common.{◌≡◌, ℕ, ◌^◌, ◌<◌, Bool, true, IsTrue, List, ap, ◌∙◌}
+use Rattle.std.proofs.Common.{◌≡◌, ℕ, ◌^◌, ◌<◌, Bool, true, IsTrue, List, [], ap, ◌∙◌}
 use Rattle.kr_outside.specs.RenameDisk.{Image}
 use Rattle.keyring_text.specs.Fields.{IsBytes}
-use Rattle.service_answers.specs.service_tables.specs.Connections.{has}
+use Rattle.service_answers.specs.service_tables.specs.Connections.{AreDistinct, handed, has}
 use Rattle.service_answers.specs.service_tables.specs.Disk.{DiskState}
 use Rattle.service_answers.specs.service_tables.specs.State.{State}
 use Rattle.service_answers.specs.service_tables.specs.declared.fate.Fate.{Fate}
@@ -12,10 +12,11 @@ use Rattle.service_answers.specs.service_events.specs.declared.event.Derivation.
 use Rattle.service_answers.specs.service_events.specs.declared.event.Event.TheVariants as event
 use Rattle.service_answers.specs.service_events.specs.Derivation.{derived}
 use Rattle.service_answers.specs.service_events.specs.Fates.{AreFaultless, is_steady}
-use Rattle.service_answers.specs.service_events.specs.Run.{asked, led}
-use Rattle.service_answers.specs.service_events.specs.Step.{AreByteFiles, Fits, IsSalt, brought_derived, step, terms_of, with_delivered}
+use Rattle.service_answers.specs.service_events.specs.Run.{asked, run}
+use Rattle.service_answers.specs.service_events.specs.Step.{AreByteFiles, Fits, IsSalt, brought_derived, step, terms_of, with_rows}
 use Rattle.service_answers.specs.service_events.specs.Stored.{StoresEvent}
 use Rattle.service_answers.specs.Settled.{Settles, settled_fates}
+use Rattle.service_answers.specs.service_calls.proofs.LeadsLemmas.{sends-handed}
 use Rattle.service_machine.proofs.SteadyLemmas.{stores-faultless, stores-steady}
 
 -- a key as it is recorded: what was brought, with these parts of the key, and how what it led to ended
@@ -50,8 +51,13 @@ module _ {F S : Type 0} (folder_honest folder_steady : F → Bool) (folder_fault
 
   module _ (leads : Settles folder_honest folder_steady folder_faults images folder_leaves names_made is_honest slot_steady faults moment left_since may_leave its.conn (brought_derived its)
       (derived its.prompt its.round (terms_of its) (asked its.conn (brought_derived its) old)) old mid disk disk' settled) where
-    pub key-stepped : (final : State) → final ≡ with_delivered settled.done.sends mid → final ≡ step old (event.Derived its)
-    key-stepped final delivers = delivers ∙ (λ i. with_delivered (leads.sends i) (leads.state i))
+    pub key-stepped : AreDistinct old.connections.rows → (final : State) → final ≡ with_rows (handed settled.done.sends mid.connections.rows) mid → final ≡ step old (event.Derived its)
+    key-stepped apart final delivers =
+        let plan = derived its.prompt its.round (terms_of its) (asked its.conn (brought_derived its) old) in
+        let ran = run its.conn (brought_derived its) plan (settled_fates settled) old in
+        delivers
+        ∙ (λ i. with_rows (handed (leads.sends i) (leads.state i).connections.rows) (leads.state i))
+        ∙ ap (λ rows. with_rows rows ran.state) (sends-handed its.conn (brought_derived its) plan (settled_fates settled) old [] apart)
 
     pub key-fits : has its.conn old.connections.rows ≡ true → its.now < 2 ^ 64 → its.round < 2 ^ 64 → IsBytes its.password → IsSalt its.salt → its.iterations < 2 ^ 32
         → AreByteFiles old.collections → Fits old (event.Derived its)

@@ -20,14 +20,20 @@ use Rattle.service_answers.specs.service_tables.specs.Disk.{DiskState, IsLoaded}
 use Rattle.service_answers.specs.service_tables.specs.State.{State}
 use Rattle.service_answers.specs.collection_table.specs.Rows.{Rows}
 use Rattle.service_answers.specs.service_tables.specs.declared.fate.Fate.{Fate}
+use Rattle.service_answers.specs.service_tables.specs.declared.fate.Fate.TheVariants as fate
+use Rattle.service_answers.specs.service_tables.specs.declared.fate.ReadFate.{ReadFate}
+use Rattle.service_answers.specs.service_tables.specs.declared.fate.ReadFate.TheVariants as read
+use Rattle.service_answers.specs.service_tables.specs.declared.fate.StoreFate.{StoreFate}
+use Rattle.service_answers.specs.service_tables.specs.declared.fate.StoreFate.TheVariants as stored
 use Rattle.service_answers.specs.service_tables.specs.Opened.{Contents, contents_of}
 use Rattle.service_answers.specs.service_disk.specs.Making.{MakesAt}
 use Rattle.service_answers.specs.service_tables.specs.Slots.{IsFault, StoresAliases, StoresAt, are_steady, slot_at}
 use Rattle.service_answers.specs.service_tables.specs.Storing.{Brought}
 use Rattle.service_answers.specs.service_events.specs.Fates.{AreFaultless, is_steady}
-use Rattle.service_answers.specs.service_events.specs.Plan.{Demand, Store, Erase, Set_alias, Read_aliases, Read_collection, Make, Plan, Ends, After, Asks, Opens}
-use Rattle.service_answers.specs.service_events.specs.Run.{AreFates, AreNone, asked, demanded, performed_all, unlocked_with}
-use Rattle.service_answers.specs.service_events.specs.Stored.{KeepsSlotOf, KeepsSlotOrAll, StoresDemand, StoresOf}
+use Rattle.service_answers.specs.service_events.specs.Plan.{Aliases_file, Asks, Collection_file, Demand, Ends, Erase, Make, Opens, Plan, Reading, Set_alias, Settles, Store}
+use Rattle.service_answers.specs.service_events.specs.Run.{AreFates, AreNone, asked, by_read, by_reading, by_store, by_test, demanded, fits, is_in_doubt, promised, settled, unlocked_with}
+use Rattle.service_answers.specs.service_events.specs.Stored.{KeepsSlotOf, KeepsSlotOrAll, StoresDemand, StoresOf, StoresReading}
+use Rattle.service_answers.specs.service_events.proofs.RunLemmas.{fits-either, read-either, reading-either, store-either}
 
 and-both : (a b : Bool) → (a && b) ≡ true → (a ≡ true) × (b ≡ true)
 and-both true b is = (refl, is)
@@ -137,11 +143,11 @@ module _ {F S : Type 0} (folder_honest folder_steady : F → Bool) (folder_fault
   at-never stem some before after old new at steady fault = at.stores.never (slot-steady stem at.was old steady at.slot) fault
 
   -- the same of a collection that is made
-  abbrev Made : List ℕ → Fate → Rows → Rows → DiskState F S → DiskState F S → Type 0
+  abbrev Made : List ℕ → StoreFate → Rows → Rows → DiskState F S → DiskState F S → Type 0
   Made stem some before after old new =
       MakesAt folder_honest folder_steady folder_faults images folder_leaves names_made is_honest slot_steady faults moment left_since may_leave stem some before after old new
 
-  made-steady : (stem : List ℕ) (some : Fate) (before after : Rows) (old new : DiskState F S) → Made stem some before after old new → whole new ≡ whole old
+  made-steady : (stem : List ℕ) (some : StoreFate) (before after : Rows) (old new : DiskState F S) → Made stem some before after old new → whole new ≡ whole old
   made-steady stem some before after old new is =
       let files = list_all (λ (file : LeftAlone S). slot_steady file.slot) old.left_alone && slot_steady old.aliases in
       ap whole is.rest
@@ -149,7 +155,7 @@ module _ {F S : Type 0} (folder_honest folder_steady : F → Bool) (folder_fault
       ∙ ap (λ b. b && files) is.slot.all_steady
       ∙ sym (and-and (folder_steady old.folder) (are_steady slot_steady old) files)
 
-  made-never : (stem : List ℕ) (some : Fate) (before after : Rows) (old new : DiskState F S) → Made stem some before after old new → whole old ≡ true → IsFault some → ⊥
+  made-never : (stem : List ℕ) (some : StoreFate) (before after : Rows) (old new : DiskState F S) → Made stem some before after old new → whole old ≡ true → IsFault (fate.Store some) → ⊥
   made-never stem some before after old new is steady fault =
       let inner = and-both (folder_steady old.folder) (are_steady slot_steady old && (list_all (λ (file : LeftAlone S). slot_steady file.slot) old.left_alone && slot_steady old.aliases)) steady in
       let was : slot_steady is.was ≡ true =
@@ -176,24 +182,32 @@ module _ {F S : Type 0} (folder_honest folder_steady : F → Bool) (folder_fault
       is.stores.never last.1 fault
 
   -- and of whatever is asked
-  abbrev Asked : Demand → Fate → Contents → Contents → DiskState F S → DiskState F S → Type 0
+  abbrev Asked : Demand → StoreFate → Contents → Contents → DiskState F S → DiskState F S → Type 0
   Asked demand some before after old new = StoresDemand folder_honest folder_steady folder_faults images folder_leaves names_made is_honest slot_steady faults moment left_since may_leave demand some before after old new
 
-  asked-steady : (demand : Demand) (some : Fate) (before after : Contents) (old new : DiskState F S) → Asked demand some before after old new → whole new ≡ whole old
-  asked-steady (Store stem edit) some before after old new is = at-steady stem some before.collections after.collections old new is
-  asked-steady (Erase stem) some before after old new is = at-steady stem some before.collections after.collections old new is
-  asked-steady (Set_alias alias stem) some before after old new is = for-steady some before.aliases after.aliases old new is
-  asked-steady Read_aliases some before after old new is = for-steady some before.aliases after.aliases old new is
-  asked-steady (Read_collection stem) some before after old new is = at-steady stem some before.collections after.collections old new is
+  asked-steady : (demand : Demand) (some : StoreFate) (before after : Contents) (old new : DiskState F S) → Asked demand some before after old new → whole new ≡ whole old
+  asked-steady (Store stem edit) some before after old new is = at-steady stem (fate.Store some) before.collections after.collections old new is
+  asked-steady (Erase stem) some before after old new is = at-steady stem (fate.Store some) before.collections after.collections old new is
+  asked-steady (Set_alias alias stem) some before after old new is = for-steady (fate.Store some) before.aliases after.aliases old new is
   asked-steady (Make stem label terms) some before after old new is = made-steady stem some before.collections after.collections old new is
 
-  asked-never : (demand : Demand) (some : Fate) (before after : Contents) (old new : DiskState F S) → Asked demand some before after old new → whole old ≡ true → IsFault some → ⊥
-  asked-never (Store stem edit) some before after old new is = at-never stem some before.collections after.collections old new is
-  asked-never (Erase stem) some before after old new is = at-never stem some before.collections after.collections old new is
-  asked-never (Set_alias alias stem) some before after old new is = for-never some before.aliases after.aliases old new is
-  asked-never Read_aliases some before after old new is = for-never some before.aliases after.aliases old new is
-  asked-never (Read_collection stem) some before after old new is = at-never stem some before.collections after.collections old new is
+  asked-never : (demand : Demand) (some : StoreFate) (before after : Contents) (old new : DiskState F S) → Asked demand some before after old new → whole old ≡ true → IsFault (fate.Store some) → ⊥
+  asked-never (Store stem edit) some before after old new is = at-never stem (fate.Store some) before.collections after.collections old new is
+  asked-never (Erase stem) some before after old new is = at-never stem (fate.Store some) before.collections after.collections old new is
+  asked-never (Set_alias alias stem) some before after old new is = for-never (fate.Store some) before.aliases after.aliases old new is
   asked-never (Make stem label terms) some before after old new is = made-never stem some before.collections after.collections old new is
+
+  -- and of a file that is read again
+  abbrev Reads : Reading → ReadFate → Contents → Contents → DiskState F S → DiskState F S → Type 0
+  Reads reading some before after old new = StoresReading folder_honest folder_steady folder_faults images folder_leaves names_made is_honest slot_steady faults moment left_since may_leave reading some before after old new
+
+  reads-steady : (reading : Reading) (some : ReadFate) (before after : Contents) (old new : DiskState F S) → Reads reading some before after old new → whole new ≡ whole old
+  reads-steady Aliases_file some before after old new is = for-steady (fate.Read some) before.aliases after.aliases old new is
+  reads-steady (Collection_file stem) some before after old new is = at-steady stem (fate.Read some) before.collections after.collections old new is
+
+  reads-never : (reading : Reading) (some : ReadFate) (before after : Contents) (old new : DiskState F S) → Reads reading some before after old new → whole old ≡ true → IsFault (fate.Read some) → ⊥
+  reads-never Aliases_file some before after old new is = for-never (fate.Read some) before.aliases after.aliases old new is
+  reads-never (Collection_file stem) some before after old new is = at-never stem (fate.Read some) before.collections after.collections old new is
 
   abbrev Of : ConnId → Brought → Plan → List Fate → State → DiskState F S → DiskState F S → Type 0
   Of caller brought plan fates state old new = StoresOf folder_honest folder_steady folder_faults images folder_leaves names_made is_honest slot_steady faults moment left_since may_leave caller brought plan fates state old new
@@ -201,12 +215,9 @@ module _ {F S : Type 0} (folder_honest folder_steady : F → Bool) (folder_fault
   -- what a refusal leaves is as steady as before
   left-steady : (plan : Plan) (old new : DiskState F S) → KeepsSlotOf folder_honest folder_steady folder_faults images folder_leaves names_made is_honest slot_steady faults left_since plan old new → whole new ≡ whole old
   left-steady (Ends answer changes) old new is = absurd is
-  left-steady (After changes next) old new is = absurd is
   left-steady (Asks (Store stem edit) next) old new is = absurd is
   left-steady (Asks (Erase stem) next) old new is = absurd is
   left-steady (Asks (Set_alias alias stem) next) old new is = absurd is
-  left-steady (Asks Read_aliases next) old new is = absurd is
-  left-steady (Asks (Read_collection stem) next) old new is = absurd is
   left-steady (Asks (Make stem label terms) next) old new is =
       let mid : DiskState F S = record old { folder = new.folder; spare = new.spare } in
       let files = list_all (λ (file : LeftAlone S). slot_steady file.slot) old.left_alone && slot_steady old.aliases in
@@ -214,33 +225,101 @@ module _ {F S : Type 0} (folder_honest folder_steady : F → Bool) (folder_fault
       ∙ and-and (folder_steady mid.folder) (are_steady slot_steady mid) files
       ∙ ap (λ b. b && files) (sym (ap (λ (d : DiskState F S). folder_steady d.folder && are_steady slot_steady d) is.rest) ∙ is.all_steady)
       ∙ sym (and-and (folder_steady old.folder) (are_steady slot_steady old) files)
+  left-steady (Settles reading unread next) old new is = absurd is
   left-steady (Opens stem terms next) old new is = absurd is
 
   pub kept-steady : (plan : Plan) (old new : DiskState F S) → KeepsSlotOrAll folder_honest folder_steady folder_faults images folder_leaves names_made is_honest slot_steady faults left_since plan old new → whole new ≡ whole old
   kept-steady plan old new (inl same) = ap whole same
   kept-steady plan old new (inr is) = left-steady plan old new is
 
+  -- from one of these disks to the other
+  abbrev Keeps-whole : DiskState F S → DiskState F S → Type 0 → Type 0
+  Keeps-whole old new stores = stores → whole new ≡ whole old
+
   pub stores-steady : (caller : ConnId) (brought : Brought) (plan : Plan) (fates : List Fate) (state : State) (old new : DiskState F S) → Of caller brought plan fates state old new → whole new ≡ whole old
-  stores-steady caller brought (Ends answer changes) fates state old new stores = ap whole stores
-  stores-steady caller brought (After changes next) fates state old new stores =
-      let after = performed_all caller changes state in
-      stores-steady caller brought (next (asked caller brought after)) fates after old new stores
-  stores-steady caller brought (Asks demand next) [] state old new stores = absurd stores
-  stores-steady caller brought (Asks demand next) (some ∷ fates) state old new (mid, at, rest) =
-      stores-steady caller brought (next some) fates (demanded brought demand some state) mid new rest
-      ∙ asked-steady demand some (contents_of state) (contents_of (demanded brought demand some state)) old mid at
-  stores-steady caller brought (Opens stem terms next) fates state old new stores = stores-steady caller brought next fates (unlocked_with brought stem terms state) old new stores
+  stores-steady caller brought (Ends answer changes) fates state old new = λ stores. ap whole stores
+  stores-steady caller brought (Asks demand next) fates state old new =
+      let after : StoreFate → State = λ ended. demanded brought demand ended state in
+      fits-either (Keeps-whole old new) (promised caller state (next stored.Stored)) _ (new ≡ old)
+      (λ fits. store-either (Keeps-whole old new) ⊥ _ fates (λ none. absurd none)
+      (λ ended rest (mid, at, stores). stores-steady caller brought (next ended) rest (after ended) mid new stores ∙ asked-steady demand ended (contents_of state) (contents_of (after ended)) old mid at))
+      (λ stores. ap whole stores)
+  stores-steady caller brought (Settles reading unread next) fates state old new =
+      let after : ReadFate → State = λ ended. settled reading ended state in
+      let each : ReadFate → List Fate → Type 0 =
+      λ ended rest. (mid : DiskState F S) × Reads reading ended (contents_of state) (contents_of (after ended)) old mid
+      × by_reading ended (Of caller brought unread rest (after ended) mid new) (Of caller brought (next (asked caller brought (after ended))) rest (after ended) mid new) in
+      let pass : (b : Bool) → Keeps-whole old new (by_test b (by_read ⊥ each fates) (Of caller brought (next (asked caller brought state)) fates state old new)) =
+      elim [
+        | true ↦ read-either (Keeps-whole old new) ⊥ each fates (λ none. absurd none)
+            (λ ended rest (mid, at, stores).
+            reading-either (Keeps-whole mid new) ended (Of caller brought unread rest (after ended) mid new) (Of caller brought (next (asked caller brought (after ended))) rest (after ended) mid new)
+            (stores-steady caller brought unread rest (after ended) mid new) (stores-steady caller brought (next (asked caller brought (after ended))) rest (after ended) mid new) stores
+            ∙ reads-steady reading ended (contents_of state) (contents_of (after ended)) old mid at)
+        | false ↦ stores-steady caller brought (next (asked caller brought state)) fates state old new
+      ] in
+      pass (is_in_doubt reading state)
+  stores-steady caller brought (Opens stem terms next) fates state old new = stores-steady caller brought next fates (unlocked_with brought stem terms state) old new
+
+  -- by the first of the fates
+  store-faultless : (are stores : StoreFate → List Fate → Type 0) → ((ended : StoreFate) (rest : List Fate) → are ended rest → stores ended rest → AreFaultless (fate.Store ended ∷ rest)) → (fates : List Fate)
+      → by_store ⊥ are fates → by_store ⊥ stores fates → AreFaultless fates
+  store-faultless are stores each [] its at = absurd its
+  store-faultless are stores each (fate.Store ended ∷ rest) its at = each ended rest its at
+  store-faultless are stores each (fate.Read ended ∷ rest) its at = absurd its
+
+  read-faultless : (are stores : ReadFate → List Fate → Type 0) → ((ended : ReadFate) (rest : List Fate) → are ended rest → stores ended rest → AreFaultless (fate.Read ended ∷ rest)) → (fates : List Fate)
+      → by_read ⊥ are fates → by_read ⊥ stores fates → AreFaultless fates
+  read-faultless are stores each [] its at = absurd its
+  read-faultless are stores each (fate.Store ended ∷ rest) its at = absurd its
+  read-faultless are stores each (fate.Read ended ∷ rest) its at = each ended rest its at
+
+  reading-faultless : (ended : ReadFate) (rest : List Fate) (one other first second : Type 0) → (one → first → AreFaultless rest) → (other → second → AreFaultless rest) → by_reading ended one other → by_reading ended first second → AreFaultless rest
+  reading-faultless read.ReadFailed rest one other first second left right are stores = left are stores
+  reading-faultless read.Old rest one other first second left right are stores = right are stores
+  reading-faultless read.New rest one other first second left right are stores = right are stores
+  reading-faultless read.Other rest one other first second left right are stores = right are stores
 
   pub stores-faultless : (caller : ConnId) (brought : Brought) (plan : Plan) (fates : List Fate) (state : State) (old new : DiskState F S) → AreFates caller brought plan fates state
       → Of caller brought plan fates state old new → whole old ≡ true → AreFaultless fates
   stores-faultless caller brought (Ends answer changes) fates state old new are stores steady = none-faultless fates are
-  stores-faultless caller brought (After changes next) fates state old new are stores steady =
-      let after = performed_all caller changes state in
-      stores-faultless caller brought (next (asked caller brought after)) fates after old new are stores steady
-  stores-faultless caller brought (Asks demand next) [] state old new are stores steady = absurd stores
-  stores-faultless caller brought (Asks demand next) (some ∷ fates) state old new (kind, are) (mid, at, rest) steady = (
-    asked-never demand some (contents_of state) (contents_of (demanded brought demand some state)) old mid at steady,
-    stores-faultless caller brought (next some) fates (demanded brought demand some state) mid new are rest
-        (asked-steady demand some (contents_of state) (contents_of (demanded brought demand some state)) old mid at ∙ steady),
-  )
+  stores-faultless caller brought (Asks demand next) fates state old new are stores steady =
+      let after : StoreFate → State = λ ended. demanded brought demand ended state in
+      let each : StoreFate → List Fate → Type 0 = λ ended rest. AreFates caller brought (next ended) rest (after ended) in
+      let uses : StoreFate → List Fate → Type 0 =
+      λ ended rest. (mid : DiskState F S) × Asked demand ended (contents_of state) (contents_of (after ended)) old mid × Of caller brought (next ended) rest (after ended) mid new in
+      let pass : (b : Bool) → by_test b (by_store ⊥ each fates) (AreNone fates) → by_test b (by_store ⊥ uses fates) (new ≡ old) → AreFaultless fates =
+      elim [
+        | true ↦ store-faultless each uses
+            (λ ended rest its (mid, at, more). (
+              asked-never demand ended (contents_of state) (contents_of (after ended)) old mid at steady,
+              stores-faultless caller brought (next ended) rest (after ended) mid new its more (asked-steady demand ended (contents_of state) (contents_of (after ended)) old mid at ∙ steady),
+            ))
+            fates
+        | false ↦ λ none same. none-faultless fates none
+      ] in
+      pass (fits (promised caller state (next stored.Stored))) are stores
+  stores-faultless caller brought (Settles reading unread next) fates state old new are stores steady =
+      let after : ReadFate → State = λ ended. settled reading ended state in
+      let each : ReadFate → List Fate → Type 0 =
+      λ ended rest. by_reading ended (AreFates caller brought unread rest (after ended)) (AreFates caller brought (next (asked caller brought (after ended))) rest (after ended)) in
+      let uses : ReadFate → List Fate → Type 0 =
+      λ ended rest. (mid : DiskState F S) × Reads reading ended (contents_of state) (contents_of (after ended)) old mid
+      × by_reading ended (Of caller brought unread rest (after ended) mid new) (Of caller brought (next (asked caller brought (after ended))) rest (after ended) mid new) in
+      let pass : (b : Bool) → by_test b (by_read ⊥ each fates) (AreFates caller brought (next (asked caller brought state)) fates state)
+      → by_test b (by_read ⊥ uses fates) (Of caller brought (next (asked caller brought state)) fates state old new) → AreFaultless fates =
+      elim [
+        | true ↦ read-faultless each uses
+            (λ ended rest its (mid, at, more).
+            let kept = reads-steady reading ended (contents_of state) (contents_of (after ended)) old mid at ∙ steady in (
+              reads-never reading ended (contents_of state) (contents_of (after ended)) old mid at steady,
+              reading-faultless ended rest (AreFates caller brought unread rest (after ended)) (AreFates caller brought (next (asked caller brought (after ended))) rest (after ended))
+                  (Of caller brought unread rest (after ended) mid new) (Of caller brought (next (asked caller brought (after ended))) rest (after ended) mid new)
+                  (λ one first. stores-faultless caller brought unread rest (after ended) mid new one first kept)
+                  (λ other second. stores-faultless caller brought (next (asked caller brought (after ended))) rest (after ended) mid new other second kept) its more,
+            ))
+            fates
+        | false ↦ λ its more. stores-faultless caller brought (next (asked caller brought state)) fates state old new its more steady
+      ] in
+      pass (is_in_doubt reading state) are stores
   stores-faultless caller brought (Opens stem terms next) fates state old new are stores steady = stores-faultless caller brought next fates (unlocked_with brought stem terms state) old new are stores steady

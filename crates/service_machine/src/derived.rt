@@ -84,6 +84,7 @@ impl<F: Folder> Machine<F> {
             fates: Fates::none(),
         };
         known_derivation(&came);
+        self.tables.connections.are_distinct();
         let came = Boxed::new(self.tables.alloc, came)?;
         let Settled { made, done } = settle(&mut self.tables, conn, prompt, round, key, now)?;
         let (_, sends, read, fate) = done.into_parts();

@@ -24,6 +24,6 @@ pub use service_answers::service_events::{
     outputs_can_wait, steps_keep_the_rows_sound,
 };
 pub use service_answers::service_tables::{
-    ConnRow, ConnRows, DeskRow, Disk, Fate, OpenRefused, Rows,
+    ConnRow, ConnRows, DeskRow, Disk, Fate, OpenRefused, ReadFate, Rows, StoreFate,
 };
 pub use service_answers::{secret_calls, service_tables};

@@ -5,7 +5,7 @@ ghost use Rattle.service_answers.specs.service_tables.specs.Aliases.{rows_in};
 ghost use Rattle.replace_slot.specs.Cell.{Known};
 ghost use Rattle.service_answers.specs.service_tables.specs.Slots.{LeavesKnown, file_at, slot_at};
 ghost use Rattle.service_answers.specs.folder_store.specs.Ring.{IsAsFound};
-ghost use Rattle.service_answers.specs.service_tables.specs.Connections.{HasRoom, has, waiting_for, desk_of};
+ghost use Rattle.service_answers.specs.service_tables.specs.Connections.{HasRoom, desk_of, handed, has, spread, waiting_for};
 ghost use Rattle.service_answers.specs.service_tables.specs.Disk.{IsLoaded, FailedToLoad, disk_state};
 ghost use Rattle.service_answers.specs.service_events.specs.Fates.{with_fates, AreFaultless, IsFaultless, is_steady};
 ghost use Rattle.service_answers.specs.service_events.specs.Incoming.{AreFreeFor, Records, IsDue, IsOfNone, IsConnect, IsSoundFor, TakesMemory};
@@ -16,7 +16,7 @@ ghost use Rattle.service_answers.specs.service_disk.specs.Making.{AreFree};
 ghost use Rattle.service_answers.specs.service_events.specs.declared.event.Event.TheVariants as Event;
 ghost use Rattle.service_answers.specs.service_events.specs.declared.event.Output.TheVariants as Output;
 ghost use Rattle.service_answers.specs.service_tables.specs.Sound.{AreSoundContents, IsSound};
-ghost use Rattle.service_answers.specs.service_events.specs.Step.{step, output_of, brought_by, brought_with, plan_of, row_of, message_of, replies, with_delivered, IsMissing, IsCrowded, CanJoin, HasTypes, IsSalt, IsTypedName, Fits};
+ghost use Rattle.service_answers.specs.service_events.specs.Step.{step, output_of, brought_by, brought_with, plan_of, row_of, message_of, replies, with_rows, IsMissing, IsCrowded, CanJoin, HasTypes, IsSalt, IsTypedName, Fits};
 ghost use Rattle.service_answers.specs.service_events.specs.Stored.{IsPlain, KeepsDisk, SendsNothing, StoresEvent};
 ghost use Rattle.service_answers.specs.service_calls.specs.Done.{HasRoomToReply, Leads};
 
@@ -29,7 +29,7 @@ use prompt_state::PromptState;
 use service_answers::secret_calls::{AliasName, Body, Call, CallFault, Out, Request, Serial, Work};
 use service_answers::service_calls::{Answer, Done, Tables, bounded, refused, unstored};
 use service_answers::service_tables::{
-    Connections, DeskRow, Disk, OpenRefused, Rows, Sent, known_alias, known_item, known_secret,
+    Connections, Delivery, DeskRow, Disk, OpenRefused, Rows, known_alias, known_item, known_secret,
     known_text,
 };
 use service_answers::{answer_prompt, password_in, work_of};
@@ -276,6 +276,7 @@ impl<F: Folder> Machine<F> {
             × (disk_of self.new ≡ disk_of self.old)) }
     {
         known_request(arrival);
+        self.tables.connections.are_distinct();
         self.tables.connections.reserve(arrival.conn, 1)?;
         let password = password_in(&arrival.request)?;
         let (answer, sends, read, fate) = self.call(arrival)?.into_parts();
@@ -286,10 +287,11 @@ impl<F: Folder> Machine<F> {
 
     // The reply to a request waits for its connection, if it is wanted, and what is sent after it waits. It
     // takes no memory.
-    fn reply(&mut self, conn: ConnId, request: &Request, answer: Answer, sends: Items<Sent>)
+    fn reply(&mut self, conn: ConnId, request: &Request, answer: Answer, sends: Items<Delivery>)
         requires { HasRoomToReply conn sends self.old.tables.connections.rooms }
-        ensures rows { rows_of self.new
-            ≡ with_delivered (replies conn request.now answer ++ sends) (rows_of self.old) }
+        ensures rows { rows_of self.new ≡ with_rows
+            (handed (spread (rows_of self.old).connections.rows (replies conn request.now answer)
+            ++ sends) (rows_of self.old).connections.rows) (rows_of self.old) }
         ensures disk { disk_of self.new ≡ disk_of self.old }
     {
         if !request.wants_reply {

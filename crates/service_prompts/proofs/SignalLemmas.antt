@@ -38,13 +38,14 @@ use Rattle.service_tables.specs.secret_calls.specs.declared.out.Body.TheVariants
 use Rattle.service_tables.specs.secret_calls.specs.declared.signal.Signal.TheVariants as signal
 use Rattle.service_tables.specs.secret_calls.proofs.LengthLemmas.{AllAtMost, AtMost, end-most, more-most, path-most}
 use Rattle.service_tables.specs.secret_calls.proofs.SizeLemmas.{ask-fits, ask-waits, completed-fits, completed-waits, label-short, result_body}
-use Rattle.service_tables.specs.Connections.{size_of}
+use Rattle.service_tables.specs.Connections.{size_of, spread}
 use Rattle.service_tables.specs.Limits.{most_weight}
 use Rattle.service_tables.specs.Reading.{label_of}
 use Rattle.service_tables.specs.Sound.{AreSoundCollections, AreSoundPrompts, CanWait, IsSoundCollection, IsSoundKind, IsSoundPrompt, IsSoundTarget}
 use Rattle.service_tables.specs.Targets.{weight, weight_of}
 use Rattle.service_tables.specs.declared.rows.ConnRow.{ConnRow}
-use Rattle.service_tables.specs.declared.rows.Sent.{Sent}
+use Rattle.service_tables.specs.declared.rows.Delivery.{Delivery}
+use Rattle.service_tables.specs.Sent.{Sent}
 use Rattle.service_tables.proofs.CollectionLemmas.{at-stem, path-of}
 use Rattle.service_tables.proofs.EachLemmas.{each-found}
 use Rattle.service_tables.proofs.TypedLemmas.{text-known}
@@ -255,3 +256,24 @@ completed_sent-can conns prompts prompt dismissed created sound stem =
           (completed-can dismissed created (ended_row row) found.number found.kind stem, tt)
     ] in
     pass (row_at prompt prompts) refl
+
+-- ---- deliveries
+
+-- the delivery of Ask to the agent, if the prompt is there
+abbrev pub ask_delivery : Rows → Prompts → Ask → Option Delivery
+ask_delivery collections prompts ask = option_map (λ (sent : Sent). record { to = ask.agent; out = sent.out }) (ask_signal_in collections prompts ask)
+
+-- what is sent when these are asked goes to the agent, whichever connections are there
+pub spread-asks : (conns : List ConnRow) (collections : Rows) (prompts : Prompts) (these : List Ask)
+    → filter_map (ask_delivery collections prompts) these ≡ spread conns (filter_map (ask_signal_in collections prompts) these)
+spread-asks conns collections prompts [] = refl
+spread-asks conns collections prompts (ask ∷ these) =
+    let rest = spread-asks conns collections prompts these in
+    let pass : (o : Option PromptRow)
+    → cons_option (option_map (λ (sent : Sent). record { to = ask.agent; out = sent.out }) (option_map (λ (row : PromptRow). ask_signal collections row.kind ask) o)) (filter_map (ask_delivery collections prompts) these)
+    ≡ spread conns (cons_option (option_map (λ (row : PromptRow). ask_signal collections row.kind ask) o) (filter_map (ask_signal_in collections prompts) these)) =
+    elim [
+      | None ↦ rest
+      | Some row ↦ ap (λ (ds : List Delivery). record { to = ask.agent; out = (ask_signal collections row.kind ask).out } ∷ ds) rest
+    ] in
+    pass (row_at ask.prompt prompts)

@@ -24,7 +24,7 @@ use Rattle.service_tables.specs.secret_calls.specs.declared.signal.Completion.{C
 use Rattle.service_tables.specs.secret_calls.specs.declared.signal.Completion.TheVariants as completion
 use Rattle.service_tables.specs.secret_calls.specs.declared.signal.Signal.TheVariants as signal
 use Rattle.service_tables.specs.Reading.{label_of}
-use Rattle.service_tables.specs.declared.rows.Sent.{Sent}
+use Rattle.service_tables.specs.Sent.{One, Sent}
 use Rattle.service_prompts.specs.Unlocking.{given_of}
 
 -- ---- Ask
@@ -42,7 +42,7 @@ label_asked collections (Create label alias salt) = label
 -- the signal Ask for a prompt of this kind
 abbrev pub ask_signal : Rows → PromptKind → Ask → Sent
 ask_signal collections kind ask = record {
-  to = ask.agent;
+  to = One ask.agent;
   out = out.Signal (signal.Ask ask.prompt ask.round (purpose_of kind) (shown_label (label_asked collections kind)) ask.wrong);
 }
 
@@ -73,7 +73,7 @@ completion_of (Create label alias salt) created = completion.Object (created_pat
 -- the signal Completed for a prompt that ended
 abbrev pub completed_signal : Bool → Option (List ℕ) → Ended → Sent
 completed_signal dismissed created ended = record {
-  to = ended.owner;
+  to = One ended.owner;
   out = out.Signal (signal.Completed ended.prompt dismissed (completion_of ended.kind created));
 }
 

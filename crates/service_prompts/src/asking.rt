@@ -1,15 +1,20 @@
 // The signal Ask.
-ghost use Rattle.std.specs.Prelude.{◌≡◌, IfOk};
+ghost use Rattle.std.specs.Prelude.{◌≡◌, List, IfOk};
+ghost use Rattle.std.specs.Option.{option_map};
 ghost use Rattle.prompt_state.specs.Prompts.{registered};
 ghost use Rattle.service_tables.specs.secret_calls.specs.Outs.{shown_label};
+ghost use Rattle.service_tables.specs.Connections.{spread};
 ghost use Rattle.service_tables.specs.Disk.{contents_in};
+ghost use Rattle.service_tables.specs.Sent.{Sent};
+ghost use Rattle.service_tables.specs.declared.rows.ConnRow.{ConnRow};
+ghost use Rattle.service_tables.specs.declared.rows.Delivery.{Delivery};
 ghost use Rattle.service_prompts.specs.Prompting.{ask_sent, ask_signal, ask_signal_in, asks_sent, label_asked, purpose_of};
 
 use kr_base::{ConnId, OutOfMemory, PromptId, Text};
 use kr_outside::Folder;
 use prompt_state::{Ask, PromptKind, PromptState};
 use service_tables::secret_calls::{AskKind, Out, Signal, no_label, shown_label};
-use service_tables::{Disk, Sent};
+use service_tables::{Delivery, Disk};
 use std::alloc::Global;
 
 // What the password is for.
@@ -45,18 +50,20 @@ fn label_shown<F: Folder>(
     }
 }
 
-/// The signal Ask for a prompt of this kind.
+/// The delivery of the signal Ask, to the agent, for a prompt of this kind.
 pub fn ask_signal<F: Folder>(
     alloc: Global,
     disk: &Disk<F>,
     kind: &PromptKind,
     ask: Ask,
-) -> Result<Sent, OutOfMemory>
-    ensures { IfOk result (λ sent.
-        sent ≡ ask_signal (contents_in disk.now).collections kind.now ask) }
+) -> Result<Delivery, OutOfMemory>
+    ensures { IfOk result (λ delivery. delivery ≡ record {
+      to = ask.agent;
+      out = (ask_signal (contents_in disk.now).collections kind.now ask).out;
+    }) }
 {
     let label = label_shown(alloc, disk, kind)?;
-    Ok(Sent {
+    Ok(Delivery {
         to: ask.agent,
         out: Out::Signal(Signal::Ask {
             prompt: ask.prompt,
@@ -74,9 +81,10 @@ fn ask_signal_in<F: Folder>(
     disk: &Disk<F>,
     prompts: &PromptState,
     ask: Ask,
-) -> Result<Option<Sent>, OutOfMemory>
-    ensures { IfOk result (λ sent.
-        sent ≡ ask_signal_in (contents_in disk.now).collections prompts.now ask) }
+) -> Result<Option<Delivery>, OutOfMemory>
+    ensures { IfOk result (λ delivery. delivery
+        ≡ option_map (λ (sent : Sent). record { to = ask.agent; out = sent.out })
+        (ask_signal_in (contents_in disk.now).collections prompts.now ask)) }
 {
     match prompts.row(ask.prompt) {
         Some(row) => Ok(Some(ask_signal(alloc, disk, &row.kind, ask)?)),
@@ -91,9 +99,9 @@ pub fn ask_sent<F: Folder>(
     disk: &Disk<F>,
     prompts: &PromptState,
     prompt: PromptId,
-) -> Result<Vec<Sent>, OutOfMemory>
-    ensures { IfOk result (λ sent. sent.items
-        ≡ ask_sent prompt prompts.now (contents_in disk.now).collections) }
+) -> Result<Vec<Delivery>, OutOfMemory>
+    ensures { IfOk result (λ deliveries. (rows : List ConnRow) → deliveries.items
+        ≡ spread rows (ask_sent prompt prompts.now (contents_in disk.now).collections)) }
 {
     let mut outs = Vec::new(alloc);
     if let Some(ask) = prompts.ask_of(prompt) {
@@ -111,9 +119,10 @@ pub fn asks_sent_to<F: Folder>(
     disk: &Disk<F>,
     prompts: &PromptState,
     agent: ConnId,
-) -> Result<Vec<Sent>, OutOfMemory>
-    ensures { IfOk result (λ sent. sent.items
-        ≡ asks_sent (registered agent prompts.now) (contents_in disk.now).collections) }
+) -> Result<Vec<Delivery>, OutOfMemory>
+    ensures { IfOk result (λ deliveries. (rows : List ConnRow) → deliveries.items
+        ≡ spread rows
+        (asks_sent (registered agent prompts.now) (contents_in disk.now).collections)) }
 {
     let asks = prompts.asks_to(agent)?;
     let mut outs = Vec::new(alloc);

@@ -1,14 +1,16 @@
 // The signal Completed.
-ghost use Rattle.std.specs.Prelude.{◌≡◌, map, take, IfOk, codes};
+ghost use Rattle.std.specs.Prelude.{◌≡◌, List, map, take, IfOk, codes};
 ghost use Rattle.service_prompts.specs.Prompting.{completed_sent, completed_signal, completion_of, created_path};
 ghost use Rattle.service_prompts.specs.Unlocking.{given_of};
+ghost use Rattle.service_tables.specs.Connections.{spread};
+ghost use Rattle.service_tables.specs.declared.rows.ConnRow.{ConnRow};
 
 use kr_base::{ConnId, OutOfMemory, PromptId, Stem, Text};
 use kr_items::Items;
 use kr_names::{ObjectName, path_of};
 use prompt_state::{PromptKind, PromptState, Target};
 use service_tables::secret_calls::{Completion, Out, Signal};
-use service_tables::{Sent, collection_path};
+use service_tables::{Delivery, collection_path};
 use std::alloc::Global;
 
 // The paths that were given for targets.
@@ -52,7 +54,7 @@ pub fn completion_of(
     }
 }
 
-/// The signal Completed for a prompt of this owner and this kind.
+/// The delivery of the signal Completed, to its owner, for a prompt of this kind.
 pub fn completed_signal(
     alloc: Global,
     prompt: PromptId,
@@ -60,12 +62,15 @@ pub fn completed_signal(
     kind: &PromptKind,
     dismissed: bool,
     created: &Option<Stem>,
-) -> Result<Sent, OutOfMemory>
-    ensures { IfOk result (λ sent. sent ≡ completed_signal dismissed created.now
-        (record { prompt = prompt; owner = owner; kind = kind.now })) }
+) -> Result<Delivery, OutOfMemory>
+    ensures { IfOk result (λ delivery. delivery ≡ record {
+      to = owner;
+      out = (completed_signal dismissed created.now
+          (record { prompt = prompt; owner = owner; kind = kind.now })).out;
+    }) }
 {
     let completion = completion_of(alloc, kind, created)?;
-    Ok(Sent {
+    Ok(Delivery {
         to: owner,
         out: Out::Signal(Signal::Completed {
             prompt,
@@ -82,9 +87,9 @@ pub fn completed_sent(
     prompt: PromptId,
     dismissed: bool,
     created: &Option<Stem>,
-) -> Result<Vec<Sent>, OutOfMemory>
-    ensures { IfOk result (λ sent. sent.items
-        ≡ completed_sent prompt dismissed created.now prompts.now) }
+) -> Result<Vec<Delivery>, OutOfMemory>
+    ensures { IfOk result (λ deliveries. (rows : List ConnRow) → deliveries.items
+        ≡ spread rows (completed_sent prompt dismissed created.now prompts.now)) }
 {
     let mut outs = Vec::new(alloc);
     if let Some(row) = prompts.row(prompt) {

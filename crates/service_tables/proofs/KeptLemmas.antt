@@ -22,8 +22,11 @@ use Rattle.service_tables.specs.Aliases.{aliases_resolved, aliases_set, aliases_
 use Rattle.service_tables.specs.Opened.{Contents}
 use Rattle.service_tables.specs.Slots.{IsFault}
 use Rattle.service_tables.specs.Sound.{AreSoundAliases}
-use Rattle.service_tables.specs.declared.fate.Fate.{Fate}
-use Rattle.service_tables.specs.declared.fate.Fate.TheVariants as fate
+use Rattle.service_tables.specs.declared.fate.Fate.TheVariants.{Store}
+use Rattle.service_tables.specs.declared.fate.ReadFate.{ReadFate}
+use Rattle.service_tables.specs.declared.fate.ReadFate.TheVariants as read
+use Rattle.service_tables.specs.declared.fate.StoreFate.{StoreFate}
+use Rattle.service_tables.specs.declared.fate.StoreFate.TheVariants as store
 
 -- ---- what is known of the file
 
@@ -62,7 +65,7 @@ pub sets-ended : (IsRead : Found → Type 0) (change : Change) (rows new : Alias
 sets-ended IsRead change rows new result how certain is sets = subst (λ r. Ended change.next rows r new) is (sets-known IsRead change rows new result certain sets)
 
 -- what becomes of the aliases then
-pub rows-become-set : (some : Fate) (next : Option Aliases) (rows new : AliasRows) → (these : Aliases) × (next ≡ Some these) × (new ≡ rows_set these some rows) → new ≡ rows_set_of next some rows
+pub rows-become-set : (some : StoreFate) (next : Option Aliases) (rows new : AliasRows) → (these : Aliases) × (next ≡ Some these) × (new ≡ rows_set these some rows) → new ≡ rows_set_of next some rows
 rows-become-set some next rows new (these, is, same) = same ∙ sym (ap (λ n. rows_set_of n some rows) is)
 
 pub some-set : (next : Option Aliases) (P : Aliases → Type 0) → (these : Aliases) × (next ≡ Some these) × P these → IsSome next
@@ -87,17 +90,14 @@ found-sound found rows given =
     of-parts image.New (Doubt old new) aliases (Some newer) given = given.1
     of-parts image.Other (Doubt old new) aliases (Some newer) given = given.0
 
-rows-resolved-sound : (some : Fate) (rows : AliasRows) → AreSoundAliases (Some rows) → AreSoundAliases (Some (rows_resolved some rows))
-rows-resolved-sound fate.Stored rows sound = sound
-rows-resolved-sound fate.Before rows sound = sound
-rows-resolved-sound fate.Unsure rows sound = sound
-rows-resolved-sound fate.Old rows sound = found-sound image.Old rows sound
-rows-resolved-sound fate.New rows sound = found-sound image.New rows sound
-rows-resolved-sound fate.Other rows sound = found-sound image.Other rows sound
-rows-resolved-sound fate.ReadFailed rows sound = sound
+rows-resolved-sound : (some : ReadFate) (rows : AliasRows) → AreSoundAliases (Some rows) → AreSoundAliases (Some (rows_resolved some rows))
+rows-resolved-sound read.Old rows sound = found-sound image.Old rows sound
+rows-resolved-sound read.New rows sound = found-sound image.New rows sound
+rows-resolved-sound read.Other rows sound = found-sound image.Other rows sound
+rows-resolved-sound read.ReadFailed rows sound = sound
 
 -- a resolve of their file, however it ended
-pub sound-resolved : (some : Fate) (aliases : Option AliasRows) → AreSoundAliases aliases → AreSoundAliases (aliases_resolved some aliases)
+pub sound-resolved : (some : ReadFate) (aliases : Option AliasRows) → AreSoundAliases aliases → AreSoundAliases (aliases_resolved some aliases)
 sound-resolved some None sound = tt
 sound-resolved some (Some rows) sound = rows-resolved-sound some rows sound
 
@@ -120,21 +120,17 @@ older-given (Known image) aliases (Some newer) given = absurd given
 older-given (Doubt old new) aliases None given = absurd given
 older-given (Doubt old new) aliases (Some newer) given = given.0
 
-rows-set-sound : (next : Aliases) (some : Fate) (rows : AliasRows) → CanStore next → AreSoundAliases (Some rows) → AreSoundAliases (Some (rows_set next some rows))
-rows-set-sound next fate.Stored rows can sound = can
-rows-set-sound next fate.Before rows can sound = sound
-rows-set-sound next fate.Unsure rows can sound = (older-given rows.file rows.aliases rows.newer sound, can)
-rows-set-sound next fate.Old rows can sound = sound
-rows-set-sound next fate.New rows can sound = sound
-rows-set-sound next fate.Other rows can sound = sound
-rows-set-sound next fate.ReadFailed rows can sound = sound
+rows-set-sound : (next : Aliases) (some : StoreFate) (rows : AliasRows) → CanStore next → AreSoundAliases (Some rows) → AreSoundAliases (Some (rows_set next some rows))
+rows-set-sound next store.Stored rows can sound = can
+rows-set-sound next store.Before rows can sound = sound
+rows-set-sound next store.Unsure rows can sound = (older-given rows.file rows.aliases rows.newer sound, can)
 
-rows-set-of-sound : (next : Option Aliases) (some : Fate) (rows : AliasRows) → IfSome next CanStore → AreSoundAliases (Some rows) → AreSoundAliases (Some (rows_set_of next some rows))
+rows-set-of-sound : (next : Option Aliases) (some : StoreFate) (rows : AliasRows) → IfSome next CanStore → AreSoundAliases (Some rows) → AreSoundAliases (Some (rows_set_of next some rows))
 rows-set-of-sound None some rows can sound = sound
 rows-set-of-sound (Some next) some rows can sound = rows-set-sound next some rows can sound
 
 -- a change of them, however its storing ended
-pub sound-set : (name : List ℕ) (stem : Option (List ℕ)) (some : Fate) (contents : Contents) → IsAliasName name → IfSome stem IsStem → AreSoundAliases contents.aliases
+pub sound-set : (name : List ℕ) (stem : Option (List ℕ)) (some : StoreFate) (contents : Contents) → IsAliasName name → IfSome stem IsStem → AreSoundAliases contents.aliases
     → AreSoundAliases (aliases_set name stem some contents)
 sound-set name stem some contents named stems sound =
     let becomes : Option AliasRows → Option AliasRows = λ aliases. aliases_set name stem some (record contents { aliases = aliases }) in
@@ -155,30 +151,23 @@ found-certain image.Old (Doubt old new) = refl
 found-certain image.New (Doubt old new) = refl
 found-certain image.Other (Doubt old new) = refl
 
-rows-resolved-certain : (some : Fate) (rows : AliasRows) → is_doubt rows.file ≡ false → is_doubt (rows_resolved some rows).file ≡ false
-rows-resolved-certain fate.Stored rows certain = certain
-rows-resolved-certain fate.Before rows certain = certain
-rows-resolved-certain fate.Unsure rows certain = certain
-rows-resolved-certain fate.Old rows certain = found-certain image.Old rows.file
-rows-resolved-certain fate.New rows certain = found-certain image.New rows.file
-rows-resolved-certain fate.Other rows certain = found-certain image.Other rows.file
-rows-resolved-certain fate.ReadFailed rows certain = certain
+rows-resolved-certain : (some : ReadFate) (rows : AliasRows) → is_doubt rows.file ≡ false → is_doubt (rows_resolved some rows).file ≡ false
+rows-resolved-certain read.Old rows certain = found-certain image.Old rows.file
+rows-resolved-certain read.New rows certain = found-certain image.New rows.file
+rows-resolved-certain read.Other rows certain = found-certain image.Other rows.file
+rows-resolved-certain read.ReadFailed rows certain = certain
 
-pub certain-resolved : (some : Fate) (aliases : Option AliasRows) → are_doubtful aliases ≡ false → are_doubtful (aliases_resolved some aliases) ≡ false
+pub certain-resolved : (some : ReadFate) (aliases : Option AliasRows) → are_doubtful aliases ≡ false → are_doubtful (aliases_resolved some aliases) ≡ false
 certain-resolved some None certain = refl
 certain-resolved some (Some rows) certain = rows-resolved-certain some rows certain
 
-rows-set-certain : (next : Option Aliases) (some : Fate) (rows : AliasRows) → (IsFault some → ⊥) → is_doubt rows.file ≡ false → is_doubt (rows_set_of next some rows).file ≡ false
+rows-set-certain : (next : Option Aliases) (some : StoreFate) (rows : AliasRows) → (IsFault (Store some) → ⊥) → is_doubt rows.file ≡ false → is_doubt (rows_set_of next some rows).file ≡ false
 rows-set-certain None some rows well certain = certain
-rows-set-certain (Some next) fate.Stored rows well certain = refl
-rows-set-certain (Some next) fate.Before rows well certain = certain
-rows-set-certain (Some next) fate.Unsure rows well certain = absurd (well tt)
-rows-set-certain (Some next) fate.Old rows well certain = certain
-rows-set-certain (Some next) fate.New rows well certain = certain
-rows-set-certain (Some next) fate.Other rows well certain = certain
-rows-set-certain (Some next) fate.ReadFailed rows well certain = certain
+rows-set-certain (Some next) store.Stored rows well certain = refl
+rows-set-certain (Some next) store.Before rows well certain = certain
+rows-set-certain (Some next) store.Unsure rows well certain = absurd (well tt)
 
-pub certain-set : (name : List ℕ) (stem : Option (List ℕ)) (some : Fate) (contents : Contents) → (IsFault some → ⊥) → are_doubtful contents.aliases ≡ false
+pub certain-set : (name : List ℕ) (stem : Option (List ℕ)) (some : StoreFate) (contents : Contents) → (IsFault (Store some) → ⊥) → are_doubtful contents.aliases ≡ false
     → are_doubtful (aliases_set name stem some contents) ≡ false
 certain-set name stem some contents well certain =
     let becomes : Option AliasRows → Option AliasRows = λ aliases. aliases_set name stem some (record contents { aliases = aliases }) in

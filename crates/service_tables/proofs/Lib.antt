@@ -11,6 +11,7 @@ pub mod NotedLemmas
 pub mod ObjectLemmas
 pub mod RoomLemmas
 pub mod SlotLemmas
+pub mod SpreadLemmas
 pub mod StemLemmas
 pub mod StoredLemmas
 pub mod TableLemmas

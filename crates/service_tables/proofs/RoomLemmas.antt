@@ -9,8 +9,8 @@ use Rattle.std.proofs.lemmas.Bool.{eqb-true, eq-eqb}
 use Rattle.std.proofs.lemmas.Map.Keys.{sorted_head, sorted_tail}
 use Rattle.kr_base.specs.declared.ids.ConnId.{ConnId}
 use Rattle.service_tables.specs.declared.desk.Desk.{Desk}
-use Rattle.service_tables.specs.declared.rows.Sent.{Sent}
-use Rattle.service_tables.specs.Connections.{Rooms, HasRoom, KeepRooms, Spends, with_one, sent_to, count_to, HasRoomFor}
+use Rattle.service_tables.specs.declared.rows.Delivery.{Delivery}
+use Rattle.service_tables.specs.Connections.{Rooms, HasRoom, KeepRooms, Spends, with_one, outs_to, count_to, HasRoomFor}
 use Rattle.service_tables.specs.Desks.{kept, room_in, room_of}
 use Rattle.service_tables.proofs.DeskLemmas.{is_at_number, later_differs}
 
@@ -131,42 +131,42 @@ keep-set conn desk new (e ∷ es) some room count other all =
 -- ---- room for outputs
 
 -- the count of outputs with one more
-count-more : (sent : Sent) (outs : List Sent) (conn : ConnId) → count_to conn (sent ∷ outs) ≡ with_one sent.to conn (count_to conn outs)
-count-more sent outs conn =
-    let pass : (b : Bool) → length (cond b (sent.out ∷ sent_to conn outs) (sent_to conn outs)) ≡ cond b (count_to conn outs + 1) (count_to conn outs) =
+count-more : (delivery : Delivery) (outs : List Delivery) (conn : ConnId) → count_to conn (delivery ∷ outs) ≡ with_one delivery.to conn (count_to conn outs)
+count-more delivery outs conn =
+    let pass : (b : Bool) → length (cond b (delivery.out ∷ outs_to conn outs) (outs_to conn outs)) ≡ cond b (count_to conn outs + 1) (count_to conn outs) =
     elim [ true ↦ omega arith | false ↦ refl ] in
-    pass (sent.to.0 == conn.0)
+    pass (delivery.to.0 == conn.0)
 
 -- once room for the first one is spent, there is room for the others
-pub spent-for : (sent : Sent) (outs : List Sent) (old new : Rooms) → Spends sent.to old new → HasRoomFor (sent ∷ outs) old → HasRoomFor outs new
-spent-for sent outs old new spends room conn = spends (count_to conn outs) conn (subst (λ n. HasRoom n conn old) (count-more sent outs conn) (room conn))
+pub spent-for : (delivery : Delivery) (outs : List Delivery) (old new : Rooms) → Spends delivery.to old new → HasRoomFor (delivery ∷ outs) old → HasRoomFor outs new
+spent-for delivery outs old new spends room conn = spends (count_to conn outs) conn (subst (λ n. HasRoom n conn old) (count-more delivery outs conn) (room conn))
 
 -- there is room for the first one
-pub first-room : (sent : Sent) (outs : List Sent) (rooms : Rooms) → HasRoomFor (sent ∷ outs) rooms → HasRoom 1 sent.to rooms
-first-room sent outs rooms room =
-    let same : (sent.to.0 == sent.to.0) ≡ true = eq-eqb sent.to.0 sent.to.0 refl in
-    let count : with_one sent.to sent.to (count_to sent.to outs) ≡ count_to sent.to outs + 1 = rw same refl in
-    room-less 1 (count_to sent.to (sent ∷ outs)) sent.to rooms (omega (arith, count-more sent outs sent.to, count)) (room sent.to)
+pub first-room : (delivery : Delivery) (outs : List Delivery) (rooms : Rooms) → HasRoomFor (delivery ∷ outs) rooms → HasRoom 1 delivery.to rooms
+first-room delivery outs rooms room =
+    let same : (delivery.to.0 == delivery.to.0) ≡ true = eq-eqb delivery.to.0 delivery.to.0 refl in
+    let count : with_one delivery.to delivery.to (count_to delivery.to outs) ≡ count_to delivery.to outs + 1 = rw same refl in
+    room-less 1 (count_to delivery.to (delivery ∷ outs)) delivery.to rooms (omega (arith, count-more delivery outs delivery.to, count)) (room delivery.to)
 
-count-most : (conn : ConnId) (outs : List Sent) → count_to conn outs ≤ length outs
+count-most : (conn : ConnId) (outs : List Delivery) → count_to conn outs ≤ length outs
 count-most conn [] = omega arith
-count-most conn (sent ∷ outs) =
-    let pass : (b : Bool) → cond b (count_to conn outs + 1) (count_to conn outs) ≤ length (sent ∷ outs) =
+count-most conn (delivery ∷ outs) =
+    let pass : (b : Bool) → cond b (count_to conn outs + 1) (count_to conn outs) ≤ length (delivery ∷ outs) =
     elim [ true ↦ omega (arith, count-most conn outs) | false ↦ omega (arith, count-most conn outs) ] in
-    subst (λ n. n ≤ length (sent ∷ outs)) (sym (count-more sent outs conn)) (pass (sent.to.0 == conn.0))
+    subst (λ n. n ≤ length (delivery ∷ outs)) (sym (count-more delivery outs conn)) (pass (delivery.to.0 == conn.0))
 
 -- room for as many outputs as there are, of each connection to which one of them goes, is room for all
-pub room-each : (most : ℕ) (outs : List Sent) (rooms : Rooms) → length outs ≤ most → AllByRecursion (λ (sent : Sent). HasRoom most sent.to rooms) outs → HasRoomFor outs rooms
+pub room-each : (most : ℕ) (outs : List Delivery) (rooms : Rooms) → length outs ≤ most → AllByRecursion (λ (delivery : Delivery). HasRoom most delivery.to rooms) outs → HasRoomFor outs rooms
 room-each most [] rooms few all conn = room-zero conn rooms
-room-each most (sent ∷ outs) rooms few all conn =
-    let pass : (b : Bool) → (sent.to.0 == conn.0) ≡ b → HasRoom (count_to conn (sent ∷ outs)) conn rooms =
+room-each most (delivery ∷ outs) rooms few all conn =
+    let pass : (b : Bool) → (delivery.to.0 == conn.0) ≡ b → HasRoom (count_to conn (delivery ∷ outs)) conn rooms =
     elim [
-      | true ↦ λ is. room-less (count_to conn (sent ∷ outs)) most conn rooms (omega (arith, few, count-most conn (sent ∷ outs))) (room-same most sent.to conn rooms is all.0)
-      | false ↦ λ is. subst (λ n. HasRoom n conn rooms) (sym (count-more sent outs conn ∙ (let fewer : with_one sent.to conn (count_to conn outs) ≡ count_to conn outs = rw is refl in fewer))) (room-each most outs rooms (omega (arith, few)) all.1 conn)
+      | true ↦ λ is. room-less (count_to conn (delivery ∷ outs)) most conn rooms (omega (arith, few, count-most conn (delivery ∷ outs))) (room-same most delivery.to conn rooms is all.0)
+      | false ↦ λ is. subst (λ n. HasRoom n conn rooms) (sym (count-more delivery outs conn ∙ (let fewer : with_one delivery.to conn (count_to conn outs) ≡ count_to conn outs = rw is refl in fewer))) (room-each most outs rooms (omega (arith, few)) all.1 conn)
     ] in
-    pass (sent.to.0 == conn.0) refl
+    pass (delivery.to.0 == conn.0) refl
 
 -- rooms that are kept are still there for each of these
-pub keep-each : (most : ℕ) (outs : List Sent) (old new : Rooms) → KeepRooms old new → AllByRecursion (λ (sent : Sent). HasRoom most sent.to old) outs → AllByRecursion (λ (sent : Sent). HasRoom most sent.to new) outs
+pub keep-each : (most : ℕ) (outs : List Delivery) (old new : Rooms) → KeepRooms old new → AllByRecursion (λ (delivery : Delivery). HasRoom most delivery.to old) outs → AllByRecursion (λ (delivery : Delivery). HasRoom most delivery.to new) outs
 keep-each most [] old new keep all = tt
-keep-each most (sent ∷ outs) old new keep all = (keep most sent.to all.0, keep-each most outs old new keep all.1)
+keep-each most (delivery ∷ outs) old new keep all = (keep most delivery.to all.0, keep-each most outs old new keep all.1)

@@ -20,8 +20,8 @@ use Rattle.collection_store.specs.declared.refused.ChangeRefused.TheVariants as 
 use Rattle.collection_table.specs.Entries.{Entries, row_of, rows_of}
 use Rattle.collection_table.specs.Rows.{CollectionRow, Rows, room_in}
 use Rattle.collection_table.proofs.RowLemmas.{value-rows}
-use Rattle.service_tables.specs.declared.fate.Fate.{Fate}
-use Rattle.service_tables.specs.declared.fate.Fate.TheVariants as fate
+use Rattle.service_tables.specs.declared.fate.StoreFate.{StoreFate}
+use Rattle.service_tables.specs.declared.fate.StoreFate.TheVariants as fate
 use Rattle.service_tables.specs.Storing.{answered_at, placed, row_after, row_changed, storable_at}
 
 -- a test that fails doesn't pass
@@ -60,7 +60,7 @@ same-row given now row =
 
 module _ (given : Change) (now : ℕ) {S : Type 0} (old new : CollectionState S) where
   -- what the row becomes, with what it holds
-  abbrev becomes : Fate → Option Held → CollectionRow
+  abbrev becomes : StoreFate → Option Held → CollectionRow
   becomes some held = option_map_or (λ (held : Held). row_after some held (row_of old) (content_changed given now old.clear held.rows)) held (row_of old)
 
   pub row-stored : (answer : Changed) → IsSome old.held → IfSome old.held (λ held. IsChanged given now old held new answer) → row_of new ≡ row_changed given now fate.Stored (row_of old)

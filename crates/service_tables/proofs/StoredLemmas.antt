@@ -29,8 +29,8 @@ use Rattle.collection_store.specs.declared.refused.ChangeRefused.TheVariants as 
 use Rattle.collection_table.specs.Entries.{changed}
 use Rattle.collection_table.specs.Rows.{CollectionRow, Rows, perhaps_removed, room_in}
 use Rattle.collection_table.proofs.EntryLemmas.{changed_in_order, order_kept}
-use Rattle.service_tables.specs.declared.fate.Fate.{Fate}
-use Rattle.service_tables.specs.declared.fate.Fate.TheVariants as fate
+use Rattle.service_tables.specs.declared.fate.StoreFate.{StoreFate}
+use Rattle.service_tables.specs.declared.fate.StoreFate.TheVariants as fate
 use Rattle.service_tables.specs.Sound.{AreItemTypes, AreSecretTypes, AreShown, AreSoundCollections, AreSoundItems, IsSoundCollection, IsSoundItem}
 use Rattle.service_tables.specs.Storing.{AreEditTypes, Edit, Add_item, Set_secret, Remove_item, change_of, has_place, item_in, placed, placed_answer, row_after, row_changed, rows_erased, rows_stored, storable_at}
 use Rattle.service_tables.proofs.CollectionLemmas.{at-stem}
@@ -218,18 +218,14 @@ module _ (now : ℕ) (small : now < 2 ^ 64) (edit : Edit) (value : List ℕ) (ty
       as-sound now (record row.clear { name = name_made (change_of value edit) row.clear.name }) (rows_made (change_of value edit) now held.rows) (label-kept value edit row.clear.name label)
       (rows-sound now small edit value held.rows types all)
 
-  after-sound : (stem : List ℕ) (row : CollectionRow) (held : Held) (some : Fate) (made : Result (Content × Changed) ItemFault) → IsSoundCollection (stem, row) → ContentSound made
+  after-sound : (stem : List ℕ) (row : CollectionRow) (held : Held) (some : StoreFate) (made : Result (Content × Changed) ItemFault) → IsSoundCollection (stem, row) → ContentSound made
       → IsSoundCollection (stem, row_after some held row made)
   after-sound stem row held fate.Stored (Ok made) sound content = record { stem = sound.stem; shown = content.0.shown; other = tt; held = content.0.held }
   after-sound stem row held fate.Unsure (Ok made) sound content = record { stem = sound.stem; shown = sound.shown; other = content.0.shown; held = tt }
   after-sound stem row held fate.Before (Ok made) sound content = sound
-  after-sound stem row held fate.Old (Ok made) sound content = sound
-  after-sound stem row held fate.New (Ok made) sound content = sound
-  after-sound stem row held fate.Other (Ok made) sound content = sound
-  after-sound stem row held fate.ReadFailed (Ok made) sound content = sound
   after-sound stem row held some (Err fault) sound content = sound
 
-  row-sound : (stem : List ℕ) (some : Fate) (row : CollectionRow) → IsSoundCollection (stem, row) → IsSoundCollection (stem, row_changed (change_of value edit) now some row)
+  row-sound : (stem : List ℕ) (some : StoreFate) (row : CollectionRow) → IsSoundCollection (stem, row) → IsSoundCollection (stem, row_changed (change_of value edit) now some row)
   row-sound stem some row sound =
       let becomes : Option Held → CollectionRow =
       λ o. option_map_or (λ (held : Held). row_after some held row (content_changed (change_of value edit) now row.clear held.rows)) o row in
@@ -243,7 +239,7 @@ module _ (now : ℕ) (small : now < 2 ^ 64) (edit : Edit) (value : List ℕ) (ty
       ] in
       pass row.held refl
 
-  each-stored : (stem : List ℕ) (some : Fate) (these : Rows) → AllByRecursion IsSoundCollection these → AllByRecursion IsSoundCollection (rows_stored stem (change_of value edit) now some these)
+  each-stored : (stem : List ℕ) (some : StoreFate) (these : Rows) → AllByRecursion IsSoundCollection these → AllByRecursion IsSoundCollection (rows_stored stem (change_of value edit) now some these)
   each-stored stem some [] all = tt
   each-stored stem some (row ∷ these) all =
       let f = row_changed (change_of value edit) now some in
@@ -251,7 +247,7 @@ module _ (now : ℕ) (small : now < 2 ^ 64) (edit : Edit) (value : List ℕ) (ty
       (pass (is_name stem row.0), each-stored stem some these all.1)
 
   -- an edit of a collection, however its storing ended
-  pub sound-stored : (stem : List ℕ) (some : Fate) (these : Rows) → AreSoundCollections these → AreSoundCollections (rows_stored stem (change_of value edit) now some these)
+  pub sound-stored : (stem : List ℕ) (some : StoreFate) (these : Rows) → AreSoundCollections these → AreSoundCollections (rows_stored stem (change_of value edit) now some these)
   sound-stored stem some these sound = record {
     ordered = changed_in_order stem (row_changed (change_of value edit) now some) these sound.ordered;
     each = each-stored stem some these sound.each;
@@ -305,11 +301,7 @@ each-faded stem (row ∷ these) all =
     (pass (is_name stem row.0), each-faded stem these all.1)
 
 -- the removal of a file, however it ended
-pub sound-erased : (stem : List ℕ) (some : Fate) (these : Rows) → AreSoundCollections these → AreSoundCollections (rows_erased stem some these)
+pub sound-erased : (stem : List ℕ) (some : StoreFate) (these : Rows) → AreSoundCollections these → AreSoundCollections (rows_erased stem some these)
 sound-erased stem fate.Stored these sound = record { ordered = order_kept _ these sound.ordered; each = each-filter IsSoundCollection _ these sound.each }
 sound-erased stem fate.Before these sound = sound
 sound-erased stem fate.Unsure these sound = record { ordered = changed_in_order stem perhaps_removed these sound.ordered; each = each-faded stem these sound.each }
-sound-erased stem fate.Old these sound = sound
-sound-erased stem fate.New these sound = sound
-sound-erased stem fate.Other these sound = sound
-sound-erased stem fate.ReadFailed these sound = sound

@@ -1,5 +1,5 @@
 -- What changes of the connections and of the sessions leave sound.
-use Rattle.std.proofs.Common.{◌≡◌, ℕ, ◌+◌, ◌<◌, ◌≤◌, ◌==◌, Bool, true, false, not, nat_le, nat_lt, cond, List, [], ◌∷◌, ◌++◌, if◌then◌else◌, length, filter, refl, ap, sym, subst, ◌∙◌, arith, length-append, inl, inr}
+use Rattle.std.proofs.Common.{◌≡◌, ℕ, ◌+◌, ◌<◌, ◌≤◌, ◌==◌, Bool, true, false, not, nat_le, nat_lt, cond, List, [], ◌∷◌, ◌++◌, if◌then◌else◌, length, filter, map, refl, ap, sym, subst, ◌∙◌, arith, length-append, inl, inr}
 use Rattle.std.specs.List.{AllByRecursion}
 use Rattle.std.proofs.lemmas.Bool.{or_left, or_right, or_cases, leb-true}
 use Rattle.std.proofs.lemmas.Bool.Decides.{nat_tests}
@@ -88,44 +88,49 @@ after-number conn change keeps row =
     elim [ true ↦ λ is. rw is (keeps row) | false ↦ λ is. rw is refl ] in
     pass (is_row conn row) refl
 
-pub joined-changed : (next : ℕ) (conn : ConnId) (change : ConnRow → ConnRow) → KeepsNumber change → (rows : List ConnRow) → AreJoined next rows → AreJoined next (changed conn change rows)
-joined-changed next conn change keeps [] all = tt
-joined-changed next conn change keeps (row ∷ rows) all = (rw (after-number conn change keeps row) all.0, joined-changed next conn change keeps rows all.1)
+pub joined-mapped : (next : ℕ) (change : ConnRow → ConnRow) → KeepsNumber change → (rows : List ConnRow) → AreJoined next rows → AreJoined next (map change rows)
+joined-mapped next change keeps [] all = tt
+joined-mapped next change keeps (row ∷ rows) all = (rw (keeps row) all.0, joined-mapped next change keeps rows all.1)
 
-pub above-changed : (number : ℕ) (conn : ConnId) (change : ConnRow → ConnRow) → KeepsNumber change → (rows : List ConnRow)
-    → AllByRecursion (λ other. number < other.conn.0) rows → AllByRecursion (λ other. number < other.conn.0) (changed conn change rows)
-above-changed number conn change keeps [] all = tt
-above-changed number conn change keeps (row ∷ rows) all = (rw (after-number conn change keeps row) all.0, above-changed number conn change keeps rows all.1)
+above-mapped : (number : ℕ) (change : ConnRow → ConnRow) → KeepsNumber change → (rows : List ConnRow)
+    → AllByRecursion (λ other. number < other.conn.0) rows → AllByRecursion (λ other. number < other.conn.0) (map change rows)
+above-mapped number change keeps [] all = tt
+above-mapped number change keeps (row ∷ rows) all = (rw (keeps row) all.0, above-mapped number change keeps rows all.1)
 
-pub apart-changed : (conn : ConnId) (change : ConnRow → ConnRow) → KeepsNumber change → (rows : List ConnRow) → AreApart rows → AreApart (changed conn change rows)
-apart-changed conn change keeps [] all = tt
-apart-changed conn change keeps (row ∷ rows) all =
-    (rw (after-number conn change keeps row) (above-changed row.conn.0 conn change keeps rows all.0), apart-changed conn change keeps rows all.1)
+apart-mapped : (change : ConnRow → ConnRow) → KeepsNumber change → (rows : List ConnRow) → AreApart rows → AreApart (map change rows)
+apart-mapped change keeps [] all = tt
+apart-mapped change keeps (row ∷ rows) all = (rw (keeps row) (above-mapped row.conn.0 change keeps rows all.0), apart-mapped change keeps rows all.1)
+
+pub has-mapped : (other : ConnId) (change : ConnRow → ConnRow) → KeepsNumber change → (rows : List ConnRow) → has other (map change rows) ≡ has other rows
+has-mapped other change keeps [] = refl
+has-mapped other change keeps (row ∷ rows) = rw (keeps row, has-mapped other change keeps rows) refl
 
 pub has-changed : (other conn : ConnId) (change : ConnRow → ConnRow) → KeepsNumber change → (rows : List ConnRow) → has other (changed conn change rows) ≡ has other rows
-has-changed other conn change keeps [] = refl
-has-changed other conn change keeps (row ∷ rows) = rw (after-number conn change keeps row, has-changed other conn change keeps rows) refl
+has-changed other conn change keeps rows = has-mapped other (after conn change) (after-number conn change keeps) rows
 
-pub length-changed : (conn : ConnId) (change : ConnRow → ConnRow) (rows : List ConnRow) → length (changed conn change rows) ≡ length rows
-length-changed conn change rows = length-map rows (after conn change)
+waiting-mapped : (change : ConnRow → ConnRow) → ((row : ConnRow) → WaitsWell row → WaitsWell (change row)) → (rows : List ConnRow) → AreWaiting rows → AreWaiting (map change rows)
+waiting-mapped change well [] all = tt
+waiting-mapped change well (row ∷ rows) all = (well row all.0, waiting-mapped change well rows all.1)
 
-pub waiting-changed : (conn : ConnId) (change : ConnRow → ConnRow) → ((row : ConnRow) → WaitsWell row → WaitsWell (change row)) → (rows : List ConnRow) → AreWaiting rows
-    → AreWaiting (changed conn change rows)
-waiting-changed conn change well [] all = tt
-waiting-changed conn change well (row ∷ rows) all =
-    let pass : (b : Bool) → is_row conn row ≡ b → WaitsWell (after conn change row) =
-    elim [ true ↦ λ is. rw is (well row all.0) | false ↦ λ is. rw is all.0 ] in
-    (pass (is_row conn row) refl, waiting-changed conn change well rows all.1)
+pub after-well : (conn : ConnId) (change : ConnRow → ConnRow) → ((row : ConnRow) → WaitsWell row → WaitsWell (change row)) → (row : ConnRow) → WaitsWell row → WaitsWell (after conn change row)
+after-well conn change well row is =
+    let pass : (b : Bool) → WaitsWell (cond b (change row) row) = elim [ true ↦ well row is | false ↦ is ] in
+    pass (is_row conn row)
+
+-- connections with a change of each
+pub connections-mapped : (change : ConnRow → ConnRow) → KeepsNumber change → ((row : ConnRow) → WaitsWell row → WaitsWell (change row)) → (connections : ConnRows)
+    → AreSoundConnections connections → AreSoundConnections (record connections { rows = map change connections.rows })
+connections-mapped change keeps well connections sound = record {
+  joined = joined-mapped connections.next change keeps connections.rows sound.joined;
+  apart = apart-mapped change keeps connections.rows sound.apart;
+  few = rw (length-map connections.rows change) sound.few;
+  waiting = waiting-mapped change well connections.rows sound.waiting;
+}
 
 -- connections with a change of one
 pub connections-changed : (conn : ConnId) (change : ConnRow → ConnRow) → KeepsNumber change → ((row : ConnRow) → WaitsWell row → WaitsWell (change row)) → (connections : ConnRows)
     → AreSoundConnections connections → AreSoundConnections (record connections { rows = changed conn change connections.rows })
-connections-changed conn change keeps well connections sound = record {
-  joined = joined-changed connections.next conn change keeps connections.rows sound.joined;
-  apart = apart-changed conn change keeps connections.rows sound.apart;
-  few = rw (length-changed conn change connections.rows) sound.few;
-  waiting = waiting-changed conn change well connections.rows sound.waiting;
-}
+connections-changed conn change keeps well connections sound = connections-mapped (after conn change) (after-number conn change keeps) (after-well conn change well) connections sound
 
 -- sessions among other connections, of which none is missing
 pub sessions-among : (old new : List ConnRow) → ((owner : ConnId) → has owner old ≡ true → has owner new ≡ true) → (sessions : Sessions) → AreSoundSessions old sessions → AreSoundSessions new sessions

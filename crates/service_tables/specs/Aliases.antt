@@ -14,8 +14,10 @@ use Rattle.service_tables.specs.Opened.{Contents}
 use Rattle.service_tables.specs.Questions.{AliasQuestions}
 use Rattle.service_tables.specs.declared.aliases.KeptAliases.{KeptAliases}
 use Rattle.service_tables.specs.declared.aliases.KeptAliases.TheVariants as kept
-use Rattle.service_tables.specs.declared.fate.Fate.{Fate}
-use Rattle.service_tables.specs.declared.fate.Fate.TheVariants as fate
+use Rattle.service_tables.specs.declared.fate.ReadFate.{ReadFate}
+use Rattle.service_tables.specs.declared.fate.ReadFate.TheVariants as read
+use Rattle.service_tables.specs.declared.fate.StoreFate.{StoreFate}
+use Rattle.service_tables.specs.declared.fate.StoreFate.TheVariants as store
 
 -- ---- what is kept
 
@@ -57,45 +59,37 @@ aliases_with name stem collections rows = few (changed name stem (keys_of collec
 -- the answers to questions about the aliases
 abbrev pub asked_aliases : Contents → AliasQuestions
 asked_aliases contents = record {
-  in_doubt = are_doubtful contents.aliases;
   can_set = λ name stem. option_map_or (λ (rows : AliasRows). is_some (aliases_with name stem contents.collections rows)) contents.aliases false;
 }
 
 -- ---- what becomes of them
 
 -- the aliases once these were to be stored, by how that ended
-abbrev pub rows_set : Aliases → Fate → AliasRows → AliasRows
-rows_set next fate.Stored rows = stored next
-rows_set next fate.Before rows = rows
-rows_set next fate.Unsure rows = unsure next rows
-rows_set next fate.Old rows = rows
-rows_set next fate.New rows = rows
-rows_set next fate.Other rows = rows
-rows_set next fate.ReadFailed rows = rows
+abbrev pub rows_set : Aliases → StoreFate → AliasRows → AliasRows
+rows_set next store.Stored rows = stored next
+rows_set next store.Before rows = rows
+rows_set next store.Unsure rows = unsure next rows
 
 -- the same if there are such; nothing is stored of too many
-abbrev pub rows_set_of : Option Aliases → Fate → AliasRows → AliasRows
+abbrev pub rows_set_of : Option Aliases → StoreFate → AliasRows → AliasRows
 rows_set_of None fate rows = rows
 rows_set_of (Some next) fate rows = rows_set next fate rows
 
 -- the aliases once the one of this name was to be set to a stem or removed, by how the storing of their file ended
-abbrev pub aliases_set : List ℕ → Option (List ℕ) → Fate → Contents → Option AliasRows
+abbrev pub aliases_set : List ℕ → Option (List ℕ) → StoreFate → Contents → Option AliasRows
 aliases_set name stem fate contents =
     option_map (λ (rows : AliasRows). rows_set_of (aliases_with name stem contents.collections rows) fate rows) contents.aliases
 
 -- the aliases once their file was to be read again, of which two images are known, by how that ended. If it has neither image, that counts
 -- as the older one.
-abbrev pub rows_resolved : Fate → AliasRows → AliasRows
-rows_resolved fate.Stored rows = rows
-rows_resolved fate.Before rows = rows
-rows_resolved fate.Unsure rows = rows
-rows_resolved fate.Old rows = resolved image.Old rows
-rows_resolved fate.New rows = resolved image.New rows
-rows_resolved fate.Other rows = resolved image.Other rows
-rows_resolved fate.ReadFailed rows = rows
+abbrev pub rows_resolved : ReadFate → AliasRows → AliasRows
+rows_resolved read.Old rows = resolved image.Old rows
+rows_resolved read.New rows = resolved image.New rows
+rows_resolved read.Other rows = resolved image.Other rows
+rows_resolved read.ReadFailed rows = rows
 
 -- the same if there are aliases
-abbrev pub aliases_resolved : Fate → Option AliasRows → Option AliasRows
+abbrev pub aliases_resolved : ReadFate → Option AliasRows → Option AliasRows
 aliases_resolved fate aliases = option_map (rows_resolved fate) aliases
 
 -- ---- what was prepared

@@ -9,7 +9,8 @@ use Rattle.service_tables.specs.Limits.{most_taken}
 use Rattle.service_tables.specs.declared.rows.ConnRow.{ConnRow}
 use Rattle.service_tables.specs.declared.rows.ConnRows.{ConnRows}
 use Rattle.service_tables.specs.declared.rows.DeskRow.{DeskRow}
-use Rattle.service_tables.specs.declared.rows.Sent.{Sent}
+use Rattle.service_tables.specs.declared.rows.Delivery.{Delivery}
+use Rattle.service_tables.specs.Sent.{Recipient, One, Everyone, Sent, is_for}
 
 -- the row of a connection that joins
 abbrev pub new_row : ConnId → ConnRow
@@ -77,15 +78,50 @@ abbrev pub waiting_for : ConnId → List ConnRow → List Out
 waiting_for conn [] = []
 waiting_for conn (row ∷ rows) = if is_row conn row then row.waiting else waiting_for conn rows
 
+-- the rows once an output is delivered to its recipient
+abbrev pub given_out : Sent → List ConnRow → List ConnRow
+given_out sent rows = map (λ (row : ConnRow). if is_for sent.to row.conn then with_out sent.out row else row) rows
+
 -- the rows with the outputs delivered, in order
 abbrev pub delivered : List Sent → List ConnRow → List ConnRow
 delivered [] rows = rows
-delivered (sent ∷ more) rows = delivered more (changed sent.to (with_out sent.out) rows)
+delivered (sent ∷ more) rows = delivered more (given_out sent rows)
 
--- the outputs among these that are on their way to this connection
+-- the outputs among these that go to this connection, if it is there
 abbrev pub sent_to : ConnId → List Sent → List Out
 sent_to conn [] = []
-sent_to conn (sent ∷ more) = if sent.to.0 == conn.0 then sent.out ∷ sent_to conn more else sent_to conn more
+sent_to conn (sent ∷ more) = if is_for sent.to conn then sent.out ∷ sent_to conn more else sent_to conn more
+
+-- no two rows are of one connection
+abbrev pub AreDistinct : List ConnRow → Type 0
+AreDistinct [] = Unit {0}
+AreDistinct (row ∷ rows) = (has row.conn rows ≡ false) × AreDistinct rows
+
+-- ---- deliveries
+
+-- a delivery of the output to each connection of the rows
+abbrev pub for_each : Out → List ConnRow → List Delivery
+for_each out rows = map (λ (row : ConnRow). record { to = row.conn; out = out }) rows
+
+-- the deliveries of an output to its recipient
+abbrev pub deliveries_of : Recipient → Out → List ConnRow → List Delivery
+deliveries_of (One conn) out rows = record { to = conn; out = out } ∷ []
+deliveries_of Everyone out rows = for_each out rows
+
+-- the deliveries of these outputs, in order; what goes to everyone is delivered to each connection of these rows
+abbrev pub spread : List ConnRow → List Sent → List Delivery
+spread rows [] = []
+spread rows (sent ∷ more) = deliveries_of sent.to sent.out rows ++ spread rows more
+
+-- the rows with these deliveries made, in order
+abbrev pub handed : List Delivery → List ConnRow → List ConnRow
+handed [] rows = rows
+handed (delivery ∷ more) rows = handed more (changed delivery.to (with_out delivery.out) rows)
+
+-- the outputs among these that are delivered to this connection
+abbrev pub outs_to : ConnId → List Delivery → List Out
+outs_to conn [] = []
+outs_to conn (delivery ∷ more) = if delivery.to.0 == conn.0 then delivery.out ∷ outs_to conn more else outs_to conn more
 
 -- ---- room
 
@@ -109,10 +145,10 @@ with_one conn other count = if conn.0 == other.0 then count + 1 else count
 abbrev pub Spends : ConnId → Rooms → Rooms → Type 0
 Spends conn old new = (count : ℕ) (other : ConnId) → HasRoom (with_one conn other count) other old → HasRoom count other new
 
--- how many of these outputs are on their way to the connection
-abbrev pub count_to : ConnId → List Sent → ℕ
-count_to conn outs = length (sent_to conn outs)
+-- how many of these deliveries are for the connection
+abbrev pub count_to : ConnId → List Delivery → ℕ
+count_to conn deliveries = length (outs_to conn deliveries)
 
--- there is room for all of these outputs
-abbrev pub HasRoomFor : List Sent → Rooms → Type 0
-HasRoomFor outs rooms = (conn : ConnId) → HasRoom (count_to conn outs) conn rooms
+-- there is room for all of these deliveries
+abbrev pub HasRoomFor : List Delivery → Rooms → Type 0
+HasRoomFor deliveries rooms = (conn : ConnId) → HasRoom (count_to conn deliveries) conn rooms

@@ -14,6 +14,7 @@ pub mod Objects
 pub mod Opened
 pub mod Questions
 pub mod Reading
+pub mod Sent
 pub mod Slots
 pub mod Sound
 pub mod State

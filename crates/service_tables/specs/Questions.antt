@@ -28,8 +28,6 @@ pub record CollectionQuestions : Type 0 where
 
 -- what may be asked of the aliases before one is set
 pub record AliasQuestions : Type 0 where
-  -- whether their file is in doubt
-  pub in_doubt : Bool
   -- whether the alias of a name can be set to a stem, or removed if there is none: the file wasn't left alone, and there are no more
   -- aliases than may be once those whose collection isn't there are dropped
   pub can_set : List ℕ → Option (List ℕ) → Bool

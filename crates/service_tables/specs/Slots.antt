@@ -11,19 +11,30 @@ use Rattle.kr_outside.specs.RenameDisk.{Image}
 use Rattle.replace_slot.specs.Cell.{File, Known, IsOneOf, LeavesFile}
 use Rattle.collection_table.specs.Rows.{CollectionRow, Rows}
 use Rattle.service_tables.specs.declared.fate.Fate.{Fate}
-use Rattle.service_tables.specs.declared.fate.Fate.TheVariants as fate
-use Rattle.service_tables.specs.declared.fate.Fate.TheVariants.{Other}
+use Rattle.service_tables.specs.declared.fate.Fate.TheVariants.{Read, Store}
+use Rattle.service_tables.specs.declared.fate.ReadFate.{ReadFate}
+use Rattle.service_tables.specs.declared.fate.ReadFate.TheVariants as read
+use Rattle.service_tables.specs.declared.fate.StoreFate.{StoreFate}
+use Rattle.service_tables.specs.declared.fate.StoreFate.TheVariants as store
 use Rattle.service_tables.specs.Disk.{DiskState}
+
+-- a call of a device failed while a file was stored or removed
+abbrev pub IsStoreFault : StoreFate → Type 0
+IsStoreFault store.Stored = ⊥
+IsStoreFault store.Before = Unit {0}
+IsStoreFault store.Unsure = Unit {0}
+
+-- a call of a device failed while a file in doubt was read again
+abbrev pub IsReadFault : ReadFate → Type 0
+IsReadFault read.Old = ⊥
+IsReadFault read.New = ⊥
+IsReadFault read.Other = ⊥
+IsReadFault read.ReadFailed = Unit {0}
 
 -- a call of a device failed
 abbrev pub IsFault : Fate → Type 0
-IsFault fate.Stored = ⊥
-IsFault fate.Before = Unit {0}
-IsFault fate.Unsure = Unit {0}
-IsFault fate.Old = ⊥
-IsFault fate.New = ⊥
-IsFault fate.Other = ⊥
-IsFault fate.ReadFailed = Unit {0}
+IsFault (Store some) = IsStoreFault some
+IsFault (Read some) = IsReadFault some
 
 -- what is known of the file of a stem; there is none where there is no collection
 abbrev pub file_at : List ℕ → Rows → File
@@ -56,7 +67,7 @@ pub record StoresIn {S : Type 0} (is_honest is_steady : S → Bool) (faults : S 
   pub steady : KeepsSteady (is_steady old) (is_steady new) (faults old) (faults new)
   pub cause : IsFault fate → Rose (faults old) (faults new)
   pub never : IsTrue (is_steady old) → IsFault fate → ⊥
-  pub one : IsTrue (is_honest old) → fate ≢ Other
+  pub one : IsTrue (is_honest old) → fate ≢ Read read.Other
 
 -- The same of a disk: the slot of this stem is used, and stays the slot of this stem; all else is as before.
 pub record StoresAt {F S : Type 0} (is_honest is_steady : S → Bool) (faults : S → ℕ) (moment : S → ℕ) (left_since : S → ℕ → Image → Type 0)

@@ -39,7 +39,7 @@ use Rattle.service_tables.specs.Opened.{Contents}
 use Rattle.service_tables.specs.State.{State}
 use Rattle.service_tables.specs.declared.rows.ConnRow.{ConnRow}
 use Rattle.service_tables.specs.declared.rows.ConnRows.{ConnRows}
-use Rattle.service_tables.specs.declared.rows.Sent.{Sent}
+use Rattle.service_tables.specs.Sent.{Sent}
 use Rattle.service_tables.specs.Connections.{has, size_of, size_waiting}
 use Rattle.service_tables.specs.Limits.{most_connections, most_weight}
 use Rattle.service_tables.specs.Targets.{weight}

@@ -18,8 +18,8 @@ use Rattle.collection_store.specs.declared.change.Changed.TheVariants as changes
 use Rattle.collection_table.specs.Entries.{changed, without}
 use Rattle.collection_table.specs.Rows.{CollectionRow, Rows, is_full, perhaps_removed, perhaps_stored, room_in, stored}
 use Rattle.service_tables.specs.Sound.{AreItemTypes, AreSecretTypes}
-use Rattle.service_tables.specs.declared.fate.Fate.{Fate}
-use Rattle.service_tables.specs.declared.fate.Fate.TheVariants as fate
+use Rattle.service_tables.specs.declared.fate.StoreFate.{StoreFate}
+use Rattle.service_tables.specs.declared.fate.StoreFate.TheVariants as fate
 
 -- what a request brings besides its call: its moment, and the value of the secret in its call
 pub record Brought : Type 0 where
@@ -94,66 +94,34 @@ storable_edit brought rows stem edit = storable_at stem (change_of brought.value
 
 -- ---- what becomes of a collection
 
--- how a storing or a removal of a file may end
-abbrev pub IsStoring : Fate → Type 0
-IsStoring fate.Stored = Unit {0}
-IsStoring fate.Before = Unit {0}
-IsStoring fate.Unsure = Unit {0}
-IsStoring fate.Old = ⊥
-IsStoring fate.New = ⊥
-IsStoring fate.Other = ⊥
-IsStoring fate.ReadFailed = ⊥
-
--- how a resolve of a file in doubt may end
-abbrev pub IsResolve : Fate → Type 0
-IsResolve fate.Stored = ⊥
-IsResolve fate.Before = ⊥
-IsResolve fate.Unsure = ⊥
-IsResolve fate.Old = Unit {0}
-IsResolve fate.New = Unit {0}
-IsResolve fate.Other = Unit {0}
-IsResolve fate.ReadFailed = Unit {0}
-
 -- a collection after its changed content was to be stored, by how that ended
-abbrev pub row_after : Fate → Held → CollectionRow → Result (Content × Changed) ItemFault → CollectionRow
+abbrev pub row_after : StoreFate → Held → CollectionRow → Result (Content × Changed) ItemFault → CollectionRow
 row_after fate.Stored held row (Ok made) = stored made.0 held.key held.vector
 row_after fate.Unsure held row (Ok made) = perhaps_stored made.0 held.key held.vector row
 row_after fate.Before held row (Ok made) = row
-row_after fate.Old held row (Ok made) = row
-row_after fate.New held row (Ok made) = row
-row_after fate.Other held row (Ok made) = row
-row_after fate.ReadFailed held row (Ok made) = row
 row_after some held row (Err fault) = row
 
 -- a collection that is asked to store a change; nothing is asked of one that is locked
-abbrev pub row_changed : Change → ℕ → Fate → CollectionRow → CollectionRow
+abbrev pub row_changed : Change → ℕ → StoreFate → CollectionRow → CollectionRow
 row_changed change now fate row = option_map_or (λ (held : Held). row_after fate held row (content_changed change now row.clear held.rows)) row.held row
 
 -- the collections after a change of the one of a stem was to be stored
-abbrev pub rows_stored : List ℕ → Change → ℕ → Fate → Rows → Rows
+abbrev pub rows_stored : List ℕ → Change → ℕ → StoreFate → Rows → Rows
 rows_stored stem change now fate rows = changed stem (row_changed change now fate) rows
 
 -- how a removal ended that was done, or that may have been done
-abbrev pub fate_by : Bool → Fate
+abbrev pub fate_by : Bool → StoreFate
 fate_by true = fate.Stored
 fate_by false = fate.Unsure
 
 -- a collection that is unlocked after its file was to be removed, by how that ended; one whose file was removed is taken away next
-abbrev pub row_erased : Fate → CollectionRow → CollectionRow
+abbrev pub row_erased : StoreFate → CollectionRow → CollectionRow
 row_erased fate.Stored row = record { file = Known None; clear = row.clear; other = None; held = None }
 row_erased fate.Before row = row
 row_erased fate.Unsure row = perhaps_removed row
-row_erased fate.Old row = row
-row_erased fate.New row = row
-row_erased fate.Other row = row
-row_erased fate.ReadFailed row = row
 
 -- the collections after the file of the one of a stem was to be removed, by how that ended
-abbrev pub rows_erased : List ℕ → Fate → Rows → Rows
+abbrev pub rows_erased : List ℕ → StoreFate → Rows → Rows
 rows_erased stem fate.Stored rows = without stem rows
 rows_erased stem fate.Before rows = rows
 rows_erased stem fate.Unsure rows = changed stem perhaps_removed rows
-rows_erased stem fate.Old rows = rows
-rows_erased stem fate.New rows = rows
-rows_erased stem fate.Other rows = rows
-rows_erased stem fate.ReadFailed rows = rows

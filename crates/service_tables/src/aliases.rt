@@ -12,9 +12,8 @@ ghost use Rattle.service_tables.specs.Aliases.{IsForAliases, IsPreparedFor, alia
 ghost use Rattle.service_tables.specs.Disk.{contents_in, disk_state};
 ghost use Rattle.service_tables.specs.Slots.{IsFault, LeavesKnown, StoresAliases, StoresIn};
 ghost use Rattle.service_tables.specs.Sound.{AreSoundAliases};
-ghost use Rattle.service_tables.specs.Storing.{IsResolve, IsStoring};
 
-use crate::{Disk, Fate};
+use crate::{Disk, Fate, ReadFate, StoreFate};
 use alias_table::{AliasChange, AliasRefused, AliasTable};
 use folder_store::FoundAliases;
 use kr_base::{OutOfMemory, Stem, Text};
@@ -64,40 +63,40 @@ impl<S: Slot> KeptAliases<S> {
 fn resolve_in<S: Slot>(
     table: &mut AliasTable<S>,
     change: AliasChange,
-) -> (Fate, Option<AliasChange>)
+) -> (ReadFate, Option<AliasChange>)
     requires doubt { is_doubt table.old.rows.file ≡ true }
     requires prepared { IsFor change table.old.rows }
     ensures rows { table.new.rows ≡ rows_resolved result.0 table.old.rows }
-    ensures kind { IsResolve result.0 }
     ensures slot { StoresIn S.is_honest S.is_steady S.faults S.moment S.left_since S.may_leave
-        result.0 table.old.rows.file table.new.rows.file table.old.slot table.new.slot }
+        (Fate.Read result.0) table.old.rows.file table.new.rows.file
+        table.old.slot table.new.slot }
 
     // What was prepared stays so, for the file that was found.
     ensures left { IfSome result.1 (λ left. IsFor left table.new.rows) }
     ensures prepared { (name : List ℕ) (stem : Option (List ℕ)) (live : List (List ℕ))
         → IsPrepared name stem live table.old.rows change
         → IfSome result.1 (IsPrepared name stem live table.new.rows) }
-    ensures failed { IfNone result.1 (result.0 ≡ Fate.ReadFailed) }
-    ensures read { IfSome result.1 (λ _. ¬ (IsFault result.0)) }
+    ensures failed { IfNone result.1 (result.0 ≡ ReadFate.ReadFailed) }
+    ensures read { IfSome result.1 (λ _. ¬ (IsFault (Fate.Read result.0))) }
 {
     match table.resolve(change) {
-        Ok((Found::Old, change)) => (Fate::Old, Some(change)),
-        Ok((Found::New, change)) => (Fate::New, Some(change)),
-        Ok((Found::Other, change)) => (Fate::Other, Some(change)),
-        Err(_) => (Fate::ReadFailed, None),
+        Ok((Found::Old, change)) => (ReadFate::Old, Some(change)),
+        Ok((Found::New, change)) => (ReadFate::New, Some(change)),
+        Ok((Found::Other, change)) => (ReadFate::Other, Some(change)),
+        Err(_) => (ReadFate::ReadFailed, None),
     }
 }
 
 // Stores a change in a table whose file is known. None if there would be too many aliases.
-fn store_in<S: Slot>(table: &mut AliasTable<S>, change: AliasChange) -> Option<Fate>
+fn store_in<S: Slot>(table: &mut AliasTable<S>, change: AliasChange) -> Option<StoreFate>
     requires known { is_doubt table.old.rows.file ≡ false }
     requires prepared { IsFor change table.old.rows }
     ensures rows { IfSome result (λ fate.
         table.new.rows ≡ rows_set_of change.next fate table.old.rows) }
-    ensures kind { IfSome result IsStoring }
     ensures slot { IfSome result (λ fate.
-        StoresIn S.is_honest S.is_steady S.faults S.moment S.left_since S.may_leave fate
-        table.old.rows.file table.new.rows.file table.old.slot table.new.slot) }
+        StoresIn S.is_honest S.is_steady S.faults S.moment S.left_since S.may_leave
+        (Fate.Store fate) table.old.rows.file table.new.rows.file
+        table.old.slot table.new.slot) }
     ensures few { IfSome result (λ _. IsSome change.next) }
 
     // Nothing changes if the device wasn't asked.
@@ -105,9 +104,9 @@ fn store_in<S: Slot>(table: &mut AliasTable<S>, change: AliasChange) -> Option<F
     ensures unasked { IfNone result (table.new ≡ table.old) }
 {
     match table.set(change) {
-        Ok(()) => Some(Fate::Stored),
-        Err(AliasRefused::FaultBefore) => Some(Fate::Before),
-        Err(AliasRefused::FaultUnsure) => Some(Fate::Unsure),
+        Ok(()) => Some(StoreFate::Stored),
+        Err(AliasRefused::FaultBefore) => Some(StoreFate::Before),
+        Err(AliasRefused::FaultUnsure) => Some(StoreFate::Unsure),
         Err(AliasRefused::TooMany) => None,
         Err(AliasRefused::BadName) => unreachable!(),
         Err(AliasRefused::FaultRead) => unreachable!(),
@@ -118,7 +117,7 @@ fn store_in<S: Slot>(table: &mut AliasTable<S>, change: AliasChange) -> Option<F
 impl<F: Folder> Disk<F> {
     /// Whether two images of the file of the aliases are known, of which it has one. It takes no memory.
     pub fn has_doubtful_aliases(&self) -> bool
-        ensures { result ≡ (asked_aliases (contents_in self.now)).in_doubt }
+        ensures { result ≡ are_doubtful (contents_in self.now).aliases }
     {
         match &self.aliases {
             KeptAliases::Table(table) => !table.is_known(),
@@ -206,15 +205,14 @@ impl<F: Folder> Disk<F> {
 
     /// Reads the file of the aliases again, which is in doubt, and returns what was found, with the change as
     /// it is prepared for that. None if the file couldn't be read: then the doubt stays. It takes no memory.
-    pub fn resolve_aliases(&mut self, change: AliasChange) -> (Fate, Option<AliasChange>)
-        requires doubt { (asked_aliases (contents_in self.old)).in_doubt ≡ true }
+    pub fn resolve_aliases(&mut self, change: AliasChange) -> (ReadFate, Option<AliasChange>)
+        requires doubt { are_doubtful (contents_in self.old).aliases ≡ true }
         requires prepared { IsForAliases change (contents_in self.old).aliases }
         ensures resolved { contents_in self.new ≡ record (contents_in self.old) {
           aliases = aliases_resolved result.0 (contents_in self.old).aliases;
         } }
-        ensures kind { IsResolve result.0 }
         ensures disk { StoresAliases F.Cell.is_honest F.Cell.is_steady F.Cell.faults
-            F.Cell.moment F.Cell.left_since F.Cell.may_leave result.0
+            F.Cell.moment F.Cell.left_since F.Cell.may_leave (Fate.Read result.0)
             (contents_in self.old).aliases (contents_in self.new).aliases
             (disk_state self.old) (disk_state self.new) }
 
@@ -222,8 +220,8 @@ impl<F: Folder> Disk<F> {
         ensures prepared { (name : List ℕ) (stem : Option (List ℕ))
             → IsPreparedFor name stem (contents_in self.old) change
             → IfSome result.1 (IsPreparedFor name stem (contents_in self.new)) }
-        ensures failed { IfNone result.1 (result.0 ≡ Fate.ReadFailed) }
-        ensures read { IfSome result.1 (λ _. ¬ (IsFault result.0)) }
+        ensures failed { IfNone result.1 (result.0 ≡ ReadFate.ReadFailed) }
+        ensures read { IfSome result.1 (λ _. ¬ (IsFault (Fate.Read result.0))) }
     {
         let KeptAliases::Table(table) = &mut self.aliases else {
             unreachable!();
@@ -233,17 +231,16 @@ impl<F: Folder> Disk<F> {
 
     /// Stores a change of the aliases, whose file is known, and returns how that ended. None if there would be
     /// more than 1,024 aliases: then nothing changes. It takes no memory.
-    pub fn store_aliases(&mut self, change: AliasChange) -> Option<Fate>
-        requires known { (asked_aliases (contents_in self.old)).in_doubt ≡ false }
+    pub fn store_aliases(&mut self, change: AliasChange) -> Option<StoreFate>
+        requires known { are_doubtful (contents_in self.old).aliases ≡ false }
         requires prepared { IsForAliases change (contents_in self.old).aliases }
         ensures stored { (name : List ℕ) (stem : Option (List ℕ))
             → IsPreparedFor name stem (contents_in self.old) change
             → IfSome result (λ fate. contents_in self.new ≡ record (contents_in self.old) {
               aliases = aliases_set name stem fate (contents_in self.old);
             }) }
-        ensures kind { IfSome result IsStoring }
         ensures disk { IfSome result (λ fate. StoresAliases F.Cell.is_honest F.Cell.is_steady
-            F.Cell.faults F.Cell.moment F.Cell.left_since F.Cell.may_leave fate
+            F.Cell.faults F.Cell.moment F.Cell.left_since F.Cell.may_leave (Fate.Store fate)
             (contents_in self.old).aliases (contents_in self.new).aliases
             (disk_state self.old) (disk_state self.new)) }
         ensures few { (name : List ℕ) (stem : Option (List ℕ))

@@ -3,11 +3,11 @@ ghost use Rattle.std.specs.Prelude.{◌≡◌, ℕ, List, ◌+◌, ◌<◌, ◌�
 ghost use Rattle.std.specs.List.{AllByRecursion};
 ghost use Rattle.secret_calls.specs.declared.out.Out.{Out};
 ghost use Rattle.service_tables.specs.Limits.{most_connections, last_connection};
-ghost use Rattle.service_tables.specs.Connections.{new_row, has, changed, without, with_out, left, emptied, waiting_for, desk_of, delivered, HasRoom, HasRoomFor, KeepRooms};
-ghost use Rattle.service_tables.specs.declared.rows.Sent.{Sent};
+ghost use Rattle.service_tables.specs.Connections.{new_row, has, changed, without, with_out, left, emptied, waiting_for, desk_of, handed, AreDistinct, HasRoom, HasRoomFor, KeepRooms};
+ghost use Rattle.service_tables.specs.declared.rows.Delivery.{Delivery};
 
 use crate::desk::Desk;
-use crate::{ConnRows, DeskRow, Sent, desks};
+use crate::{ConnRows, Delivery, DeskRow, desks};
 use kr_base::{ConnId, OutOfMemory};
 use kr_items::Items;
 use secret_calls::Out;
@@ -76,6 +76,13 @@ impl Connections {
         Ok(ConnId(number))
     }
 
+    /// Shows that no two connections have one number.
+    pub fn are_distinct(&self)
+        ensures { AreDistinct self.now.rows }
+    {
+        desks::are_distinct(&self.desks);
+    }
+
     /// Whether the connection is there.
     pub fn has(&self, conn: ConnId) -> bool
         ensures { result ≡ has conn self.now.rows }
@@ -100,8 +107,8 @@ impl Connections {
         desks::reserve(&mut self.desks, conn.0, more)
     }
 
-    /// Makes room for one more output of the caller, and for all of these.
-    pub fn reserve_for(&mut self, caller: ConnId, outs: &[Sent]) -> Result<(), OutOfMemory>
+    /// Makes room for one more output of the caller, and for all of these deliveries.
+    pub fn reserve_for(&mut self, caller: ConnId, outs: &[Delivery]) -> Result<(), OutOfMemory>
         ensures room { OnOk result ((reply : Out)
             → HasRoomFor (record { to = caller; out = reply } ∷ outs.now) self.new.rooms) }
         ensures unchanged { self.new.rows ≡ self.old.rows }
@@ -115,7 +122,7 @@ impl Connections {
     }
 
     // Makes room for this many more outputs of each connection to which one of these goes.
-    fn reserve_each(&mut self, outs: &[Sent], more: usize) -> Result<(), OutOfMemory>
+    fn reserve_each(&mut self, outs: &[Delivery], more: usize) -> Result<(), OutOfMemory>
         ensures room { OnOk result (AllByRecursion
             (λ sent. HasRoom more sent.to self.new.rooms) outs.now) }
         ensures kept { KeepRooms self.old.rooms self.new.rooms }
@@ -133,17 +140,17 @@ impl Connections {
         requires { HasRoom 1 conn self.old.rooms }
         ensures rows { self.new.rows ≡ changed conn (with_out out) self.old.rows }
         ensures next { self.new.next ≡ self.old.next }
-        ensures room { (outs : List Sent)
+        ensures room { (outs : List Delivery)
             → HasRoomFor (record { to = conn; out = out } ∷ outs) self.old.rooms
             → HasRoomFor outs self.new.rooms }
     {
         desks::put(&mut self.desks, conn.0, out);
     }
 
-    /// Queues each of these outputs for its connection, in order. It takes no memory.
-    pub fn deliver(&mut self, outs: Vec<Sent>)
+    /// Makes each of these deliveries, in order. It takes no memory.
+    pub fn deliver(&mut self, outs: Vec<Delivery>)
         requires { HasRoomFor outs.items self.old.rooms }
-        ensures rows { self.new.rows ≡ delivered outs.items self.old.rows }
+        ensures rows { self.new.rows ≡ handed outs.items self.old.rows }
         ensures next { self.new.next ≡ self.old.next }
     {
         for sent in outs {

@@ -3,7 +3,7 @@ ghost use Rattle.std.specs.Prelude.{◌≡◌, ℕ, ◌∷◌, ◌++◌, [], map
 ghost use Rattle.std.specs.Ordering.{nat_cmp};
 ghost use Rattle.std.specs.List.Sorted.{IsStrictlySortedBy};
 ghost use Rattle.std.specs.Map.{keys_of};
-ghost use Rattle.service_tables.specs.Connections.{has, without, with_out, left, emptied, waiting_for, desk_of, HasRoom, KeepRooms, Spends};
+ghost use Rattle.service_tables.specs.Connections.{AreDistinct, has, without, with_out, left, emptied, waiting_for, desk_of, HasRoom, KeepRooms, Spends};
 ghost use Rattle.service_tables.specs.Desks.{row_of, room_of, AreCounted, AreGiven, Changes};
 
 use crate::desk::Desk;
@@ -20,6 +20,12 @@ pub fn has(desks: &BTreeMap<u64, Desk>, conn: u64) -> bool
 {
     desks.contains_key(&conn)
 }
+
+/// Shows that no two connections have one number.
+pub fn are_distinct(desks: &BTreeMap<u64, Desk>)
+    requires { IsStrictlySortedBy nat_cmp (keys_of desks.now.entries) }
+    ensures { AreDistinct (map row_of desks.now.entries) }
+{}
 
 /// The connection's status.
 pub fn told(desks: &BTreeMap<u64, Desk>, conn: u64) -> Option<DeskRow>

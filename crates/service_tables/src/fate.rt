@@ -1,12 +1,17 @@
-/// How one storing of a file, one removal of it, or one resolve of a file in doubt ended.
+/// How one storing of a file, or one removal of it, ended.
 #[derive(Clone, Copy, Debug, Drop, PartialEq, Eq)]
-pub enum Fate {
+pub enum StoreFate {
     /// The file was replaced, or removed.
     Stored,
     /// A call of the device failed before the file could change.
     Before,
     /// A call of the device failed, and the file may have changed or not.
     Unsure,
+}
+
+/// How one resolve of a file in doubt ended.
+#[derive(Clone, Copy, Debug, Drop, PartialEq, Eq)]
+pub enum ReadFate {
     /// A file in doubt has the older of its two images.
     Old,
     /// A file in doubt has the newer of its two images.
@@ -15,4 +20,13 @@ pub enum Fate {
     Other,
     /// A file in doubt couldn't be read again. The doubt stays.
     ReadFailed,
+}
+
+/// How something ended that an event asked of the disk.
+#[derive(Clone, Copy, Debug, Drop, PartialEq, Eq)]
+pub enum Fate {
+    /// A storing of a file, or a removal of it.
+    Store(StoreFate),
+    /// A resolve of a file in doubt.
+    Read(ReadFate),
 }

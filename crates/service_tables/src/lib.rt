@@ -29,12 +29,12 @@ pub use aliases::KeptAliases;
 pub use collection_store;
 pub use connections::Connections;
 pub use disk::{Disk, OpenRefused};
-pub use fate::Fate;
+pub use fate::{Fate, ReadFate, StoreFate};
 pub use folder_store;
 pub use kept::KeptSlot;
 pub use known::{known_alias, known_item, known_secret, known_text};
 pub use paths::{
     collection_path, is_new, item_path, item_paths, locked_paths, put_path, unlocked_paths,
 };
-pub use rows::{ConnRow, ConnRows, DeskRow, Rows, Sent};
+pub use rows::{ConnRow, ConnRows, Delivery, DeskRow, Rows};
 pub use secret_calls;

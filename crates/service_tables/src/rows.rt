@@ -39,9 +39,9 @@ pub struct DeskRow {
     pub leaving: bool,
 }
 
-/// An output on its way to a connection.
+/// The delivery of an output to a connection.
 #[derive(Drop)]
-pub struct Sent {
+pub struct Delivery {
     /// The connection.
     pub to: ConnId,
     /// The output.

@@ -9,9 +9,9 @@ ghost use Rattle.kr_outside.specs.RenameDisk.{Only};
 ghost use Rattle.collection_table.specs.Rows.{is_open};
 ghost use Rattle.service_tables.specs.Disk.{contents_in, disk_state};
 ghost use Rattle.service_tables.specs.Slots.{StoresAt, StoresIn};
-ghost use Rattle.service_tables.specs.Storing.{IsStoring, answered_at, fate_by, placed_answer, row_changed, row_erased, rows_erased, rows_stored, storable_at};
+ghost use Rattle.service_tables.specs.Storing.{answered_at, fate_by, placed_answer, row_changed, row_erased, rows_erased, rows_stored, storable_at};
 
-use crate::{Disk, Fate, KeptSlot};
+use crate::{Disk, Fate, KeptSlot, StoreFate};
 use collection_store::{Change, ChangeRefused, Changed, Collection};
 use kr_base::{ItemId, OutOfMemory, Stem};
 use kr_outside::{Folder, Slot};
@@ -23,16 +23,16 @@ fn store_in<S: Slot>(
     change: Change,
     now: u64,
     room: u64,
-) -> Result<Option<Fate>, OutOfMemory>
+) -> Result<Option<StoreFate>, OutOfMemory>
     requires open { IsSome collection.old.held }
     requires possible { IfSome collection.old.held (λ held.
         IsOk (content_changed change now collection.old.clear held.rows)) }
     ensures row { IfOk result (λ fate. IfSome fate (λ fate.
         row_of collection.new ≡ row_changed change now fate (row_of collection.old))) }
     ensures slot { IfOk result (λ fate. IfSome fate (λ fate.
-        StoresIn S.is_honest S.is_steady S.faults S.moment S.left_since S.may_leave fate
-        collection.old.file collection.new.file collection.old.slot collection.new.slot)) }
-    ensures kind { IfOk result (λ fate. IfSome fate IsStoring) }
+        StoresIn S.is_honest S.is_steady S.faults S.moment S.left_since S.may_leave
+        (Fate.Store fate) collection.old.file collection.new.file
+        collection.old.slot collection.new.slot)) }
     ensures fits { IfOk result (λ fate. IfSome fate (λ _. IfSome collection.old.held (λ held.
         IsOk (storable change now room collection.old.file collection.old.clear held)))) }
 
@@ -44,9 +44,9 @@ fn store_in<S: Slot>(
     ensures unchanged { OnErr result (collection.new ≡ collection.old) }
 {
     match collection.change(change, now, room) {
-        Ok(_) => Ok(Some(Fate::Stored)),
-        Err(ChangeRefused::FaultBefore) => Ok(Some(Fate::Before)),
-        Err(ChangeRefused::FaultUnsure) => Ok(Some(Fate::Unsure)),
+        Ok(_) => Ok(Some(StoreFate::Stored)),
+        Err(ChangeRefused::FaultBefore) => Ok(Some(StoreFate::Before)),
+        Err(ChangeRefused::FaultUnsure) => Ok(Some(StoreFate::Unsure)),
         Err(ChangeRefused::TooLarge) => Ok(None),
         Err(ChangeRefused::OutOfMemory) => Err(AllocError),
         Err(ChangeRefused::Item(_)) => unreachable!(),
@@ -58,7 +58,7 @@ fn erase_in<S: Slot>(collection: &mut Collection<S>) -> bool
     requires { IsSome collection.old.held }
     ensures row { row_of collection.new ≡ row_erased (fate_by result) (row_of collection.old) }
     ensures slot { StoresIn S.is_honest S.is_steady S.faults S.moment S.left_since S.may_leave
-        (fate_by result) collection.old.file collection.new.file
+        (Fate.Store (fate_by result)) collection.old.file collection.new.file
         collection.old.slot collection.new.slot }
 {
     match collection.delete() {
@@ -113,7 +113,7 @@ impl<F: Folder> Disk<F> {
         stem: &Stem,
         change: Change,
         now: u64,
-    ) -> Result<Option<Fate>, OutOfMemory>
+    ) -> Result<Option<StoreFate>, OutOfMemory>
         requires { IsSome (answered_at stem.now change now
             (contents_in self.old).collections) }
         ensures stored { IfOk result (λ fate. IfSome fate (λ fate.
@@ -123,10 +123,9 @@ impl<F: Folder> Disk<F> {
             })) }
         ensures disk { IfOk result (λ fate. IfSome fate (λ fate.
             StoresAt F.Cell.is_honest F.Cell.is_steady F.Cell.faults F.Cell.moment
-            F.Cell.left_since F.Cell.may_leave stem.now fate
+            F.Cell.left_since F.Cell.may_leave stem.now (Fate.Store fate)
             (contents_in self.old).collections (contents_in self.new).collections
             (disk_state self.old) (disk_state self.new))) }
-        ensures kind { IfOk result (λ fate. IfSome fate IsStoring) }
         ensures fits { IfOk result (λ fate. IfSome fate (λ _.
             storable_at stem.now change now (contents_in self.old).collections
             ≡ answered_at stem.now change now (contents_in self.old).collections)) }
@@ -184,17 +183,16 @@ impl<F: Folder> Disk<F> {
 
     /// Removes the file of an unlocked collection, and the collection with it, and returns how that ended. It
     /// takes no memory.
-    pub fn erase(&mut self, stem: Stem) -> Fate
+    pub fn erase(&mut self, stem: Stem) -> StoreFate
         requires open { is_open stem (contents_in self.old).collections ≡ true }
         requires room { vec_len self.old.spare < vec_capacity self.old.spare }
         ensures erased { contents_in self.new ≡ record (contents_in self.old) {
           collections = rows_erased stem result (contents_in self.old).collections;
         } }
         ensures disk { StoresAt F.Cell.is_honest F.Cell.is_steady F.Cell.faults F.Cell.moment
-            F.Cell.left_since F.Cell.may_leave stem result
+            F.Cell.left_since F.Cell.may_leave stem (Fate.Store result)
             (contents_in self.old).collections (contents_in self.new).collections
             (disk_state self.old) (disk_state self.new) }
-        ensures kind { IsStoring result }
     {
         let _ordered = self.collections.entries();
         let Some(collection) = self.collections.get_mut(&stem) else {
@@ -202,8 +200,8 @@ impl<F: Folder> Disk<F> {
         };
         if erase_in(collection) {
             self.put_aside(stem);
-            return Fate::Stored;
+            return StoreFate::Stored;
         }
-        Fate::Unsure
+        StoreFate::Unsure
     }
 }

@@ -1,14 +1,16 @@
 use Rattle.std.proofs.Common.{◌≡◌, true, false, [], ◌∷◌, sym, ap, subst, ◌∙◌}
 use Rattle.std.proofs.lemmas.List.{append-nil}
 use Rattle.service_calls.specs.collection_table.specs.Rows.{has}
-use Rattle.service_calls.specs.secret_calls.specs.declared.out.Body.TheVariants as body
+use Rattle.service_calls.specs.service_events.specs.PublicBody as public
+use Rattle.service_calls.specs.service_tables.specs.Connections.{spread}
 use Rattle.service_calls.specs.service_tables.specs.Desks.{Table}
 use Rattle.service_calls.specs.service_events.specs.Plan.{Go_on}
 use Rattle.service_calls.specs.Rows.{disk_of, rows_of}
 use Rattle.service_calls.specs.service_events.specs.Run.{asked, sent_by}
 use Rattle.service_calls.specs.Done.{HasRoomToReply}
 use Rattle.service_calls.specs.declared.storing.Done.{Done}
-use Rattle.service_answers.proofs.AnswerLemmas.{small-empty, target-gone, target-locked, taken-round, taken-there}
+use Rattle.service_answers.proofs.AnswerLemmas.{target-gone, target-locked, taken-round, taken-there}
+use Rattle.service_calls.specs.service_events.proofs.SmallLemmas.{empty-small}
 use Rattle.service_calls.proofs.LeadsLemmas.{leads-as, leads-changes, room-alone}
 use Rattle.service_answers.proofs.answering.answer_found.Goals as goal
 
@@ -47,12 +49,13 @@ returns-clause-leads g c = λ brought.
     let disk = disk_of c.args.tables.now in
     let gone : has c.args.stem.now old.collections ≡ false = sym c.has.ensures ∙ c.if-has.false in
     let done = c.sending.result in
-    let sent = ap (λ (d : Done). d.sends) c.sending.ensures ∙ c.requires.sends gone in
+    let rows = old.connections.rows in
+    let sent = ap (λ (d : Done). d.sends) c.sending.ensures ∙ c.requires.sends gone rows in
     leads-as folder.is_honest folder.is_steady folder.faults folder.images folder.may_leave folder.made slot.is_honest slot.is_steady slot.faults slot.moment slot.left_since slot.may_leave conn brought old _ disk _ _ _ _
     (target-gone prompt c.args.round (asked conn brought old) c.args.stem.now gone)
-    (leads-changes folder.is_honest folder.is_steady folder.faults folder.images folder.may_leave folder.made slot.is_honest slot.is_steady slot.faults slot.moment slot.left_since slot.may_leave conn brought old _ disk _ body.Empty (Go_on prompt ∷ []) done
-    (ap (λ (d : Done). d.answer) c.sending.ensures) (sent ∙ sym (append-nil (sent_by conn (Go_on prompt) old))) (ap (λ (d : Done). d.read) c.sending.ensures) (ap (λ (d : Done). d.fate) c.sending.ensures)
-    small-empty c.go_on_now.ensures.rows c.go_on_now.ensures.disk)
+    (leads-changes folder.is_honest folder.is_steady folder.faults folder.images folder.may_leave folder.made slot.is_honest slot.is_steady slot.faults slot.moment slot.left_since slot.may_leave conn brought old _ disk _ public.Empty (Go_on prompt ∷ []) done
+    (ap (λ (d : Done). d.answer) c.sending.ensures) (sent ∙ ap (spread rows) (sym (append-nil (sent_by conn (Go_on prompt) old)))) (ap (λ (d : Done). d.read) c.sending.ensures) (ap (λ (d : Done). d.fate) c.sending.ensures)
+    empty-small c.go_on_now.ensures.rows c.go_on_now.ensures.disk)
 
 pub returns-clause-room : goal.returns-clause-room
 returns-clause-room g c =

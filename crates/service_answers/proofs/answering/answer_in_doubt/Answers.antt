@@ -1,4 +1,4 @@
-use Rattle.std.proofs.Common.{◌≡◌, refl, sym, ap, subst}
+use Rattle.std.proofs.Common.{◌≡◌, [], None, Err, refl, sym, ap, subst}
 use Rattle.service_calls.specs.service_disk.specs.Resolving.{rows_resolved}
 use Rattle.service_calls.specs.service_tables.specs.Disk.{contents_in, disk_state}
 use Rattle.service_calls.specs.service_tables.specs.Opened.{Contents}
@@ -6,11 +6,14 @@ use Rattle.service_calls.specs.service_tables.specs.Slots.{StoresAt}
 use Rattle.service_calls.specs.service_tables.specs.State.{State}
 use Rattle.service_calls.specs.service_events.specs.AnswerCalls.{target_answered}
 use Rattle.service_calls.specs.Rows.{disk_of, rows_of}
-use Rattle.service_calls.specs.service_events.specs.Run.{asked}
+use Rattle.service_calls.specs.service_events.specs.Plan.{Collection_file, refused}
+use Rattle.service_calls.specs.service_events.specs.Run.{asked, settled}
+use Rattle.service_calls.specs.secret_calls.specs.declared.out.ErrorName.TheVariants as name
+use Rattle.service_calls.specs.service_tables.specs.declared.fate.Fate.TheVariants as fate
 use Rattle.service_calls.specs.Done.{HasRoomToReply, Leads}
 use Rattle.service_calls.specs.declared.storing.Done.{Done}
-use Rattle.service_answers.proofs.AnswerLemmas.{leads-failed, leads-found, locked-read, rows-read, sends-gone, state-read, taken-round, taken-there, target-doubt, target-whole}
-use Rattle.service_calls.proofs.LeadsLemmas.{at-moved, leads-as, leads-done, room-sent, room-alone}
+use Rattle.service_answers.proofs.AnswerLemmas.{locked-read, read-well, rows-read, sends-gone, state-read, taken-round, taken-there}
+use Rattle.service_calls.proofs.LeadsLemmas.{at-moved, leads-done, leads-refused, room-sent, room-alone, settles-read, settles-unread}
 use Rattle.service_answers.proofs.answering.answer_in_doubt.Goals as goal
 
 pub sends_without-requires-clause-there : goal.sends_without-requires-clause-there
@@ -33,7 +36,7 @@ answer_found-requires-clause-locked g c =
     let third : mid ≡ record old { collections = found.collections; aliases = found.aliases; used = found.used } =
     λ i. record mid { connections = record { rows = c.reserve_for.ensures.unchanged i; next = c.reserve_for.ensures.next i } } in
     let state = state-read stem c.in_ok-taken.taken read old mid prepared found c.in_ok-taken.ensures first its.resolved third in
-    locked-read c.args.conn c.args.prompt stem read old mid state its.kind c.in_default.not-ReadFailed
+    locked-read c.args.conn c.args.prompt stem read old mid state c.in_default.not-ReadFailed
 
 -- what was made is sent if it is gone
 pub answer_found-requires-clause-sends : goal.answer_found-requires-clause-sends
@@ -79,11 +82,12 @@ returns-in-ReadFailed-clause-leads g c = λ brought.
     let was = disk_state c.prepare_resolve.new.disk in
     let is = disk_state c.resolve-read.new.disk in
     let rows = rows-read stem c.in_ok-taken.taken read old mid prepared found c.in_ok-taken.ensures first its.resolved third in
-    let stores = at-moved slot.is_honest slot.is_steady slot.faults slot.moment slot.left_since slot.may_leave stem read prepared.collections old.collections found.collections (rows_resolved stem read old.collections) was disk is (ap (λ (k : Contents). k.collections) first) rows
-    c.prepare_resolve.ensures.disk (subst (λ s. StoresAt slot.is_honest slot.is_steady slot.faults slot.moment slot.left_since slot.may_leave s read prepared.collections found.collections was is) c.in_ok-taken.ensures its.disk) in
+    let stores = at-moved slot.is_honest slot.is_steady slot.faults slot.moment slot.left_since slot.may_leave stem (fate.Read read) prepared.collections old.collections found.collections (rows_resolved stem read old.collections) was disk is (ap (λ (k : Contents). k.collections) first) rows
+    c.prepare_resolve.ensures.disk (subst (λ s. StoresAt slot.is_honest slot.is_steady slot.faults slot.moment slot.left_since slot.may_leave s (fate.Read read) prepared.collections found.collections was is) c.in_ok-taken.ensures its.disk) in
+    let reread = settled (Collection_file stem) read old in
     leads-done folder.is_honest folder.is_steady folder.faults folder.images folder.may_leave folder.made slot.is_honest slot.is_steady slot.faults slot.moment slot.left_since slot.may_leave conn brought old mid disk is _ _ _ c.unread.ensures
-    (leads-as folder.is_honest folder.is_steady folder.faults folder.images folder.may_leave folder.made slot.is_honest slot.is_steady slot.faults slot.moment slot.left_since slot.may_leave conn brought old mid disk is _ _ _ (target-doubt prompt round (asked conn brought old) stem c.requires.doubt)
-    (leads-failed folder.is_honest folder.is_steady folder.faults folder.images folder.may_leave folder.made slot.is_honest slot.is_steady slot.faults slot.moment slot.left_since slot.may_leave conn brought stem (target_answered prompt round stem) old disk mid is read c.in-ReadFailed.is state stores))
+    (settles-unread folder.is_honest folder.is_steady folder.faults folder.images folder.may_leave folder.made slot.is_honest slot.is_steady slot.faults slot.moment slot.left_since slot.may_leave conn brought (Collection_file stem) (refused name.IOError) (target_answered prompt round stem) old mid disk is is (record { answer = Err name.IOError; sends = []; read = None; fate = None }) c.requires.doubt refl read c.in-ReadFailed.is stores
+    (leads-refused folder.is_honest folder.is_steady folder.faults folder.images folder.may_leave folder.made slot.is_honest slot.is_steady slot.faults slot.moment slot.left_since slot.may_leave conn brought reread mid is is name.IOError state refl))
 
 pub returns-in-ReadFailed-clause-room : goal.returns-in-ReadFailed-clause-room
 returns-in-ReadFailed-clause-room g c =
@@ -114,17 +118,16 @@ returns-in_default-clause-leads g c = λ brought.
     let was = disk_state c.prepare_resolve.new.disk in
     let is = disk_state c.resolve-read.new.disk in
     let rows = rows-read stem c.in_ok-taken.taken read old mid prepared found c.in_ok-taken.ensures first its.resolved third in
-    let stores = at-moved slot.is_honest slot.is_steady slot.faults slot.moment slot.left_since slot.may_leave stem read prepared.collections old.collections found.collections (rows_resolved stem read old.collections) was disk is (ap (λ (k : Contents). k.collections) first) rows
-    c.prepare_resolve.ensures.disk (subst (λ s. StoresAt slot.is_honest slot.is_steady slot.faults slot.moment slot.left_since slot.may_leave s read prepared.collections found.collections was is) c.in_ok-taken.ensures its.disk) in
+    let stores = at-moved slot.is_honest slot.is_steady slot.faults slot.moment slot.left_since slot.may_leave stem (fate.Read read) prepared.collections old.collections found.collections (rows_resolved stem read old.collections) was disk is (ap (λ (k : Contents). k.collections) first) rows
+    c.prepare_resolve.ensures.disk (subst (λ s. StoresAt slot.is_honest slot.is_steady slot.faults slot.moment slot.left_since slot.may_leave s (fate.Read read) prepared.collections found.collections was is) c.in_ok-taken.ensures its.disk) in
     let done = c.answer_found.result in
     let after = rows_of c.answer_found.new.tables in
     let new = disk_of c.answer_found.new.tables in
     let reread : State = record old { collections = rows_resolved stem read old.collections } in
     let leads = subst (λ (s : State). Leads folder.is_honest folder.is_steady folder.faults folder.images folder.may_leave folder.made slot.is_honest slot.is_steady slot.faults slot.moment slot.left_since slot.may_leave conn brought (target_answered prompt round stem (asked conn brought s)) s after is new done) state (c.answer_found.ensures.leads brought) in
     leads-done folder.is_honest folder.is_steady folder.faults folder.images folder.may_leave folder.made slot.is_honest slot.is_steady slot.faults slot.moment slot.left_since slot.may_leave conn brought old after disk new _ _ _ c.after.ensures
-    (leads-as folder.is_honest folder.is_steady folder.faults folder.images folder.may_leave folder.made slot.is_honest slot.is_steady slot.faults slot.moment slot.left_since slot.may_leave conn brought old after disk new _ _ _ (target-doubt prompt round (asked conn brought old) stem c.requires.doubt)
-    (leads-found folder.is_honest folder.is_steady folder.faults folder.images folder.may_leave folder.made slot.is_honest slot.is_steady slot.faults slot.moment slot.left_since slot.may_leave conn brought stem (target_answered prompt round stem) old disk after is new read done c.answer_found.ensures.unread its.kind c.in_default.not-ReadFailed stores
-    (λ fates. target-whole prompt round (asked conn brought reread) stem conn brought fates reread) leads))
+    (settles-read folder.is_honest folder.is_steady folder.faults folder.images folder.may_leave folder.made slot.is_honest slot.is_steady slot.faults slot.moment slot.left_since slot.may_leave conn brought (Collection_file stem) (refused name.IOError) (target_answered prompt round stem) old after disk new is done c.requires.doubt c.answer_found.ensures.unread read
+    (read-well read c.in_default.not-ReadFailed) stores leads)
 
 pub returns-in_default-clause-room : goal.returns-in_default-clause-room
 returns-in_default-clause-room g c =

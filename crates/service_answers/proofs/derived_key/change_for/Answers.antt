@@ -1,4 +1,4 @@
-use Rattle.std.proofs.Common.{◌≡◌, ◌==◌, [], false, IfSome, Some, inl, inr, sym, ap, subst, ◌∙◌}
+use Rattle.std.proofs.Common.{◌≡◌, [], IfSome, Some, inl, inr, sym, ap, subst, ◌∙◌}
 use Rattle.kr_names.specs.Path.{IsAliasName}
 use Rattle.service_calls.specs.collection_table.specs.Entries.{inserted}
 use Rattle.service_calls.specs.collection_table.specs.Rows.{CollectionRow, has}

@@ -1,12 +1,14 @@
-use Rattle.std.proofs.Common.{◌≡◌, ◌+◌, ◌≤◌, ◌∷◌, [], nat_le, cond, refl, sym, ap, subst, ◌∙◌}
+use Rattle.std.proofs.Common.{◌+◌, ◌≤◌, ◌∷◌, [], nat_le, cond, refl, sym, ap, subst, ◌∙◌}
 use Rattle.prompt_state.specs.Prompts.{asked_again, last_round, next_round, one_more, row_at}
 use Rattle.prompt_state.specs.declared.row.PromptRow.{PromptRow}
 use Rattle.service_calls.specs.service_events.specs.Derivation.{dismissing, most_wrong_answers, quietly}
 use Rattle.service_calls.specs.declared.storing.Done.{Done}
 use Rattle.service_calls.specs.service_events.specs.Plan.{Ask_prompt, Count_wrong}
+use Rattle.service_calls.specs.service_events.specs.PublicBody as public
 use Rattle.service_calls.specs.Rows.{disk_of, rows_of}
 use Rattle.service_answers.proofs.DerivedLemmas.{disk-kept, if-some, round-changed, wronged-sends}
-use Rattle.service_calls.proofs.LeadsLemmas.{leads-as, leads-done, map-ok, room-sent}
+use Rattle.service_calls.specs.service_events.proofs.SmallLemmas.{empty-small}
+use Rattle.service_calls.proofs.LeadsLemmas.{leads-as, leads-changes, map-ok, room-sent}
 use Rattle.service_answers.proofs.derived_key.count_wrong.Goals as goal
 
 -- it has a next round as before
@@ -46,20 +48,17 @@ returns-clause-leads g c = λ brought.
     let conn = c.args.conn in
     let prompt = c.args.prompt in
     let old = rows_of c.args.tables.now in
+    let done = c.sending.result in
     if-some (row_at prompt old.prompts) _ _
     (λ row its. leads-as folder.is_honest folder.is_steady folder.faults folder.images folder.may_leave folder.made slot.is_honest slot.is_steady slot.faults slot.moment slot.left_since slot.may_leave conn brought old _ (disk_of c.args.tables.now) _ _ _ _
     (ap (λ b. cond b (dismissing prompt) (quietly (Count_wrong prompt ∷ Ask_prompt prompt ∷ []))) (ap (λ n. nat_le most_wrong_answers (n + 1)) (sym its) ∙ sym c.is_last_wrong.ensures.last ∙ c.if-is_last_wrong.false))
-    (leads-done folder.is_honest folder.is_steady folder.faults folder.images folder.may_leave folder.made slot.is_honest slot.is_steady slot.faults slot.moment slot.left_since slot.may_leave conn brought old _ (disk_of c.args.tables.now) _ _ _ _ c.sending.ensures
-    (record {
-      answer = refl;
-      state = λ i. record old {
-        connections = record { rows = c.in_ok-reserve_for.ensures.unchanged i; next = c.in_ok-reserve_for.ensures.next i };
-        prompts = (c.again-round.ensures.asked ∙ ap (asked_again prompt) c.wrong-wrong.ensures.counted) i;
-      };
-      sends = wronged-sends conn prompt old c.in_ok-sends.sends.items c.wrong_of-wrong.result (c.is_last_wrong.ensures.few c.if-is_last_wrong.false) c.requires.there c.wrong_of-wrong.ensures c.in_ok-sends.ensures;
-      fates = tt;
-      disk = refl;
-    })))
+    (leads-changes folder.is_honest folder.is_steady folder.faults folder.images folder.may_leave folder.made slot.is_honest slot.is_steady slot.faults slot.moment slot.left_since slot.may_leave conn brought old _ (disk_of c.args.tables.now) _ public.Empty (Count_wrong prompt ∷ Ask_prompt prompt ∷ []) done
+    (ap (λ (d : Done). d.answer) c.sending.ensures) (ap (λ (d : Done). d.sends) c.sending.ensures ∙ wronged-sends conn prompt old c.in_ok-sends.sends.items c.wrong_of-wrong.result (c.is_last_wrong.ensures.few c.if-is_last_wrong.false) c.requires.there c.wrong_of-wrong.ensures c.in_ok-sends.ensures old.connections.rows) (ap (λ (d : Done). d.read) c.sending.ensures) (ap (λ (d : Done). d.fate) c.sending.ensures) empty-small
+    (λ i. record old {
+      connections = record { rows = c.in_ok-reserve_for.ensures.unchanged i; next = c.in_ok-reserve_for.ensures.next i };
+      prompts = (c.again-round.ensures.asked ∙ ap (asked_again prompt) c.wrong-wrong.ensures.counted) i;
+    })
+    refl))
     c.wrong_of-wrong.ensures
 
 -- room was made for what is sent

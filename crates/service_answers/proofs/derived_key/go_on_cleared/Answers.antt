@@ -1,15 +1,17 @@
-use Rattle.std.proofs.Common.{◌≡◌, ◌≤◌, refl, sym, ap, subst, ◌∙◌}
+use Rattle.std.proofs.Common.{◌≤◌, ◌∷◌, [], refl, sym, ap, subst, ◌∙◌}
 use Rattle.std.specs.Option.{is_some}
 use Rattle.prompt_state.specs.Prompts.{last_round, next_round, row_at}
 use Rattle.prompt_state.specs.declared.row.PromptRow.{PromptRow}
 use Rattle.service_calls.specs.service_tables.specs.Desks.{Table}
 use Rattle.service_calls.specs.declared.storing.Done.{Done}
-use Rattle.service_calls.specs.service_events.specs.Plan.{Go_on}
+use Rattle.service_calls.specs.service_events.specs.Plan.{Clear_wrong, Go_on}
+use Rattle.service_calls.specs.service_events.specs.PublicBody as public
 use Rattle.service_calls.specs.Rows.{disk_of, rows_of}
 use Rattle.service_calls.specs.service_events.specs.Run.{performed}
 use Rattle.service_calls.specs.Done.{HasRoomToReply}
 use Rattle.service_answers.proofs.DerivedLemmas.{round-changed, there-changed}
-use Rattle.service_calls.proofs.LeadsLemmas.{leads-done, room-sent}
+use Rattle.service_calls.specs.service_events.proofs.SmallLemmas.{empty-small}
+use Rattle.service_calls.proofs.LeadsLemmas.{leads-changes, room-sent}
 use Rattle.service_answers.proofs.derived_key.go_on_cleared.Goals as goal
 
 -- the prompt is there as before, and in the same round
@@ -34,17 +36,14 @@ returns-clause-leads g c = λ brought.
     let conn = c.args.conn in
     let prompt = c.args.prompt in
     let old = rows_of c.args.tables.now in
-    leads-done folder.is_honest folder.is_steady folder.faults folder.images folder.may_leave folder.made slot.is_honest slot.is_steady slot.faults slot.moment slot.left_since slot.may_leave conn brought old _ (disk_of c.args.tables.now) _ _ _ _ c.sending.ensures
-    (record {
-      answer = refl;
-      state = c.go_on_now.ensures.rows ∙ (λ i. performed conn (Go_on prompt) (record old {
-        connections = record { rows = c.in_ok-reserve_for.ensures.unchanged i; next = c.in_ok-reserve_for.ensures.next i };
-        prompts = c.clear_wrong.ensures i;
-      }));
-      sends = c.in_ok-sends.ensures;
-      fates = tt;
-      disk = c.go_on_now.ensures.disk;
-    })
+    let done = c.sending.result in
+    leads-changes folder.is_honest folder.is_steady folder.faults folder.images folder.may_leave folder.made slot.is_honest slot.is_steady slot.faults slot.moment slot.left_since slot.may_leave conn brought old _ (disk_of c.args.tables.now) _ public.Empty (Clear_wrong prompt ∷ Go_on prompt ∷ []) done
+    (ap (λ (d : Done). d.answer) c.sending.ensures) (ap (λ (d : Done). d.sends) c.sending.ensures ∙ c.in_ok-sends.ensures old.connections.rows) (ap (λ (d : Done). d.read) c.sending.ensures) (ap (λ (d : Done). d.fate) c.sending.ensures) empty-small
+    (c.go_on_now.ensures.rows ∙ (λ i. performed conn (Go_on prompt) (record old {
+      connections = record { rows = c.in_ok-reserve_for.ensures.unchanged i; next = c.in_ok-reserve_for.ensures.next i };
+      prompts = c.clear_wrong.ensures i;
+    })))
+    c.go_on_now.ensures.disk
 
 -- room was made for what is sent
 pub returns-clause-room : goal.returns-clause-room

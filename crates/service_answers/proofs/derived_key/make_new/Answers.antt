@@ -1,15 +1,17 @@
-use Rattle.std.proofs.Common.{◌≡◌, Some, None, false, true, Contains, inl, inr, sym, ap, subst, ◌∙◌, arith}
+use Rattle.std.proofs.Common.{◌≡◌, Some, None, false, true, Contains, List, inl, inr, sym, ap, subst, ◌∙◌, arith}
 use Rattle.key_derivation.specs.Kdf.{key_of, vector_of}
 use Rattle.service_calls.specs.collection_table.specs.Rows.{has, stored}
 use Rattle.service_calls.specs.service_disk.specs.Making as making
 use Rattle.service_calls.specs.service_disk.specs.Making.{AreFree}
 use Rattle.service_calls.specs.service_prompts.specs.Prompting.{completed_sent}
+use Rattle.service_calls.specs.service_tables.specs.Connections.{spread}
 use Rattle.service_calls.specs.service_tables.specs.Desks.{Table}
 use Rattle.service_calls.specs.service_tables.specs.Disk.{contents_in, disk_state}
 use Rattle.service_calls.specs.service_tables.specs.Opened.{Contents}
 use Rattle.service_calls.specs.service_tables.specs.State.{State}
 use Rattle.service_calls.specs.service_tables.specs.Storing.{Brought}
-use Rattle.service_calls.specs.service_tables.specs.declared.fate.Fate.TheVariants as fates
+use Rattle.service_calls.specs.service_tables.specs.declared.rows.ConnRow.{ConnRow}
+use Rattle.service_calls.specs.service_tables.specs.declared.fate.StoreFate.TheVariants as fates
 use Rattle.service_calls.specs.service_events.specs.Derivation.{making_ended}
 use Rattle.service_calls.specs.service_events.specs.Plan.{Asks, KeyTerms, Make}
 use Rattle.service_answers.specs.Purposes.{SetsAlias}
@@ -101,11 +103,11 @@ returns-clause-settles g c =
     let after = rows_of c.end_made-done.new.tables in
     let new = disk_of c.end_made-done.new.tables in
     let done = c.end_made-done.result in
-    let dismissed = c.in_ok-stem.ensures.dismissed ∙ sym (ap (λ (s : State). completed_sent prompt true None s.prompts) rows) in
-    let completed = c.in_ok-stem.ensures.completed ∙ sym (ap (λ (s : State). completed_sent prompt false (Some stem) s.prompts) rows) in
+    let dismissed = λ (these : List ConnRow). c.in_ok-stem.ensures.dismissed these ∙ sym (ap (λ (s : State). spread these (completed_sent prompt true None s.prompts)) rows) in
+    let completed = λ (these : List ConnRow). c.in_ok-stem.ensures.completed these ∙ sym (ap (λ (s : State). spread these (completed_sent prompt false (Some stem) s.prompts)) rows) in
     settles-as folder.is_honest folder.is_steady folder.faults folder.images folder.may_leave folder.made slot.is_honest slot.is_steady slot.faults slot.moment slot.left_since slot.may_leave conn brought old after disk new _ (Asks (Make stem label terms) (making_ended prompt alias stem)) _
     (ap (λ s. Asks (Make s label terms) (making_ended prompt alias s)) (sym c.in_ok-stem.ensures.stem))
-    (settles-made folder.is_honest folder.is_steady folder.faults folder.images folder.may_leave folder.made slot.is_honest slot.is_steady slot.faults slot.moment slot.left_since slot.may_leave conn brought old after disk new prompt alias stem label terms mid (disk_state c.make.new.disk) fate done prepared.collections (disk_of c.prepare_new.new.tables) c.in_ok-fate.ensures.kind
+    (settles-made folder.is_honest folder.is_steady folder.faults folder.images folder.may_leave folder.made slot.is_honest slot.is_steady slot.faults slot.moment slot.left_since slot.may_leave conn brought old after disk new prompt alias stem label terms mid (disk_state c.make.new.disk) fate done prepared.collections (disk_of c.prepare_new.new.tables)
     state (ap (λ (s : State). s.collections) rows) c.prepare_new.ensures.disk c.in_ok-fate.ensures.disk
     (c.end_made-done.ensures.settles conn brought alias stem dismissed completed sets))
 

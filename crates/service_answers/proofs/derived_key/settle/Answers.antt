@@ -1,4 +1,4 @@
-use Rattle.std.proofs.Common.{◌≡◌, [], true, false, refl, sym, subst, ◌∙◌}
+use Rattle.std.proofs.Common.{◌≡◌, [], true, refl, sym, subst, ◌∙◌}
 use Rattle.service_calls.specs.secret_calls.specs.declared.out.Out.{Out}
 use Rattle.service_calls.specs.secret_calls.specs.declared.out.Out.TheVariants as out
 use Rattle.service_calls.specs.secret_calls.specs.declared.signal.Completion.TheVariants as completion
@@ -10,7 +10,6 @@ use Rattle.service_calls.specs.service_tables.specs.Sound.{IsSoundPrompt}
 use Rattle.service_calls.specs.service_tables.specs.Storing.{Brought}
 use Rattle.service_calls.specs.service_tables.proofs.RoomLemmas.{room-zero}
 use Rattle.service_answers.specs.declared.derived_key.Settled.{Settled}
-use Rattle.service_answers.specs.declared.derived_key.Purpose.TheVariants as purpose
 use Rattle.service_calls.specs.service_events.specs.Derivation.{collection_made, derived}
 use Rattle.service_calls.specs.service_events.specs.Plan.{KeyTerms}
 use Rattle.service_answers.specs.Purposes.{IsPurposeOf}

@@ -1,7 +1,7 @@
 use Rattle.std.proofs.Common.{◌≡◌, ◌∷◌, [], IfSome, None, true, refl, sym, ap, subst, ◌∙◌}
 use Rattle.prompt_state.specs.Prompts.{row_at}
 use Rattle.prompt_state.specs.declared.row.PromptRow.{PromptRow}
-use Rattle.service_calls.specs.secret_calls.specs.declared.out.Body.TheVariants as body
+use Rattle.service_calls.specs.service_events.specs.PublicBody as public
 use Rattle.service_calls.specs.service_disk.specs.Opening.{opening_of}
 use Rattle.service_calls.specs.service_disk.specs.declared.opening.Opening.TheVariants as ends
 use Rattle.service_calls.specs.service_tables.specs.Storing.{Brought}
@@ -28,18 +28,18 @@ returns-in-Settled-clause-leads g c =
     let its = c.in_ok-open_with.ensures in
     let same : rows_of c.open_with.new.tables ≡ old = its.shut (λ opens. let no : ends.Settled ≡ ends.Opened = sym c.in-Settled.is ∙ opens in cc) in
     let how : opening_of key stem old.collections ≡ ends.Settled = sym its.opening ∙ c.in-Settled.is in
-    map-ok c.go_on_alone.result _ _
+    map-ok c.go_on.result _ _
     (λ done leads now. if-all (row_at prompt old.prompts) _
-    (λ row. leads-from folder.is_honest folder.is_steady folder.faults folder.images folder.may_leave folder.made slot.is_honest slot.is_steady slot.faults slot.moment slot.left_since slot.may_leave conn (record { now = now; value = key.password }) old (rows_of c.go_on_alone.new.tables) disk (disk_of c.go_on_alone.new.tables) _ (quietly (Go_on prompt ∷ [])) (rows_of c.open_with.new.tables) (disk_of c.open_with.new.tables) done
+    (λ row. leads-from folder.is_honest folder.is_steady folder.faults folder.images folder.may_leave folder.made slot.is_honest slot.is_steady slot.faults slot.moment slot.left_since slot.may_leave conn (record { now = now; value = key.password }) old (rows_of c.go_on.new.self) disk (disk_of c.go_on.new.self) _ (quietly (Go_on prompt ∷ [])) (rows_of c.open_with.new.tables) (disk_of c.open_with.new.tables) done
     (ap (opening_ended prompt row.wrong stem terms) how) same its.disk (leads (record { now = now; value = key.password }))))
-    c.go_on_alone.ensures.leads
+    c.go_on.ensures.leads
 
 pub returns-in-Settled-clause-disk : goal.returns-in-Settled-clause-disk
 returns-in-Settled-clause-disk g c =
     let folder = g.F.Folder in
     let slot = g.F.Cell.Slot in
     let prompt = c.args.prompt in
-    disk-kept folder.is_honest folder.is_steady folder.faults folder.images folder.may_leave folder.made slot.is_honest slot.is_steady slot.faults slot.moment slot.left_since slot.may_leave c.args.conn (record { now = 0; value = [] }) (rows_of c.open_with.new.tables) (rows_of c.go_on_alone.new.tables) (disk_of c.open_with.new.tables) (disk_of c.go_on_alone.new.tables) c.go_on_alone.result body.Empty (Go_on prompt ∷ []) c.go_on_alone.ensures.leads c.go_on_alone.ensures.unchanged
+    disk-kept folder.is_honest folder.is_steady folder.faults folder.images folder.may_leave folder.made slot.is_honest slot.is_steady slot.faults slot.moment slot.left_since slot.may_leave c.args.conn (record { now = 0; value = [] }) (rows_of c.open_with.new.tables) (rows_of c.go_on.new.self) (disk_of c.open_with.new.tables) (disk_of c.go_on.new.self) c.go_on.result public.Empty (Go_on prompt ∷ []) c.go_on.ensures.leads c.go_on.ensures.unchanged
     ∙ c.in_ok-open_with.ensures.disk
 
 -- the key doesn't fit its file
@@ -68,7 +68,7 @@ returns-in-Unfit-clause-disk g c =
     let folder = g.F.Folder in
     let slot = g.F.Cell.Slot in
     let prompt = c.args.prompt in
-    disk-kept folder.is_honest folder.is_steady folder.faults folder.images folder.may_leave folder.made slot.is_honest slot.is_steady slot.faults slot.moment slot.left_since slot.may_leave c.args.conn (record { now = 0; value = [] }) (rows_of c.open_with.new.tables) (rows_of c.ask_again.new.tables) (disk_of c.open_with.new.tables) (disk_of c.ask_again.new.tables) c.ask_again.result body.Empty (Ask_prompt prompt ∷ []) c.ask_again.ensures.leads c.ask_again.ensures.unchanged
+    disk-kept folder.is_honest folder.is_steady folder.faults folder.images folder.may_leave folder.made slot.is_honest slot.is_steady slot.faults slot.moment slot.left_since slot.may_leave c.args.conn (record { now = 0; value = [] }) (rows_of c.open_with.new.tables) (rows_of c.ask_again.new.tables) (disk_of c.open_with.new.tables) (disk_of c.ask_again.new.tables) c.ask_again.result public.Empty (Ask_prompt prompt ∷ []) c.ask_again.ensures.leads c.ask_again.ensures.unchanged
     ∙ c.in_ok-open_with.ensures.disk
 
 -- its file is damaged
@@ -97,7 +97,7 @@ returns-in-Damaged-clause-disk g c =
     let folder = g.F.Folder in
     let slot = g.F.Cell.Slot in
     let prompt = c.args.prompt in
-    disk-kept folder.is_honest folder.is_steady folder.faults folder.images folder.may_leave folder.made slot.is_honest slot.is_steady slot.faults slot.moment slot.left_since slot.may_leave c.args.conn (record { now = 0; value = [] }) (rows_of c.open_with.new.tables) (rows_of c.end_dismissed.new.self) (disk_of c.open_with.new.tables) (disk_of c.end_dismissed.new.self) c.end_dismissed.result body.Empty (End_prompt prompt true None ∷ []) c.end_dismissed.ensures.leads c.end_dismissed.ensures.unchanged
+    disk-kept folder.is_honest folder.is_steady folder.faults folder.images folder.may_leave folder.made slot.is_honest slot.is_steady slot.faults slot.moment slot.left_since slot.may_leave c.args.conn (record { now = 0; value = [] }) (rows_of c.open_with.new.tables) (rows_of c.end_dismissed.new.self) (disk_of c.open_with.new.tables) (disk_of c.end_dismissed.new.self) c.end_dismissed.result public.Empty (End_prompt prompt true None ∷ []) c.end_dismissed.ensures.leads c.end_dismissed.ensures.unchanged
     ∙ c.in_ok-open_with.ensures.disk
 
 -- the password is wrong
@@ -147,7 +147,7 @@ returns-in-Ok-clause-leads g c = λ now.
     let mid = rows_of c.open_with.new.tables in
     if-all (row_at prompt old.prompts) _
     (λ row. leads-from folder.is_honest folder.is_steady folder.faults folder.images folder.may_leave folder.made slot.is_honest slot.is_steady slot.faults slot.moment slot.left_since slot.may_leave conn brought old after disk new _ (opening_ended prompt row.wrong stem terms ends.Opened) old disk done (ap (opening_ended prompt row.wrong stem terms) how) refl refl
-    (leads-opened folder.is_honest folder.is_steady folder.faults folder.images folder.may_leave folder.made slot.is_honest slot.is_steady slot.faults slot.moment slot.left_since slot.may_leave conn brought old after disk new stem terms body.Empty (Clear_wrong prompt) (Go_on prompt ∷ []) mid done its.opened
+    (leads-opened folder.is_honest folder.is_steady folder.faults folder.images folder.may_leave folder.made slot.is_honest slot.is_steady slot.faults slot.moment slot.left_since slot.may_leave conn brought old after disk new stem terms public.Empty (Clear_wrong prompt) (Go_on prompt ∷ []) mid done its.opened
     (leads-from folder.is_honest folder.is_steady folder.faults folder.images folder.may_leave folder.made slot.is_honest slot.is_steady slot.faults slot.moment slot.left_since slot.may_leave conn brought mid after disk new _ (quietly (Clear_wrong prompt ∷ Go_on prompt ∷ [])) mid (disk_of c.open_with.new.tables) done refl refl its.disk (c.in-Ok.ensures.leads brought))))
 
 pub returns-in-Ok-clause-disk : goal.returns-in-Ok-clause-disk

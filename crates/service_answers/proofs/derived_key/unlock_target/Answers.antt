@@ -1,6 +1,6 @@
-use Rattle.std.proofs.Common.{◌≡◌, ◌∷◌, [], subst}
+use Rattle.std.proofs.Common.{◌∷◌, [], subst}
 use Rattle.prompt_state.specs.Prompts.{row_at}
-use Rattle.service_calls.specs.secret_calls.specs.declared.out.Body.TheVariants as body
+use Rattle.service_calls.specs.service_events.specs.PublicBody as public
 use Rattle.service_calls.specs.service_tables.specs.Storing.{Brought}
 use Rattle.service_calls.specs.service_events.specs.Derivation.{derived, quietly}
 use Rattle.service_answers.specs.declared.derived_key.Purpose.TheVariants as purpose
@@ -50,16 +50,16 @@ returns-in-None-clause-leads g c =
     let disk = disk_of c.args.tables.now in
     let row = row_at prompt old.prompts in
     let is = subst (λ s. IsPurposeOf (purpose.Unlock s) row) c.in-None.is c.requires.purpose in
-    map-ok c.go_on_alone.result _ _
+    map-ok c.go_on.result _ _
     (λ done leads now.
     let brought : Brought = record { now = now; value = key.password } in
-    leads-as folder.is_honest folder.is_steady folder.faults folder.images folder.may_leave folder.made slot.is_honest slot.is_steady slot.faults slot.moment slot.left_since slot.may_leave conn brought old (rows_of c.go_on_alone.new.tables) disk (disk_of c.go_on_alone.new.tables) (derived prompt round terms (asked conn brought old)) (quietly (Go_on prompt ∷ [])) done
+    leads-as folder.is_honest folder.is_steady folder.faults folder.images folder.may_leave folder.made slot.is_honest slot.is_steady slot.faults slot.moment slot.left_since slot.may_leave conn brought old (rows_of c.go_on.new.self) disk (disk_of c.go_on.new.self) (derived prompt round terms (asked conn brought old)) (quietly (Go_on prompt ∷ [])) done
     (none-plan prompt round terms (asked conn brought old) row c.requires.derives is) (leads brought))
-    c.go_on_alone.ensures.leads
+    c.go_on.ensures.leads
 
 pub returns-in-None-clause-disk : goal.returns-in-None-clause-disk
 returns-in-None-clause-disk g c =
     let folder = g.F.Folder in
     let slot = g.F.Cell.Slot in
     let prompt = c.args.prompt in
-    disk-kept folder.is_honest folder.is_steady folder.faults folder.images folder.may_leave folder.made slot.is_honest slot.is_steady slot.faults slot.moment slot.left_since slot.may_leave c.args.conn (record { now = 0; value = [] }) (rows_of c.args.tables.now) (rows_of c.go_on_alone.new.tables) (disk_of c.args.tables.now) (disk_of c.go_on_alone.new.tables) c.go_on_alone.result body.Empty (Go_on prompt ∷ []) c.go_on_alone.ensures.leads c.go_on_alone.ensures.unchanged
+    disk-kept folder.is_honest folder.is_steady folder.faults folder.images folder.may_leave folder.made slot.is_honest slot.is_steady slot.faults slot.moment slot.left_since slot.may_leave c.args.conn (record { now = 0; value = [] }) (rows_of c.args.tables.now) (rows_of c.go_on.new.self) (disk_of c.args.tables.now) (disk_of c.go_on.new.self) c.go_on.result public.Empty (Go_on prompt ∷ []) c.go_on.ensures.leads c.go_on.ensures.unchanged

@@ -5,7 +5,7 @@ use Rattle.service_tables.specs.collection_table.specs.Entries.{row_of, rows_of}
 use Rattle.service_tables.specs.Disk.{contents_in, disk_state}
 use Rattle.service_tables.specs.Opened.{Contents}
 use Rattle.service_tables.specs.Slots.{file_at}
-use Rattle.service_tables.specs.declared.fate.Fate.TheVariants as fate
+use Rattle.service_tables.specs.declared.fate.StoreFate.TheVariants as fate
 use Rattle.service_disk.specs.Making.{Plan, content_of}
 use Rattle.service_disk.proofs.CreatingLemmas.{created-before, created-stored, created-unsure, file-after, file-before, stores-at}
 use Rattle.service_disk.proofs.FreeLemmas.{no-slot}

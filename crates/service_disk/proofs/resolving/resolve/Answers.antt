@@ -7,6 +7,7 @@ use Rattle.service_tables.specs.collection_table.specs.Rows.{CollectionRow, Rows
 use Rattle.service_tables.specs.collection_table.proofs.RowLemmas.{slots-changed}
 use Rattle.service_tables.specs.Disk.{contents_in, disk_state}
 use Rattle.service_tables.specs.Opened.{Contents}
+use Rattle.service_tables.specs.declared.fate.Fate.TheVariants.{Read}
 use Rattle.service_tables.proofs.DiskLemmas.{at-changed, at-erased, changed-here, file-there, rows-become, rows-left, slots-left, slots-ordered, value-slots, without-here}
 use Rattle.service_tables.proofs.SlotLemmas.{of-some}
 use Rattle.service_disk.specs.Resolving.{row_resolved, stays}
@@ -40,7 +41,7 @@ returns-in-Stays-clause-disk g c =
     let entries = c.args.disk.now.collections.entries in
     let old = disk_state c.args.disk.now in
     let is = c.resolve_in.new.collection in
-    at-changed c.args.stem _ _ _ _ _ _ c.in-Stays.fate entries c.in-Some.collection.now is old _ (slots-ordered entries c.entries-ordered.ensures.ordered) (sym c.in-Some.ensures.value) refl
+    at-changed c.args.stem _ _ _ _ _ _ (Read c.in-Stays.fate) entries c.in-Some.collection.now is old _ (slots-ordered entries c.entries-ordered.ensures.ordered) (sym c.in-Some.ensures.value) refl
     (ap (λ slots. record old { slots = slots }) (slots-changed c.args.stem is entries)) c.in-Stays.ensures.slot _ refl
 
 -- a crash leaves no file of one that goes
@@ -54,7 +55,7 @@ put_aside-requires-clause-gone g c =
     let slot : value_at c.args.stem (slots_of (changed c.args.stem (λ _. is) entries)) ≡ Some is.slot =
     value-slots c.args.stem (changed c.args.stem (λ _. is) entries) ∙ ap (option_map (λ (v : CollectionState _). v.slot)) (changed-here c.args.stem is entries ∙ ap (option_map (λ _. is)) there) in
     let stores = gone-stores slot_is.is_honest slot_is.is_steady slot_is.faults slot_is.moment slot_is.left_since slot_is.may_leave c.in-Goes.fate was.file is.file (row_of was) was.slot is.slot
-    c.in-Goes.ensures.kind refl (ap (λ (row : CollectionRow). row.file) c.in-Goes.ensures.row) (sym c.in-Goes.ensures.stays) c.in-Goes.ensures.slot in
+    refl (ap (λ (row : CollectionRow). row.file) c.in-Goes.ensures.row) (sym c.in-Goes.ensures.stays) c.in-Goes.ensures.slot in
     rw slot stores.crash
 
 -- it goes, and its slot is put aside
@@ -77,10 +78,10 @@ returns-in-Goes-clause-disk g c =
     let there : value_at c.args.stem entries ≡ Some was = sym c.in-Some.ensures.value in
     let slot : value_at c.args.stem (slots_of (changed c.args.stem (λ _. is) entries)) ≡ Some is.slot =
     value-slots c.args.stem (changed c.args.stem (λ _. is) entries) ∙ ap (option_map (λ (v : CollectionState _). v.slot)) (changed-here c.args.stem is entries ∙ ap (option_map (λ _. is)) there) in
-    at-erased c.args.stem _ _ _ _ _ _ c.in-Goes.fate entries was is (disk_state c.args.disk.now) (disk_state c.put_aside.new.self) (slots-ordered entries c.entries-ordered.ensures.ordered) there refl
+    at-erased c.args.stem _ _ _ _ _ _ (Read c.in-Goes.fate) entries was is (disk_state c.args.disk.now) (disk_state c.put_aside.new.self) (slots-ordered entries c.entries-ordered.ensures.ordered) there refl
     (c.put_aside.ensures.slots ∙ slots-left c.args.stem entries is)
     (of-some _ _ is.slot slot c.put_aside.ensures.spare)
     c.put_aside.ensures.rest
     (gone-stores slot_is.is_honest slot_is.is_steady slot_is.faults slot_is.moment slot_is.left_since slot_is.may_leave c.in-Goes.fate was.file is.file (row_of was) was.slot is.slot
-    c.in-Goes.ensures.kind refl (ap (λ (row : CollectionRow). row.file) c.in-Goes.ensures.row) (sym c.in-Goes.ensures.stays) c.in-Goes.ensures.slot)
+    refl (ap (λ (row : CollectionRow). row.file) c.in-Goes.ensures.row) (sym c.in-Goes.ensures.stays) c.in-Goes.ensures.slot)
     _ (ap (λ (contents : Contents). value_at c.args.stem contents.collections) c.put_aside.ensures.contents ∙ without-here c.args.stem (rows_of (changed c.args.stem (λ _. is) entries)))

@@ -1,4 +1,4 @@
-use Rattle.std.proofs.Common.{ℕ, take}
+use Rattle.std.proofs.Common.{take}
 use Rattle.std.specs.List.{AllByRecursion}
 use Rattle.service_answers.specs.service_events.specs.Step.{AreByteImages}
 use Rattle.service_machine.proofs.known.known_entries.Given as goal

@@ -1,6 +1,6 @@
 use Rattle.std.proofs.Common.{Ok, Err, ap, ◌∙◌}
 use Rattle.alias_table.specs.declared.refused.AliasRefused.TheVariants as refused
-use Rattle.service_tables.specs.declared.fate.Fate.TheVariants as fate
+use Rattle.service_tables.specs.declared.fate.StoreFate.TheVariants as fate
 use Rattle.service_tables.proofs.KeptLemmas.{certain-known, rows-become-set, sets-ended, some-set}
 use Rattle.service_tables.proofs.aliases.store_in.Goals as goal
 

@@ -6,11 +6,14 @@ use Rattle.service_events.specs.service_tables.specs.Objects.{collection_named}
 use Rattle.service_events.specs.service_tables.specs.Opened.{Contents, contents_of}
 use Rattle.service_events.specs.service_tables.specs.Reading.{asked_collections}
 use Rattle.service_events.specs.service_tables.specs.Storing.{rows_erased}
+use Rattle.service_events.specs.service_tables.specs.declared.fate.Fate.TheVariants as fate
 use Rattle.service_events.specs.CollectionCalls.{by_fate, delete_collection, if_open, no_prompt, on_collection}
 use Rattle.service_events.specs.Plan.{Asks, Erase, refused}
+use Rattle.service_events.specs.PublicBody.{body_with}
 use Rattle.service_calls.specs.Rows.{disk_of, rows_of}
 use Rattle.service_events.specs.Run.{asked}
 use Rattle.service_calls.specs.Done.{answer_by}
+use Rattle.service_events.proofs.SmallLemmas.{no_prompt-small}
 use Rattle.service_calls.proofs.LeadsLemmas.{at-moved, leads-as, leads-asked, leads-done}
 use Rattle.service_calls.proofs.tables.Tables.delete_collection.Goals as goal
 
@@ -29,7 +32,7 @@ returns-clause-leads g c = λ brought.
     let plan : delete_collection c.args.collection.now (asked conn brought old) ≡ Asks (Erase stem) (by_fate no_prompt) =
     ap (λ o. on_collection o (λ stem. if_open stem (asked conn brought old) (Asks (Erase stem) (by_fate no_prompt)))) named
     ∙ ap (λ b. cond b (Asks (Erase stem) (by_fate no_prompt)) (refused name.IsLocked)) unlocked in
-    let done : c.ended.result ≡ record { answer = answer_by no_prompt some; sends = []; read = None; fate = Some some } =
+    let done : c.ended.result ≡ record { answer = answer_by (body_with no_prompt) some; sends = []; read = None; fate = Some some } =
     c.ended.ensures ∙ ap (λ path. record { answer = answer_by (body.Object path) some; sends = []; read = None; fate = Some some }) c.in_ok-path_of.ensures.spelled in
     let same = c.in_ok-reserve_spare.ensures in
     let rows = ap (λ (contents : Contents). contents.collections) c.erase.ensures.erased ∙ ap (λ (contents : Contents). rows_erased stem some contents.collections) same.contents in
@@ -37,6 +40,6 @@ returns-clause-leads g c = λ brought.
     (c.erase.ensures.erased ∙ ap (λ (contents : Contents). record contents { collections = rows_erased stem some contents.collections }) same.contents) in
     leads-done folder.is_honest folder.is_steady folder.faults folder.images folder.may_leave folder.made slot.is_honest slot.is_steady slot.faults slot.moment slot.left_since slot.may_leave conn brought old _ disk _ _ _ _ done
     (leads-as folder.is_honest folder.is_steady folder.faults folder.images folder.may_leave folder.made slot.is_honest slot.is_steady slot.faults slot.moment slot.left_since slot.may_leave conn brought old _ disk _ _ _ _ plan
-    (leads-asked folder.is_honest folder.is_steady folder.faults folder.images folder.may_leave folder.made slot.is_honest slot.is_steady slot.faults slot.moment slot.left_since slot.may_leave conn brought old _ disk _ (Erase stem) no_prompt some c.erase.ensures.kind state
-    (at-moved slot.is_honest slot.is_steady slot.faults slot.moment slot.left_since slot.may_leave stem some _ _ _ _ _ _ _
+    (leads-asked folder.is_honest folder.is_steady folder.faults folder.images folder.may_leave folder.made slot.is_honest slot.is_steady slot.faults slot.moment slot.left_since slot.may_leave conn brought old _ disk _ (Erase stem) no_prompt some no_prompt-small state
+    (at-moved slot.is_honest slot.is_steady slot.faults slot.moment slot.left_since slot.may_leave stem (fate.Store some) _ _ _ _ _ _ _
     (ap (λ (contents : Contents). contents.collections) same.contents) rows same.disk c.erase.ensures.disk)))

@@ -1,7 +1,7 @@
 use Rattle.std.proofs.Common.{◌≡◌, true, false, None, rules}
 use Rattle.service_events.specs.secret_calls.specs.declared.out.Body.TheVariants as body
 use Rattle.service_calls.specs.Rows.{rows_of}
-use Rattle.service_events.specs.ServiceCalls.{is_small}
+use Rattle.service_events.specs.Run.{is_small}
 use Rattle.service_calls.proofs.LockLemmas.{large-answer, large-state, lock-answer, lock-state}
 use Rattle.service_calls.proofs.tables.Tables.lock.Goals as goal
 

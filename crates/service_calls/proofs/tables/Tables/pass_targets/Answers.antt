@@ -5,16 +5,15 @@ use Rattle.prompt_state.specs.Prompts.{first_of_row, next_round, row_at, targete
 use Rattle.prompt_state.specs.Targets.{first_done, first_dropped}
 use Rattle.service_events.specs.service_tables.specs.Opened.{contents_of}
 use Rattle.service_events.specs.service_tables.specs.Reading.{asked_collections}
-use Rattle.service_events.specs.PromptCalls.{left_in_row, passed_over}
+use Rattle.service_events.specs.PromptCalls.{passed_over}
 use Rattle.service_calls.specs.Rows.{rows_of}
-use Rattle.service_events.proofs.AdvanceLemmas.{Advanced, fewer-left, round-targeted, step-done, step-dropped, there-targeted}
+use Rattle.service_events.proofs.AdvanceLemmas.{fewer-left, left_in_row, round-targeted, there-targeted}
 use Rattle.service_calls.proofs.PassLemmas.{passed-done, passed-dropped, passed-left, passed-state}
 use Rattle.service_calls.proofs.tables.Tables.pass_targets.Goals as goal
 
 -- the collection of the first target is gone
 pub loop-target-preserved-then-not-there : goal.loop-target-preserved-then-not-there
 loop-target-preserved-then-not-there g c =
-    let conn = c.args.conn in
     let prompt = c.args.prompt in
     let old = rows_of c.loop-target.self in
     let target = c.in-Some.target.now in
@@ -25,12 +24,11 @@ loop-target-preserved-then-not-there g c =
     let new : c.drop_target.new.self ≡ targeted prompt first_dropped old.prompts = c.drop_target.ensures in (
       ap (λ p. is_some (row_at prompt p)) new ∙ there-targeted prompt first_dropped old.prompts ∙ its.0,
       ap (λ p. next_round (row_at prompt p)) new ∙ round-targeted prompt first_dropped old.prompts ∙ its.1,
-      ap (λ p. Advanced conn prompt (record old { prompts = p })) new ∙ step-dropped conn prompt old target first gone ∙ its.2,
+      its.2,
       its.3,
       its.4,
-      its.5,
-      ap (passed_over prompt asks) new ∙ passed-dropped asks prompt old.prompts c.first_open.ensures.sound target first gone ∙ its.6,
-      its.7,
+      ap (passed_over prompt asks) new ∙ passed-dropped asks prompt old.prompts c.first_open.ensures.sound target first gone ∙ its.5,
+      its.6,
     )
 
 pub loop-target-smaller-then-not-there : goal.loop-target-smaller-then-not-there
@@ -44,7 +42,6 @@ loop-target-smaller-then-not-there g c =
 -- it is unlocked
 pub loop-target-preserved : goal.loop-target-preserved
 loop-target-preserved g c =
-    let conn = c.args.conn in
     let prompt = c.args.prompt in
     let old = rows_of c.loop-target.self in
     let target = c.in-Some.target.now in
@@ -56,12 +53,11 @@ loop-target-preserved g c =
     let new : c.done.new.self ≡ targeted prompt first_done old.prompts = c.done.ensures in (
       ap (λ p. is_some (row_at prompt p)) new ∙ there-targeted prompt first_done old.prompts ∙ its.0,
       ap (λ p. next_round (row_at prompt p)) new ∙ round-targeted prompt first_done old.prompts ∙ its.1,
-      ap (λ p. Advanced conn prompt (record old { prompts = p })) new ∙ step-done conn prompt old target first there unlocked ∙ its.2,
+      its.2,
       its.3,
       its.4,
-      its.5,
-      ap (passed_over prompt asks) new ∙ passed-done asks prompt old.prompts c.first_open.ensures.sound target first there unlocked ∙ its.6,
-      its.7,
+      ap (passed_over prompt asks) new ∙ passed-done asks prompt old.prompts c.first_open.ensures.sound target first there unlocked ∙ its.5,
+      its.6,
     )
 
 pub loop-target-smaller : goal.loop-target-smaller
@@ -82,7 +78,7 @@ returns-else-open-clause-passed g c =
     let there : has target.stem old.collections ≡ true = sym c.has-there.ensures ∙ c.if-not-there.false in
     let locked : is_open target.stem old.collections ≡ false = sym c.is_open-open.ensures ∙ c.if-open.false in
     let its = c.loop-target.invariant in
-    passed-state (rows_of c.args.self.now) old prompt (λ i. record { rows = (its.3 i).rows; next = (its.3 i).next }) its.7 its.5 its.6 (passed-left (asked_collections (contents_of old)) prompt old.prompts c.first_open.ensures.sound (Some target) first (there, locked))
+    passed-state (rows_of c.args.self.now) old prompt (λ i. record { rows = (its.2 i).rows; next = (its.2 i).next }) its.6 its.4 its.5 (passed-left (asked_collections (contents_of old)) prompt old.prompts c.first_open.ensures.sound (Some target) first (there, locked))
 
 -- none is left
 pub returns-clause-passed : goal.returns-clause-passed
@@ -91,4 +87,4 @@ returns-clause-passed g c =
     let old = rows_of c.loop-target.self in
     let first : first_of_row (row_at prompt old.prompts) ≡ None = sym c.first_open.ensures.first ∙ ap option_copied c.in_default.is in
     let its = c.loop-target.invariant in
-    passed-state (rows_of c.args.self.now) old prompt (λ i. record { rows = (its.3 i).rows; next = (its.3 i).next }) its.7 its.5 its.6 (passed-left (asked_collections (contents_of old)) prompt old.prompts c.first_open.ensures.sound None first tt)
+    passed-state (rows_of c.args.self.now) old prompt (λ i. record { rows = (its.2 i).rows; next = (its.2 i).next }) its.6 its.4 its.5 (passed-left (asked_collections (contents_of old)) prompt old.prompts c.first_open.ensures.sound None first tt)

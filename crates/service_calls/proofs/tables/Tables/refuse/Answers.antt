@@ -1,9 +1,9 @@
 use Rattle.std.proofs.Common.{◌≡◌, true, [], ◌∷◌, None, sym, ap, ◌∙◌}
 use Rattle.kr_base.specs.declared.ids.PromptId.{PromptId}
 use Rattle.prompt_state.specs.Prompts.{refusal}
-use Rattle.service_events.specs.secret_calls.specs.declared.out.Body.TheVariants as body
 use Rattle.service_events.specs.AgentCalls.{in_round, refuse, unless_refused}
 use Rattle.service_events.specs.Plan.{Plan, End_prompt, answered}
+use Rattle.service_events.specs.PublicBody as public
 use Rattle.service_calls.specs.Rows.{rows_of}
 use Rattle.service_events.specs.Run.{asked}
 use Rattle.service_calls.specs.declared.storing.Done.{Done}
@@ -31,7 +31,7 @@ returns-in-None-clause-leads g c =
     let round = c.args.round in
     let prompt = c.in-Some.prompt in
     let old = rows_of c.args.self.now in
-    let ends : PromptId → Plan = λ it. answered body.Empty (End_prompt it true None ∷ []) in
+    let ends : PromptId → Plan = λ it. answered public.Empty (End_prompt it true None ∷ []) in
     let waits : refusal prompt round conn old.prompts ≡ None = sym c.refusal.ensures.refusal ∙ c.in-None.is in
     map-ok c.end_dismissed.result _ _
     (λ done leads brought.

@@ -1,11 +1,13 @@
 use Rattle.std.proofs.Common.{◌≡◌, true, ap}
-use Rattle.service_events.specs.secret_calls.specs.declared.out.Body.TheVariants as body
 use Rattle.service_events.specs.service_tables.specs.Aliases.{asked_aliases}
 use Rattle.service_events.specs.service_tables.specs.Opened.{Contents, contents_of}
+use Rattle.service_events.specs.service_tables.specs.declared.fate.Fate.TheVariants as fate
 use Rattle.service_events.specs.service_tables.proofs.SlotLemmas.{of-some}
 use Rattle.service_events.specs.Plan.{Set_alias}
+use Rattle.service_events.specs.PublicBody as public
 use Rattle.service_calls.specs.Rows.{disk_of, rows_of}
 use Rattle.service_calls.proofs.AliasLemmas.{for-moved, stored-plan}
+use Rattle.service_events.proofs.SmallLemmas.{empty-small}
 use Rattle.service_calls.proofs.LeadsLemmas.{leads-as, leads-asked, leads-done}
 use Rattle.service_calls.proofs.tables.Tables.store_alias.Goals as goal
 
@@ -24,9 +26,8 @@ returns-in-Some-clause-leads g c = λ conn brought alias stem prepared.
     let aliases = ap (λ (contents : Contents). contents.aliases) stored in
     leads-done folder.is_honest folder.is_steady folder.faults folder.images folder.may_leave folder.made slot.is_honest slot.is_steady slot.faults slot.moment slot.left_since slot.may_leave conn brought old _ disk _ _ _ _ c.ended.ensures
     (leads-as folder.is_honest folder.is_steady folder.faults folder.images folder.may_leave folder.made slot.is_honest slot.is_steady slot.faults slot.moment slot.left_since slot.may_leave conn brought old _ disk _ _ _ _ (stored-plan conn brought alias stem old can)
-    (leads-asked folder.is_honest folder.is_steady folder.faults folder.images folder.may_leave folder.made slot.is_honest slot.is_steady slot.faults slot.moment slot.left_since slot.may_leave conn brought old _ disk _ (Set_alias alias stem) body.Empty some
-    (of-some _ c.store_aliases.result some c.in-Some.is its.kind) state
-    (for-moved slot.is_honest slot.is_steady slot.faults slot.moment slot.left_since slot.may_leave some old.aliases _ _ disk _ aliases (of-some _ c.store_aliases.result some c.in-Some.is its.disk))))
+    (leads-asked folder.is_honest folder.is_steady folder.faults folder.images folder.may_leave folder.made slot.is_honest slot.is_steady slot.faults slot.moment slot.left_since slot.may_leave conn brought old _ disk _ (Set_alias alias stem) public.Empty some empty-small state
+    (for-moved slot.is_honest slot.is_steady slot.faults slot.moment slot.left_since slot.may_leave (fate.Store some) old.aliases _ _ disk _ aliases (of-some _ c.store_aliases.result some c.in-Some.is its.disk))))
 
 pub returns-in-Some-clause-rest : goal.returns-in-Some-clause-rest
 returns-in-Some-clause-rest g c = (of-some _ c.store_aliases.result c.in-Some.fate c.in-Some.is c.store_aliases.ensures.disk).rest

@@ -1,9 +1,9 @@
 use Rattle.std.proofs.Common.{◌≡◌, ◌^◌, ◌<◌, ◌++◌, sym, ap, subst, ◌∙◌}
 use Rattle.keyring_text.specs.Fields.{IsBytes}
-use Rattle.service_answers.specs.service_tables.specs.Connections.{HasRoomFor, delivered}
+use Rattle.service_answers.specs.service_tables.specs.Connections.{HasRoomFor, handed}
 use Rattle.service_answers.specs.service_events.specs.declared.event.Event.TheVariants as event
 use Rattle.service_answers.specs.service_events.specs.declared.event.Derivation.{Derivation}
-use Rattle.service_answers.specs.service_events.specs.Fates.{AreFaultless, fates_of}
+use Rattle.service_answers.specs.service_events.specs.Fates.{AreFaultless, reads_of, stores_of}
 use Rattle.service_answers.specs.service_events.specs.Step.{Fits, IsSalt, step}
 use Rattle.service_answers.specs.service_events.specs.Stored.{StoresEvent, plan_brought}
 use Rattle.service_answers.specs.service_calls.specs.Rows.{disk_of as disk_with, rows_of as rows_in}
@@ -26,7 +26,7 @@ returns-clause-fits g c =
     let settled = c.in_ok-made.field-0 in
     let parts = c.into_parts-sends.ensures in
     let password : c.in_ok-password.password ≡ brought.done.key.password = c.in_ok-password.ensures ∙ c.password.ensures in
-    let fates : c.of.result ≡ settled_fates settled = c.of.ensures ∙ (λ i. fates_of settled.made ++ (fates_of (parts.read i) ++ fates_of (parts.fate i))) in
+    let fates : c.of.result ≡ settled_fates settled = c.of.ensures ∙ (λ i. stores_of settled.made ++ (reads_of (parts.read i) ++ stores_of (parts.fate i))) in
     let is : c.ended.result ≡ came_of brought settled =
     came-is brought settled c.in_ok-password.password c.salt-salt.result c.iterations-iterations.result c.none.result c.of.result c.in_ok-came.came c.ended.result
     c.in_ok-came.ensures c.ended.ensures password c.salt-salt.ensures c.iterations-iterations.ensures fates in
@@ -48,7 +48,7 @@ returns-clause-stepped g c =
     let settled = c.in_ok-made.field-0 in
     let parts = c.into_parts-sends.ensures in
     let password : c.in_ok-password.password ≡ brought.done.key.password = c.in_ok-password.ensures ∙ c.password.ensures in
-    let fates : c.of.result ≡ settled_fates settled = c.of.ensures ∙ (λ i. fates_of settled.made ++ (fates_of (parts.read i) ++ fates_of (parts.fate i))) in
+    let fates : c.of.result ≡ settled_fates settled = c.of.ensures ∙ (λ i. stores_of settled.made ++ (reads_of (parts.read i) ++ stores_of (parts.fate i))) in
     let is : c.ended.result ≡ came_of brought settled =
     came-is brought settled c.in_ok-password.password c.salt-salt.result c.iterations-iterations.result c.none.result c.of.result c.in_ok-came.came c.ended.result
     c.in_ok-came.ensures c.ended.ensures password c.salt-salt.ensures c.iterations-iterations.ensures fates in
@@ -57,8 +57,8 @@ returns-clause-stepped g c =
     let disk = disk_of c.args.self.now in
     let new = disk_with c.settle.new.tables in
     let sent = c.into_vec.ensures ∙ parts.sends in
-    let rows = c.deliver.ensures.rows ∙ ap (λ sends. delivered sends mid.connections.rows) sent in
-    key-stepped folder.is_honest folder.is_steady folder.faults folder.images folder.may_leave folder.made slot.is_honest slot.is_steady slot.faults slot.moment slot.left_since slot.may_leave brought settled old mid disk new c.in_ok-made.ensures.settles _ (λ i. record mid { connections = record { rows = rows i; next = c.deliver.ensures.next i } })
+    let rows = c.deliver.ensures.rows ∙ ap (λ sends. handed sends mid.connections.rows) sent in
+    key-stepped folder.is_honest folder.is_steady folder.faults folder.images folder.may_leave folder.made slot.is_honest slot.is_steady slot.faults slot.moment slot.left_since slot.may_leave brought settled old mid disk new c.in_ok-made.ensures.settles c.are_distinct.ensures _ (λ i. record mid { connections = record { rows = rows i; next = c.deliver.ensures.next i } })
     ∙ ap (λ came. step old (event.Derived came)) (sym is)
 
 pub returns-clause-disk : goal.returns-clause-disk
@@ -69,7 +69,7 @@ returns-clause-disk g c =
     let settled = c.in_ok-made.field-0 in
     let parts = c.into_parts-sends.ensures in
     let password : c.in_ok-password.password ≡ brought.done.key.password = c.in_ok-password.ensures ∙ c.password.ensures in
-    let fates : c.of.result ≡ settled_fates settled = c.of.ensures ∙ (λ i. fates_of settled.made ++ (fates_of (parts.read i) ++ fates_of (parts.fate i))) in
+    let fates : c.of.result ≡ settled_fates settled = c.of.ensures ∙ (λ i. stores_of settled.made ++ (reads_of (parts.read i) ++ stores_of (parts.fate i))) in
     let is : c.ended.result ≡ came_of brought settled =
     came-is brought settled c.in_ok-password.password c.salt-salt.result c.iterations-iterations.result c.none.result c.of.result c.in_ok-came.came c.ended.result
     c.in_ok-came.ensures c.ended.ensures password c.salt-salt.ensures c.iterations-iterations.ensures fates in
@@ -87,7 +87,7 @@ returns-clause-faultless g c =
     let settled = c.in_ok-made.field-0 in
     let parts = c.into_parts-sends.ensures in
     let password : c.in_ok-password.password ≡ brought.done.key.password = c.in_ok-password.ensures ∙ c.password.ensures in
-    let fates : c.of.result ≡ settled_fates settled = c.of.ensures ∙ (λ i. fates_of settled.made ++ (fates_of (parts.read i) ++ fates_of (parts.fate i))) in
+    let fates : c.of.result ≡ settled_fates settled = c.of.ensures ∙ (λ i. stores_of settled.made ++ (reads_of (parts.read i) ++ stores_of (parts.fate i))) in
     let is : c.ended.result ≡ came_of brought settled =
     came-is brought settled c.in_ok-password.password c.salt-salt.result c.iterations-iterations.result c.none.result c.of.result c.in_ok-came.came c.ended.result
     c.in_ok-came.ensures c.ended.ensures password c.salt-salt.ensures c.iterations-iterations.ensures fates in

@@ -1,5 +1,5 @@
 use Rattle.std.proofs.Common.{◌≡◌, ◌∙◌, length, refl, arith, subst, sym, ap, rules}
-use Rattle.service_tables.specs.Connections.{HasRoomFor, delivered}
+use Rattle.service_tables.specs.Connections.{HasRoomFor, handed}
 use Rattle.service_tables.proofs.RoomLemmas.{first-room}
 use Rattle.service_tables.proofs.connections.Connections.deliver.Goals as goal
 
@@ -7,7 +7,7 @@ pub loop-sent-init : goal.loop-sent-init
 loop-sent-init c =
     let items : c.into_iter-sent-iterator.result.rest.items ≡ c.args.outs.items = search rules in
     let count : length c.into_iter-sent-iterator.result.rest.items ≡ c.into_iter-sent-iterator.result.rest.len = search rules in
-    (tt, tt, count, subst (λ these. HasRoomFor these c.args.self.now.rooms) (sym items) c.requires, ap (λ these. delivered these c.args.self.now.rows) items, refl)
+    (tt, tt, count, subst (λ these. HasRoomFor these c.args.self.now.rooms) (sym items) c.requires, ap (λ these. handed these c.args.self.now.rows) items, refl)
 
 -- there is room for the first one
 pub push-requires : goal.push-requires
@@ -21,7 +21,7 @@ loop-sent-preserved c =
     let sent = c.in-Some.sent in
     let left = c.next.new.self.rest.items in
     let room = subst (λ these. HasRoomFor these c.loop-sent.self.rooms) c.in-Some.ensures.steps.0 c.loop-sent.invariant.3 in
-    let had = subst (λ these. delivered these c.loop-sent.self.rows ≡ delivered c.args.outs.items c.args.self.now.rows) c.in-Some.ensures.steps.0 c.loop-sent.invariant.4 in (
+    let had = subst (λ these. handed these c.loop-sent.self.rows ≡ handed c.args.outs.items c.args.self.now.rows) c.in-Some.ensures.steps.0 c.loop-sent.invariant.4 in (
       tt,
       tt,
       omega (arith, ap length c.in-Some.ensures.steps.0, c.in-Some.ensures.steps.1, c.loop-sent.invariant.2),

@@ -1,5 +1,5 @@
 use Rattle.std.proofs.Common.{◌≡◌, length}
-use Rattle.service_tables.specs.Connections.{HasRoomFor, delivered}
+use Rattle.service_tables.specs.Connections.{HasRoomFor, handed}
 use Rattle.service_tables.proofs.connections.Connections.deliver.Given as goal
 
 -- there is room for the outputs that are left, and what they lead to is what all lead to
@@ -9,5 +9,5 @@ invariant-loop-sent l =
     goal.iterator-loop-sent.is_finite l.sent-iterator ×
     (length l.sent-iterator.rest.items ≡ l.sent-iterator.rest.len) ×
     HasRoomFor l.sent-iterator.rest.items l.self.rooms ×
-    (delivered l.sent-iterator.rest.items l.self.rows ≡ delivered l.fn.outs.items l.fn.self.rows) ×
+    (handed l.sent-iterator.rest.items l.self.rows ≡ handed l.fn.outs.items l.fn.self.rows) ×
     (l.self.next ≡ l.fn.self.next)

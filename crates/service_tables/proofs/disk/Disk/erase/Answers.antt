@@ -9,7 +9,8 @@ use Rattle.collection_table.proofs.RowLemmas.{open-missing, open-there, slots-ch
 use Rattle.service_tables.specs.Disk.{contents_in, disk_state}
 use Rattle.service_tables.specs.Opened.{Contents}
 use Rattle.service_tables.specs.Slots.{StoresIn}
-use Rattle.service_tables.specs.declared.fate.Fate.TheVariants as fate
+use Rattle.service_tables.specs.declared.fate.Fate.TheVariants.{Store}
+use Rattle.service_tables.specs.declared.fate.StoreFate.TheVariants as fate
 use Rattle.service_tables.proofs.DiskLemmas.{at-changed, at-erased, changed-here, rows-become, rows-left, slots-left, slots-ordered, value-slots, without-here}
 use Rattle.service_tables.proofs.SlotLemmas.{of-some, some-is}
 use Rattle.service_tables.proofs.disk.Disk.erase.Goals as goal
@@ -50,7 +51,7 @@ returns-clause-disk g c =
     let entries = c.args.self.now.collections.entries in
     let old = disk_state c.args.self.now in
     let is = c.erase_in.new.collection in
-    at-changed c.args.stem _ _ _ _ _ _ fate.Unsure entries c.in-Some.collection.now is old _ (slots-ordered entries c.entries-ordered.ensures.ordered) (sym c.in-Some.ensures.value) refl
+    at-changed c.args.stem _ _ _ _ _ _ (Store fate.Unsure) entries c.in-Some.collection.now is old _ (slots-ordered entries c.entries-ordered.ensures.ordered) (sym c.in-Some.ensures.value) refl
     (ap (λ slots. record old { slots = slots }) (slots-changed c.args.stem is entries)) c.if-erase_in.ensures.slot _ refl
 
 pub returns-then-erase_in-clause-disk : goal.returns-then-erase_in-clause-disk
@@ -62,9 +63,9 @@ returns-then-erase_in-clause-disk g c =
     let there : value_at c.args.stem entries ≡ Some was = sym c.in-Some.ensures.value in
     let slot : value_at c.args.stem (slots_of (changed c.args.stem (λ _. is) entries)) ≡ Some is.slot =
     value-slots c.args.stem (changed c.args.stem (λ _. is) entries) ∙ ap (option_map (λ (v : CollectionState _). v.slot)) (changed-here c.args.stem is entries ∙ ap (option_map (λ _. is)) there) in
-    at-erased c.args.stem _ _ _ _ _ _ fate.Stored entries was is (disk_state c.args.self.now) (disk_state c.put_aside.new.self) (slots-ordered entries c.entries-ordered.ensures.ordered) there refl
+    at-erased c.args.stem _ _ _ _ _ _ (Store fate.Stored) entries was is (disk_state c.args.self.now) (disk_state c.put_aside.new.self) (slots-ordered entries c.entries-ordered.ensures.ordered) there refl
     (c.put_aside.ensures.slots ∙ slots-left c.args.stem entries is)
     (of-some _ _ is.slot slot c.put_aside.ensures.spare)
     c.put_aside.ensures.rest
-    (subst (λ file. StoresIn slot_is.is_honest slot_is.is_steady slot_is.faults slot_is.moment slot_is.left_since slot_is.may_leave fate.Stored was.file file was.slot is.slot) (ap (λ (row : CollectionRow). row.file) c.if-erase_in.ensures.row) c.if-erase_in.ensures.slot)
+    (subst (λ file. StoresIn slot_is.is_honest slot_is.is_steady slot_is.faults slot_is.moment slot_is.left_since slot_is.may_leave (Store fate.Stored) was.file file was.slot is.slot) (ap (λ (row : CollectionRow). row.file) c.if-erase_in.ensures.row) c.if-erase_in.ensures.slot)
     _ (ap (λ (contents : Contents). value_at c.args.stem contents.collections) c.put_aside.ensures.contents ∙ without-here c.args.stem (rows_of (changed c.args.stem (λ _. is) entries)))

@@ -5,6 +5,7 @@ use Rattle.collection_table.specs.Rows.{Rows}
 use Rattle.collection_table.proofs.RowLemmas.{slots-changed}
 use Rattle.service_tables.specs.Disk.{contents_in, disk_state}
 use Rattle.service_tables.specs.Storing.{row_changed}
+use Rattle.service_tables.specs.declared.fate.Fate.TheVariants.{Store}
 use Rattle.service_tables.proofs.DiskLemmas.{at-changed, changed-back, rows-become, slots-ordered}
 use Rattle.service_tables.proofs.SlotLemmas.{answered-missing, answered-possible, map-err, map-none, map-some, storable-fits, storable-large}
 use Rattle.service_tables.proofs.disk.Disk.store.Goals as goal
@@ -37,7 +38,7 @@ returns-clause-disk g c =
     let old = disk_state c.args.self.now in
     let is = c.store_in.new.collection in
     map-some c.store_in.result _ _
-    (λ fate stores. at-changed c.args.stem.now _ _ _ _ _ _ fate entries c.in-Some.collection.now is old _ (slots-ordered entries c.entries-ordered.ensures.ordered) (sym c.in-Some.ensures.value) refl
+    (λ some stores. at-changed c.args.stem.now _ _ _ _ _ _ (Store some) entries c.in-Some.collection.now is old _ (slots-ordered entries c.entries-ordered.ensures.ordered) (sym c.in-Some.ensures.value) refl
     (ap (λ slots. record old { slots = slots }) (slots-changed c.args.stem.now is entries)) stores _ refl)
     c.store_in.ensures.slot
 

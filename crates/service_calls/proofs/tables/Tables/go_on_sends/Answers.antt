@@ -1,21 +1,23 @@
 use Rattle.std.proofs.Common.{◌≡◌, Some, sym, ap, ◌∙◌}
 use Rattle.std.specs.Option.{option_copied}
 use Rattle.prompt_state.specs.Prompts.{row_at}
+use Rattle.service_events.specs.service_tables.specs.Connections.{spread}
 use Rattle.service_events.specs.service_tables.specs.Opened.{contents_of}
 use Rattle.service_events.specs.service_tables.specs.Reading.{asked_collections}
-use Rattle.service_events.specs.PromptCalls.{advance_sent, passed_kind}
+use Rattle.service_events.specs.PromptCalls.{advance_sent, go_on_sent, passed_kind}
 use Rattle.service_calls.specs.Rows.{rows_of}
 use Rattle.service_calls.proofs.LeadsLemmas.{map-ok}
-use Rattle.service_events.proofs.SendLemmas.{advance-sends}
-use Rattle.service_calls.proofs.tables.Tables.advance_sends.Goals as goal
+use Rattle.service_calls.proofs.tables.Tables.go_on_sends.Goals as goal
 
--- what the last change sends
+-- the prompt is there
 pub returns : goal.returns
 returns g c =
     let old = rows_of c.args.self.now in
     let row = c.in-Some.row.now in
+    let asked = asked_collections (contents_of old) in
     let found : row_at c.args.prompt old.prompts ≡ Some row = sym c.row.ensures.row ∙ ap option_copied c.in-Some.is in
-    let kind : c.pass_kind.new.kind ≡ passed_kind (asked_collections (contents_of old)) row.kind = c.pass_kind.ensures ∙ ap (passed_kind (asked_collections (contents_of old))) c.in_ok-kind.ensures in
+    let kind : c.pass_kind.new.kind ≡ passed_kind asked row.kind = c.pass_kind.ensures ∙ ap (passed_kind asked) c.in_ok-kind.ensures in
     map-ok c.advance_sent.result _ _
-    (λ sends is. is ∙ ap (λ k. advance_sent old.collections row k old.prompts.agent) kind ∙ sym (advance-sends c.args.conn c.args.prompt old row found))
+    (λ sends is rows. is rows ∙ ap (λ k. spread rows (advance_sent old.collections row k old.prompts.agent)) kind
+    ∙ sym (ap (λ o. spread rows (go_on_sent asked old.collections old.prompts.agent o)) found))
     c.advance_sent.ensures
