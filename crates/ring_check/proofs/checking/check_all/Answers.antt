@@ -42,8 +42,12 @@ returns-in_err-walk-clause-front g c =
     let folder = g.F.Folder in
     let n = c.in_ok-names.ensures in
     let front = c.in_err-walk.ensures.front in
-    whatever _ (inl (front.0, checked_since (folder.is_honest c.checked_names.new.folder) (folder.is_honest c.args.folder.now) (folder.images c.checked_names.new.folder) (folder.images c.args.folder.now) c.in_ok-names.names.items front.0 n.kept.honest n.same
-    (subst (λ l. Finds (folder.is_honest c.checked_names.new.folder) (folder.images c.checked_names.new.folder) l front.0) c.deref.ensures.value front.1) n.sorted n.named n.listed, front.2))
+    whatever _ (inl (
+      front.0,
+      checked_since (folder.is_honest c.checked_names.new.folder) (folder.is_honest c.args.folder.now) (folder.images c.checked_names.new.folder) (folder.images c.args.folder.now) c.in_ok-names.names.items front.0 n.kept.honest n.same
+          (subst (λ l. Finds (folder.is_honest c.checked_names.new.folder) (folder.images c.checked_names.new.folder) l front.0) c.deref.ensures.value front.1) n.sorted n.named n.listed,
+      front.2,
+    ))
 
 pub returns-in_err-walk-clause-looks : goal.returns-in_err-walk-clause-looks
 returns-in_err-walk-clause-looks g c =

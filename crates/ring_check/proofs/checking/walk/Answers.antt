@@ -9,9 +9,14 @@ use Rattle.ring_check.proofs.WalkLemmas.{Walked, walked_none, walked_more, walke
 use Rattle.ring_check.proofs.checking.walk.Goals as goal
 
 pub visit-requires : goal.visit-requires
-visit-requires g c =
-    (c.type_bounds.sync-R, (λ honest has. not_before c.args.names.now c.loop-name.name-index c.name-item.result c.requires.sorted c.loop-name-test.true (sym c.name-item.is)
-    (c.loop-name.invariant.among c.name-item.result has), c.loop-name.invariant.kept.is_open))
+visit-requires g c = (
+  c.type_bounds.sync-R,
+  (
+    λ honest has. not_before c.args.names.now c.loop-name.name-index c.name-item.result c.requires.sorted c.loop-name-test.true (sym c.name-item.is)
+        (c.loop-name.invariant.among c.name-item.result has),
+    c.loop-name.invariant.kept.is_open,
+  ),
+)
 
 pub loop-name-init : goal.loop-name-init
 loop-name-init g c =
