@@ -48,7 +48,7 @@ use Rattle.service_events.specs.declared.event.Event.TheVariants as event
 use Rattle.service_events.specs.declared.event.Recorded.{Recorded}
 use Rattle.service_events.specs.Derivation.{derived}
 use Rattle.service_events.specs.ItemCalls.{get_secret, secret_if_open}
-use Rattle.service_events.specs.Plan.{Answer, Returns, Gives, Refuses, Gift, Secret_of, Secrets_of, Plan, Ends, Asks, Settles, Opens, given, refused}
+use Rattle.service_events.specs.Plan.{Answer, Returns, Gives, Refuses, Gift, Secret_of, Secrets_of, Plan, Ends, Asks, Resolves, Opens, given, refused}
 use Rattle.service_events.specs.PublicBody.{PublicBody, body_with}
 use Rattle.service_events.specs.PublicBody as public
 use Rattle.service_events.specs.Run.{Ran, asked, by_read, by_reading, by_test, demanded, failing, filled, given_if_open, if_fits, is_in_doubt, promised, run, secret_returned, sending, sent_asked, sent_settled, session_of, settled, unlocked_with, with_gift, with_own_gift}
@@ -156,7 +156,7 @@ module _ (caller : ConnId) (brought : Brought) where
       let after = demanded brought demand ended state in
       fits-either (IsOwn (ended_in caller brought (next ended) rest after)) (promised caller state (next stored.Stored)) (sending (sent_asked brought demand ended state) (run caller brought (next ended) rest after))
       (failing name.LimitsExceeded state) (λ small. own_run (next ended) rest after) tt
-  own_run (Settles reading unread next) fates state =
+  own_run (Resolves reading unread next) fates state =
       let after : ReadFate → State = λ ended. settled reading ended state in
       let first : ReadFate → List Fate → State = λ ended rest. ended_in caller brought unread rest (after ended) in
       let second : ReadFate → List Fate → State = λ ended rest. ended_in caller brought (next (asked caller brought (after ended))) rest (after ended) in

@@ -30,7 +30,7 @@ use Rattle.service_events.specs.service_tables.specs.Storing.{Brought}
 use Rattle.service_events.specs.service_tables.specs.declared.fate.Fate.{Fate}
 use Rattle.service_events.specs.declared.event.Event.{Event}
 use Rattle.service_events.specs.declared.event.Event.TheVariants as event
-use Rattle.service_events.specs.Plan.{Plan, Ends, Asks, Settles, Opens}
+use Rattle.service_events.specs.Plan.{Plan, Ends, Asks, Resolves, Opens}
 use Rattle.service_events.specs.Replay.{replay}
 use Rattle.service_events.specs.Run.{asked, by_read, by_reading, by_store, by_test, demanded, is_in_doubt, settled, unlocked_with}
 use Rattle.service_events.specs.Step.{puts_out}
@@ -101,7 +101,7 @@ AreOwnAndOpen caller state _ = Unit {0}
 abbrev pub ended_in : ConnId → Brought → Plan → List Fate → State → State
 ended_in caller brought (Ends answer changes) fates state = state
 ended_in caller brought (Asks demand next) fates state = by_store state (λ ended rest. ended_in caller brought (next ended) rest (demanded brought demand ended state)) fates
-ended_in caller brought (Settles reading unread next) fates state =
+ended_in caller brought (Resolves reading unread next) fates state =
     by_test (is_in_doubt reading state)
     (by_read state
     (λ ended rest. by_reading ended (ended_in caller brought unread rest (settled reading ended state))

@@ -20,7 +20,7 @@ use Rattle.service_calls.specs.service_tables.specs.declared.fate.StoreFate.TheV
 use Rattle.service_calls.specs.service_tables.specs.declared.rows.Delivery.{Delivery}
 use Rattle.service_calls.specs.service_tables.proofs.SpreadLemmas.{spread-append}
 use Rattle.service_calls.specs.declared.storing.Done.{Done}
-use Rattle.service_calls.specs.service_events.specs.Plan.{Answer, Change, Plan, Ends, Asks, Settles, Opens, Gives, Questions, Refuses, Returns, followed}
+use Rattle.service_calls.specs.service_events.specs.Plan.{Answer, Change, Plan, Ends, Asks, Resolves, Opens, Gives, Questions, Refuses, Returns, followed}
 use Rattle.service_calls.specs.service_events.specs.PublicBody.{body_with}
 use Rattle.service_calls.specs.service_events.specs.Run.{AreFates, AreNone, Ran, asked, by_read, by_reading, by_store, by_test, demanded, failing, filled, fits, is_in_doubt, is_small, performed, performed_all, promised, run, sending, sent_all, sent_asked, sent_by, sent_opened, sent_settled, settled, unlocked_with}
 use Rattle.service_calls.specs.service_events.specs.Stored.{StoresDemand, StoresOf, StoresReading}
@@ -52,7 +52,7 @@ IsShort (Refuses name) = Unit {0}
 abbrev pub AreShort : Plan → Type 0
 AreShort (Ends answer changes) = IsShort answer
 AreShort (Asks demand next) = (ended : StoreFate) → AreShort (next ended)
-AreShort (Settles reading unread next) = AreShort unread × ((its : Questions) → AreShort (next its))
+AreShort (Resolves reading unread next) = AreShort unread × ((its : Questions) → AreShort (next its))
 AreShort (Opens stem terms next) = AreShort next
 
 -- one thing if a test is so, and the other if it isn't
@@ -75,14 +75,14 @@ module _ (caller : ConnId) (state : State) where
   short-promised : (plan : Plan) → AreShort plan → fits (promised caller state plan) ≡ true
   short-promised (Ends answer changes) short = short-filled answer short
   short-promised (Asks demand next) short = short-promised (next stored.Stored) (short stored.Stored)
-  short-promised (Settles reading unread next) short = empty-small
+  short-promised (Resolves reading unread next) short = empty-small
   short-promised (Opens stem terms next) short = empty-small
 
   -- and so does what a plan answers that is followed by changes
   followed-promised : (more : List Change) (plan : Plan) → fits (promised caller state (followed more plan)) ≡ true
   followed-promised more (Ends answer changes) = empty-small
   followed-promised more (Asks demand next) = followed-promised more (next stored.Stored)
-  followed-promised more (Settles reading unread next) = empty-small
+  followed-promised more (Resolves reading unread next) = empty-small
   followed-promised more (Opens stem terms next) = empty-small
 
 -- ---- changes after a plan
@@ -141,7 +141,7 @@ module _ (caller : ConnId) (brought : Brought) (more : List Change) where
       fates-go : (first second : StoreFate → List Fate → Ran) (each : StoreFate → List Fate → Type 0) → ((ended : StoreFate) (rest : List Fate) → each ended rest → first ended rest ≡ and-then (second ended rest))
           → by_store ⊥ each fates → by_store (failing name.IOError state) first fates ≡ and-then (by_store (failing name.IOError state) second fates)
       fates-go first second each same is = store-then (failing name.IOError state) first second each same fates is
-  followed-run (Settles reading unread next) short fates state are =
+  followed-run (Resolves reading unread next) short fates state are =
       let after : ReadFate → State = λ ended. settled reading ended state in
       let first : ReadFate → List Fate → Ran =
       λ ended rest. sending (sent_settled reading ended state) (by_reading ended (run caller brought (followed more unread) rest (after ended)) (run caller brought (followed more (next (asked caller brought (after ended)))) rest (after ended))) in
@@ -195,7 +195,7 @@ module _ (caller : ConnId) (brought : Brought) (more : List Change) where
       (store-goes _ _ (λ ended rest is. followed-fates (next ended) (short ended) rest (after ended) is) fates
       (true-from (fits (promised caller state (next stored.Stored))) (by_store ⊥ (λ ended rest. AreFates caller brought (next ended) rest (after ended)) fates) (AreNone fates)
       (short-promised caller state (next stored.Stored) (short stored.Stored)) are))
-  followed-fates (Settles reading unread next) short fates state are =
+  followed-fates (Resolves reading unread next) short fates state are =
       let after : ReadFate → State = λ ended. settled reading ended state in
       let first : ReadFate → List Fate → Type 0 =
       λ ended rest. by_reading ended (AreFates caller brought unread rest (after ended)) (AreFates caller brought (next (asked caller brought (after ended))) rest (after ended)) in
@@ -227,7 +227,7 @@ module _ {F S : Type 0} (folder_honest folder_steady : F → Bool) (folder_fault
       (store-goes _ _ (λ ended rest is. (is.0, is.1, followed-stores (next ended) (short ended) rest (after ended) is.0 new is.2)) fates
       (true-from (fits (promised caller state (next stored.Stored))) (by_store ⊥ (λ ended rest. (mid : DiskState F S) × its ended mid × Of (next ended) rest (after ended) mid new) fates) (new ≡ old)
       (short-promised caller state (next stored.Stored) (short stored.Stored)) stores))
-  followed-stores (Settles reading unread next) short fates state old new stores =
+  followed-stores (Resolves reading unread next) short fates state old new stores =
       let after : ReadFate → State = λ ended. settled reading ended state in
       let its : ReadFate → DiskState F S → Type 0 =
       λ ended mid. StoresReading folder_honest folder_steady folder_faults images folder_leaves names_made is_honest is_steady faults moment left_since may_leave reading ended (contents_of state) (contents_of (after ended)) old mid in

@@ -35,7 +35,7 @@ use Rattle.service_events.specs.declared.event.Arrival.{Arrival}
 use Rattle.service_events.specs.declared.event.Output.TheVariants as output
 use Rattle.service_calls.specs.declared.storing.Done.{Done}
 use Rattle.service_events.specs.CollectionCalls.{by_fate, storing}
-use Rattle.service_events.specs.Plan.{Aliases_file, Answer, Change, Collection_file, Plan, Questions, Ends, Asks, Settles, Demand, Reading, Store, answered, refused}
+use Rattle.service_events.specs.Plan.{Aliases_file, Answer, Change, Collection_file, Plan, Questions, Ends, Asks, Resolves, Demand, Reading, Store, answered, refused}
 use Rattle.service_events.specs.PublicBody.{PublicBody, body_with}
 use Rattle.service_events.specs.PublicBody as public
 use Rattle.service_events.specs.Run.{AreFates, AreNone, Ran, asked, bounded, by_reading, by_test, demanded, failing, filled, fits, is_in_doubt, is_small, performed_all, ran, run, sending, sent_all, settled}
@@ -231,7 +231,7 @@ module _ {F S : Type 0} (folder_honest folder_steady : F → Bool) (folder_fault
     (reading : Reading) (unread : Plan) (next : Questions → Plan) (before after : State) (old new : DiskState F S) where
   -- the plan
   abbrev its_plan : Plan
-  its_plan = Settles reading unread next
+  its_plan = Resolves reading unread next
 
   -- what goes on after the file was read again
   abbrev after_read : ReadFate → Plan

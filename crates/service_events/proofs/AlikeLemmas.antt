@@ -35,7 +35,7 @@ use Rattle.service_events.specs.AgentCalls.{refuse, unless_refused}
 use Rattle.service_events.specs.AliasCalls.{alias_settled, alias_stored, on_target}
 use Rattle.service_events.specs.AnswerCalls.{answer_prompt, deriving_key, going_on, kind_answered, left_answered, row_answered, target_answered}
 use Rattle.service_events.specs.CollectionCalls.{by_fate, delete_collection, if_open, no_prompt, on_collection}
-use Rattle.service_events.specs.Plan.{Demand, Store, Make, End_prompt, Erase, Set_alias, Plan, Questions, Ends, Asks, Settles, Opens, answered, refused}
+use Rattle.service_events.specs.Plan.{Demand, Store, Make, End_prompt, Erase, Set_alias, Plan, Questions, Ends, Asks, Resolves, Opens, answered, refused}
 use Rattle.service_events.specs.PublicBody as public
 use Rattle.service_events.specs.PublicBody.{PublicBody}
 use Rattle.service_events.specs.Run.{AreFates, AreNone, Ran, asked, by_read, by_reading, by_store, by_test, demanded, failing, fits, is_in_doubt, promised, run, sending, sent_asked, sent_settled, settled}
@@ -110,7 +110,7 @@ module _ (caller : ConnId) where
   abbrev IsFree : Plan → Type 0
   IsFree (Ends answer changes) = Unit {0}
   IsFree (Asks demand next) = IsFreeDemand demand × ((ended : StoreFate) → IsFree (next ended))
-  IsFree (Settles reading unread next) =
+  IsFree (Resolves reading unread next) =
       IsFree unread × ((one other : Brought) (its : State) → next (asked caller one its) ≡ next (asked caller other its)) × ((one : Brought) (its : State) → IsFree (next (asked caller one its)))
   IsFree (Opens stem terms next) = ⊥
 
@@ -124,7 +124,7 @@ module _ (caller : ConnId) where
       λ ended rest. ap (sending []) (free-run one other (next ended) (free.1 ended) rest (demanded one demand ended state) ∙ ap (run caller other (next ended) rest) (free-demanded one other demand free.0 ended state)) in
       ap (λ done. by_test (fits (promised caller state (next stored.Stored))) done (failing name.LimitsExceeded state))
       (store-same (failing name.IOError state) (next_by one) (next_by other) same fates)
-  free-run one other (Settles reading unread next) free fates state =
+  free-run one other (Resolves reading unread next) free fates state =
       let after : ReadFate → State = λ ended. settled reading ended state in
       let known : (its : State) (rest : List Fate) → run caller one (next (asked caller one its)) rest its ≡ run caller other (next (asked caller other its)) rest its =
       λ its rest. free-run one other (next (asked caller one its)) (free.2 one its) rest its ∙ ap (λ p. run caller other p rest its) (free.1 one other its) in
@@ -145,7 +145,7 @@ module _ (caller : ConnId) where
       let pass : (b : Bool) → by_test b (by_store ⊥ (next_by one) fates) (AreNone fates) → by_test b (by_store ⊥ (next_by other) fates) (AreNone fates) =
       elim [ true ↦ λ is. store-goes (next_by one) (next_by other) goes fates is | false ↦ λ is. is ] in
       pass (fits (promised caller state (next stored.Stored))) are
-  free-fates one other (Settles reading unread next) free fates state are =
+  free-fates one other (Resolves reading unread next) free fates state are =
       let after : ReadFate → State = λ ended. settled reading ended state in
       let known : (its : State) (rest : List Fate) → AreFates caller one (next (asked caller one its)) rest its → AreFates caller other (next (asked caller other its)) rest its =
       λ its rest is. subst (λ p. AreFates caller other p rest its) (free.1 one other its) (free-fates one other (next (asked caller one its)) (free.2 one its) rest its is) in

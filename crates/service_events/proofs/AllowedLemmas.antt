@@ -23,7 +23,7 @@ use Rattle.service_prompts.specs.service_tables.specs.declared.rows.ConnRows.{Co
 use Rattle.service_prompts.specs.service_tables.specs.Connections.{has}
 use Rattle.service_prompts.specs.service_tables.specs.Opened.{contents_of}
 use Rattle.service_prompts.specs.service_tables.specs.Reading.{asked_collections}
-use Rattle.service_events.specs.Plan.{Change, Open_session, Close_session, Lock_collection, Begin_prompt, Ask_prompt, Derive_key, Count_wrong, Clear_wrong, Go_on, End_prompt, Become_agent, Leave_agent, Demand, Store, Erase, Set_alias, Make, Reading, Aliases_file, Collection_file, KeyTerms, Plan, Ends, Asks, Settles, Opens}
+use Rattle.service_events.specs.Plan.{Change, Open_session, Close_session, Lock_collection, Begin_prompt, Ask_prompt, Derive_key, Count_wrong, Clear_wrong, Go_on, End_prompt, Become_agent, Leave_agent, Demand, Store, Erase, Set_alias, Make, Reading, Aliases_file, Collection_file, KeyTerms, Plan, Ends, Asks, Resolves, Opens}
 use Rattle.service_events.specs.PromptCalls.{gone_on}
 use Rattle.service_events.specs.Run.{key_with, made_of, asked, by_read, by_reading, by_test, demanded, failing, performed, performed_all, promised, sending, sent_all, sent_asked, sent_by, sent_opened, sent_settled, settled, filled, is_in_doubt, Ran, run, unlocked_with}
 use Rattle.service_events.specs.Step.{AreByteFiles}
@@ -95,7 +95,7 @@ abbrev pub MayRun : ConnId → Brought → Plan → State → Type 0
 MayRun caller brought (Ends answer changes) state = AreAllowed caller changes state × IsTypedAnswer (filled caller state answer)
 MayRun caller brought (Asks demand next) state =
     IsTypedDemand brought demand × ((ended : StoreFate) → MayRun caller brought (next ended) (demanded brought demand ended state))
-MayRun caller brought (Settles reading unread next) state =
+MayRun caller brought (Resolves reading unread next) state =
     ((ended : ReadFate) → MayRun caller brought unread (settled reading ended state) × MayRun caller brought (next (asked caller brought (settled reading ended state))) (settled reading ended state))
     × MayRun caller brought (next (asked caller brought state)) state
 MayRun caller brought (Opens stem terms next) state = AreByteFiles state.collections × MayRun caller brought next (unlocked_with brought stem terms state)
@@ -289,7 +289,7 @@ well-run caller brought (Asks demand next) fates state there may sound =
     (λ ended rest. sending-well (sent_asked brought demand ended state) (run caller brought (next ended) rest (demanded brought demand ended state)) tt
     (well-run caller brought (next ended) rest (demanded brought demand ended state) there (may.1 ended) (sound-demanded brought demand ended state may.0 sound))))
     (failing-well name.LimitsExceeded state sound)
-well-run caller brought (Settles reading unread next) fates state there may sound =
+well-run caller brought (Resolves reading unread next) fates state there may sound =
     let after : ReadFate → State = λ ended. settled reading ended state in
     let its : (ended : ReadFate) → IsSound (after ended) = λ ended. sound-settled reading ended state sound in
     let here : (ended : ReadFate) → has caller (after ended).connections.rows ≡ true = λ ended. there-settled caller reading ended state there in

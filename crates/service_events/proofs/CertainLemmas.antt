@@ -36,7 +36,7 @@ use Rattle.service_prompts.specs.service_tables.proofs.KeptLemmas.{certain-resol
 use Rattle.service_events.specs.declared.event.Event.{Event}
 use Rattle.service_events.specs.declared.event.Event.TheVariants as event
 use Rattle.service_events.specs.Fates.{AreFaultless, IsCertain, IsFaultless}
-use Rattle.service_events.specs.Plan.{Change, Lock_collection, Demand, Store, Erase, Set_alias, Make, Reading, Aliases_file, Collection_file, KeyTerms, Plan, Ends, Asks, Settles, Opens}
+use Rattle.service_events.specs.Plan.{Change, Lock_collection, Demand, Store, Erase, Set_alias, Make, Reading, Aliases_file, Collection_file, KeyTerms, Plan, Ends, Asks, Resolves, Opens}
 use Rattle.service_events.specs.Run.{Ran, asked, by_read, by_reading, by_store, by_test, demanded, failing, filled, is_in_doubt, key_with, made_of, performed, performed_all, promised, run, sending, sent_asked, sent_settled, settled, unlocked_with}
 use Rattle.service_events.specs.Step.{brought_by, put_out, step, with_delivered, brought_derived, terms_of}
 use Rattle.service_events.proofs.RunLemmas.{fits-either, plan_for, reading-either}
@@ -165,7 +165,7 @@ run-certain caller brought (Asks demand next) fates state well certain =
           first some
     ] in
     fits-either (λ (r : Ran). IsCertain r.state) (promised caller state (next stored_as.Stored)) _ (failing name.LimitsExceeded state) (λ is. asks fates well) certain
-run-certain caller brought (Settles reading unread next) fates state well certain =
+run-certain caller brought (Resolves reading unread next) fates state well certain =
     let after : ReadFate → State = λ ended. settled reading ended state in
     let ran_unread : ReadFate → List Fate → Ran = λ ended rest. run caller brought unread rest (after ended) in
     let ran_known : ReadFate → List Fate → Ran = λ ended rest. run caller brought (next (asked caller brought (after ended))) rest (after ended) in

@@ -28,7 +28,7 @@ use Rattle.service_prompts.specs.service_tables.specs.declared.fate.StoreFate.Th
 use Rattle.service_prompts.specs.service_tables.proofs.AliasLemmas.{is-alias}
 use Rattle.service_events.specs.AliasCalls.{alias_settled}
 use Rattle.service_events.specs.Derivation.{alias_given, can_make, collection_made, completing, derived, dismissing, kind_derived, left_derived, making_ended, most_wrong_answers, opening_ended, quietly, row_derived, wrong_again}
-use Rattle.service_events.specs.Plan.{Change, KeyTerms, Plan, Ends, Asks, Settles, Opens, Ask_prompt, Clear_wrong, Count_wrong, Go_on, Make, followed}
+use Rattle.service_events.specs.Plan.{Change, KeyTerms, Plan, Ends, Asks, Resolves, Opens, Ask_prompt, Clear_wrong, Count_wrong, Go_on, Make, followed}
 use Rattle.service_events.specs.Run.{asked, demanded, key_with, performed, settled, unlocked_with}
 use Rattle.service_events.specs.Step.{AreByteFiles}
 use Rattle.service_events.proofs.AdvanceLemmas.{KeepsPrompt, row-changed}
@@ -46,7 +46,7 @@ module _ (caller : ConnId) (brought : Brought) (more : List Change) (may_more : 
   pub followed-may : (plan : Plan) (state : State) → MayRun caller brought plan state → MayRun caller brought (followed more plan) state
   followed-may (Ends answer changes) state may = (append-allowed changes state may.0, tt)
   followed-may (Asks demand next) state may = (may.0, λ ended. followed-may (next ended) (demanded brought demand ended state) (may.1 ended))
-  followed-may (Settles reading unread next) state may = (
+  followed-may (Resolves reading unread next) state may = (
     λ ended. (
       followed-may unread (settled reading ended state) (may.0 ended).0,
       followed-may (next (asked caller brought (settled reading ended state))) (settled reading ended state) (may.0 ended).1,

@@ -38,7 +38,7 @@ use Rattle.service_events.specs.AnswerCalls.{deriving_key, going_on, kind_answer
 use Rattle.service_events.specs.CollectionCalls.{by_fate, made, no_prompt, on_collection, secret_stored, storing}
 use Rattle.service_events.specs.Derivation.{alias_given, can_make, derived, dismissing, kind_derived, left_derived, making_ended, most_wrong_answers, opening_ended, quietly, row_derived}
 use Rattle.service_events.specs.ItemCalls.{secret_if_open}
-use Rattle.service_events.specs.Plan.{Answer, Returns, Gives, Refuses, Demand, KeyTerms, Questions, Reading, Aliases_file, Collection_file, Change, Open_session, Close_session, Lock_collection, Begin_prompt, Ask_prompt, Derive_key, Count_wrong, Clear_wrong, Go_on, End_prompt, Become_agent, Leave_agent, Plan, Ends, Asks, Settles, Opens, answered, followed, refused}
+use Rattle.service_events.specs.Plan.{Answer, Returns, Gives, Refuses, Demand, KeyTerms, Questions, Reading, Aliases_file, Collection_file, Change, Open_session, Close_session, Lock_collection, Begin_prompt, Ask_prompt, Derive_key, Count_wrong, Clear_wrong, Go_on, End_prompt, Become_agent, Leave_agent, Plan, Ends, Asks, Resolves, Opens, answered, followed, refused}
 use Rattle.service_events.specs.PromptCalls.{is_made_row}
 use Rattle.service_events.specs.PublicBody.{PublicBody}
 use Rattle.service_events.specs.PublicBody as public
@@ -54,13 +54,13 @@ use Rattle.service_events.proofs.RunLemmas.{fits-either, read-either, reading-ei
 abbrev pub AllEnds : (Answer → List Change → Type 0) → Plan → Type 0
 AllEnds E (Ends answer changes) = E answer changes
 AllEnds E (Asks demand next) = (ended : StoreFate) → AllEnds E (next ended)
-AllEnds E (Settles reading unread next) = AllEnds E unread × ((questions : Questions) → AllEnds E (next questions))
+AllEnds E (Resolves reading unread next) = AllEnds E unread × ((questions : Questions) → AllEnds E (next questions))
 AllEnds E (Opens stem terms next) = AllEnds E next
 
 pub ends-weaker : (E F : Answer → List Change → Type 0) → ((answer : Answer) (changes : List Change) → E answer changes → F answer changes) → (plan : Plan) → AllEnds E plan → AllEnds F plan
 ends-weaker E F leads (Ends answer changes) is = leads answer changes is
 ends-weaker E F leads (Asks demand next) is = λ ended. ends-weaker E F leads (next ended) (is ended)
-ends-weaker E F leads (Settles reading unread next) is = (ends-weaker E F leads unread is.0, λ questions. ends-weaker E F leads (next questions) (is.1 questions))
+ends-weaker E F leads (Resolves reading unread next) is = (ends-weaker E F leads unread is.0, λ questions. ends-weaker E F leads (next questions) (is.1 questions))
 ends-weaker E F leads (Opens stem terms next) is = ends-weaker E F leads next is
 
 -- what is true of what a plan at its end leads to, and of the refusal of an answer that is too large, is true of a run
@@ -88,7 +88,7 @@ ends-run E caller brought R keeps (Asks demand next) fates state is =
     (λ ended rest. keeps.asks demand ended state (run caller brought (next ended) rest (demanded brought demand ended state))
     (ends-run E caller brought R keeps (next ended) rest (demanded brought demand ended state) (is ended))))
     (keeps.fails name.LimitsExceeded state)
-ends-run E caller brought R keeps (Settles reading unread next) fates state is =
+ends-run E caller brought R keeps (Resolves reading unread next) fates state is =
     let after : ReadFate → State = λ ended. settled reading ended state in
     let ran_unread : ReadFate → List Fate → Ran = λ ended rest. run caller brought unread rest (after ended) in
     let ran_known : ReadFate → List Fate → Ran = λ ended rest. run caller brought (next (asked caller brought (after ended))) rest (after ended) in
@@ -388,7 +388,7 @@ key-if false one other first second = second
 followed-key : (change : Change) → IsOfKey change → (plan : Plan) → AllEnds IsIdle plan → OfKey (followed (change ∷ []) plan)
 followed-key change is (Ends answer changes) idle = (tt, inr (refl, subst (λ (none : List Change). AreInTurn IsOfKey (none ++ change ∷ [])) (sym idle.1) is))
 followed-key change is (Asks demand next) idle = λ ended. followed-key change is (next ended) (idle ended)
-followed-key change is (Settles reading unread next) idle = (followed-key change is unread idle.0, λ questions. followed-key change is (next questions) (idle.1 questions))
+followed-key change is (Resolves reading unread next) idle = (followed-key change is unread idle.0, λ questions. followed-key change is (next questions) (idle.1 questions))
 followed-key change is (Opens stem terms next) idle = followed-key change is next idle
 
 opening-key : (prompt : PromptId) (wrong : ℕ) (stem : List ℕ) (terms : KeyTerms) (opening : Opening) → OfKey (opening_ended prompt wrong stem terms opening)

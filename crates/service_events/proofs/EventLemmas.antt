@@ -23,7 +23,7 @@ use Rattle.service_prompts.specs.service_tables.proofs.TypedLemmas.{alias-prop, 
 use Rattle.service_events.specs.declared.event.Event.{Event}
 use Rattle.service_events.specs.declared.event.Event.TheVariants as event
 use Rattle.service_events.specs.declared.event.Recorded.{Recorded}
-use Rattle.service_events.specs.Plan.{Plan, Ends, Asks, Settles, Opens}
+use Rattle.service_events.specs.Plan.{Plan, Ends, Asks, Resolves, Opens}
 use Rattle.service_events.specs.Run.{AreFates, AreNone, asked, by_read, by_reading, by_store, by_test, demanded, fits, is_in_doubt, promised, settled, unlocked_with}
 use Rattle.replace_slot.specs.Cell.{new_image, old_image}
 use Rattle.service_events.specs.Step.{AreByteFiles, AreByteImages, Fits, FitsRequest, HasTypes, IsSalt, IsTypedName, brought_by, plan_of, FitsDerivation, brought_derived, terms_of}
@@ -61,7 +61,7 @@ fates-prop caller brought (Ends answer changes) fates state = none-prop fates
 fates-prop caller brought (Asks demand next) fates state =
     test-prop (fits (promised caller state (next stored.Stored))) _ (AreNone fates)
     (store-prop _ (λ ended rest. fates-prop caller brought (next ended) rest (demanded brought demand ended state)) fates) (none-prop fates)
-fates-prop caller brought (Settles reading unread next) fates state =
+fates-prop caller brought (Resolves reading unread next) fates state =
     test-prop (is_in_doubt reading state) _ _
     (read-prop _
     (λ ended rest. reading-prop ended _ _ (fates-prop caller brought unread rest (settled reading ended state)) (fates-prop caller brought (next (asked caller brought (settled reading ended state))) rest (settled reading ended state))) fates)

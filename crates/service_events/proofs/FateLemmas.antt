@@ -20,7 +20,7 @@ use Rattle.service_prompts.specs.service_tables.proofs.CollectionLemmas.{at-stem
 use Rattle.service_events.specs.declared.event.Event.TheVariants as event
 use Rattle.service_events.specs.declared.event.Recorded.{Recorded}
 use Rattle.service_events.specs.Fates.{AreFaultless, IsCertain}
-use Rattle.service_events.specs.Plan.{Aliases_file, Collection_file, Plan, Ends, Asks, Settles, Opens, Reading}
+use Rattle.service_events.specs.Plan.{Aliases_file, Collection_file, Plan, Ends, Asks, Resolves, Opens, Reading}
 use Rattle.service_events.specs.Run.{AreFates, AreNone, asked, by_read, by_reading, by_store, by_test, demanded, fits, is_in_doubt, promised, settled, unlocked_with}
 use Rattle.service_events.proofs.CertainLemmas.{demanded-certain, opened-certain}
 use Rattle.service_events.specs.Step.{AreAlike, Fits, brought_derived, terms_of}
@@ -88,7 +88,7 @@ same-fates caller brought (Asks demand next) these those state are also certain 
     let pass : (b : Bool) → by_test b (Has these) (AreNone these) → by_test b (Has those) (AreNone those) → these ≡ those =
     elim [ true ↦ λ first second. stores these those first second clean others | false ↦ λ first second. none-is these first ∙ sym (none-is those second) ] in
     pass (fits (promised caller state (next stored.Stored))) are also
-same-fates caller brought (Settles reading unread next) these those state are also certain clean others =
+same-fates caller brought (Resolves reading unread next) these those state are also certain clean others =
     let Has : List Fate → Type 0 =
     by_read ⊥ (λ ended rest. by_reading ended (AreFates caller brought unread rest (settled reading ended state)) (AreFates caller brought (next (asked caller brought (settled reading ended state))) rest (settled reading ended state))) in
     let known = known-reading reading state certain in

@@ -34,7 +34,7 @@ use Rattle.service_events.specs.declared.event.Recorded.{Recorded}
 use Rattle.service_events.specs.AgentCalls.{in_round, unless_refused}
 use Rattle.service_events.specs.CollectionCalls.{on_collection}
 use Rattle.service_events.specs.ItemCalls.{secret_if_open}
-use Rattle.service_events.specs.Plan.{Aliases_file, Answer, Change, Collection_file, Demand, KeyTerms, Open_session, Close_session, Lock_collection, Begin_prompt, Ask_prompt, Derive_key, Count_wrong, Clear_wrong, Go_on, End_prompt, Become_agent, Leave_agent, Plan, Ends, Asks, Settles, Opens, Questions, Reading, Secret_of, given, refused}
+use Rattle.service_events.specs.Plan.{Aliases_file, Answer, Change, Collection_file, Demand, KeyTerms, Open_session, Close_session, Lock_collection, Begin_prompt, Ask_prompt, Derive_key, Count_wrong, Clear_wrong, Go_on, End_prompt, Become_agent, Leave_agent, Plan, Ends, Asks, Resolves, Opens, Questions, Reading, Secret_of, given, refused}
 use Rattle.service_events.specs.PublicBody.{PublicBody}
 use Rattle.service_events.specs.PublicBody as public
 use Rattle.service_events.specs.Run.{AreFates, AreNone, asked, by_read, by_reading, by_store, by_test, demanded, failing, filled, fits, if_fits, is_in_doubt, performed, performed_all, promised, sending, sent_all, sent_asked, sent_by, sent_opened, sent_settled, settled, Ran, run, unlocked_with}
@@ -106,7 +106,7 @@ keeps-run caller brought R keeps (Asks demand next) fates state =
     (λ is. store-either (R state) (failing name.IOError state) _ fates (keeps.fails name.IOError state)
     (λ ended rest. keeps.asks demand ended state (run caller brought (next ended) rest (demanded brought demand ended state)) (keeps-run caller brought R keeps (next ended) rest (demanded brought demand ended state))))
     (keeps.fails name.LimitsExceeded state)
-keeps-run caller brought R keeps (Settles reading unread next) fates state =
+keeps-run caller brought R keeps (Resolves reading unread next) fates state =
     let after : ReadFate → State = λ ended. settled reading ended state in
     let ran_unread : ReadFate → List Fate → Ran = λ ended rest. run caller brought unread rest (after ended) in
     let ran_known : ReadFate → List Fate → Ran = λ ended rest. run caller brought (next (asked caller brought (after ended))) rest (after ended) in
@@ -199,20 +199,20 @@ silent-locks (stem ∷ stems) = (tt, silent-locks stems)
 -- a plan asks nothing of the disk, and nothing of a state in between
 abbrev pub EndsAtOnce : Plan → Type 0
 EndsAtOnce (Ends answer changes) = Unit {0}
-EndsAtOnce (Settles reading unread next) = ⊥
+EndsAtOnce (Resolves reading unread next) = ⊥
 EndsAtOnce (Asks demand next) = ⊥
 EndsAtOnce (Opens stem terms next) = ⊥
 
 -- it has no fates
 pub no-fates : (caller : ConnId) (brought : Brought) (plan : Plan) (state : State) → EndsAtOnce plan → AreFates caller brought plan [] state
 no-fates caller brought (Ends answer changes) state quiet = tt
-no-fates caller brought (Settles reading unread next) state quiet = absurd quiet
+no-fates caller brought (Resolves reading unread next) state quiet = absurd quiet
 no-fates caller brought (Asks demand next) state quiet = absurd quiet
 no-fates caller brought (Opens stem terms next) state quiet = absurd quiet
 
 pub fates-none : (caller : ConnId) (brought : Brought) (plan : Plan) (fates : List Fate) (state : State) → EndsAtOnce plan → AreFates caller brought plan fates state → AreNone fates
 fates-none caller brought (Ends answer changes) fates state quiet are = are
-fates-none caller brought (Settles reading unread next) fates state quiet are = absurd quiet
+fates-none caller brought (Resolves reading unread next) fates state quiet are = absurd quiet
 fates-none caller brought (Asks demand next) fates state quiet are = absurd quiet
 fates-none caller brought (Opens stem terms next) fates state quiet are = absurd quiet
 
@@ -224,7 +224,7 @@ none-is (fate ∷ fates) none = absurd none
 -- it leads to the same whatever the request brings
 pub ended-alike : (caller : ConnId) (one other : Brought) (plan : Plan) (fates : List Fate) (state : State) → EndsAtOnce plan → run caller one plan fates state ≡ run caller other plan fates state
 ended-alike caller one other (Ends answer changes) fates state quiet = refl
-ended-alike caller one other (Settles reading unread next) fates state quiet = absurd quiet
+ended-alike caller one other (Resolves reading unread next) fates state quiet = absurd quiet
 ended-alike caller one other (Asks demand next) fates state quiet = absurd quiet
 ended-alike caller one other (Opens stem terms next) fates state quiet = absurd quiet
 
@@ -233,7 +233,7 @@ module _ {F S : Type 0} (folder_honest folder_steady : F → Bool) (folder_fault
   pub no-storing : (caller : ConnId) (brought : Brought) (plan : Plan) (state : State) (old new : DiskState F S) → EndsAtOnce plan → new ≡ old
       → StoresOf folder_honest folder_steady folder_faults images folder_leaves names_made is_honest is_steady faults moment left_since may_leave caller brought plan [] state old new
   no-storing caller brought (Ends answer changes) state old new quiet same = same
-  no-storing caller brought (Settles reading unread next) state old new quiet same = absurd quiet
+  no-storing caller brought (Resolves reading unread next) state old new quiet same = absurd quiet
   no-storing caller brought (Asks demand next) state old new quiet same = absurd quiet
   no-storing caller brought (Opens stem terms next) state old new quiet same = absurd quiet
 
@@ -303,13 +303,13 @@ quiet-row salt _ asked nothing = tt
 
 abbrev pub EndsSilently : Plan → Type 0
 EndsSilently (Ends answer changes) = AreSilent changes
-EndsSilently (Settles reading unread next) = ⊥
+EndsSilently (Resolves reading unread next) = ⊥
 EndsSilently (Asks demand next) = ⊥
 EndsSilently (Opens stem terms next) = ⊥
 
 pub ends-silently : (plan : Plan) → EndsSilently plan → EndsAtOnce plan
 ends-silently (Ends answer changes) silent = tt
-ends-silently (Settles reading unread next) silent = absurd silent
+ends-silently (Resolves reading unread next) silent = absurd silent
 ends-silently (Asks demand next) silent = absurd silent
 ends-silently (Opens stem terms next) silent = absurd silent
 
@@ -317,7 +317,7 @@ ends-silently (Opens stem terms next) silent = absurd silent
 pub silent-run : (caller : ConnId) (brought : Brought) (plan : Plan) (fates : List Fate) (state : State) → EndsSilently plan → (run caller brought plan fates state).sends ≡ []
 silent-run caller brought (Ends answer changes) fates state silent =
     fits-either (λ (r : Ran). r.sends ≡ []) (filled caller state answer) _ (failing name.LimitsExceeded state) (λ is. silent-all caller changes state silent) refl
-silent-run caller brought (Settles reading unread next) fates state silent = absurd silent
+silent-run caller brought (Resolves reading unread next) fates state silent = absurd silent
 silent-run caller brought (Asks demand next) fates state silent = absurd silent
 silent-run caller brought (Opens stem terms next) fates state silent = absurd silent
 

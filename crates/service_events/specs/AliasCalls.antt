@@ -9,7 +9,7 @@ use Rattle.service_events.specs.PublicBody as public
 use Rattle.service_prompts.specs.secret_calls.specs.declared.out.ErrorName.TheVariants as name
 use Rattle.service_prompts.specs.service_tables.specs.Objects.{alias_target}
 use Rattle.service_events.specs.CollectionCalls.{by_fate}
-use Rattle.service_events.specs.Plan.{Questions, Plan, Asks, Settles, Set_alias, Aliases_file, refused, answered}
+use Rattle.service_events.specs.Plan.{Questions, Plan, Asks, Resolves, Set_alias, Aliases_file, refused, answered}
 
 -- the return for an alias: the path of the collection that it stands for, or that of no object
 abbrev pub alias_body : Option (List ℕ) → PublicBody
@@ -27,7 +27,7 @@ alias_stored alias stem asked = if asked.aliases.can_set alias stem then Asks (S
 
 -- the same, after the file was read again if it is in doubt: IOError if it couldn't be
 abbrev pub alias_settled : List ℕ → Option (List ℕ) → Plan
-alias_settled alias stem = Settles Aliases_file (refused name.IOError) (alias_stored alias stem)
+alias_settled alias stem = Resolves Aliases_file (refused name.IOError) (alias_stored alias stem)
 
 -- what is done with what an alias is set to: NoSuchObject if there is no such collection
 abbrev pub on_target : Option (Option (List ℕ)) → (Option (List ℕ) → Plan) → Plan

@@ -10,7 +10,7 @@ use Rattle.prompt_state.specs.Prompts.{last_round}
 use Rattle.service_events.specs.PublicBody as public
 use Rattle.service_prompts.specs.secret_calls.specs.declared.out.ErrorName.TheVariants as name
 use Rattle.service_events.specs.AgentCalls.{in_round}
-use Rattle.service_events.specs.Plan.{Questions, Plan, Settles, Derive_key, End_prompt, Go_on, Collection_file, refused, answered}
+use Rattle.service_events.specs.Plan.{Questions, Plan, Resolves, Derive_key, End_prompt, Go_on, Collection_file, refused, answered}
 
 -- whether a kind of prompt creates a collection
 abbrev pub creates : PromptKind → Bool
@@ -34,7 +34,7 @@ target_answered prompt round stem asked =
 
 -- the same, after the file of the collection was read again if it is in doubt: IOError if it couldn't be read, and all stays
 abbrev pub target_settled : PromptId → ℕ → List ℕ → Plan
-target_settled prompt round stem = Settles (Collection_file stem) (refused name.IOError) (target_answered prompt round stem)
+target_settled prompt round stem = Resolves (Collection_file stem) (refused name.IOError) (target_answered prompt round stem)
 
 -- the same of the first target that is left
 abbrev pub left_answered : PromptId → ℕ → List Target → Plan

@@ -119,7 +119,7 @@ pub data Plan : Type 0 where
   -- it asks this of the disk, and continues by how that ended
   Asks : (demand : Demand) → (next : StoreFate → Plan) → Plan
   -- A file that is in doubt is read again. It continues by what it asks of the state then, or as `unread` if the file couldn't be read.
-  Settles : (reading : Reading) → (unread : Plan) → (next : Questions → Plan) → Plan
+  Resolves : (reading : Reading) → (unread : Plan) → (next : Questions → Plan) → Plan
   -- The collection of the stem is unlocked, if the key of these terms and of the password that the event brings opens it, and it continues.
   Opens : (stem : List ℕ) → (terms : KeyTerms) → (next : Plan) → Plan
 
@@ -139,5 +139,5 @@ given gift = Ends (Gives gift) []
 abbrev pub followed : List Change → Plan → Plan
 followed more (Ends answer changes) = answered public.Empty (changes ++ more)
 followed more (Asks demand next) = Asks demand (λ ended. followed more (next ended))
-followed more (Settles reading unread next) = Settles reading (followed more unread) (λ asked. followed more (next asked))
+followed more (Resolves reading unread next) = Resolves reading (followed more unread) (λ asked. followed more (next asked))
 followed more (Opens stem terms next) = Opens stem terms (followed more next)

@@ -37,7 +37,7 @@ use Rattle.service_prompts.specs.service_tables.specs.declared.fate.StoreFate.{S
 use Rattle.service_prompts.specs.service_tables.specs.declared.fate.StoreFate.TheVariants as stored
 use Rattle.service_events.specs.PublicBody.{body_with}
 use Rattle.service_events.specs.PromptCalls.{go_on_sent, gone_on}
-use Rattle.service_events.specs.Plan.{SessionQuestions, KeyTerms, FileQuestions, Questions, Demand, Store, Erase, Set_alias, Make, Reading, Aliases_file, Collection_file, Change, Open_session, Close_session, Lock_collection, Begin_prompt, Ask_prompt, Derive_key, Count_wrong, Clear_wrong, Go_on, End_prompt, Become_agent, Leave_agent, Gift, Secret_of, Secrets_of, Answer, Returns, Gives, Refuses, Plan, Ends, Asks, Settles, Opens}
+use Rattle.service_events.specs.Plan.{SessionQuestions, KeyTerms, FileQuestions, Questions, Demand, Store, Erase, Set_alias, Make, Reading, Aliases_file, Collection_file, Change, Open_session, Close_session, Lock_collection, Begin_prompt, Ask_prompt, Derive_key, Count_wrong, Clear_wrong, Go_on, End_prompt, Become_agent, Leave_agent, Gift, Secret_of, Secrets_of, Answer, Returns, Gives, Refuses, Plan, Ends, Asks, Resolves, Opens}
 use Rattle.service_prompts.specs.service_tables.specs.State.{State}
 
 -- ---- what is asked
@@ -237,7 +237,7 @@ bounded answer = if fits answer then answer else Err name.LimitsExceeded
 abbrev pub promised : ConnId → State → Plan → Result Body ErrorName
 promised caller state (Ends answer changes) = filled caller state answer
 promised caller state (Asks demand next) = promised caller state (next stored.Stored)
-promised caller state (Settles reading unread next) = Ok body.Empty
+promised caller state (Resolves reading unread next) = Ok body.Empty
 promised caller state (Opens stem terms next) = Ok body.Empty
 
 -- what a plan leads to
@@ -287,7 +287,7 @@ run caller brought (Asks demand next) fates state =
     (by_store (failing name.IOError state)
     (λ ended rest. sending (sent_asked brought demand ended state) (run caller brought (next ended) rest (demanded brought demand ended state))) fates)
     (failing name.LimitsExceeded state)
-run caller brought (Settles reading unread next) fates state =
+run caller brought (Resolves reading unread next) fates state =
     by_test (is_in_doubt reading state)
     (by_read (failing name.IOError state)
     (λ ended rest. sending (sent_settled reading ended state)
@@ -309,7 +309,7 @@ AreFates caller brought (Asks demand next) fates state =
     if_fits (promised caller state (next stored.Stored))
     (by_store ⊥ (λ ended rest. AreFates caller brought (next ended) rest (demanded brought demand ended state)) fates)
     (AreNone fates)
-AreFates caller brought (Settles reading unread next) fates state =
+AreFates caller brought (Resolves reading unread next) fates state =
     by_test (is_in_doubt reading state)
     (by_read ⊥
     (λ ended rest. by_reading ended (AreFates caller brought unread rest (settled reading ended state))

@@ -21,7 +21,7 @@ use Rattle.service_events.specs.declared.event.Event.{Event}
 use Rattle.service_events.specs.declared.event.Event.TheVariants as event
 use Rattle.service_events.specs.declared.event.Incoming.{Incoming}
 use Rattle.service_events.specs.declared.event.Incoming.TheVariants as incoming
-use Rattle.service_events.specs.Plan.{Plan, Ends, Asks, Settles, Opens, Demand, Store, Erase, Set_alias, Make, Reading, Aliases_file, Collection_file, Questions}
+use Rattle.service_events.specs.Plan.{Plan, Ends, Asks, Resolves, Opens, Demand, Store, Erase, Set_alias, Make, Reading, Aliases_file, Collection_file, Questions}
 use Rattle.service_events.specs.Run.{asked, by_read, by_reading, by_store, by_test, demanded, if_fits, is_in_doubt, promised, settled, unlocked_with}
 use Rattle.service_events.specs.Derivation.{derived}
 use Rattle.service_events.specs.Step.{brought_by, brought_derived, plan_of, terms_of}
@@ -118,7 +118,7 @@ module _ {F S : Type 0} (folder_honest folder_steady : F → Bool) (folder_fault
       × StoresDemand demand ended (contents_of state) (contents_of (demanded brought demand ended state)) old mid
       × StoresOf caller brought (next ended) rest (demanded brought demand ended state) mid new) fates)
       (new ≡ old)
-  StoresOf caller brought (Settles reading unread next) fates state old new =
+  StoresOf caller brought (Resolves reading unread next) fates state old new =
       by_test (is_in_doubt reading state)
       (by_read ⊥
       (λ ended rest. (mid : DiskState F S)

@@ -47,7 +47,7 @@ use Rattle.service_machine.specs.service_events.specs.declared.event.Event.{Even
 use Rattle.service_machine.specs.service_events.specs.declared.event.Event.TheVariants as event
 use Rattle.service_machine.specs.service_events.specs.declared.event.Incoming.TheVariants as incoming
 use Rattle.service_machine.specs.service_events.specs.Incoming.{Records}
-use Rattle.service_machine.specs.service_events.specs.Plan.{Change, Lock_collection, Demand, Store, Erase, Set_alias, Make, Plan, Ends, Asks, Settles, Opens, Reading, Aliases_file, Collection_file}
+use Rattle.service_machine.specs.service_events.specs.Plan.{Change, Lock_collection, Demand, Store, Erase, Set_alias, Make, Plan, Ends, Asks, Resolves, Opens, Reading, Aliases_file, Collection_file}
 use Rattle.service_machine.specs.service_events.specs.Run.{asked, by_read, by_reading, by_store, by_test, demanded, fits, is_in_doubt, key_with, made_of, performed, performed_all, promised, settled, unlocked_with}
 use Rattle.service_machine.specs.service_events.specs.Stored.{StoresDemand, StoresEvent, StoresOf, StoresReading}
 use Rattle.service_machine.specs.service_events.specs.Step.{brought_by, plan_of}
@@ -417,7 +417,7 @@ module _ {F S : Type 0} (folder_honest folder_steady : F → Bool) (folder_fault
         ] in
         let pass : (b : Bool) → by_test b (Has fates) (new ≡ old) → Frees new = elim [ true ↦ asks fates | false ↦ λ is. subst Frees (sym is) free ] in
         pass (fits (promised caller state (next stored.Stored))) stores
-    free-stores (Settles reading unread next) fates state old new same taken stores free =
+    free-stores (Resolves reading unread next) fates state old new same taken stores free =
         let Has : List Fate → Type 0 =
         by_read ⊥ (λ ended rest. (mid : DiskState F S) × Rereads reading ended state old mid
         × by_reading ended (Stores unread rest (settled reading ended state) mid new) (Stores (next (asked caller brought (settled reading ended state))) rest (settled reading ended state) mid new)) in

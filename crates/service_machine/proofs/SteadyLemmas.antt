@@ -30,7 +30,7 @@ use Rattle.service_answers.specs.service_disk.specs.Making.{MakesAt}
 use Rattle.service_answers.specs.service_tables.specs.Slots.{IsFault, StoresAliases, StoresAt, are_steady, slot_at}
 use Rattle.service_answers.specs.service_tables.specs.Storing.{Brought}
 use Rattle.service_answers.specs.service_events.specs.Fates.{AreFaultless, is_steady}
-use Rattle.service_answers.specs.service_events.specs.Plan.{Aliases_file, Asks, Collection_file, Demand, Ends, Erase, Make, Opens, Plan, Reading, Set_alias, Settles, Store}
+use Rattle.service_answers.specs.service_events.specs.Plan.{Aliases_file, Asks, Collection_file, Demand, Ends, Erase, Make, Opens, Plan, Reading, Set_alias, Resolves, Store}
 use Rattle.service_answers.specs.service_events.specs.Run.{AreFates, AreNone, asked, by_read, by_reading, by_store, by_test, demanded, fits, is_in_doubt, promised, settled, unlocked_with}
 use Rattle.service_answers.specs.service_events.specs.Stored.{KeepsSlotOf, KeepsSlotOrAll, StoresDemand, StoresOf, StoresReading}
 use Rattle.service_answers.specs.service_events.proofs.RunLemmas.{fits-either, read-either, reading-either, store-either}
@@ -225,7 +225,7 @@ module _ {F S : Type 0} (folder_honest folder_steady : F → Bool) (folder_fault
       ∙ and-and (folder_steady mid.folder) (are_steady slot_steady mid) files
       ∙ ap (λ b. b && files) (sym (ap (λ (d : DiskState F S). folder_steady d.folder && are_steady slot_steady d) is.rest) ∙ is.all_steady)
       ∙ sym (and-and (folder_steady old.folder) (are_steady slot_steady old) files)
-  left-steady (Settles reading unread next) old new is = absurd is
+  left-steady (Resolves reading unread next) old new is = absurd is
   left-steady (Opens stem terms next) old new is = absurd is
 
   pub kept-steady : (plan : Plan) (old new : DiskState F S) → KeepsSlotOrAll folder_honest folder_steady folder_faults images folder_leaves names_made is_honest slot_steady faults left_since plan old new → whole new ≡ whole old
@@ -244,7 +244,7 @@ module _ {F S : Type 0} (folder_honest folder_steady : F → Bool) (folder_fault
       (λ fits. store-either (Keeps-whole old new) ⊥ _ fates (λ none. absurd none)
       (λ ended rest (mid, at, stores). stores-steady caller brought (next ended) rest (after ended) mid new stores ∙ asked-steady demand ended (contents_of state) (contents_of (after ended)) old mid at))
       (λ stores. ap whole stores)
-  stores-steady caller brought (Settles reading unread next) fates state old new =
+  stores-steady caller brought (Resolves reading unread next) fates state old new =
       let after : ReadFate → State = λ ended. settled reading ended state in
       let each : ReadFate → List Fate → Type 0 =
       λ ended rest. (mid : DiskState F S) × Reads reading ended (contents_of state) (contents_of (after ended)) old mid
@@ -299,7 +299,7 @@ module _ {F S : Type 0} (folder_honest folder_steady : F → Bool) (folder_fault
         | false ↦ λ none same. none-faultless fates none
       ] in
       pass (fits (promised caller state (next stored.Stored))) are stores
-  stores-faultless caller brought (Settles reading unread next) fates state old new are stores steady =
+  stores-faultless caller brought (Resolves reading unread next) fates state old new are stores steady =
       let after : ReadFate → State = λ ended. settled reading ended state in
       let each : ReadFate → List Fate → Type 0 =
       λ ended rest. by_reading ended (AreFates caller brought unread rest (after ended)) (AreFates caller brought (next (asked caller brought (after ended))) rest (after ended)) in
