@@ -1,6 +1,8 @@
 -- What a call leads to, by how its plan continues.
 use Rattle.std.proofs.Common.{◌≡◌, ℕ, ◌^◌, ◌<◌, ◌≤◌, ◌==◌, Bool, true, false, cond, nat_le, IfOk, List, [], ◌∷◌, ◌++◌, length, Option, Some, None, Result, Ok, Err, refl, sym, ap, subst, ◌∙◌, arith}
 use Rattle.std.proofs.lemmas.Bool.{leb-true}
+use Rattle.std.proofs.lemmas.Option.{none-some}
+use Rattle.std.specs.Option.{option_map_or}
 use Rattle.kr_base.specs.declared.ids.ConnId.{ConnId}
 use Rattle.kr_base.specs.declared.ids.ItemId.{ItemId}
 use Rattle.kr_outside.specs.RenameDisk.{Image}
@@ -8,7 +10,6 @@ use Rattle.service_events.specs.collection_table.specs.Rows.{Rows}
 use Rattle.prompt_state.specs.Targets.{all_left}
 use Rattle.prompt_state.specs.declared.row.PromptKind.TheVariants as kind
 use Rattle.prompt_state.specs.declared.targets.Target.{Target}
-use Rattle.service_events.specs.secret_calls.specs.declared.call.Call.{Call}
 use Rattle.service_events.specs.secret_calls.specs.declared.out.Body.{Body}
 use Rattle.service_events.specs.secret_calls.specs.declared.out.ErrorName.{ErrorName}
 use Rattle.service_events.specs.secret_calls.specs.declared.out.ErrorName.TheVariants as name
@@ -35,17 +36,17 @@ use Rattle.service_events.specs.declared.event.Arrival.{Arrival}
 use Rattle.service_events.specs.declared.event.Output.TheVariants as output
 use Rattle.service_calls.specs.declared.storing.Done.{Done}
 use Rattle.service_events.specs.CollectionCalls.{by_fate, storing}
-use Rattle.service_events.specs.Plan.{Aliases_file, Answer, Change, Collection_file, Plan, Questions, Ends, Asks, Resolves, Demand, Reading, Store, answered, refused}
+use Rattle.service_events.specs.Plan.{Aliases_file, Answer, Change, Collection_file, Plan, Questions, Ends, Asks, Resolves, Opens, Demand, Reading, Store, answered, refused}
 use Rattle.service_events.specs.PublicBody.{PublicBody, body_with}
 use Rattle.service_events.specs.PublicBody as public
-use Rattle.service_events.specs.Run.{AreFates, AreNone, Ran, asked, bounded, by_reading, by_test, demanded, failing, filled, fits, is_in_doubt, is_small, performed_all, ran, run, sending, sent_all, settled}
+use Rattle.service_events.specs.Run.{AreFates, AreNone, Ran, asked, bounded, by_reading, by_test, demanded, failing, filled, fits, is_in_doubt, is_small, performed_all, run, sending, sent_all, settled}
 use Rattle.service_events.specs.PromptCalls.{are_none}
 use Rattle.service_events.specs.ServiceCalls.{unlocking, with_new_prompt}
 use Rattle.service_events.specs.Fates.{reads_of, stores_of, with_fates}
-use Rattle.service_events.specs.Step.{Fits, HasTypes, IsSalt, brought_by, output_of, plan_of, replies, row_of, step, with_rows, work_of}
-use Rattle.service_events.specs.Stored.{IsPlain, StoresDemand, StoresEvent, StoresOf, StoresReading}
-use Rattle.service_calls.specs.Done.{HasRoomToReply, Leads, answer_by, fates_in}
-use Rattle.service_events.proofs.RunLemmas.{connections-run, ends-silently, no-fates, no-storing, plain-row, silent-run}
+use Rattle.service_events.specs.Step.{Fits, HasTypes, IsSalt, brought_by, output_of, plan_of, replies, step, with_rows, work_of}
+use Rattle.service_events.specs.Stored.{StoresDemand, StoresEvent, StoresOf, StoresReading}
+use Rattle.service_calls.specs.Done.{HasRoomToReply, Leads, answer_by, fates_in, reads}
+use Rattle.service_events.proofs.RunLemmas.{connections-run}
 
 -- ---- what a plan leads to
 
@@ -191,20 +192,15 @@ module _ {F S : Type 0} (folder_honest folder_steady : F → Bool) (folder_fault
         disk = dropped (is_small (body_with its)) _ _ large disk;
       }
 
-  -- a plain call
-  pub leads-plain : (salt : List ℕ) (call : Call) (answer : Result Body ErrorName) → IsPlain call → answer ≡ (ran caller brought (row_of salt call) [] before).answer
-      → after ≡ (ran caller brought (row_of salt call) [] before).state → new ≡ old → To (row_of salt call (asked caller brought before)) (record { answer = answer; sends = []; read = None; fate = None })
-  leads-plain salt call answer plain answers state disk =
-      let plan = row_of salt call (asked caller brought before) in
-      let silent = plain-row salt call (asked caller brought before) plain in
-      let quiet = ends-silently plan silent in
-      record {
-        answer = answers;
-        state = state;
-        sends = sym (ap (spread before.connections.rows) (silent-run caller brought plan [] before silent));
-        fates = no-fates caller brought plan before quiet;
-        disk = no-storing folder_honest folder_steady folder_faults images folder_leaves names_made is_honest is_steady faults moment left_since may_leave caller brought plan before old new quiet disk;
-      }
+  -- one that only reads answers so unless its return is too large
+  pub leads-read : (plan : Plan) (its : Result Body ErrorName) → reads caller before plan ≡ Some its → after ≡ before → new ≡ old → To plan (record { answer = bounded its; sends = []; read = None; fate = None })
+  leads-read (Ends answer []) its is state disk =
+      let same : filled caller before answer ≡ its = ap (λ o. option_map_or (λ a. a) o its) is in
+      subst (λ a. To (Ends answer []) (record { answer = bounded a; sends = []; read = None; fate = None })) same (leads-answered answer state disk)
+  leads-read (Ends answer (change ∷ changes)) its is state disk = absurd (none-some its is)
+  leads-read (Asks demand next) its is state disk = absurd (none-some its is)
+  leads-read (Resolves reading unread next) its is state disk = absurd (none-some its is)
+  leads-read (Opens stem terms next) its is state disk = absurd (none-some its is)
 
   -- a call that changes something, and sends what its changes send
   pub leads-changes : (its : PublicBody) (changes : List Change) (done : Done) → done.answer ≡ Ok (body_with its) → done.sends ≡ spread before.connections.rows (sent_all caller changes before)

@@ -1,5 +1,5 @@
 -- What a call led to, and that it is what its plan leads to.
-use Rattle.std.specs.Prelude.{◌≡◌, ℕ, Bool, List, ◌∷◌, ◌++◌, Result, Ok, Err}
+use Rattle.std.specs.Prelude.{◌≡◌, ℕ, Bool, List, [], ◌∷◌, ◌++◌, Option, Some, None, Result, Ok, Err}
 use Rattle.kr_base.specs.declared.ids.ConnId.{ConnId}
 use Rattle.kr_base.specs.declared.ids.ItemId.{ItemId}
 use Rattle.kr_outside.specs.RenameDisk.{Image}
@@ -20,15 +20,23 @@ use Rattle.service_calls.specs.declared.storing.Returned.{Returned}
 use Rattle.service_calls.specs.declared.storing.Returned.TheVariants as returned
 use Rattle.service_events.specs.CollectionCalls.{made, no_prompt}
 use Rattle.service_events.specs.Fates.{reads_of, stores_of}
-use Rattle.service_events.specs.Plan.{Plan}
+use Rattle.service_events.specs.Plan.{Plan, Ends, Asks, Resolves, Opens}
 use Rattle.service_events.specs.PublicBody.{PublicBody}
 use Rattle.service_events.specs.PublicBody as public
-use Rattle.service_events.specs.Run.{AreFates, run}
+use Rattle.service_events.specs.Run.{AreFates, filled, run}
 use Rattle.service_events.specs.Stored.{StoresOf}
 
 -- there is room for a reply to the caller, and for what is delivered after it
 abbrev pub HasRoomToReply : ConnId → List Delivery → Rooms → Type 0
 HasRoomToReply caller sends rooms = (reply : Out) → HasRoomFor (record { to = caller; out = reply } ∷ sends) rooms
+
+-- what a plan answers that changes nothing and asks for nothing, before the size of its return is looked at
+abbrev pub reads : ConnId → State → Plan → Option (Result Body ErrorName)
+reads caller state (Ends answer []) = Some (filled caller state answer)
+reads caller state (Ends answer (change ∷ changes)) = None
+reads caller state (Asks demand next) = None
+reads caller state (Resolves reading unread next) = None
+reads caller state (Opens stem terms next) = None
 
 -- how what a call asked for ended: a resolve first, and then a storing
 abbrev pub fates_in : Done → List Fate

@@ -4,15 +4,15 @@ ghost use Rattle.kr_base.specs.declared.ids.ConnId.{ConnId};
 ghost use Rattle.service_events.specs.AliasCalls.{alias_body, alias_settled, alias_stored, read_alias, set_alias};
 ghost use Rattle.service_events.specs.PublicBody.{body_with};
 ghost use Rattle.service_calls.specs.Rows.{disk_of, rows_of};
-ghost use Rattle.service_events.specs.Run.{asked, ran};
-ghost use Rattle.service_calls.specs.Done.{Leads};
+ghost use Rattle.service_events.specs.Run.{asked};
+ghost use Rattle.service_calls.specs.Done.{Leads, reads};
 ghost use Rattle.service_events.specs.service_tables.specs.Aliases.{IsForAliases, IsPreparedFor, are_doubtful};
 ghost use Rattle.service_events.specs.service_tables.specs.Opened.{contents_of};
 ghost use Rattle.service_events.specs.service_tables.specs.Reading.{alias_of};
 ghost use Rattle.service_events.specs.service_tables.specs.Storing.{Brought};
 
 use crate::Tables;
-use crate::answer::{Answer, bounded};
+use crate::answer::Answer;
 use crate::storing::{Done, ended, refused, unread};
 use kr_base::{ConnId, OutOfMemory, Text};
 use kr_names::{ObjectName, path_of};
@@ -33,16 +33,15 @@ impl<F: Folder> Tables<F> {
         }
     }
 
-    /// Performs the row of ReadAlias.
+    /// Answers ReadAlias as its row does, whatever the size of the return.
     pub fn read_alias(&self, conn: ConnId, alias: &Text) -> Result<Answer, OutOfMemory>
-        ensures answer { IfOk result (λ answer. (brought : Brought)
-            → answer ≡ (ran conn brought (read_alias alias.now) [] (rows_of self.now)).answer) }
-        ensures state { (brought : Brought) → rows_of self.now
-            ≡ (ran conn brought (read_alias alias.now) [] (rows_of self.now)).state }
+        ensures { IfOk result (λ answer. (brought : Brought)
+            → reads conn (rows_of self.now)
+            (read_alias alias.now (asked conn brought (rows_of self.now))) ≡ Some answer) }
     {
         let _ = conn;
         let body = self.alias_body(alias)?;
-        Ok(bounded(Ok(body)))
+        Ok(Ok(body))
     }
 
     // Stores a change of the aliases, whose file is known. It takes no memory.

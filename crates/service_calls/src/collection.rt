@@ -1,14 +1,15 @@
 // The calls of the interface Collection.
-ghost use Rattle.std.specs.Prelude.{◌≡◌, [], IfOk, map};
+ghost use Rattle.std.specs.Prelude.{◌≡◌, Some, IfOk, map};
 ghost use Rattle.kr_base.specs.declared.ids.ConnId.{ConnId};
 ghost use Rattle.service_events.specs.CollectionCalls.{search_collection};
 ghost use Rattle.service_events.specs.Plan.{Lock_collection};
+ghost use Rattle.service_calls.specs.Done.{reads};
 ghost use Rattle.service_calls.specs.Rows.{rows_of, disk_of};
 ghost use Rattle.service_events.specs.service_tables.specs.Storing.{Brought};
-ghost use Rattle.service_events.specs.Run.{performed, performed_all, ran};
+ghost use Rattle.service_events.specs.Run.{asked, performed, performed_all};
 
 use crate::Tables;
-use crate::answer::{Answer, bounded};
+use crate::answer::Answer;
 use kr_base::{Attributes, ConnId, OutOfMemory, Stem};
 use kr_items::Items;
 use kr_names::ObjectName;
@@ -17,19 +18,17 @@ use service_events::secret_calls::{Body, ErrorName};
 use service_events::service_tables::item_paths;
 
 impl<F: Folder> Tables<F> {
-    /// Performs the row of SearchItems.
+    /// Answers SearchItems as its row does, whatever the size of the return.
     pub fn search_collection(
         &self,
         conn: ConnId,
         collection: &ObjectName,
         wanted: &Attributes,
     ) -> Result<Answer, OutOfMemory>
-        ensures answer { IfOk result (λ answer. (brought : Brought)
-            → answer ≡ (ran conn brought (search_collection collection.now wanted.now)
-            [] (rows_of self.now)).answer) }
-        ensures state { (brought : Brought) → rows_of self.now
-            ≡ (ran conn brought (search_collection collection.now wanted.now) []
-            (rows_of self.now)).state }
+        ensures { IfOk result (λ answer. (brought : Brought)
+            → reads conn (rows_of self.now)
+            (search_collection collection.now wanted.now (asked conn brought (rows_of self.now)))
+            ≡ Some answer) }
     {
         let _ = conn;
         let Some(stem) = self.disk.collection_named(collection) else {
@@ -37,7 +36,7 @@ impl<F: Folder> Tables<F> {
         };
         let ids = self.disk.found_in(self.alloc, stem, wanted)?;
         let paths = item_paths(self.alloc, stem, &ids)?;
-        Ok(bounded(Ok(Body::Objects(Items::new(paths)))))
+        Ok(Ok(Body::Objects(Items::new(paths))))
     }
 
     // Locks a collection. It needs no memory.

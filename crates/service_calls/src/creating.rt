@@ -11,8 +11,7 @@ ghost use Rattle.service_events.specs.service_tables.specs.Reading.{asked_collec
 ghost use Rattle.service_events.specs.service_tables.specs.Storing.{Brought};
 
 use crate::Tables;
-use crate::answer::bounded;
-use crate::storing::{Done, refused, unstored};
+use crate::storing::{Done, refused};
 use kr_base::{ConnId, OutOfMemory, Stem, Text};
 use kr_names::{ObjectName, path_of};
 use kr_outside::Folder;
@@ -105,6 +104,6 @@ impl<F: Folder> Tables<F> {
             object: collection_path(self.alloc, stem)?,
             prompt: None,
         };
-        Ok(unstored(self.alloc, bounded(Ok(body))))
+        Ok(self.answered(Ok(body)))
     }
 }

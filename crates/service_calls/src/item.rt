@@ -1,12 +1,13 @@
 // The calls of the interface Item.
-ghost use Rattle.std.specs.Prelude.{◌≡◌, [], IfOk};
+ghost use Rattle.std.specs.Prelude.{◌≡◌, Some, IfOk};
 ghost use Rattle.service_events.specs.ItemCalls.{get_secret};
+ghost use Rattle.service_calls.specs.Done.{reads};
 ghost use Rattle.service_calls.specs.Rows.{rows_of};
 ghost use Rattle.service_events.specs.service_tables.specs.Storing.{Brought};
-ghost use Rattle.service_events.specs.Run.{ran, secret_returned};
+ghost use Rattle.service_events.specs.Run.{asked, secret_returned};
 
 use crate::Tables;
-use crate::answer::{Answer, bounded};
+use crate::answer::Answer;
 use kr_base::{ConnId, ItemId, OutOfMemory, SessionId, Stem};
 use kr_outside::Folder;
 use service_events::secret_calls::{Body, ErrorName, ReturnedSecret};
@@ -22,7 +23,7 @@ fn secret_returned(secret: Option<ReturnedSecret>) -> Answer
 }
 
 impl<F: Folder> Tables<F> {
-    /// Performs the row of GetSecret.
+    /// Answers GetSecret as its row does, whatever the size of the return.
     pub fn get_secret(
         &self,
         conn: ConnId,
@@ -30,11 +31,10 @@ impl<F: Folder> Tables<F> {
         item: ItemId,
         session: Option<SessionId>,
     ) -> Result<Answer, OutOfMemory>
-        ensures answer { IfOk result (λ answer. (brought : Brought)
-            → answer ≡ (ran conn brought (get_secret stem.now item session) []
-            (rows_of self.now)).answer) }
-        ensures state { (brought : Brought) → rows_of self.now
-            ≡ (ran conn brought (get_secret stem.now item session) [] (rows_of self.now)).state }
+        ensures { IfOk result (λ answer. (brought : Brought)
+            → reads conn (rows_of self.now)
+            (get_secret stem.now item session (asked conn brought (rows_of self.now)))
+            ≡ Some answer) }
     {
         if !self.disk.collections.has_item(stem, item) {
             return Ok(Err(ErrorName::NoSuchObject));
@@ -49,6 +49,6 @@ impl<F: Folder> Tables<F> {
             return Ok(Err(ErrorName::IsLocked));
         }
         let secret = self.disk.secret_of(session, stem, item)?;
-        Ok(bounded(secret_returned(secret)))
+        Ok(secret_returned(secret))
     }
 }

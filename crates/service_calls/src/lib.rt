@@ -19,7 +19,7 @@ mod tables;
 mod unlocking;
 
 pub use agent::error_for;
-pub use answer::{Answer, bounded};
+pub use answer::Answer;
 pub use prompt::pass_kind;
 pub use service_events;
 pub use service_events::{

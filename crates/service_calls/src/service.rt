@@ -1,12 +1,14 @@
 // The calls of the interface Service.
-ghost use Rattle.std.specs.Prelude.{◌≡◌, [], IfOk, OnOk, OnErr};
+ghost use Rattle.std.specs.Prelude.{◌≡◌, [], Some, IfOk, OnErr};
+ghost use Rattle.service_calls.specs.Done.{Leads, reads};
 ghost use Rattle.service_calls.specs.Rows.{rows_of, disk_of};
 ghost use Rattle.service_events.specs.service_tables.specs.Storing.{Brought};
-ghost use Rattle.service_events.specs.Run.{ran};
+ghost use Rattle.service_events.specs.Run.{asked};
 ghost use Rattle.service_events.specs.ServiceCalls.{is_plain, open_session, search_items, lock, get_secrets};
 
 use crate::Tables;
-use crate::answer::{Answer, bounded, is_small};
+use crate::answer::{Answer, is_small};
+use crate::storing::{Done, refused, unstored};
 use kr_base::{Attributes, ConnId, OutOfMemory, SessionId, Text};
 use kr_items::Items;
 use kr_names::ObjectName;
@@ -25,54 +27,58 @@ fn is_plain(algorithm: &Text) -> bool
 
 impl<F: Folder> Tables<F> {
     /// Performs the row of OpenSession.
-    pub fn open_session(&mut self, conn: ConnId, algorithm: &Text) -> Result<Answer, OutOfMemory>
-        ensures answer { IfOk result (λ answer. (brought : Brought)
-            → answer ≡ (ran conn brought (open_session algorithm.now) []
-            (rows_of self.old)).answer) }
-        ensures state { OnOk result ((brought : Brought)
-            → rows_of self.new
-            ≡ (ran conn brought (open_session algorithm.now) [] (rows_of self.old)).state) }
+    pub fn open_session(&mut self, conn: ConnId, algorithm: &Text) -> Result<Done, OutOfMemory>
+        ensures leads { IfOk result (λ done. (brought : Brought)
+            → Leads F.is_honest F.is_steady F.faults F.images
+            F.may_leave F.made F.Cell.is_honest F.Cell.is_steady
+            F.Cell.faults F.Cell.moment
+            F.Cell.left_since F.Cell.may_leave conn brought
+            (open_session algorithm.now (asked conn brought (rows_of self.old)))
+            (rows_of self.old) (rows_of self.new) (disk_of self.old) (disk_of self.new) done) }
+        ensures silent { IfOk result (λ done. done.sends ≡ []) }
         ensures room { self.new.connections ≡ self.old.connections }
-        ensures disk { disk_of self.new ≡ disk_of self.old }
-        ensures unchanged { OnErr result (rows_of self.new ≡ rows_of self.old) }
+        ensures unchanged { OnErr result ((rows_of self.new ≡ rows_of self.old)
+            × (disk_of self.new ≡ disk_of self.old)) }
     {
         if !is_plain(algorithm) {
-            return Ok(Err(ErrorName::NotSupported));
+            return Ok(refused(self.alloc, ErrorName::NotSupported));
         }
         match self.sessions.open(conn) {
-            Ok(session) => Ok(Ok(Body::Session(session))),
+            Ok(session) => Ok(unstored(self.alloc, Ok(Body::Session(session)))),
             Err(SessionRefused::OutOfMemory) => Err(AllocError),
-            Err(_) => Ok(Err(ErrorName::LimitsExceeded)),
+            Err(_) => Ok(refused(self.alloc, ErrorName::LimitsExceeded)),
         }
     }
 
-    /// Performs the row of SearchItems.
+    /// Answers SearchItems as its row does, whatever the size of the return.
     pub fn search_items(&self, conn: ConnId, wanted: &Attributes) -> Result<Answer, OutOfMemory>
-        ensures answer { IfOk result (λ answer. (brought : Brought)
-            → answer ≡ (ran conn brought (search_items wanted.now) [] (rows_of self.now)).answer) }
-        ensures state { (brought : Brought) → rows_of self.now
-            ≡ (ran conn brought (search_items wanted.now) [] (rows_of self.now)).state }
+        ensures { IfOk result (λ answer. (brought : Brought)
+            → reads conn (rows_of self.now)
+            (search_items wanted.now (asked conn brought (rows_of self.now))) ≡ Some answer) }
     {
         let _ = conn;
         let found = self.disk.collections.search(wanted)?;
         let unlocked = unlocked_paths(self.alloc, &found)?;
         let locked = locked_paths(self.alloc, &found)?;
-        Ok(bounded(Ok(Body::Found {
+        Ok(Ok(Body::Found {
             unlocked: Items::new(unlocked),
             locked: Items::new(locked),
-        })))
+        }))
     }
 
     /// Performs the row of Lock. All memory is taken before a collection is locked.
-    pub fn lock(&mut self, conn: ConnId, objects: &[ObjectName]) -> Result<Answer, OutOfMemory>
-        ensures answer { IfOk result (λ answer. (brought : Brought)
-            → answer ≡ (ran conn brought (lock objects.now) [] (rows_of self.old)).answer) }
-        ensures state { OnOk result ((brought : Brought)
-            → rows_of self.new
-            ≡ (ran conn brought (lock objects.now) [] (rows_of self.old)).state) }
+    pub fn lock(&mut self, conn: ConnId, objects: &[ObjectName]) -> Result<Done, OutOfMemory>
+        ensures leads { IfOk result (λ done. (brought : Brought)
+            → Leads F.is_honest F.is_steady F.faults F.images
+            F.may_leave F.made F.Cell.is_honest F.Cell.is_steady
+            F.Cell.faults F.Cell.moment
+            F.Cell.left_since F.Cell.may_leave conn brought
+            (lock objects.now (asked conn brought (rows_of self.old)))
+            (rows_of self.old) (rows_of self.new) (disk_of self.old) (disk_of self.new) done) }
+        ensures silent { IfOk result (λ done. done.sends ≡ []) }
         ensures room { self.new.connections ≡ self.old.connections }
-        ensures disk { disk_of self.new ≡ disk_of self.old }
-        ensures unchanged { OnErr result (rows_of self.new ≡ rows_of self.old) }
+        ensures unchanged { OnErr result ((rows_of self.new ≡ rows_of self.old)
+            × (disk_of self.new ≡ disk_of self.old)) }
     {
         let stems = self.disk.collections_around(self.alloc, objects)?;
         let paths = self.disk.those_there(self.alloc, objects)?;
@@ -81,24 +87,22 @@ impl<F: Folder> Tables<F> {
             prompt: None,
         };
         if !is_small(&body) {
-            return Ok(Err(ErrorName::LimitsExceeded));
+            return Ok(refused(self.alloc, ErrorName::LimitsExceeded));
         }
         self.lock_all(conn, &stems);
-        Ok(Ok(body))
+        Ok(unstored(self.alloc, Ok(body)))
     }
 
-    /// Performs the row of GetSecrets.
+    /// Answers GetSecrets as its row does, whatever the size of the return.
     pub fn get_secrets(
         &self,
         conn: ConnId,
         items: &[ObjectName],
         session: Option<SessionId>,
     ) -> Result<Answer, OutOfMemory>
-        ensures answer { IfOk result (λ answer. (brought : Brought)
-            → answer ≡ (ran conn brought (get_secrets items.now session) []
-            (rows_of self.now)).answer) }
-        ensures state { (brought : Brought) → rows_of self.now
-            ≡ (ran conn brought (get_secrets items.now session) [] (rows_of self.now)).state }
+        ensures { IfOk result (λ answer. (brought : Brought)
+            → reads conn (rows_of self.now)
+            (get_secrets items.now session (asked conn brought (rows_of self.now))) ≡ Some answer) }
     {
         let Some(session) = session else {
             return Ok(Err(ErrorName::NoSession));
@@ -108,6 +112,6 @@ impl<F: Folder> Tables<F> {
         }
         let open = self.disk.open_items(self.alloc, items)?;
         let secrets = self.disk.secrets(self.alloc, session, &open)?;
-        Ok(bounded(Ok(Body::Secrets(Items::new(secrets)))))
+        Ok(Ok(Body::Secrets(Items::new(secrets))))
     }
 }

@@ -1,19 +1,14 @@
 // The call Unlock of the interface Service.
 ghost use Rattle.std.specs.Prelude.{◌≡◌, [], IfOk, OnErr};
-ghost use Rattle.kr_base.specs.declared.ids.ConnId.{ConnId};
 ghost use Rattle.service_calls.specs.Rows.{disk_of, rows_of};
-ghost use Rattle.service_events.specs.Plan.{answered};
-ghost use Rattle.service_events.specs.PublicBody.{PublicBody, body_with};
 ghost use Rattle.service_events.specs.Run.{asked};
 ghost use Rattle.service_events.specs.ServiceCalls.{unlock};
 ghost use Rattle.service_calls.specs.Done.{Leads};
-ghost use Rattle.service_events.specs.service_tables.specs.Disk.{DiskState};
 ghost use Rattle.service_events.specs.service_tables.specs.Storing.{Brought};
 
 use crate::Tables;
-use crate::answer::bounded;
 use crate::prompt::are_none;
-use crate::storing::{Done, unstored};
+use crate::storing::Done;
 use kr_base::{ConnId, OutOfMemory};
 use kr_items::Items;
 use kr_names::ObjectName;
@@ -23,20 +18,6 @@ use service_events::secret_calls::Body;
 use service_events::service_prompts::{are_light, targets_of, unlocked_there};
 
 impl<F: Folder> Tables<F> {
-    // The return of a call that changes nothing, if it isn't too large.
-    fn small(&self, body: Body) -> Done
-        ensures done { (conn : ConnId) (brought : Brought) (disk : DiskState F F.Cell)
-            (returned : PublicBody) → body ≡ body_with returned
-            → Leads F.is_honest F.is_steady F.faults F.images
-            F.may_leave F.made F.Cell.is_honest F.Cell.is_steady
-            F.Cell.faults F.Cell.moment
-            F.Cell.left_since F.Cell.may_leave conn brought
-            (answered returned []) (rows_of self.now) (rows_of self.now) disk disk result }
-        ensures silent { result.sends ≡ [] }
-    {
-        unstored(self.alloc, bounded(Ok(body)))
-    }
-
     /// Performs the row of Unlock. All memory is taken before a prompt begins.
     pub fn unlock(&mut self, conn: ConnId, objects: &[ObjectName]) -> Result<Done, OutOfMemory>
         ensures leads { IfOk result (λ done. (brought : Brought)
@@ -54,10 +35,10 @@ impl<F: Folder> Tables<F> {
         let paths = unlocked_there(self.alloc, &self.disk, objects)?;
         let targets = targets_of(self.alloc, &self.disk, objects)?;
         if are_none(&targets) {
-            return Ok(self.small(Body::ObjectsAndPrompt {
+            return Ok(self.answered(Ok(Body::ObjectsAndPrompt {
                 objects: Items::new(paths),
                 prompt: None,
-            }));
+            })));
         }
         let fits = are_light(&targets);
         let body = Body::ObjectsAndPrompt {

@@ -1,6 +1,6 @@
 -- What a plan leaves alone, whatever it does, and which plans ask nothing of the disk.
 use Rattle.std.proofs.Common.{◌≡◌, ℕ, Bool, true, false, cond, nat_le, List, [], ◌∷◌, ◌++◌, map, Option, Some, None, Result, Ok, refl, ap, ◌∙◌}
-use Rattle.std.specs.List.{AllByRecursion, filter_map}
+use Rattle.std.specs.List.{AllByRecursion}
 use Rattle.std.specs.Option.{option_and_then}
 use Rattle.kr_base.specs.declared.ids.ConnId.{ConnId}
 use Rattle.kr_base.specs.declared.ids.PromptId.{PromptId}
@@ -25,7 +25,7 @@ use Rattle.service_prompts.specs.service_tables.specs.declared.fate.ReadFate.The
 use Rattle.service_prompts.specs.service_tables.specs.declared.fate.StoreFate.{StoreFate}
 use Rattle.service_prompts.specs.service_tables.specs.declared.fate.StoreFate.TheVariants as stored
 use Rattle.service_prompts.specs.service_tables.specs.Disk.{DiskState}
-use Rattle.service_prompts.specs.service_tables.specs.Objects.{collection_around, collection_named}
+use Rattle.service_prompts.specs.service_tables.specs.Objects.{collection_named}
 use Rattle.service_prompts.specs.service_tables.specs.Targets.{are_light}
 use Rattle.service_prompts.specs.Unlocking.{targets_of, unlocked_there}
 use Rattle.service_prompts.specs.service_tables.specs.State.{State}
@@ -40,8 +40,8 @@ use Rattle.service_events.specs.PublicBody as public
 use Rattle.service_events.specs.Run.{AreFates, AreNone, asked, by_read, by_reading, by_store, by_test, demanded, failing, filled, fits, if_fits, is_in_doubt, performed, performed_all, promised, sending, sent_all, sent_asked, sent_by, sent_opened, sent_settled, settled, Ran, run, unlocked_with}
 use Rattle.service_events.specs.ServiceCalls.{creating, is_plain, no_collection, there_already, unlocking, with_new_prompt}
 use Rattle.service_events.specs.SessionCalls.{with_session}
-use Rattle.service_events.specs.Step.{brought_by, plan_of, row_of, served}
-use Rattle.service_events.specs.Stored.{IsPlain, StoresNothing, StoresOf}
+use Rattle.service_events.specs.Step.{brought_by, plan_of, served}
+use Rattle.service_events.specs.Stored.{StoresNothing, StoresOf}
 
 -- no change is one of the connections
 pub connections-performed : (caller : ConnId) (change : Change) (state : State) → (performed caller change state).connections ≡ state.connections
@@ -189,8 +189,8 @@ silent-all caller (change ∷ changes) state silent =
     ap (λ sends. sends ++ sent_all caller changes (performed caller change state)) (silent-one caller change state silent.0)
     ∙ silent-all caller changes (performed caller change state) silent.1
 
--- a change that locks no collection
-silent-locks : (stems : List (List ℕ)) → AreSilent (map Lock_collection stems)
+-- a change that locks a collection sends nothing
+pub silent-locks : (stems : List (List ℕ)) → AreSilent (map Lock_collection stems)
 silent-locks [] = tt
 silent-locks (stem ∷ stems) = (tt, silent-locks stems)
 
@@ -298,62 +298,3 @@ quiet-row salt (Ok call.Unregister) asked nothing = quiet-if asked.prompts.is_ag
 quiet-row salt (Ok (call.Answer prompt round password)) asked nothing = absurd nothing
 quiet-row salt (Ok (call.Refuse prompt round)) asked nothing = quiet-round prompt round asked _ (λ it. tt)
 quiet-row salt _ asked nothing = tt
-
--- ---- plain rows: they end at once, and send nothing
-
-abbrev pub EndsSilently : Plan → Type 0
-EndsSilently (Ends answer changes) = AreSilent changes
-EndsSilently (Resolves reading unread next) = ⊥
-EndsSilently (Asks demand next) = ⊥
-EndsSilently (Opens stem terms next) = ⊥
-
-pub ends-silently : (plan : Plan) → EndsSilently plan → EndsAtOnce plan
-ends-silently (Ends answer changes) silent = tt
-ends-silently (Resolves reading unread next) silent = absurd silent
-ends-silently (Asks demand next) silent = absurd silent
-ends-silently (Opens stem terms next) silent = absurd silent
-
--- such a plan sends nothing
-pub silent-run : (caller : ConnId) (brought : Brought) (plan : Plan) (fates : List Fate) (state : State) → EndsSilently plan → (run caller brought plan fates state).sends ≡ []
-silent-run caller brought (Ends answer changes) fates state silent =
-    fits-either (λ (r : Ran). r.sends ≡ []) (filled caller state answer) _ (failing name.LimitsExceeded state) (λ is. silent-all caller changes state silent) refl
-silent-run caller brought (Resolves reading unread next) fates state silent = absurd silent
-silent-run caller brought (Asks demand next) fates state silent = absurd silent
-silent-run caller brought (Opens stem terms next) fates state silent = absurd silent
-
-plain-if : (b : Bool) (one other : Plan) → EndsSilently one → EndsSilently other → EndsSilently (cond b one other)
-plain-if true one other first second = first
-plain-if false one other first second = second
-
-plain-session : (session : Option SessionId) (asked : Questions) (next : SessionId → Plan) → ((own : SessionId) → EndsSilently (next own)) → EndsSilently (with_session session asked next)
-plain-session None asked next plain = tt
-plain-session (Some session) asked next plain = plain-if (asked.sessions.owns session) (next session) _ (plain session) tt
-
-plain-collection : (named : Option (List ℕ)) (next : List ℕ → Plan) → ((stem : List ℕ) → EndsSilently (next stem)) → EndsSilently (on_collection named next)
-plain-collection None next plain = tt
-plain-collection (Some stem) next plain = plain stem
-
-pub plain-row : (salt : List ℕ) (call : Call) (asked : Questions) → IsPlain call → EndsSilently (row_of salt call asked)
-plain-row salt (call.OpenSession algorithm) asked plain =
-    plain-if (is_plain algorithm) _ (refused name.NotSupported) (plain-if asked.sessions.is_full (refused name.LimitsExceeded) _ tt (tt, tt)) tt
-plain-row salt (call.CloseSession session) asked plain = plain-if (asked.sessions.owns session) _ (refused name.NoSession) (tt, tt) tt
-plain-row salt (call.Lock objects) asked plain = silent-locks (filter_map (collection_around asked.collections) objects)
-plain-row salt (call.GetSecrets items session) asked plain = plain-session session asked _ (λ own. tt)
-plain-row salt (call.SearchCollection collection wanted) asked plain = plain-collection (collection_named asked.collections collection) _ (λ stem. tt)
-plain-row salt (call.GetSecret stem item session) asked plain =
-    plain-if (asked.collections.has_item stem item) _ (refused name.NoSuchObject)
-    (plain-session session asked (secret_if_open stem item asked) (λ own. plain-if (asked.collections.is_open stem) (given (Secret_of own stem item)) (refused name.IsLocked) tt tt)) tt
-plain-row salt (call.SetAlias alias object) asked plain = absurd plain
-plain-row salt (call.CreateItem collection label attributes secret replace) asked plain = absurd plain
-plain-row salt (call.DeleteCollection collection) asked plain = absurd plain
-plain-row salt (call.DeleteItem stem item) asked plain = absurd plain
-plain-row salt (call.SetSecret stem item secret) asked plain = absurd plain
-plain-row salt (call.CreateCollection label alias) asked plain = absurd plain
-plain-row salt (call.Unlock objects) asked plain = absurd plain
-plain-row salt (call.Prompt prompt) asked plain = absurd plain
-plain-row salt (call.Dismiss prompt) asked plain = absurd plain
-plain-row salt call.Register asked plain = absurd plain
-plain-row salt call.Unregister asked plain = absurd plain
-plain-row salt (call.Answer prompt round password) asked plain = absurd plain
-plain-row salt (call.Refuse prompt round) asked plain = absurd plain
-plain-row salt _ asked plain = tt

@@ -1,4 +1,4 @@
--- What each storing that a plan asks for does to the disk, one after the other, and which calls ask for one, send something, or change a prompt.
+-- What each storing that a plan asks for does to the disk, one after the other, and which calls ask for one.
 use Rattle.std.specs.Prelude.{◌≡◌, ℕ, ◌⊎◌, Bool, List, ◌∷◌, Result, Ok}
 use Rattle.kr_base.specs.declared.ids.ConnId.{ConnId}
 use Rattle.kr_outside.specs.RenameDisk.{Image}
@@ -35,32 +35,6 @@ StoresNothing (Ok (call.SetSecret stem item secret)) = ⊥
 StoresNothing (Ok (call.SetAlias alias object)) = ⊥
 StoresNothing (Ok (call.Answer prompt round password)) = ⊥
 StoresNothing _ = Unit {0}
-
--- a call that sends nothing besides its reply
-abbrev pub SendsNothing : Call → Type 0
-SendsNothing (call.Prompt prompt) = ⊥
-SendsNothing (call.Dismiss prompt) = ⊥
-SendsNothing call.Register = ⊥
-SendsNothing (call.Answer prompt round password) = ⊥
-SendsNothing (call.Refuse prompt round) = ⊥
-SendsNothing _ = Unit {0}
-
--- a call that neither stores something nor changes a prompt or the agent
-abbrev pub IsPlain : Call → Type 0
-IsPlain (call.CreateItem collection label attributes secret replace) = ⊥
-IsPlain (call.DeleteCollection collection) = ⊥
-IsPlain (call.DeleteItem stem item) = ⊥
-IsPlain (call.SetSecret stem item secret) = ⊥
-IsPlain (call.SetAlias alias object) = ⊥
-IsPlain (call.CreateCollection label alias) = ⊥
-IsPlain (call.Unlock objects) = ⊥
-IsPlain (call.Prompt prompt) = ⊥
-IsPlain (call.Dismiss prompt) = ⊥
-IsPlain call.Register = ⊥
-IsPlain call.Unregister = ⊥
-IsPlain (call.Answer prompt round password) = ⊥
-IsPlain (call.Refuse prompt round) = ⊥
-IsPlain _ = Unit {0}
 
 -- what a key that is brought leads to in a state
 abbrev pub plan_brought : BroughtKey → State → Plan

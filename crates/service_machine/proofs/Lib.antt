@@ -1,2 +1,3 @@
 pub mod RecordedLemmas
+pub mod RoomLemmas
 pub mod SteadyLemmas

@@ -10,14 +10,13 @@ ghost use Rattle.service_answers.specs.service_tables.specs.Disk.{IsLoaded, Fail
 ghost use Rattle.service_answers.specs.service_events.specs.Fates.{with_fates, AreFaultless, IsFaultless, is_steady};
 ghost use Rattle.service_answers.specs.service_events.specs.Incoming.{AreFreeFor, Records, IsDue, IsOfNone, IsConnect, IsSoundFor, TakesMemory};
 ghost use Rattle.service_answers.specs.service_tables.specs.Opened.{IsOpened, contents_of};
-ghost use Rattle.service_answers.specs.service_tables.specs.Storing.{Brought};
-ghost use Rattle.service_answers.specs.service_events.specs.Run.{asked, ran};
+ghost use Rattle.service_answers.specs.service_events.specs.Run.{asked};
 ghost use Rattle.service_answers.specs.service_disk.specs.Making.{AreFree};
 ghost use Rattle.service_answers.specs.service_events.specs.declared.event.Event.TheVariants as Event;
 ghost use Rattle.service_answers.specs.service_events.specs.declared.event.Output.TheVariants as Output;
 ghost use Rattle.service_answers.specs.service_tables.specs.Sound.{AreSoundContents, IsSound};
 ghost use Rattle.service_answers.specs.service_events.specs.Step.{step, output_of, brought_by, brought_with, plan_of, row_of, message_of, replies, with_rows, IsMissing, IsCrowded, CanJoin, HasTypes, IsSalt, IsTypedName, Fits};
-ghost use Rattle.service_answers.specs.service_events.specs.Stored.{IsPlain, KeepsDisk, SendsNothing, StoresEvent};
+ghost use Rattle.service_answers.specs.service_events.specs.Stored.{KeepsDisk, StoresEvent};
 ghost use Rattle.service_answers.specs.service_calls.specs.Done.{HasRoomToReply, Leads};
 
 use crate::{ApplyRefused, Arrival, Arrived, Boxed, Event, Fates, Incoming, Output, Recorded};
@@ -27,7 +26,7 @@ use kr_items::Items;
 use kr_outside::Folder;
 use prompt_state::PromptState;
 use service_answers::secret_calls::{AliasName, Body, Call, CallFault, Out, Request, Serial, Work};
-use service_answers::service_calls::{Answer, Done, Tables, bounded, refused, unstored};
+use service_answers::service_calls::{Answer, Done, Tables, refused};
 use service_answers::service_tables::{
     Connections, Delivery, DeskRow, Disk, OpenRefused, Rows, known_alias, known_item, known_secret,
     known_text,
@@ -327,6 +326,7 @@ impl<F: Folder> Machine<F> {
     }
 
     // Performs the row of a call. There is room for the reply and for what is sent after it.
+    #[tactic(auto, using(crate::proofs::RoomLemmas::room_left, crate::proofs::RoomLemmas::room_kept))]
     fn perform(
         &mut self,
         conn: ConnId,
@@ -346,45 +346,38 @@ impl<F: Folder> Machine<F> {
             × (disk_of self.new ≡ disk_of self.old)) }
     {
         match call {
-            Call::Prompt { prompt } => self.tables.call_prompt(conn, *prompt),
-            Call::Dismiss { prompt } => self.tables.dismiss(conn, *prompt),
-            Call::Register => self.tables.register(conn),
-            Call::Answer { prompt, round, .. } => answer_prompt(
-                &mut self.tables,
-                conn,
-                *prompt,
-                *round,
-            ),
-            Call::Refuse { prompt, round } => self.tables.refuse(conn, *prompt, *round),
-            _ => self.perform_silently(conn, call, now, salt),
-        }
-    }
-
-    // Performs the row of a call that sends its reply alone. The connections' room stays.
-    fn perform_silently(
-        &mut self,
-        conn: ConnId,
-        call: &Call,
-        now: u64,
-        salt: [u8; 8],
-    ) -> Result<Done, OutOfMemory>
-        requires { SendsNothing call.now }
-        ensures leads { IfOk result (Leads F.is_honest F.is_steady F.faults F.images
-            F.may_leave F.made F.Cell.is_honest F.Cell.is_steady F.Cell.faults
-            F.Cell.moment F.Cell.left_since F.Cell.may_leave conn (brought_with now (Ok call.now))
-            (row_of salt call.now (asked conn (brought_with now (Ok call.now)) (rows_of self.old)))
-            (rows_of self.old) (rows_of self.new) (disk_of self.old) (disk_of self.new)) }
-        ensures silent { IfOk result (λ done. done.sends ≡ []) }
-        ensures room { self.new.tables.connections ≡ self.old.tables.connections }
-        ensures unchanged { OnErr result ((rows_of self.new ≡ rows_of self.old)
-            × (disk_of self.new ≡ disk_of self.old)) }
-    {
-        match call {
+            Call::Ping => Ok(self.tables.answered(Ok(Body::Empty))),
+            Call::OpenSession { algorithm } => self.tables.open_session(conn, algorithm),
+            Call::CloseSession { session } => Ok(self.tables.close_session(conn, *session)),
+            Call::SearchItems { wanted } => {
+                let answer = self.tables.search_items(conn, wanted)?;
+                Ok(self.tables.answered(answer))
+            }
+            Call::ReadAlias { name } => {
+                let answer = self.tables.read_alias(conn, name)?;
+                Ok(self.tables.answered(answer))
+            }
+            Call::Lock { objects } => self.tables.lock(conn, objects.as_slice()),
+            Call::GetSecrets { items, session } => {
+                let answer = self.tables.get_secrets(conn, items.as_slice(), *session)?;
+                Ok(self.tables.answered(answer))
+            }
+            Call::SearchCollection { collection, wanted } => {
+                let answer = self.tables.search_collection(conn, collection, wanted)?;
+                Ok(self.tables.answered(answer))
+            }
+            Call::GetSecret {
+                stem,
+                item,
+                session,
+            } => {
+                let answer = self.tables.get_secret(conn, stem, *item, *session)?;
+                Ok(self.tables.answered(answer))
+            }
             Call::CreateCollection { label, alias } => {
                 self.tables.create_collection(conn, label, alias, salt)
             }
             Call::Unlock { objects } => self.tables.unlock(conn, objects.as_slice()),
-            Call::Unregister => Ok(self.tables.unregister(conn)),
             Call::CreateItem {
                 collection,
                 label,
@@ -402,42 +395,17 @@ impl<F: Folder> Machine<F> {
                 self.tables.set_secret(conn, stem, *item, secret, now)
             }
             Call::SetAlias { alias, object } => self.tables.set_alias(conn, alias, object),
-            _ => Ok(unstored(self.tables.alloc, self.ask(conn, call)?)),
-        }
-    }
-
-    // Performs the row of a call that neither stores something nor changes a prompt or the agent. The
-    // connections' room stays.
-    fn ask(&mut self, conn: ConnId, call: &Call) -> Result<Answer, OutOfMemory>
-        requires { IsPlain call.now }
-        ensures plain { IsPlain call.now }
-        ensures answer { (salt : List ℕ) → IfOk result (λ answer. (brought : Brought)
-            → answer ≡ (ran conn brought (row_of salt call.now) [] (rows_of self.old)).answer) }
-        ensures state { (salt : List ℕ) → OnOk result ((brought : Brought) → rows_of self.new
-            ≡ (ran conn brought (row_of salt call.now) [] (rows_of self.old)).state) }
-        ensures room { self.new.tables.connections ≡ self.old.tables.connections }
-        ensures disk { disk_of self.new ≡ disk_of self.old }
-        ensures unchanged { OnErr result (rows_of self.new ≡ rows_of self.old) }
-    {
-        match call {
-            Call::Ping => Ok(bounded(Ok(Body::Empty))),
-            Call::OpenSession { algorithm } => self.tables.open_session(conn, algorithm),
-            Call::CloseSession { session } => Ok(self.tables.close_session(conn, *session)),
-            Call::SearchItems { wanted } => self.tables.search_items(conn, wanted),
-            Call::ReadAlias { name } => self.tables.read_alias(conn, name),
-            Call::Lock { objects } => self.tables.lock(conn, objects.as_slice()),
-            Call::GetSecrets { items, session } => {
-                self.tables.get_secrets(conn, items.as_slice(), *session)
-            }
-            Call::SearchCollection { collection, wanted } => {
-                self.tables.search_collection(conn, collection, wanted)
-            }
-            Call::GetSecret {
-                stem,
-                item,
-                session,
-            } => self.tables.get_secret(conn, stem, *item, *session),
-            _ => unreachable!(),
+            Call::Prompt { prompt } => self.tables.call_prompt(conn, *prompt),
+            Call::Dismiss { prompt } => self.tables.dismiss(conn, *prompt),
+            Call::Register => self.tables.register(conn),
+            Call::Answer { prompt, round, .. } => answer_prompt(
+                &mut self.tables,
+                conn,
+                *prompt,
+                *round,
+            ),
+            Call::Refuse { prompt, round } => self.tables.refuse(conn, *prompt, *round),
+            Call::Unregister => Ok(self.tables.unregister(conn)),
         }
     }
 

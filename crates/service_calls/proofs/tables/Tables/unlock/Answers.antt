@@ -26,7 +26,7 @@ returns-then-are_none-clause-leads g c = λ brought.
     let paths : unlocked_there asks.collections c.args.objects.now ≡ c.new.result = sym (c.new.ensures ∙ c.in_ok-paths.ensures) in
     let targets : targets_of asks.collections c.args.objects.now ≡ [] = sym c.in_ok-targets.ensures ∙ none in
     let plan : unlock c.args.objects.now asks ≡ answered (public.ObjectsAndPrompt c.new.result None) [] = λ i. unlocking (paths i) (targets i) asks in
-    leads-as folder.is_honest folder.is_steady folder.faults folder.images folder.may_leave folder.made slot.is_honest slot.is_steady slot.faults slot.moment slot.left_since slot.may_leave conn brought old old disk disk _ _ c.small.result plan (c.small.ensures.done conn brought disk (public.ObjectsAndPrompt c.new.result None) refl)
+    leads-as folder.is_honest folder.is_steady folder.faults folder.images folder.may_leave folder.made slot.is_honest slot.is_steady slot.faults slot.moment slot.left_since slot.may_leave conn brought old old disk disk _ _ c.answered.result plan (c.answered.ensures.leads conn brought (answered (public.ObjectsAndPrompt c.new.result None) []) refl)
 
 -- there is something, and a prompt begins
 pub returns-clause-leads : goal.returns-clause-leads

@@ -1,3 +1,4 @@
+use Rattle.std.proofs.Common.{[], sym}
 use Rattle.service_answers.specs.service_calls.proofs.LeadsLemmas.{map-ok}
 use Rattle.service_machine.proofs.machine.Machine.perform.Goals as goal
 
@@ -16,3 +17,36 @@ returns-in-Refuse-clause-leads g c = rw c.in-Refuse.is (map-ok c.refuse.result _
 
 pub returns-in-Answer-clause-leads : goal.returns-in-Answer-clause-leads
 returns-in-Answer-clause-leads g c = rw c.in-Answer.is (map-ok c.answer_prompt.result _ _ (λ done leads. leads _) c.answer_prompt.ensures.leads)
+
+-- a removal leads to the same whatever the request brings
+pub returns-in-DeleteCollection-clause-leads : goal.returns-in-DeleteCollection-clause-leads
+returns-in-DeleteCollection-clause-leads g c = rw c.in-DeleteCollection.is (map-ok c.delete_collection.result _ _ (λ done leads. leads _) c.delete_collection.ensures.leads)
+
+-- so does an alias that is set
+pub returns-in-SetAlias-clause-leads : goal.returns-in-SetAlias-clause-leads
+returns-in-SetAlias-clause-leads g c = rw c.in-SetAlias.is (map-ok c.set_alias.result _ _ (λ done leads. leads _) c.set_alias.ensures.leads)
+
+-- so does a prompt that begins
+pub returns-in-CreateCollection-clause-leads : goal.returns-in-CreateCollection-clause-leads
+returns-in-CreateCollection-clause-leads g c = rw c.in-CreateCollection.is (map-ok c.create_collection.result _ _ (λ done leads. leads _) c.create_collection.ensures.leads)
+
+pub returns-in-Unlock-clause-leads : goal.returns-in-Unlock-clause-leads
+returns-in-Unlock-clause-leads g c = rw (c.in-Unlock.is, sym c.as_slice-in-Unlock.ensures) (map-ok c.unlock.result _ _ (λ done leads. leads _) c.unlock.ensures.leads)
+
+-- so do collections that are locked
+pub returns-in-Lock-clause-leads : goal.returns-in-Lock-clause-leads
+returns-in-Lock-clause-leads g c = rw (c.in-Lock.is, sym c.as_slice.ensures) (map-ok c.lock.result _ _ (λ done leads. leads _) c.lock.ensures.leads)
+
+-- and a session that is opened
+pub returns-in-OpenSession-clause-leads : goal.returns-in-OpenSession-clause-leads
+returns-in-OpenSession-clause-leads g c = rw c.in-OpenSession.is (map-ok c.open_session.result _ _ (λ done leads. leads _) c.open_session.ensures.leads)
+
+-- what is only read is answered unless it is too large
+pub returns-in_ok-answer-in-SearchItems-clause-leads : goal.returns-in_ok-answer-in-SearchItems-clause-leads
+returns-in_ok-answer-in-SearchItems-clause-leads g c = rw c.in-SearchItems.is (c.answered-in-SearchItems.ensures.leads c.args.conn (record { now = c.args.now; value = [] }) _ (c.in_ok-answer-in-SearchItems.ensures (record { now = c.args.now; value = [] })))
+
+pub returns-in_ok-answer-in-ReadAlias-clause-leads : goal.returns-in_ok-answer-in-ReadAlias-clause-leads
+returns-in_ok-answer-in-ReadAlias-clause-leads g c = rw c.in-ReadAlias.is (c.answered-in-ReadAlias.ensures.leads c.args.conn (record { now = c.args.now; value = [] }) _ (c.in_ok-answer-in-ReadAlias.ensures (record { now = c.args.now; value = [] })))
+
+pub returns-in_ok-answer-in-SearchCollection-clause-leads : goal.returns-in_ok-answer-in-SearchCollection-clause-leads
+returns-in_ok-answer-in-SearchCollection-clause-leads g c = rw c.in-SearchCollection.is (c.answered-in-SearchCollection.ensures.leads c.args.conn (record { now = c.args.now; value = [] }) _ (c.in_ok-answer-in-SearchCollection.ensures (record { now = c.args.now; value = [] })))
