@@ -1,9 +1,9 @@
 -- The first argument among words (docs/SERVICE.md, "Command line").
 use Rattle.std.specs.Prelude.{◌≡◌, ◌≢◌, ℕ, List, [], ◌∷◌, ◌++◌, codes}
-use Rattle.command_words.specs.Arguments.{Form, Argument, operand, option, words_of, IsWritten}
+use Rattle.command_words.specs.Arguments.{Form, Argument, operand, option, flag, words_of, IsWritten}
 use Rattle.command_words.specs.declared.beginning.OptionName.{OptionName}
 use Rattle.command_words.specs.declared.beginning.Beginning.{Beginning}
-use Rattle.command_words.specs.declared.beginning.Beginning.TheVariants.{Nothing, Operand, Option, End, Fault}
+use Rattle.command_words.specs.declared.beginning.Beginning.TheVariants.{Nothing, Operand, Option, Flag, End, Fault}
 
 -- the words are those of this argument, followed by more
 pub record IsFirst (argument : Argument) (more words : List (List ℕ)) : Type 0 where
@@ -29,5 +29,6 @@ abbrev pub Begins : Beginning → List (List ℕ) → Type 0
 Begins Nothing words = words ≡ []
 Begins (Operand word more) words = IsFirst (operand word.now) more.now words
 Begins (Option name value more) words = IsOption name value.now more.now words
+Begins (Flag name more) words = IsFirst (flag name) more.now words
 Begins (End more) words = words ≡ codes "--" ∷ more.now
 Begins Fault words = IsFault words

@@ -1,9 +1,9 @@
 // All arguments of a command.
 ghost use Rattle.std.specs.Prelude.{◌<◌, ◌+◌, length, MatchOption};
-ghost use Rattle.command_words.specs.Arguments.{operand, option, two_words};
+ghost use Rattle.command_words.specs.Arguments.{operand, option, flag, two_words};
 ghost use Rattle.command_words.specs.Found.{listed, HasMore, HasAll, IsFull, Finds, FindsNone};
 
-use crate::beginning::{Beginning, OptionName, beginning_of};
+use crate::beginning::{Beginning, FlagName, OptionName, beginning_of};
 use kr_base::Text;
 
 /// The operands that were found so far, in order. A command has two at most.
@@ -26,6 +26,8 @@ pub struct Found<'a> {
     pub uid: Option<&'a str>,
     /// The value of `--connections`.
     pub connections: Option<&'a str>,
+    /// The flag. A command has one at most.
+    pub flag: Option<FlagName>,
 }
 
 /// The same with one more operand. None if there are two.
@@ -59,6 +61,20 @@ fn with_option<'a>(found: Found<'a>, name: OptionName, value: &'a str) -> Option
     }
 }
 
+/// The same with one more flag. None if there is one.
+fn with_flag<'a>(found: Found<'a>, name: FlagName) -> Option<Found<'a>>
+    ensures { MatchOption result (IsFull found.entry (flag name))
+        (λ more. HasMore found.entry (flag name) more) }
+{
+    if found.flag.is_some() {
+        return None;
+    }
+    Some(Found {
+        flag: Some(name),
+        ..found
+    })
+}
+
 /// The same with all words as operands. None if there are more than two operands then.
 fn with_operands<'a>(found: Found<'a>, words: &'a [Text]) -> Option<Found<'a>>
     ensures { MatchOption result (2 < length (listed found.entry.operands) + length words.now)
@@ -76,7 +92,8 @@ fn with_operands<'a>(found: Found<'a>, words: &'a [Text]) -> Option<Found<'a>>
 
 /// The arguments that the words after a command's name are.
 ///
-/// None if they are no arguments, or if there are more than two operands or an option is there twice.
+/// None if they are no arguments, or if there are more than two operands, an option twice or more
+/// than one flag.
 pub fn arguments_of(words: &[Text]) -> Option<Found<'_>>
     ensures { MatchOption result (FindsNone words.now) (λ found. Finds found words.now) }
 {
@@ -84,6 +101,7 @@ pub fn arguments_of(words: &[Text]) -> Option<Found<'_>>
         operands: Operands::Nothing,
         uid: None,
         connections: None,
+        flag: None,
     };
     let mut rest = words;
     loop {
@@ -98,6 +116,13 @@ pub fn arguments_of(words: &[Text]) -> Option<Found<'_>>
             }
             Beginning::Option(name, value, more) => {
                 let Some(longer) = with_option(found, name, value) else {
+                    return None;
+                };
+                found = longer;
+                rest = more;
+            }
+            Beginning::Flag(name, more) => {
+                let Some(longer) = with_flag(found, name) else {
                     return None;
                 };
                 found = longer;

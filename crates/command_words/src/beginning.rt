@@ -1,7 +1,7 @@
 // The first argument among words, and the words after it.
 ghost use Rattle.std.specs.Prelude.{◌≡◌, ◌∷◌, ◌++◌, ℕ, List, MatchOption};
-ghost use Rattle.command_words.specs.Arguments.{is_plain, option_word};
-ghost use Rattle.command_words.specs.Beginning.{Begins, IsOption, IsOther};
+ghost use Rattle.command_words.specs.Arguments.{is_plain, option_word, flag_word, flag};
+ghost use Rattle.command_words.specs.Beginning.{Begins, IsFirst, IsOption, IsOther};
 
 use kr_base::Text;
 
@@ -14,6 +14,15 @@ pub enum OptionName {
     Connections,
 }
 
+/// A flag, an option without a value, by its name.
+#[derive(Clone, Copy, PartialEq, Eq)]
+pub enum FlagName {
+    /// `--until-eof`.
+    UntilEof,
+    /// `--password`.
+    Password,
+}
+
 /// What words begin with.
 #[derive(Clone, Copy)]
 pub enum Beginning<'a> {
@@ -23,9 +32,12 @@ pub enum Beginning<'a> {
     Operand(&'a Text, &'a [Text]),
     /// An option with its value, and the words after them.
     Option(OptionName, &'a str, &'a [Text]),
+    /// A flag, and the words after it.
+    Flag(FlagName, &'a [Text]),
     /// `--`, and the words after it, which are all operands.
     End(&'a [Text]),
-    /// A word that can't be there: it begins with `-`, and isn't `-`, `--` or an option with a value.
+    /// A word that can't be there: it begins with `-`, and isn't `-`, `--`, an option with a value or
+    /// a flag.
     Fault,
 }
 
@@ -78,6 +90,20 @@ fn option_at<'a>(
     }
 }
 
+/// The flag that the word is, if it is one.
+fn flag_at(word: &str) -> Option<FlagName>
+    ensures { MatchOption result ((name : FlagName) → word.now ≡ flag_word name → ⊥)
+        (λ name. word.now ≡ flag_word name) }
+{
+    if word == "--until-eof" {
+        return Some(FlagName::UntilEof);
+    }
+    if word == "--password" {
+        return Some(FlagName::Password);
+    }
+    None
+}
+
 /// What the words begin with.
 pub fn beginning_of(words: &[Text]) -> Beginning<'_>
     ensures { Begins result words.now }
@@ -94,8 +120,11 @@ pub fn beginning_of(words: &[Text]) -> Beginning<'_>
     if let Some((value, rest)) = option_at(OptionName::Uid, word, more) {
         return Beginning::Option(OptionName::Uid, value, rest);
     }
-    match option_at(OptionName::Connections, word, more) {
-        Some((value, rest)) => Beginning::Option(OptionName::Connections, value, rest),
+    if let Some((value, rest)) = option_at(OptionName::Connections, word, more) {
+        return Beginning::Option(OptionName::Connections, value, rest);
+    }
+    match flag_at(word.as_str()) {
+        Some(name) => Beginning::Flag(name, more),
         None => Beginning::Fault,
     }
 }

@@ -107,6 +107,49 @@ keyringd serve D S --uid 1 --connections=|invalid
 keyringd serve D S --uid 1 --connections=3 --connections 3|invalid
 keyringd serve D S --uid --connections 3|invalid
 keyringd serve D S --uid 1 --connection 3|invalid
+keyringd serve D S --uid 1 --until-eof|serve until eof: D, S, 1
+keyringd serve --until-eof D S --uid 1|serve until eof: D, S, 1
+keyringd serve D --until-eof S --connections 3 --uid 1|serve until eof: D, S, 1, 3
+keyringd serve --uid 1 --until-eof -- D S|serve until eof: D, S, 1
+keyringd serve --uid 1 -- D --until-eof|serve: D, --until-eof, 1
+keyringd serve --uid 1 D S -- --until-eof|invalid
+keyringd serve D S --uid 1 --until-eof --until-eof|invalid
+keyringd serve D S --uid 1 --until-eof=1|invalid
+keyringd serve D S --uid 1 --until-eof=|invalid
+keyringd serve D S --uid 1 --until-eof 1|invalid
+keyringd serve D S --uid --until-eof|invalid
+keyringd serve D S --uid --until-eof 1|invalid
+keyringd serve D S --until-eof|invalid
+keyringd serve D S --uid 1 --until-eo|invalid
+keyringd serve D S --uid 1 --until-eofx|invalid
+keyringd serve D S --uid 1 --Until-eof|invalid
+keyringd serve D S --uid 1 -until-eof|invalid
+keyringd serve D S --uid 1 --password|invalid
+keyringd serve D S --uid 1 --until-eof --password|invalid
+keyringd stdio D 1000 --until-eof|invalid
+keyringd stdio -- D --until-eof|invalid
+keyringd --until-eof serve D S --uid 1|invalid
+keyringd check D|check: D
+keyringd check D --password|check: D, password
+keyringd check --password D|check: D, password
+keyringd check --password -- D|check: D, password
+keyringd check -- --password|check: --password
+keyringd check -- -D|check: -D
+keyringd check D --|check: D
+keyringd check -|check: -
+keyringd check |check: 
+keyringd check|invalid
+keyringd check --password|invalid
+keyringd check -D|invalid
+keyringd check D E|invalid
+keyringd check D -- --password|invalid
+keyringd check D --password --password|invalid
+keyringd check D --password=x|invalid
+keyringd check D --password x|invalid
+keyringd check D --until-eof|invalid
+keyringd check D --uid 1|invalid
+keyringd check D --connections=1|invalid
+keyringd Check D|invalid
 keyringd load 1 0|load: 1, 0
 keyringd load 1000 18446744073709551615|load: 1000, 18446744073709551615
 keyringd load 1000 18446744073709551616|invalid
@@ -122,6 +165,7 @@ keyringd load 1 2 3|invalid
 keyringd load -- 1 2|load: 1, 2
 keyringd load 1 2 --|load: 1, 2
 keyringd load 1 2 --uid 3|invalid
+keyringd load 1 2 --password|invalid
 keyringd load --items 1 2|invalid
 ";
 
@@ -139,15 +183,35 @@ fn stdio_shown(alloc: Global, folder: &str, uid: u32) -> Result<String, Fail> {
     joined(alloc, &["stdio: ", folder, ", ", buffer.format(uid)])
 }
 
-fn serve_shown(alloc: Global, folder: &str, socket: &str, uid: u32) -> Result<String, Fail> {
+fn serve_shown(
+    alloc: Global,
+    name: &str,
+    operands: [&Text; 2],
+    uid: u32,
+    connections: Option<u64>,
+) -> Result<String, Fail> {
     let mut buffer = Buffer::new();
+    let [folder, socket] = operands;
     let uid = buffer.format(uid);
-    joined(alloc, &["serve: ", folder, ", ", socket, ", ", uid])
-}
-
-fn count_shown(alloc: Global, shown: &str, connections: u64) -> Result<String, Fail> {
-    let mut buffer = Buffer::new();
-    joined(alloc, &[shown, ", ", buffer.format(connections)])
+    let shown = joined(
+        alloc,
+        &[
+            name,
+            ": ",
+            folder.as_str(),
+            ", ",
+            socket.as_str(),
+            ", ",
+            uid,
+        ],
+    )?;
+    match connections {
+        Some(number) => {
+            let mut buffer = Buffer::new();
+            joined(alloc, &[shown.as_str(), ", ", buffer.format(number)])
+        }
+        None => Ok(shown),
+    }
 }
 
 fn load_shown(alloc: Global, items: u32, seed: u64) -> Result<String, Fail> {
@@ -165,14 +229,24 @@ fn shown(alloc: Global, line: &CommandLine) -> Result<String, Fail> {
             socket,
             uid,
             connections,
-        } => {
-            let shown = serve_shown(alloc, folder.as_str(), socket.as_str(), *uid)?;
-            match connections {
-                Some(number) => count_shown(alloc, shown.as_str(), *number),
-                None => Ok(shown),
-            }
-        }
+        } => serve_shown(alloc, "serve", [folder, socket], *uid, *connections),
+        CommandLine::ServeUntilEof {
+            folder,
+            socket,
+            uid,
+            connections,
+        } => serve_shown(
+            alloc,
+            "serve until eof",
+            [folder, socket],
+            *uid,
+            *connections,
+        ),
         CommandLine::Load { items, seed } => load_shown(alloc, *items, *seed),
+        CommandLine::Check { folder, password } => {
+            let end = if *password { ", password" } else { "" };
+            joined(alloc, &["check: ", folder.as_str(), end])
+        }
     }
 }
 

@@ -1,4 +1,4 @@
-use Rattle.command_words.specs.Arguments.{operand, option}
+use Rattle.command_words.specs.Arguments.{operand, option, flag}
 use Rattle.command_words.proofs.FoundLemmas.{read_more, read_whole, read_full, read_fault, any_form, end_found}
 use Rattle.command_words.proofs.arguments.arguments_of.Goals as goal
 
@@ -22,11 +22,22 @@ returns-in_default-with_option c =
     read_full c.args.words.now c.loop-found.rest.now c.in-Option.more.now (option c.in-Option.ensures.0 c.in-Option.name c.in-Option.value.now) c.loop-found.found
     c.loop-found.invariant c.in-Option.ensures.1 c.in_default-with_option.ensures
 
-pub loop-found-preserved : goal.loop-found-preserved
-loop-found-preserved c =
+pub loop-found-preserved-in-Option : goal.loop-found-preserved-in-Option
+loop-found-preserved-in-Option c =
     read_more c.args.words.now c.loop-found.rest.now c.in-Option.more.now (option c.in-Option.ensures.0 c.in-Option.name c.in-Option.value.now)
     c.loop-found.found c.in-Some-with_option.longer c.loop-found.invariant c.in-Option.ensures.1
     (any_form c.loop-found.found c.in-Some-with_option.longer c.in-Option.ensures.0 c.in-Option.name c.in-Option.value.now c.in-Some-with_option.ensures)
+
+-- one more flag
+pub returns-in_default-with_flag : goal.returns-in_default-with_flag
+returns-in_default-with_flag c =
+    read_full c.args.words.now c.loop-found.rest.now c.in-Flag.more.now (flag c.in-Flag.name) c.loop-found.found c.loop-found.invariant c.in-Flag.ensures
+    c.in_default-with_flag.ensures
+
+pub loop-found-preserved : goal.loop-found-preserved
+loop-found-preserved c =
+    read_more c.args.words.now c.loop-found.rest.now c.in-Flag.more.now (flag c.in-Flag.name) c.loop-found.found c.in-Some-with_flag.longer
+    c.loop-found.invariant c.in-Flag.ensures c.in-Some-with_flag.ensures
 
 pub returns-in-End : goal.returns-in-End
 returns-in-End c =
