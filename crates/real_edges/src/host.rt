@@ -1,4 +1,4 @@
-ghost use Rattle.std.specs.Prelude.{◌≡◌, None, false};
+ghost use Rattle.std.specs.Prelude.{◌≡◌, None, false, true};
 ghost use Rattle.std.proofs.Common.{rules};
 
 use crate::clock::SystemClock;
@@ -26,6 +26,7 @@ pub struct RealHost<R: Files<File = File> + Net + time::Clock + Eprint + AllocGl
     last_given: u64,
     last_ended: bool,
     ending: Option<Arc<Ending, Global>>,
+    only_looks: bool,
 }
 
 impl<R: Files<File = File> + Net + time::Clock + Eprint + AllocGlobal + Copy> RealHost<R> {
@@ -34,6 +35,7 @@ impl<R: Files<File = File> + Net + time::Clock + Eprint + AllocGlobal + Copy> Re
         ensures faults { result.faults ≡ 0 }
         ensures given { result.given ≡ 0 }
         ensures shut { result.shut ≡ 0 }
+        ensures only_looks { result.only_looks ≡ false }
     {
         RealHost {
             rt,
@@ -43,6 +45,20 @@ impl<R: Files<File = File> + Net + time::Clock + Eprint + AllocGlobal + Copy> Re
             last_given: 0,
             last_ended: false,
             ending: None,
+            only_looks: false,
+        }
+    }
+
+    /// The same machine for a program that only looks at folders: nothing is removed when one is opened.
+    pub fn looking(rt: R) -> Self
+        ensures faults { result.faults ≡ 0 }
+        ensures given { result.given ≡ 0 }
+        ensures shut { result.shut ≡ 0 }
+        ensures only_looks { result.only_looks ≡ true }
+    {
+        RealHost {
+            only_looks: true,
+            ..RealHost::new(rt)
         }
     }
 
@@ -109,9 +125,9 @@ impl<R: Files<File = File> + Net + time::Clock + Eprint + AllocGlobal + Copy> Ho
     ghost steady_below = { Prim.search rules };
 
     /// The folder at a path, which is locked as long as it or a slot of it is there. The temporary files that an
-    /// ended process left in it are removed.
+    /// ended process left in it are removed, unless this host only looks at folders.
     fn folder(&mut self, path: &str) -> Result<RealFolder<R>, OutsideRefused> {
-        match claimed(&self.rt, path) {
+        match claimed(&self.rt, path, self.only_looks) {
             Ok(folder) => {
                 self.given = self.given.saturating_add(1);
                 Ok(RealFolder::new(self.rt, folder))
@@ -156,12 +172,16 @@ impl<R: Files<File = File> + Net + time::Clock + Eprint + AllocGlobal + Copy> Ho
     }
 }
 
-// The folder at this path, open and locked, without the temporary files that were left over.
+// The folder at this path, open and locked. Unless it is only looked at, the temporary files that were left over are
+// removed.
 fn claimed<R: Files<File = File> + Eprint + AllocGlobal + Copy>(
     rt: &R,
     path: &str,
+    only_looks: bool,
 ) -> io::Result<Arc<OpenFolder, Global>> {
     let folder = OpenFolder::open(rt, path)?;
-    remove_left_overs(rt, &folder);
+    if !only_looks {
+        remove_left_overs(rt, &folder);
+    }
     Ok(Arc::new(rt.alloc(), folder)?)
 }

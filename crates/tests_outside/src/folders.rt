@@ -128,6 +128,21 @@ fn temporary_files_that_were_left_over_are_removed(rt: HostRuntime) -> Result<()
 }
 
 #[test]
+fn a_host_that_only_looks_removes_nothing(rt: HostRuntime) -> Result<(), Fail> {
+    fs::create_dir(&rt, "looked")?;
+    fs::write(&rt, "looked/x.keyring.tmp", b"some bytes")?;
+    let mut host = RealHost::looking(rt);
+    let folder = host.folder("looked").ok().ok_or("a folder")?;
+    holds(
+        &rt,
+        is_there(&rt, "looked/x.keyring.tmp"),
+        "the temporary file",
+    );
+    same_number(&rt, folder.faults(), 0, "the folder's faults");
+    Ok(())
+}
+
+#[test]
 fn a_link_is_read_and_then_replaced_by_a_file(rt: HostRuntime) -> Result<(), Fail> {
     fs::create_dir(&rt, "links")?;
     fs::write(&rt, "links/other", b"old")?;
