@@ -1,8 +1,10 @@
+pub mod CheckLemmas
 pub mod CommandLemmas
 pub mod CompleteLemmas
 pub mod DoorLemmas
 pub mod FolderLemmas
 pub mod GivingLemmas
+pub mod LineLemmas
 pub mod LinksLemmas
 pub mod ServeLemmas
 pub mod WrittenLemmas

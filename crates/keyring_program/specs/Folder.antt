@@ -23,10 +23,11 @@ pub record HasOpened (S : Type 0) (images : List ℕ → Image) (contents : Cont
   pub opened : Opened the_limits images (opening_of loaded) (pairs_in loaded.aliases)
   pub starts : contents ≡ contents_from loaded
 
--- a run that ended with this status had its folder open
+-- a run of a service that ended with this status had its folder open
 abbrev pub HadFolder : Status → Type 0
 HadFolder status.Usage = ⊥
 HadFolder status.NotBuilt = ⊥
 HadFolder status.FolderFault = ⊥
 HadFolder status.Memory = ⊥
+HadFolder status.PasswordTooLong = ⊥
 HadFolder _ = Unit {0}

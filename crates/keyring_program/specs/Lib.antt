@@ -1,7 +1,9 @@
 pub use Rattle.service_hub
+pub mod Checks
 pub mod Commands
 pub mod Doors
 pub mod Events
+pub mod FirstLine
 pub mod Folder
 pub mod ServerNumber
 pub mod Serves

@@ -4,6 +4,10 @@ use Rattle.service_hub.specs.connection_worker.specs.declared.ending.End.{End}
 use Rattle.service_hub.specs.connection_worker.specs.declared.ending.End.TheVariants as end
 use Rattle.service_hub.specs.daemon.specs.declared.accepting.LoopEnd.{LoopEnd}
 use Rattle.service_hub.specs.daemon.specs.declared.accepting.LoopEnd.TheVariants as loop
+use Rattle.ring_check.specs.declared.ending.CheckEnd.{CheckEnd}
+use Rattle.ring_check.specs.declared.ending.CheckEnd.TheVariants as checked
+use Rattle.keyring_program.specs.declared.first_line.LineRefused.{LineRefused}
+use Rattle.keyring_program.specs.declared.first_line.LineRefused.TheVariants as line
 use Rattle.keyring_program.specs.declared.status.Status.{Status}
 use Rattle.keyring_program.specs.declared.status.Status.TheVariants as status
 
@@ -14,12 +18,14 @@ number_of status.Usage = 2
 number_of status.ReadFault = 3
 number_of status.WriteFault = 4
 number_of status.FolderFault = 5
+number_of status.Damaged = 6
 number_of (status.Violation cause) = 7
 number_of (status.AuthRefused why) = 8
 number_of status.Memory = 9
 number_of status.ListenFault = 10
 number_of status.EventsSpent = 11
 number_of status.NotBuilt = 12
+number_of status.PasswordTooLong = 13
 
 -- serving the only connection of a service may end in this way: nobody else ends it, and no output is lost
 abbrev pub IsOnlyEnd : End → Type 0
@@ -32,6 +38,8 @@ abbrev pub IsStdioStatus : Status → Type 0
 IsStdioStatus status.Usage = ⊥
 IsStdioStatus status.ListenFault = ⊥
 IsStdioStatus status.NotBuilt = ⊥
+IsStdioStatus status.Damaged = ⊥
+IsStdioStatus status.PasswordTooLong = ⊥
 IsStdioStatus _ = Unit {0}
 
 -- a command that is there and serves the links of a door may end in this way
@@ -48,6 +56,39 @@ IsUnservedStatus status.FolderFault = Unit {0}
 IsUnservedStatus status.ListenFault = Unit {0}
 IsUnservedStatus status.Memory = Unit {0}
 IsUnservedStatus _ = ⊥
+
+-- a check of a folder may end in this way
+abbrev pub IsCheckStatus : Status → Type 0
+IsCheckStatus status.Done = Unit {0}
+IsCheckStatus status.ReadFault = Unit {0}
+IsCheckStatus status.WriteFault = Unit {0}
+IsCheckStatus status.FolderFault = Unit {0}
+IsCheckStatus status.Damaged = Unit {0}
+IsCheckStatus status.Memory = Unit {0}
+IsCheckStatus status.PasswordTooLong = Unit {0}
+IsCheckStatus _ = ⊥
+
+-- it may end in this way before its folder is open
+abbrev pub IsUncheckedStatus : Status → Type 0
+IsUncheckedStatus status.ReadFault = Unit {0}
+IsUncheckedStatus status.FolderFault = Unit {0}
+IsUncheckedStatus status.Memory = Unit {0}
+IsUncheckedStatus status.PasswordTooLong = Unit {0}
+IsUncheckedStatus _ = ⊥
+
+-- the status of a check that ended in this way once its folder was open
+abbrev pub status_of_check : CheckEnd → Status
+status_of_check checked.Done = status.Done
+status_of_check checked.Damaged = status.Damaged
+status_of_check checked.FolderFault = status.FolderFault
+status_of_check checked.WriteFault = status.WriteFault
+status_of_check checked.Memory = status.Memory
+
+-- the status of a check whose password couldn't be read
+abbrev pub status_of_line : LineRefused → Status
+status_of_line line.Failed = status.ReadFault
+status_of_line line.TooLong = status.PasswordTooLong
+status_of_line line.OutOfMemory = status.Memory
 
 -- the status of a run over whose links the loop ended in this way
 abbrev pub status_of_loop : LoopEnd → Status

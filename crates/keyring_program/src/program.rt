@@ -1,25 +1,32 @@
 // The top call: from the arguments and the streams to the end.
-ghost use Rattle.std.specs.Prelude.{◌≡◌, ◌≤◌, ◌⊎◌, ◌↔◌, ℕ, IsTrue, IsFalse, List, [], Option};
+ghost use Rattle.std.specs.Prelude.{◌≡◌, ◌≤◌, ◌⊎◌, ◌↔◌, ℕ, Bool, IsTrue, IsFalse, List, [], Option};
 ghost use Rattle.command_words.specs.CommandLines.{IsCommandLine, IsNoCommandLine};
 ghost use Rattle.kr_outside.specs.Faults.{KeepsSteady, Rose, StandsStill};
 ghost use Rattle.kr_outside.specs.Host.{GivesOne, GivesOneAtMost};
 ghost use Rattle.kr_outside.specs.RenameDisk.{Image};
 ghost use Rattle.service_hub.specs.connection_worker.specs.Streams.{input_of, output_of};
-ghost use Rattle.keyring_program.specs.Commands.{IsUnbuilt};
+ghost use Rattle.ring_check.specs.Batches.{KeepsOutput};
+ghost use Rattle.ring_check.specs.Looks.{IsUntouched};
+ghost use Rattle.ring_check.specs.declared.reading.Looked.{Looked};
+ghost use Rattle.keyring_program.specs.Checks.{Checks, ReadsPassword};
+ghost use Rattle.keyring_program.specs.Commands.{AsksForCheck, IsUnbuilt};
 ghost use Rattle.keyring_program.specs.Doors.{HasServed, TakesBackOneAtMost};
+ghost use Rattle.keyring_program.specs.FirstLine.{TakesPassword};
 ghost use Rattle.keyring_program.specs.Folder.{IsOpened, HadFolder, HasOpened};
 ghost use Rattle.lone_desk.specs.service_tables.specs.Opened.{Contents};
 ghost use Rattle.keyring_program.specs.Serves.{Serves};
 ghost use Rattle.keyring_program.specs.ServesLinks.{IsUnserved, ServesDoor};
-ghost use Rattle.keyring_program.specs.Status.{IsServeStatus, IsStdioStatus};
+ghost use Rattle.keyring_program.specs.Status.{IsCheckStatus, IsServeStatus, IsStdioStatus, IsUncheckedStatus};
 ghost use Rattle.keyring_program.specs.WholeInput.{IsWholeInput};
 
+use crate::check::run_check;
 use crate::serve::{HostSpawner, run_serve};
 use crate::status::Status;
 use crate::stdio::run_stdio;
 use command_words::{CommandLine, read_words};
 use kr_base::Text;
 use kr_outside::{Folder, Host, Listener, Sink, Source};
+use ring_check::Progress;
 use std::alloc::AllocGlobal;
 use std::sync::Wait;
 use std::thread::Threads;
@@ -36,18 +43,25 @@ use std::thread::Threads;
 /// until N were accepted or no further one will come, and all have ended. What the connections record
 /// is one history. The input and the output are left alone.
 ///
+/// `check DIR [--password]` checks each keyring file of the folder DIR, and writes one line for each to the output. If
+/// a password is asked for, it is the first line of the input, which is read before the folder is opened. Nothing in
+/// the folder is changed. How far the check has come is told to `progress`.
+///
 /// Ends with `Usage` exactly if the arguments are invalid; with `NotBuilt` only if they are those
 /// of the command that isn't there yet, `load`; with `FolderFault` only if the host's
 /// count of faults rose, or the folder that it opened may fail; and with `Memory` only if none is left.
 /// `serve` otherwise ends with `Done`, or with `ListenFault`, and with that only if that count rose, or
 /// the socket that it opened may fail. `stdio` otherwise ends as `one_thread` of connection_worker says
 /// (its `HasCause` has a row for each end); everything that was put out is written by then, except that
-/// at `WriteFault` and `Memory` it may be only a prefix of it.
+/// at `WriteFault` and `Memory` it may be only a prefix of it. `check` otherwise ends with `Done`, or with `Damaged` if a
+/// file is damaged, with `ReadFault` or `WriteFault` only if that stream's count of faults rose, and with
+/// `PasswordTooLong` only if the first 4,096 bytes of the input have no line feed.
 pub fn run<
     R: AllocGlobal + Threads + Wait + Copy + Send + Sync + Drop + 'static,
     I: Source,
     O: Sink,
     H: Host,
+    P: Progress,
 >(
     rt: &R,
     words: &[Text],
@@ -55,6 +69,7 @@ pub fn run<
     output: &mut O,
     host: &mut H,
     spawner: &mut HostSpawner<R, H>,
+    progress: &mut P,
     seed: [u8; 32],
 ) -> Status
 where
@@ -71,20 +86,23 @@ where
     requires output_open { IsFalse (O.is_closed output.old) }
 
     // The arguments are looked at first: if they are invalid, everything is as before. The folder
-    // comes next: until it is open nothing is read or written, and the clock isn't taken.
+    // comes next: until it is open nothing is read, except for the password of `check`, or written, and the clock
+    // isn't taken.
     ensures usage { (result ≡ Status.Usage) ↔ IsNoCommandLine words.now }
     ensures not_built { result ≡ Status.NotBuilt → IsUnbuilt words.now }
     ensures unbuilt { IsUnbuilt words.now
         → (result ≡ Status.NotBuilt) ⊎ (result ≡ Status.Memory) }
     ensures untouched { (result ≡ Status.Usage) ⊎ (result ≡ Status.NotBuilt)
         → (input.new ≡ input.old) × (output.new ≡ output.old) × (host.new ≡ host.old) }
-    ensures unserved { result ≡ Status.FolderFault → (input.new ≡ input.old)
-        × (output.new ≡ output.old) × (H.coming host.new ≡ H.coming host.old) }
+    ensures unserved { result ≡ Status.FolderFault → ¬ (AsksForCheck words.now)
+        → (input.new ≡ input.old) × (output.new ≡ output.old)
+        × (H.coming host.new ≡ H.coming host.old) }
 
     // The host opens one folder at most, and exactly one if the run had it; it takes back one door at
     // most. No job is left.
     ensures one_folder { GivesOneAtMost (H.given host.old) (H.given host.new) }
-    ensures had_folder { HadFolder result → GivesOne (H.given host.old) (H.given host.new) }
+    ensures had_folder { HadFolder result → ¬ (AsksForCheck words.now)
+        → GivesOne (H.given host.old) (H.given host.new) }
     ensures one_door { TakesBackOneAtMost (H.shut_doors host.old) (H.shut_doors host.new) }
     ensures idle { spawner.new.started ≡ [] }
 
@@ -162,6 +180,37 @@ where
         → StandsStill (I.faults input.old) (I.faults input.new)
         → StandsStill (O.faults output.old) (O.faults output.new)
         → (result ≡ Status.Done) ⊎ (result ≡ Status.Memory) }
+
+    // `check` reads a password at most, before it opens the folder, and writes the report of the folder's files, or a
+    // prefix of it. It only looks at the folder: what is left of it, and each slot that was made of it, is untouched.
+    // If no folder was opened, nothing was written. It opens no door, and asks for no moment.
+    ensures check_status { (folder : List ℕ) (is_asked : Bool)
+        → IsCommandLine (CommandLine.Check folder is_asked) words.now → IsCheckStatus result
+        × (H.coming host.new ≡ H.coming host.old)
+        × (H.shut_doors host.new ≡ H.shut_doors host.old)
+        × ((result ≡ Status.ReadFault) ⊎ (result ≡ Status.PasswordTooLong)
+        → (output.new ≡ output.old) × (host.new ≡ host.old)) }
+    ensures check_reads { (folder : List ℕ) (is_asked : Bool)
+        → IsCommandLine (CommandLine.Check folder is_asked) words.now
+        → ReadsPassword I.left I.faults I.is_steady I.is_closed is_asked
+        input.old input.new result }
+    ensures check_writes { (folder : List ℕ) (is_asked : Bool)
+        → IsCommandLine (CommandLine.Check folder is_asked) words.now
+        → KeepsOutput O.faults O.is_steady O.is_closed (result ≡ Status.WriteFault)
+        output.old output.new }
+    ensures checked { (folder : List ℕ) (is_asked : Bool)
+        → IsCommandLine (CommandLine.Check folder is_asked) words.now
+        → (IsUncheckedStatus result × (output.new ≡ output.old)
+        × (H.given host.new ≡ H.given host.old)) ⊎ ((after : H.Dir)
+        × (looked : List (Looked H.Dir.Cell)) × (password : Option (List ℕ))
+        × GivesOne (H.given host.old) (H.given host.new)
+        × (H.faults host.new ≡ H.faults host.old)
+        × TakesPassword I.left is_asked input.old input.new password
+        × Checks H.Dir.images H.Dir.may_leave H.Dir.made H.Dir.is_honest H.Dir.is_steady
+        H.Dir.faults H.Dir.Cell.faults (IsUntouched H.Dir.Cell.seen H.Dir.Cell.temporary
+        H.Dir.Cell.may_leave H.Dir.Cell.is_honest H.Dir.Cell.is_steady)
+        (H.told host.old folder) (H.is_honest host.old) (H.is_steady host.old) password
+        (O.written output.old) (O.written output.new) result after looked) }
 {
     let line = match read_words(words) {
         Ok(Some(line)) => line,
@@ -187,6 +236,11 @@ where
             spawner,
             seed,
         ),
+        CommandLine::ServeUntilEof { .. } => Status::NotBuilt,
+        CommandLine::Check { folder, password } => {
+            let path = folder.as_str();
+            run_check(rt, path, password, input, output, host, progress).status
+        }
         CommandLine::Load { .. } => Status::NotBuilt,
     }
 }

@@ -1,9 +1,11 @@
 // How the program ends.
 ghost use Rattle.std.specs.Prelude.{◌≡◌};
-ghost use Rattle.keyring_program.specs.Status.{IsOnlyEnd, status_of, status_of_loop};
+ghost use Rattle.keyring_program.specs.Status.{IsOnlyEnd, status_of, status_of_check, status_of_line, status_of_loop};
 
+use crate::first_line::LineRefused;
 use dbus_auth::AuthFault;
 use dbus_framing::Violation;
+use ring_check::CheckEnd;
 use service_hub::connection_worker::End;
 use service_hub::daemon::LoopEnd;
 use std::fmt;
@@ -12,7 +14,8 @@ use std::fmt;
 #[derive(Clone, Copy, Debug, PartialEq, Eq)]
 pub enum Status {
     /// `stdio`: the input ended between two messages, and every call was answered. `serve`: no further link
-    /// comes, or as many as were to be accepted were, and all have ended.
+    /// comes, or as many as were to be accepted were, and all have ended. `check`: all lines were written, and no
+    /// file is damaged.
     Done,
     /// The arguments are invalid (docs/DECISIONS.md, "Words of the command line").
     Usage,
@@ -20,8 +23,10 @@ pub enum Status {
     ReadFault,
     /// The output failed: its count of faults rose. A prefix of the output was written.
     WriteFault,
-    /// The folder couldn't be opened, or the folder or one of its files failed while it was loaded.
+    /// The folder couldn't be opened, or the folder or one of its files failed while it was loaded or checked.
     FolderFault,
+    /// All lines were written, and a file is damaged, or too large to be read.
+    Damaged,
     /// A message breaks a rule, or isn't complete at the end (D-Bus Specification, "Message Format").
     Violation(Violation),
     /// The handshake was refused, or ended early (D-Bus Specification, "Authentication Protocol").
@@ -34,6 +39,8 @@ pub enum Status {
     EventsSpent,
     /// The command isn't there yet.
     NotBuilt,
+    /// The first 4,096 bytes of the input, whose first line is the password, have no line feed.
+    PasswordTooLong,
 }
 
 impl Status {
@@ -67,6 +74,30 @@ impl Status {
         }
     }
 
+    /// The status of a check of a folder that ended in this way.
+    pub fn of_check(end: CheckEnd) -> Status
+        ensures { result ≡ status_of_check end }
+    {
+        match end {
+            CheckEnd::Done => Status::Done,
+            CheckEnd::Damaged => Status::Damaged,
+            CheckEnd::FolderFault => Status::FolderFault,
+            CheckEnd::WriteFault => Status::WriteFault,
+            CheckEnd::Memory => Status::Memory,
+        }
+    }
+
+    /// The status of a check whose password couldn't be read.
+    pub fn of_line(refused: LineRefused) -> Status
+        ensures { result ≡ status_of_line refused }
+    {
+        match refused {
+            LineRefused::Failed => Status::ReadFault,
+            LineRefused::TooLong => Status::PasswordTooLong,
+            LineRefused::OutOfMemory => Status::Memory,
+        }
+    }
+
     /// The exit number of the process.
     pub fn number(self) -> u8
         ensures { result ≡ number_of self }
@@ -77,12 +108,14 @@ impl Status {
             Status::ReadFault => 3,
             Status::WriteFault => 4,
             Status::FolderFault => 5,
+            Status::Damaged => 6,
             Status::Violation(_) => 7,
             Status::AuthRefused(_) => 8,
             Status::Memory => 9,
             Status::ListenFault => 10,
             Status::EventsSpent => 11,
             Status::NotBuilt => 12,
+            Status::PasswordTooLong => 13,
         }
     }
 }
@@ -97,12 +130,14 @@ impl fmt::Display for Status {
             Status::ReadFault => f.write_str("input failed"),
             Status::WriteFault => f.write_str("output failed"),
             Status::FolderFault => f.write_str("folder failed"),
+            Status::Damaged => f.write_str("damaged keyring"),
             Status::Violation(cause) => write!(f, "bad message: {cause}"),
             Status::AuthRefused(why) => write!(f, "handshake refused: {why}"),
             Status::Memory => f.write_str("out of memory"),
             Status::ListenFault => f.write_str("socket failed"),
             Status::EventsSpent => f.write_str("events spent"),
             Status::NotBuilt => f.write_str("input of a form that is not built"),
+            Status::PasswordTooLong => f.write_str("password too long"),
         }
     }
 }

@@ -8,6 +8,8 @@ mod answered;
 #[cfg(test)]
 mod answers;
 #[cfg(test)]
+mod checking;
+#[cfg(test)]
 mod checks;
 #[cfg(test)]
 mod conversations;

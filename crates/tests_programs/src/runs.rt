@@ -6,7 +6,7 @@ use crate::checks::{cell, ends, holds, numbers, same_bytes, same_number};
 use crate::conversations::CONVERSATIONS;
 use crate::parts::{bytes_of, change, spelled, text_of};
 use daemon::Spawner;
-use keyring_program::{Status, run};
+use keyring_program::{Status, Unwatched, run};
 use kr_base::Text;
 use kr_memory::{ListedClock, MemorySink, MemorySource, SteadySink, SteadySource};
 use kr_memory_disk::{Files, SteadyHost};
@@ -50,8 +50,16 @@ where
 {
     let words = words_of(rt.alloc(), line)?;
     let mut spawner = Spawner::in_place(rt.alloc(), Vec::new(rt.alloc()));
-    let words = words.as_slice();
-    Ok(run(rt, words, input, output, host, &mut spawner, [0; 32]))
+    Ok(run(
+        rt,
+        words.as_slice(),
+        input,
+        output,
+        host,
+        &mut spawner,
+        &mut Unwatched,
+        [0; 32],
+    ))
 }
 
 // Runs `stdio . 1000` on a host whose folders are empty.

@@ -4,7 +4,7 @@ use crate::checks::{ends, holds, same_bytes};
 use crate::parts::bytes_of;
 use crate::runs::{sink_of, source_of, words_of};
 use daemon::Spawner;
-use keyring_program::{Status, run};
+use keyring_program::{Status, Unwatched, run};
 use kr_outside::{Folder, Host, Listener};
 use real_edges::RealHost;
 use std::alloc::AllocGlobal;
@@ -32,12 +32,19 @@ where
 {
     let line = "/serve/links/socket/--uid/1000/--connections=2";
     let words = words_of(rt.alloc(), line)?;
-    let words = words.as_slice();
     let mut input = source_of(rt.alloc(), b"", &[], Vec::new(rt.alloc()))?;
     let mut output = sink_of(rt.alloc(), Vec::new(rt.alloc()));
     let mut spawner = Spawner::in_threads(rt.alloc());
-    let (input, output) = (&mut input, &mut output);
-    Ok(run(rt, words, input, output, host, &mut spawner, [0; 32]))
+    Ok(run(
+        rt,
+        words.as_slice(),
+        &mut input,
+        &mut output,
+        host,
+        &mut spawner,
+        &mut Unwatched,
+        [0; 32],
+    ))
 }
 
 // A connection to the socket, once it is there.
