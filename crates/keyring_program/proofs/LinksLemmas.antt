@@ -1,20 +1,17 @@
 -- What a run over the links of a door recorded, from what the serving of the links says.
-use Rattle.std.proofs.Common.{◌≡◌, ℕ, Bool, List, ◌++◌, Option, refl, sym, ap, ◌∙◌, subst}
+use Rattle.std.proofs.Common.{◌≡◌, ℕ, Bool, List, ◌++◌, Option, refl, ap, ◌∙◌, subst}
 use Rattle.kr_outside.specs.Host.{ShutDoors, TakesBack}
 use Rattle.kr_outside.specs.Listener.{LinkReport}
-use Rattle.atomic_table.specs.Seated.{TableId}
 use Rattle.lone_desk.specs.service_tables.specs.Opened.{Contents, contents_of, opened_state}
 use Rattle.lone_desk.specs.service_tables.specs.Sound.{AreSoundContents}
 use Rattle.lone_desk.specs.service_tables.specs.State.{State}
 use Rattle.lone_desk.specs.service_events.specs.Replay.{replay, Legal}
 use Rattle.lone_desk.specs.service_history.specs.History.{History, opened_history}
-use Rattle.lone_desk.specs.service_history.specs.Windows.{Window, first_window}
-use Rattle.lone_desk.specs.service_desk.specs.Views.{View}
+use Rattle.lone_desk.specs.service_history.specs.Windows.{first_window}
 use Rattle.service_hub.specs.shared_service.specs.declared.desk.SharedDesk.{SharedDesk}
 use Rattle.service_hub.specs.shared_service.specs.Passes.{Seen, opened}
 use Rattle.service_hub.specs.shared_service.proofs.Standing.{state-stands}
 use Rattle.service_hub.specs.daemon.specs.declared.accepting.LoopEnd.{LoopEnd}
-use Rattle.service_hub.specs.daemon.specs.Accepts.{World}
 use Rattle.service_hub.specs.daemon.specs.Jobs.{Job}
 use Rattle.service_hub.specs.daemon.specs.Spawners.{Spawning}
 use Rattle.service_hub.specs.Links as links

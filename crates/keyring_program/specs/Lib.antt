@@ -5,6 +5,7 @@ pub mod Doors
 pub mod Events
 pub mod FirstLine
 pub mod Folder
+pub mod InputEnd
 pub mod ServerNumber
 pub mod Serves
 pub mod ServesLinks

@@ -1,5 +1,5 @@
 -- One run over the links of a door: what became of each link, and the one history that all connections have.
-use Rattle.std.specs.Prelude.{◌≡◌, ℕ, Bool, List, [], ◌++◌, Option}
+use Rattle.std.specs.Prelude.{◌≡◌, ℕ, Bool, List, ◌++◌, Option}
 use Rattle.kr_outside.specs.Host.{ShutDoors, TakesBack}
 use Rattle.kr_outside.specs.Listener.{LinkReport}
 use Rattle.atomic_table.specs.Seated.{TableId}

@@ -16,6 +16,7 @@ mod serve;
 mod server_number;
 mod status;
 mod stdio;
+mod until_eof;
 mod words;
 
 pub use laws::{each_request_has_its_reply, what_is_written_is_one};
@@ -24,4 +25,5 @@ pub use ring_check::{Progress, Unwatched};
 pub use serve::HostSpawner;
 pub use service_hub::daemon;
 pub use status::Status;
+pub use until_eof::{await_end, ends_with_input};
 pub use words::words_of;

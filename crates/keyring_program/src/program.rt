@@ -9,7 +9,7 @@ ghost use Rattle.ring_check.specs.Batches.{KeepsOutput};
 ghost use Rattle.ring_check.specs.Looks.{IsUntouched};
 ghost use Rattle.ring_check.specs.declared.reading.Looked.{Looked};
 ghost use Rattle.keyring_program.specs.Checks.{Checks, ReadsPassword};
-ghost use Rattle.keyring_program.specs.Commands.{AsksForCheck, IsUnbuilt};
+ghost use Rattle.keyring_program.specs.Commands.{AsksForCheck, IsUnbuilt, serve_line};
 ghost use Rattle.keyring_program.specs.Doors.{HasServed, TakesBackOneAtMost};
 ghost use Rattle.keyring_program.specs.FirstLine.{TakesPassword};
 ghost use Rattle.keyring_program.specs.Folder.{IsOpened, HadFolder, HasOpened};
@@ -41,7 +41,8 @@ use std::thread::Threads;
 /// `serve DIR SOCKET --uid U [--connections N]` opens a service over DIR in the same way, and serves
 /// the connections of the Unix socket SOCKET for the user U, each by a reader and a writer of its own,
 /// until N were accepted or no further one will come, and all have ended. What the connections record
-/// is one history. The input and the output are left alone.
+/// is one history. The input and the output are left alone. `--until-eof` makes no difference here: whoever
+/// calls `run` for it ends the host's door when standard input ends (`ends_with_input`).
 ///
 /// `check DIR [--password]` checks each keyring file of the folder DIR, and writes one line for each to the output. If
 /// a password is asked for, it is the first line of the input, which is read before the folder is opened. Nothing in
@@ -122,26 +123,30 @@ where
 
     // `serve` leaves the standard streams alone, and ends in one of four ways: it is done only if the host took
     // back a door that had ended, or had given as many links as were to be accepted.
-    ensures serve_status { (folder socket : List ℕ) (uid : ℕ) (connections : Option ℕ)
-        → IsCommandLine (CommandLine.Serve folder socket uid connections) words.now
+    ensures serve_status { (until_eof : Bool) (folder socket : List ℕ) (uid : ℕ)
+        → (connections : Option ℕ)
+        → IsCommandLine (serve_line until_eof folder socket uid connections) words.now
         → IsServeStatus result × (input.new ≡ input.old) × (output.new ≡ output.old) }
-    ensures serve_done { (folder socket : List ℕ) (uid : ℕ) (connections : Option ℕ)
-        → IsCommandLine (CommandLine.Serve folder socket uid connections) words.now
+    ensures serve_done { (until_eof : Bool) (folder socket : List ℕ) (uid : ℕ)
+        → (connections : Option ℕ)
+        → IsCommandLine (serve_line until_eof folder socket uid connections) words.now
         → result ≡ Status.Done
         → HasServed connections (H.shut_doors host.old) (H.shut_doors host.new) }
-    ensures serve_opened { (folder socket : List ℕ) (uid : ℕ) (connections : Option ℕ)
-        → (images : List ℕ → Image)
-        → IsCommandLine (CommandLine.Serve folder socket uid connections) words.now
+    ensures serve_opened { (until_eof : Bool) (folder socket : List ℕ) (uid : ℕ)
+        → (connections : Option ℕ) (images : List ℕ → Image)
+        → IsCommandLine (serve_line until_eof folder socket uid connections) words.now
         → IsTrue (H.is_honest host.old) → H.told host.old folder ≡ Some images
         → HadFolder result → IsOpened images }
-    ensures serve_complete { (folder socket : List ℕ) (uid : ℕ) (connections : Option ℕ)
-        → IsCommandLine (CommandLine.Serve folder socket uid connections) words.now
+    ensures serve_complete { (until_eof : Bool) (folder socket : List ℕ) (uid : ℕ)
+        → (connections : Option ℕ)
+        → IsCommandLine (serve_line until_eof folder socket uid connections) words.now
         → IsTrue (H.is_steady host.old) → (result ≡ Status.Done) ⊎ (result ≡ Status.Memory) }
 
     // Unless `serve` ended before its door was open: what became of each link, what each connection read, recorded
     // and wrote, and the one history that all of them have, which is legal from what the folder had.
-    ensures serve_recorded { (folder socket : List ℕ) (uid : ℕ) (connections : Option ℕ)
-        → IsCommandLine (CommandLine.Serve folder socket uid connections) words.now
+    ensures serve_recorded { (until_eof : Bool) (folder socket : List ℕ) (uid : ℕ)
+        → (connections : Option ℕ)
+        → IsCommandLine (serve_line until_eof folder socket uid connections) words.now
         → IsUnserved result (H.shut_doors host.old) (H.shut_doors host.new)
         spawner.old spawner.new ⊎ ((contents : Contents)
         × ((images : List ℕ → Image) → IsTrue (H.is_honest host.old)
@@ -236,7 +241,21 @@ where
             spawner,
             seed,
         ),
-        CommandLine::ServeUntilEof { .. } => Status::NotBuilt,
+        CommandLine::ServeUntilEof {
+            folder,
+            socket,
+            uid,
+            connections,
+        } => run_serve(
+            rt,
+            folder.as_str(),
+            socket.as_str(),
+            uid,
+            connections,
+            host,
+            spawner,
+            seed,
+        ),
         CommandLine::Check { folder, password } => {
             let path = folder.as_str();
             run_check(rt, path, password, input, output, host, progress).status

@@ -125,7 +125,7 @@ impl fmt::Display for Status {
         match self {
             Status::Done => f.write_str("done"),
             Status::Usage => f.write_str(
-                "usage: keyringd stdio DIR UID | serve DIR SOCKET --uid U [--connections N] | load N SEED",
+                "usage: keyringd stdio DIR UID | serve DIR SOCKET --uid U [--connections N] [--until-eof] | load N SEED",
             ),
             Status::ReadFault => f.write_str("input failed"),
             Status::WriteFault => f.write_str("output failed"),

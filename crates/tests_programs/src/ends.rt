@@ -194,6 +194,6 @@ fn each_end_has_its_number_and_its_text(rt: HostRuntime) -> Result<(), Fail> {
     let unbuilt = "input of a form that is not built";
     is_end(&rt, Status::NotBuilt, 12, unbuilt)?;
     let command =
-        "usage: keyringd stdio DIR UID | serve DIR SOCKET --uid U [--connections N] | load N SEED";
+        "usage: keyringd stdio DIR UID | serve DIR SOCKET --uid U [--connections N] [--until-eof] | load N SEED";
     ends(&rt, Status::Usage, command, "usage")
 }

@@ -1,9 +1,9 @@
-use Rattle.std.proofs.Common.{inl, inr, refl, sym, ◌∙◌, subst}
+use Rattle.std.proofs.Common.{true, false, inl, inr, refl, sym, ◌∙◌, subst}
 use Rattle.command_words.specs.declared.command_line.CommandLine.TheVariants.{Stdio, Serve, ServeUntilEof, Load, Check}
 use Rattle.service_hub.specs.connection_worker.specs.Streams.{input_of, output_of}
-use Rattle.keyring_program.specs.Status.{IsCheckStatus, IsStdioStatus, IsServeStatus}
-use Rattle.keyring_program.proofs.CommandLemmas.{one_stdio, one_serve, one_check, serve_or_stdio, load_or_stdio, load_or_serve, until_or_stdio, until_or_serve, check_or_stdio, check_or_serve, check_or_until, check_or_load, is_built}
-use Rattle.keyring_program.proofs.CheckLemmas.{none-or-some}
+use Rattle.keyring_program.specs.Status.{IsStdioStatus, IsServeStatus}
+use Rattle.keyring_program.specs.Commands.{serve_line}
+use Rattle.keyring_program.proofs.CommandLemmas.{one_stdio, one_serve, serve_or_stdio, unbuilt_or_stdio, unbuilt_or_serve, is_built}
 use Rattle.keyring_program.proofs.ServeLemmas.{nothing, nothing-sound, serves-none}
 use Rattle.keyring_program.proofs.program.run.Goals as goal
 
@@ -21,16 +21,16 @@ pub returns-in-Ok-None-clause-complete : goal.returns-in-Ok-None-clause-complete
 returns-in-Ok-None-clause-complete g c folder uid bytes words = absurd ((rw c.in-Ok-None.field-0-is at c.in-Ok-None.ensures.read) (Stdio folder uid) words)
 
 pub returns-in-Ok-None-clause-serve_status : goal.returns-in-Ok-None-clause-serve_status
-returns-in-Ok-None-clause-serve_status g c folder socket uid most words = absurd ((rw c.in-Ok-None.field-0-is at c.in-Ok-None.ensures.read) (Serve folder socket uid most) words)
+returns-in-Ok-None-clause-serve_status g c until_eof folder socket uid most words = absurd ((rw c.in-Ok-None.field-0-is at c.in-Ok-None.ensures.read) (serve_line until_eof folder socket uid most) words)
 
 pub returns-in-Ok-None-clause-serve_opened : goal.returns-in-Ok-None-clause-serve_opened
-returns-in-Ok-None-clause-serve_opened g c folder socket uid most images words = absurd ((rw c.in-Ok-None.field-0-is at c.in-Ok-None.ensures.read) (Serve folder socket uid most) words)
+returns-in-Ok-None-clause-serve_opened g c until_eof folder socket uid most images words = absurd ((rw c.in-Ok-None.field-0-is at c.in-Ok-None.ensures.read) (serve_line until_eof folder socket uid most) words)
 
 pub returns-in-Ok-None-clause-serve_complete : goal.returns-in-Ok-None-clause-serve_complete
-returns-in-Ok-None-clause-serve_complete g c folder socket uid most words = absurd ((rw c.in-Ok-None.field-0-is at c.in-Ok-None.ensures.read) (Serve folder socket uid most) words)
+returns-in-Ok-None-clause-serve_complete g c until_eof folder socket uid most words = absurd ((rw c.in-Ok-None.field-0-is at c.in-Ok-None.ensures.read) (serve_line until_eof folder socket uid most) words)
 
 pub returns-in-Ok-None-clause-serve_recorded : goal.returns-in-Ok-None-clause-serve_recorded
-returns-in-Ok-None-clause-serve_recorded g c folder socket uid most words = absurd ((rw c.in-Ok-None.field-0-is at c.in-Ok-None.ensures.read) (Serve folder socket uid most) words)
+returns-in-Ok-None-clause-serve_recorded g c until_eof folder socket uid most words = absurd ((rw c.in-Ok-None.field-0-is at c.in-Ok-None.ensures.read) (serve_line until_eof folder socket uid most) words)
 
 pub returns-in-Ok-None-clause-stdio_status : goal.returns-in-Ok-None-clause-stdio_status
 returns-in-Ok-None-clause-stdio_status g c folder uid words = absurd ((rw c.in-Ok-None.field-0-is at c.in-Ok-None.ensures.read) (Stdio folder uid) words)
@@ -50,7 +50,7 @@ returns-in-Err-clause-served g c folder uid words =
     )
 
 pub returns-in-Err-clause-serve_recorded : goal.returns-in-Err-clause-serve_recorded
-returns-in-Err-clause-serve_recorded g c folder socket uid most words = inl (record { unserved = tt; doors = refl; jobs = refl })
+returns-in-Err-clause-serve_recorded g c until_eof folder socket uid most words = inl (record { unserved = tt; doors = refl; jobs = refl })
 
 -- the arguments are those of `stdio`
 pub returns-in-Stdio-clause-usage : goal.returns-in-Stdio-clause-usage
@@ -89,24 +89,24 @@ pub returns-in-Stdio-clause-listen_fault : goal.returns-in-Stdio-clause-listen_f
 returns-in-Stdio-clause-listen_fault g c same = absurd (subst IsStdioStatus same c.run_stdio.ensures.status)
 
 pub returns-in-Stdio-clause-serve_status : goal.returns-in-Stdio-clause-serve_status
-returns-in-Stdio-clause-serve_status g c folder socket uid most words =
-    absurd (serve_or_stdio c.args.words.now folder c.in-Stdio.folder socket uid c.in-Stdio.uid most words (rw c.in-Stdio.is at (rw c.in-Ok-Some.field-0-is at c.in-Ok-Some.ensures.read)))
+returns-in-Stdio-clause-serve_status g c until_eof folder socket uid most words =
+    absurd (serve_or_stdio c.args.words.now until_eof folder c.in-Stdio.folder socket uid c.in-Stdio.uid most words (rw c.in-Stdio.is at (rw c.in-Ok-Some.field-0-is at c.in-Ok-Some.ensures.read)))
 
 pub returns-in-Stdio-clause-serve_done : goal.returns-in-Stdio-clause-serve_done
-returns-in-Stdio-clause-serve_done g c folder socket uid most words =
-    absurd (serve_or_stdio c.args.words.now folder c.in-Stdio.folder socket uid c.in-Stdio.uid most words (rw c.in-Stdio.is at (rw c.in-Ok-Some.field-0-is at c.in-Ok-Some.ensures.read)))
+returns-in-Stdio-clause-serve_done g c until_eof folder socket uid most words =
+    absurd (serve_or_stdio c.args.words.now until_eof folder c.in-Stdio.folder socket uid c.in-Stdio.uid most words (rw c.in-Stdio.is at (rw c.in-Ok-Some.field-0-is at c.in-Ok-Some.ensures.read)))
 
 pub returns-in-Stdio-clause-serve_opened : goal.returns-in-Stdio-clause-serve_opened
-returns-in-Stdio-clause-serve_opened g c folder socket uid most images words =
-    absurd (serve_or_stdio c.args.words.now folder c.in-Stdio.folder socket uid c.in-Stdio.uid most words (rw c.in-Stdio.is at (rw c.in-Ok-Some.field-0-is at c.in-Ok-Some.ensures.read)))
+returns-in-Stdio-clause-serve_opened g c until_eof folder socket uid most images words =
+    absurd (serve_or_stdio c.args.words.now until_eof folder c.in-Stdio.folder socket uid c.in-Stdio.uid most words (rw c.in-Stdio.is at (rw c.in-Ok-Some.field-0-is at c.in-Ok-Some.ensures.read)))
 
 pub returns-in-Stdio-clause-serve_complete : goal.returns-in-Stdio-clause-serve_complete
-returns-in-Stdio-clause-serve_complete g c folder socket uid most words =
-    absurd (serve_or_stdio c.args.words.now folder c.in-Stdio.folder socket uid c.in-Stdio.uid most words (rw c.in-Stdio.is at (rw c.in-Ok-Some.field-0-is at c.in-Ok-Some.ensures.read)))
+returns-in-Stdio-clause-serve_complete g c until_eof folder socket uid most words =
+    absurd (serve_or_stdio c.args.words.now until_eof folder c.in-Stdio.folder socket uid c.in-Stdio.uid most words (rw c.in-Stdio.is at (rw c.in-Ok-Some.field-0-is at c.in-Ok-Some.ensures.read)))
 
 pub returns-in-Stdio-clause-serve_recorded : goal.returns-in-Stdio-clause-serve_recorded
-returns-in-Stdio-clause-serve_recorded g c folder socket uid most words =
-    absurd (serve_or_stdio c.args.words.now folder c.in-Stdio.folder socket uid c.in-Stdio.uid most words (rw c.in-Stdio.is at (rw c.in-Ok-Some.field-0-is at c.in-Ok-Some.ensures.read)))
+returns-in-Stdio-clause-serve_recorded g c until_eof folder socket uid most words =
+    absurd (serve_or_stdio c.args.words.now until_eof folder c.in-Stdio.folder socket uid c.in-Stdio.uid most words (rw c.in-Stdio.is at (rw c.in-Ok-Some.field-0-is at c.in-Ok-Some.ensures.read)))
 
 -- the arguments are those of `serve`
 pub returns-in-Serve-clause-usage : goal.returns-in-Serve-clause-usage
@@ -128,240 +128,156 @@ returns-in-Serve-clause-untouched g c (inr same) = absurd (subst IsServeStatus s
 
 pub returns-in-Serve-clause-opened : goal.returns-in-Serve-clause-opened
 returns-in-Serve-clause-opened g c folder uid images words =
-    absurd (serve_or_stdio c.args.words.now c.in-Serve.folder folder c.in-Serve.socket c.in-Serve.uid uid c.in-Serve.connections (rw c.in-Serve.is at (rw c.in-Ok-Some.field-0-is at c.in-Ok-Some.ensures.read)) words)
+    absurd (serve_or_stdio c.args.words.now false c.in-Serve.folder folder c.in-Serve.socket c.in-Serve.uid uid c.in-Serve.connections (rw c.in-Serve.is at (rw c.in-Ok-Some.field-0-is at c.in-Ok-Some.ensures.read)) words)
 
 pub returns-in-Serve-clause-served : goal.returns-in-Serve-clause-served
 returns-in-Serve-clause-served g c folder uid words =
-    absurd (serve_or_stdio c.args.words.now c.in-Serve.folder folder c.in-Serve.socket c.in-Serve.uid uid c.in-Serve.connections (rw c.in-Serve.is at (rw c.in-Ok-Some.field-0-is at c.in-Ok-Some.ensures.read)) words)
+    absurd (serve_or_stdio c.args.words.now false c.in-Serve.folder folder c.in-Serve.socket c.in-Serve.uid uid c.in-Serve.connections (rw c.in-Serve.is at (rw c.in-Ok-Some.field-0-is at c.in-Ok-Some.ensures.read)) words)
 
 pub returns-in-Serve-clause-complete : goal.returns-in-Serve-clause-complete
 returns-in-Serve-clause-complete g c folder uid bytes words =
-    absurd (serve_or_stdio c.args.words.now c.in-Serve.folder folder c.in-Serve.socket c.in-Serve.uid uid c.in-Serve.connections (rw c.in-Serve.is at (rw c.in-Ok-Some.field-0-is at c.in-Ok-Some.ensures.read)) words)
+    absurd (serve_or_stdio c.args.words.now false c.in-Serve.folder folder c.in-Serve.socket c.in-Serve.uid uid c.in-Serve.connections (rw c.in-Serve.is at (rw c.in-Ok-Some.field-0-is at c.in-Ok-Some.ensures.read)) words)
 
 pub returns-in-Serve-clause-stdio_status : goal.returns-in-Serve-clause-stdio_status
 returns-in-Serve-clause-stdio_status g c folder uid words =
-    absurd (serve_or_stdio c.args.words.now c.in-Serve.folder folder c.in-Serve.socket c.in-Serve.uid uid c.in-Serve.connections (rw c.in-Serve.is at (rw c.in-Ok-Some.field-0-is at c.in-Ok-Some.ensures.read)) words)
+    absurd (serve_or_stdio c.args.words.now false c.in-Serve.folder folder c.in-Serve.socket c.in-Serve.uid uid c.in-Serve.connections (rw c.in-Serve.is at (rw c.in-Ok-Some.field-0-is at c.in-Ok-Some.ensures.read)) words)
 
 pub returns-in-Serve-clause-serve_done : goal.returns-in-Serve-clause-serve_done
-returns-in-Serve-clause-serve_done g c folder socket uid most words done =
-    let same = one_serve c.args.words.now c.in-Serve.folder folder c.in-Serve.socket socket c.in-Serve.uid uid c.in-Serve.connections most (rw c.in-Serve.is at (rw c.in-Ok-Some.field-0-is at c.in-Ok-Some.ensures.read)) words in
+returns-in-Serve-clause-serve_done g c until_eof folder socket uid most words done =
+    let same = one_serve c.args.words.now false until_eof c.in-Serve.folder folder c.in-Serve.socket socket c.in-Serve.uid uid c.in-Serve.connections most (rw c.in-Serve.is at (rw c.in-Ok-Some.field-0-is at c.in-Ok-Some.ensures.read)) words in
     rw (sym same.1) (c.run_serve.ensures.done done)
 
 pub returns-in-Serve-clause-serve_opened : goal.returns-in-Serve-clause-serve_opened
-returns-in-Serve-clause-serve_opened g c folder socket uid most images words honest told had =
-    let same = one_serve c.args.words.now c.in-Serve.folder folder c.in-Serve.socket socket c.in-Serve.uid uid c.in-Serve.connections most (rw c.in-Serve.is at (rw c.in-Ok-Some.field-0-is at c.in-Ok-Some.ensures.read)) words in
+returns-in-Serve-clause-serve_opened g c until_eof folder socket uid most images words honest told had =
+    let same = one_serve c.args.words.now false until_eof c.in-Serve.folder folder c.in-Serve.socket socket c.in-Serve.uid uid c.in-Serve.connections most (rw c.in-Serve.is at (rw c.in-Ok-Some.field-0-is at c.in-Ok-Some.ensures.read)) words in
     c.run_serve.ensures.opened images honest (rw (c.as_str-in-Serve.ensures.value ∙ same.0) told) had
 
 pub returns-in-Serve-clause-serve_recorded : goal.returns-in-Serve-clause-serve_recorded
-returns-in-Serve-clause-serve_recorded g c folder socket uid most words =
-    let same = one_serve c.args.words.now c.in-Serve.folder folder c.in-Serve.socket socket c.in-Serve.uid uid c.in-Serve.connections most (rw c.in-Serve.is at (rw c.in-Ok-Some.field-0-is at c.in-Ok-Some.ensures.read)) words in
+returns-in-Serve-clause-serve_recorded g c until_eof folder socket uid most words =
+    let same = one_serve c.args.words.now false until_eof c.in-Serve.folder folder c.in-Serve.socket socket c.in-Serve.uid uid c.in-Serve.connections most (rw c.in-Serve.is at (rw c.in-Ok-Some.field-0-is at c.in-Ok-Some.ensures.read)) words in
     rw (sym same.1, sym same.2, sym (c.as_str-in-Serve.ensures.value ∙ same.0)) c.run_serve.ensures.served
-
--- the arguments are those of `load`
-pub returns-clause-usage : goal.returns-clause-usage
-returns-clause-usage g c = (
-  λ same. absurd (let never : ⊥ = cc in never),
-  λ none. absurd (none (Load c.in-Load.items c.in-Load.seed) (rw c.in-Load.is at (rw c.in-Ok-Some.field-0-is at c.in-Ok-Some.ensures.read))),
-)
-
-pub returns-clause-not_built : goal.returns-clause-not_built
-returns-clause-not_built g c same = (Load c.in-Load.items c.in-Load.seed, rw c.in-Load.is at (rw c.in-Ok-Some.field-0-is at c.in-Ok-Some.ensures.read), tt)
-
-pub returns-clause-opened : goal.returns-clause-opened
-returns-clause-opened g c folder uid images words =
-    absurd (load_or_stdio c.args.words.now folder c.in-Load.items c.in-Load.seed uid (rw c.in-Load.is at (rw c.in-Ok-Some.field-0-is at c.in-Ok-Some.ensures.read)) words)
-
-pub returns-clause-served : goal.returns-clause-served
-returns-clause-served g c folder uid words =
-    absurd (load_or_stdio c.args.words.now folder c.in-Load.items c.in-Load.seed uid (rw c.in-Load.is at (rw c.in-Ok-Some.field-0-is at c.in-Ok-Some.ensures.read)) words)
-
-pub returns-clause-complete : goal.returns-clause-complete
-returns-clause-complete g c folder uid bytes words =
-    absurd (load_or_stdio c.args.words.now folder c.in-Load.items c.in-Load.seed uid (rw c.in-Load.is at (rw c.in-Ok-Some.field-0-is at c.in-Ok-Some.ensures.read)) words)
-
-pub returns-clause-stdio_status : goal.returns-clause-stdio_status
-returns-clause-stdio_status g c folder uid words =
-    absurd (load_or_stdio c.args.words.now folder c.in-Load.items c.in-Load.seed uid (rw c.in-Load.is at (rw c.in-Ok-Some.field-0-is at c.in-Ok-Some.ensures.read)) words)
-
-pub returns-clause-serve_status : goal.returns-clause-serve_status
-returns-clause-serve_status g c folder socket uid most words =
-    absurd (load_or_serve c.args.words.now folder socket c.in-Load.items c.in-Load.seed uid most (rw c.in-Load.is at (rw c.in-Ok-Some.field-0-is at c.in-Ok-Some.ensures.read)) words)
-
-pub returns-clause-serve_complete : goal.returns-clause-serve_complete
-returns-clause-serve_complete g c folder socket uid most words =
-    absurd (load_or_serve c.args.words.now folder socket c.in-Load.items c.in-Load.seed uid most (rw c.in-Load.is at (rw c.in-Ok-Some.field-0-is at c.in-Ok-Some.ensures.read)) words)
-
-pub returns-clause-serve_recorded : goal.returns-clause-serve_recorded
-returns-clause-serve_recorded g c folder socket uid most words =
-    absurd (load_or_serve c.args.words.now folder socket c.in-Load.items c.in-Load.seed uid most (rw c.in-Load.is at (rw c.in-Ok-Some.field-0-is at c.in-Ok-Some.ensures.read)) words)
-
--- the arguments aren't those of `check`
-pub returns-in-Ok-None-clause-check_status : goal.returns-in-Ok-None-clause-check_status
-returns-in-Ok-None-clause-check_status g c folder is_asked words = absurd ((rw c.in-Ok-None.field-0-is at c.in-Ok-None.ensures.read) (Check folder is_asked) words)
-
-pub returns-in-Ok-None-clause-check_reads : goal.returns-in-Ok-None-clause-check_reads
-returns-in-Ok-None-clause-check_reads g c folder is_asked words = absurd ((rw c.in-Ok-None.field-0-is at c.in-Ok-None.ensures.read) (Check folder is_asked) words)
-
-pub returns-in-Ok-None-clause-check_writes : goal.returns-in-Ok-None-clause-check_writes
-returns-in-Ok-None-clause-check_writes g c folder is_asked words = absurd ((rw c.in-Ok-None.field-0-is at c.in-Ok-None.ensures.read) (Check folder is_asked) words)
-
-pub returns-in-Ok-None-clause-checked : goal.returns-in-Ok-None-clause-checked
-returns-in-Ok-None-clause-checked g c folder is_asked words = absurd ((rw c.in-Ok-None.field-0-is at c.in-Ok-None.ensures.read) (Check folder is_asked) words)
-
-pub returns-in-Stdio-clause-check_status : goal.returns-in-Stdio-clause-check_status
-returns-in-Stdio-clause-check_status g c folder is_asked words = absurd (check_or_stdio c.args.words.now folder c.in-Stdio.folder is_asked c.in-Stdio.uid words (rw c.in-Stdio.is at (rw c.in-Ok-Some.field-0-is at c.in-Ok-Some.ensures.read)))
-
-pub returns-in-Stdio-clause-check_reads : goal.returns-in-Stdio-clause-check_reads
-returns-in-Stdio-clause-check_reads g c folder is_asked words = absurd (check_or_stdio c.args.words.now folder c.in-Stdio.folder is_asked c.in-Stdio.uid words (rw c.in-Stdio.is at (rw c.in-Ok-Some.field-0-is at c.in-Ok-Some.ensures.read)))
-
-pub returns-in-Stdio-clause-check_writes : goal.returns-in-Stdio-clause-check_writes
-returns-in-Stdio-clause-check_writes g c folder is_asked words = absurd (check_or_stdio c.args.words.now folder c.in-Stdio.folder is_asked c.in-Stdio.uid words (rw c.in-Stdio.is at (rw c.in-Ok-Some.field-0-is at c.in-Ok-Some.ensures.read)))
-
-pub returns-in-Stdio-clause-checked : goal.returns-in-Stdio-clause-checked
-returns-in-Stdio-clause-checked g c folder is_asked words = absurd (check_or_stdio c.args.words.now folder c.in-Stdio.folder is_asked c.in-Stdio.uid words (rw c.in-Stdio.is at (rw c.in-Ok-Some.field-0-is at c.in-Ok-Some.ensures.read)))
-
-pub returns-in-Serve-clause-check_status : goal.returns-in-Serve-clause-check_status
-returns-in-Serve-clause-check_status g c folder is_asked words = absurd (check_or_serve c.args.words.now folder c.in-Serve.folder c.in-Serve.socket is_asked c.in-Serve.uid c.in-Serve.connections words (rw c.in-Serve.is at (rw c.in-Ok-Some.field-0-is at c.in-Ok-Some.ensures.read)))
-
-pub returns-in-Serve-clause-check_reads : goal.returns-in-Serve-clause-check_reads
-returns-in-Serve-clause-check_reads g c folder is_asked words = absurd (check_or_serve c.args.words.now folder c.in-Serve.folder c.in-Serve.socket is_asked c.in-Serve.uid c.in-Serve.connections words (rw c.in-Serve.is at (rw c.in-Ok-Some.field-0-is at c.in-Ok-Some.ensures.read)))
-
-pub returns-in-Serve-clause-check_writes : goal.returns-in-Serve-clause-check_writes
-returns-in-Serve-clause-check_writes g c folder is_asked words = absurd (check_or_serve c.args.words.now folder c.in-Serve.folder c.in-Serve.socket is_asked c.in-Serve.uid c.in-Serve.connections words (rw c.in-Serve.is at (rw c.in-Ok-Some.field-0-is at c.in-Ok-Some.ensures.read)))
-
-pub returns-in-Serve-clause-checked : goal.returns-in-Serve-clause-checked
-returns-in-Serve-clause-checked g c folder is_asked words = absurd (check_or_serve c.args.words.now folder c.in-Serve.folder c.in-Serve.socket is_asked c.in-Serve.uid c.in-Serve.connections words (rw c.in-Serve.is at (rw c.in-Ok-Some.field-0-is at c.in-Ok-Some.ensures.read)))
-
-pub returns-in-ServeUntilEof-clause-check_status : goal.returns-in-ServeUntilEof-clause-check_status
-returns-in-ServeUntilEof-clause-check_status g c folder is_asked words = absurd (check_or_until c.args.words.now folder c.in-ServeUntilEof.folder c.in-ServeUntilEof.socket is_asked c.in-ServeUntilEof.uid c.in-ServeUntilEof.connections words (rw c.in-ServeUntilEof.is at (rw c.in-Ok-Some.field-0-is at c.in-Ok-Some.ensures.read)))
-
-pub returns-in-ServeUntilEof-clause-check_reads : goal.returns-in-ServeUntilEof-clause-check_reads
-returns-in-ServeUntilEof-clause-check_reads g c folder is_asked words = absurd (check_or_until c.args.words.now folder c.in-ServeUntilEof.folder c.in-ServeUntilEof.socket is_asked c.in-ServeUntilEof.uid c.in-ServeUntilEof.connections words (rw c.in-ServeUntilEof.is at (rw c.in-Ok-Some.field-0-is at c.in-Ok-Some.ensures.read)))
-
-pub returns-in-ServeUntilEof-clause-check_writes : goal.returns-in-ServeUntilEof-clause-check_writes
-returns-in-ServeUntilEof-clause-check_writes g c folder is_asked words = absurd (check_or_until c.args.words.now folder c.in-ServeUntilEof.folder c.in-ServeUntilEof.socket is_asked c.in-ServeUntilEof.uid c.in-ServeUntilEof.connections words (rw c.in-ServeUntilEof.is at (rw c.in-Ok-Some.field-0-is at c.in-Ok-Some.ensures.read)))
-
-pub returns-in-ServeUntilEof-clause-checked : goal.returns-in-ServeUntilEof-clause-checked
-returns-in-ServeUntilEof-clause-checked g c folder is_asked words = absurd (check_or_until c.args.words.now folder c.in-ServeUntilEof.folder c.in-ServeUntilEof.socket is_asked c.in-ServeUntilEof.uid c.in-ServeUntilEof.connections words (rw c.in-ServeUntilEof.is at (rw c.in-Ok-Some.field-0-is at c.in-Ok-Some.ensures.read)))
-
-pub returns-clause-check_status : goal.returns-clause-check_status
-returns-clause-check_status g c folder is_asked words = absurd (check_or_load c.args.words.now folder is_asked c.in-Load.items c.in-Load.seed words (rw c.in-Load.is at (rw c.in-Ok-Some.field-0-is at c.in-Ok-Some.ensures.read)))
-
-pub returns-clause-check_reads : goal.returns-clause-check_reads
-returns-clause-check_reads g c folder is_asked words = absurd (check_or_load c.args.words.now folder is_asked c.in-Load.items c.in-Load.seed words (rw c.in-Load.is at (rw c.in-Ok-Some.field-0-is at c.in-Ok-Some.ensures.read)))
-
-pub returns-clause-check_writes : goal.returns-clause-check_writes
-returns-clause-check_writes g c folder is_asked words = absurd (check_or_load c.args.words.now folder is_asked c.in-Load.items c.in-Load.seed words (rw c.in-Load.is at (rw c.in-Ok-Some.field-0-is at c.in-Ok-Some.ensures.read)))
-
-pub returns-clause-checked : goal.returns-clause-checked
-returns-clause-checked g c folder is_asked words = absurd (check_or_load c.args.words.now folder is_asked c.in-Load.items c.in-Load.seed words (rw c.in-Load.is at (rw c.in-Ok-Some.field-0-is at c.in-Ok-Some.ensures.read)))
 
 -- the arguments are those of `serve` with `--until-eof`
 pub returns-in-ServeUntilEof-clause-usage : goal.returns-in-ServeUntilEof-clause-usage
 returns-in-ServeUntilEof-clause-usage g c = (
-  λ same. absurd (let never : ⊥ = cc in never),
+  λ same. absurd (subst IsServeStatus same c.run_serve-in-ServeUntilEof.ensures.status),
   λ none. absurd (none (ServeUntilEof c.in-ServeUntilEof.folder c.in-ServeUntilEof.socket c.in-ServeUntilEof.uid c.in-ServeUntilEof.connections) (rw c.in-ServeUntilEof.is at (rw c.in-Ok-Some.field-0-is at c.in-Ok-Some.ensures.read))),
 )
 
 pub returns-in-ServeUntilEof-clause-not_built : goal.returns-in-ServeUntilEof-clause-not_built
-returns-in-ServeUntilEof-clause-not_built g c same = (ServeUntilEof c.in-ServeUntilEof.folder c.in-ServeUntilEof.socket c.in-ServeUntilEof.uid c.in-ServeUntilEof.connections, rw c.in-ServeUntilEof.is at (rw c.in-Ok-Some.field-0-is at c.in-Ok-Some.ensures.read), tt)
+returns-in-ServeUntilEof-clause-not_built g c same = absurd (subst IsServeStatus same c.run_serve-in-ServeUntilEof.ensures.status)
+
+pub returns-in-ServeUntilEof-clause-unbuilt : goal.returns-in-ServeUntilEof-clause-unbuilt
+returns-in-ServeUntilEof-clause-unbuilt g c un =
+    absurd (is_built c.args.words.now (ServeUntilEof c.in-ServeUntilEof.folder c.in-ServeUntilEof.socket c.in-ServeUntilEof.uid c.in-ServeUntilEof.connections) (rw c.in-ServeUntilEof.is at (rw c.in-Ok-Some.field-0-is at c.in-Ok-Some.ensures.read)) (λ none. none) un)
+
+pub returns-in-ServeUntilEof-clause-untouched : goal.returns-in-ServeUntilEof-clause-untouched
+returns-in-ServeUntilEof-clause-untouched g c (inl same) = absurd (subst IsServeStatus same c.run_serve-in-ServeUntilEof.ensures.status)
+returns-in-ServeUntilEof-clause-untouched g c (inr same) = absurd (subst IsServeStatus same c.run_serve-in-ServeUntilEof.ensures.status)
 
 pub returns-in-ServeUntilEof-clause-opened : goal.returns-in-ServeUntilEof-clause-opened
 returns-in-ServeUntilEof-clause-opened g c folder uid images words =
-    absurd (until_or_stdio c.args.words.now c.in-ServeUntilEof.folder folder c.in-ServeUntilEof.socket c.in-ServeUntilEof.uid uid c.in-ServeUntilEof.connections (rw c.in-ServeUntilEof.is at (rw c.in-Ok-Some.field-0-is at c.in-Ok-Some.ensures.read)) words)
+    absurd (serve_or_stdio c.args.words.now true c.in-ServeUntilEof.folder folder c.in-ServeUntilEof.socket c.in-ServeUntilEof.uid uid c.in-ServeUntilEof.connections (rw c.in-ServeUntilEof.is at (rw c.in-Ok-Some.field-0-is at c.in-Ok-Some.ensures.read)) words)
 
 pub returns-in-ServeUntilEof-clause-served : goal.returns-in-ServeUntilEof-clause-served
 returns-in-ServeUntilEof-clause-served g c folder uid words =
-    absurd (until_or_stdio c.args.words.now c.in-ServeUntilEof.folder folder c.in-ServeUntilEof.socket c.in-ServeUntilEof.uid uid c.in-ServeUntilEof.connections (rw c.in-ServeUntilEof.is at (rw c.in-Ok-Some.field-0-is at c.in-Ok-Some.ensures.read)) words)
+    absurd (serve_or_stdio c.args.words.now true c.in-ServeUntilEof.folder folder c.in-ServeUntilEof.socket c.in-ServeUntilEof.uid uid c.in-ServeUntilEof.connections (rw c.in-ServeUntilEof.is at (rw c.in-Ok-Some.field-0-is at c.in-Ok-Some.ensures.read)) words)
 
 pub returns-in-ServeUntilEof-clause-complete : goal.returns-in-ServeUntilEof-clause-complete
 returns-in-ServeUntilEof-clause-complete g c folder uid bytes words =
-    absurd (until_or_stdio c.args.words.now c.in-ServeUntilEof.folder folder c.in-ServeUntilEof.socket c.in-ServeUntilEof.uid uid c.in-ServeUntilEof.connections (rw c.in-ServeUntilEof.is at (rw c.in-Ok-Some.field-0-is at c.in-Ok-Some.ensures.read)) words)
+    absurd (serve_or_stdio c.args.words.now true c.in-ServeUntilEof.folder folder c.in-ServeUntilEof.socket c.in-ServeUntilEof.uid uid c.in-ServeUntilEof.connections (rw c.in-ServeUntilEof.is at (rw c.in-Ok-Some.field-0-is at c.in-Ok-Some.ensures.read)) words)
 
 pub returns-in-ServeUntilEof-clause-stdio_status : goal.returns-in-ServeUntilEof-clause-stdio_status
 returns-in-ServeUntilEof-clause-stdio_status g c folder uid words =
-    absurd (until_or_stdio c.args.words.now c.in-ServeUntilEof.folder folder c.in-ServeUntilEof.socket c.in-ServeUntilEof.uid uid c.in-ServeUntilEof.connections (rw c.in-ServeUntilEof.is at (rw c.in-Ok-Some.field-0-is at c.in-Ok-Some.ensures.read)) words)
+    absurd (serve_or_stdio c.args.words.now true c.in-ServeUntilEof.folder folder c.in-ServeUntilEof.socket c.in-ServeUntilEof.uid uid c.in-ServeUntilEof.connections (rw c.in-ServeUntilEof.is at (rw c.in-Ok-Some.field-0-is at c.in-Ok-Some.ensures.read)) words)
 
-pub returns-in-ServeUntilEof-clause-serve_status : goal.returns-in-ServeUntilEof-clause-serve_status
-returns-in-ServeUntilEof-clause-serve_status g c folder socket uid most words =
-    absurd (until_or_serve c.args.words.now c.in-ServeUntilEof.folder folder c.in-ServeUntilEof.socket socket c.in-ServeUntilEof.uid uid c.in-ServeUntilEof.connections most (rw c.in-ServeUntilEof.is at (rw c.in-Ok-Some.field-0-is at c.in-Ok-Some.ensures.read)) words)
+pub returns-in-ServeUntilEof-clause-serve_done : goal.returns-in-ServeUntilEof-clause-serve_done
+returns-in-ServeUntilEof-clause-serve_done g c until_eof folder socket uid most words done =
+    let same = one_serve c.args.words.now true until_eof c.in-ServeUntilEof.folder folder c.in-ServeUntilEof.socket socket c.in-ServeUntilEof.uid uid c.in-ServeUntilEof.connections most (rw c.in-ServeUntilEof.is at (rw c.in-Ok-Some.field-0-is at c.in-Ok-Some.ensures.read)) words in
+    rw (sym same.1) (c.run_serve-in-ServeUntilEof.ensures.done done)
 
 pub returns-in-ServeUntilEof-clause-serve_opened : goal.returns-in-ServeUntilEof-clause-serve_opened
-returns-in-ServeUntilEof-clause-serve_opened g c folder socket uid most images words =
-    absurd (until_or_serve c.args.words.now c.in-ServeUntilEof.folder folder c.in-ServeUntilEof.socket socket c.in-ServeUntilEof.uid uid c.in-ServeUntilEof.connections most (rw c.in-ServeUntilEof.is at (rw c.in-Ok-Some.field-0-is at c.in-Ok-Some.ensures.read)) words)
-
-pub returns-in-ServeUntilEof-clause-serve_complete : goal.returns-in-ServeUntilEof-clause-serve_complete
-returns-in-ServeUntilEof-clause-serve_complete g c folder socket uid most words =
-    absurd (until_or_serve c.args.words.now c.in-ServeUntilEof.folder folder c.in-ServeUntilEof.socket socket c.in-ServeUntilEof.uid uid c.in-ServeUntilEof.connections most (rw c.in-ServeUntilEof.is at (rw c.in-Ok-Some.field-0-is at c.in-Ok-Some.ensures.read)) words)
+returns-in-ServeUntilEof-clause-serve_opened g c until_eof folder socket uid most images words honest told had =
+    let same = one_serve c.args.words.now true until_eof c.in-ServeUntilEof.folder folder c.in-ServeUntilEof.socket socket c.in-ServeUntilEof.uid uid c.in-ServeUntilEof.connections most (rw c.in-ServeUntilEof.is at (rw c.in-Ok-Some.field-0-is at c.in-Ok-Some.ensures.read)) words in
+    c.run_serve-in-ServeUntilEof.ensures.opened images honest (rw (c.as_str-in-ServeUntilEof.ensures.value ∙ same.0) told) had
 
 pub returns-in-ServeUntilEof-clause-serve_recorded : goal.returns-in-ServeUntilEof-clause-serve_recorded
-returns-in-ServeUntilEof-clause-serve_recorded g c folder socket uid most words =
-    absurd (until_or_serve c.args.words.now c.in-ServeUntilEof.folder folder c.in-ServeUntilEof.socket socket c.in-ServeUntilEof.uid uid c.in-ServeUntilEof.connections most (rw c.in-ServeUntilEof.is at (rw c.in-Ok-Some.field-0-is at c.in-Ok-Some.ensures.read)) words)
+returns-in-ServeUntilEof-clause-serve_recorded g c until_eof folder socket uid most words =
+    let same = one_serve c.args.words.now true until_eof c.in-ServeUntilEof.folder folder c.in-ServeUntilEof.socket socket c.in-ServeUntilEof.uid uid c.in-ServeUntilEof.connections most (rw c.in-ServeUntilEof.is at (rw c.in-Ok-Some.field-0-is at c.in-Ok-Some.ensures.read)) words in
+    rw (sym same.1, sym same.2, sym (c.as_str-in-ServeUntilEof.ensures.value ∙ same.0)) c.run_serve-in-ServeUntilEof.ensures.served
+
+-- the arguments are those of `load`
+pub returns-in-Load-clause-usage : goal.returns-in-Load-clause-usage
+returns-in-Load-clause-usage g c = (
+  λ same. absurd (let never : ⊥ = cc in never),
+  λ none. absurd (none (Load c.in-Load.items c.in-Load.seed) (rw c.in-Load.is at (rw c.in-Ok-Some.field-0-is at c.in-Ok-Some.ensures.read))),
+)
+
+pub returns-in-Load-clause-not_built : goal.returns-in-Load-clause-not_built
+returns-in-Load-clause-not_built g c same = (Load c.in-Load.items c.in-Load.seed, rw c.in-Load.is at (rw c.in-Ok-Some.field-0-is at c.in-Ok-Some.ensures.read), tt)
+
+pub returns-in-Load-clause-opened : goal.returns-in-Load-clause-opened
+returns-in-Load-clause-opened g c folder uid images words =
+    absurd (unbuilt_or_stdio c.args.words.now (Load c.in-Load.items c.in-Load.seed) folder uid tt (rw c.in-Load.is at (rw c.in-Ok-Some.field-0-is at c.in-Ok-Some.ensures.read)) words)
+
+pub returns-in-Load-clause-served : goal.returns-in-Load-clause-served
+returns-in-Load-clause-served g c folder uid words =
+    absurd (unbuilt_or_stdio c.args.words.now (Load c.in-Load.items c.in-Load.seed) folder uid tt (rw c.in-Load.is at (rw c.in-Ok-Some.field-0-is at c.in-Ok-Some.ensures.read)) words)
+
+pub returns-in-Load-clause-complete : goal.returns-in-Load-clause-complete
+returns-in-Load-clause-complete g c folder uid bytes words =
+    absurd (unbuilt_or_stdio c.args.words.now (Load c.in-Load.items c.in-Load.seed) folder uid tt (rw c.in-Load.is at (rw c.in-Ok-Some.field-0-is at c.in-Ok-Some.ensures.read)) words)
+
+pub returns-in-Load-clause-stdio_status : goal.returns-in-Load-clause-stdio_status
+returns-in-Load-clause-stdio_status g c folder uid words =
+    absurd (unbuilt_or_stdio c.args.words.now (Load c.in-Load.items c.in-Load.seed) folder uid tt (rw c.in-Load.is at (rw c.in-Ok-Some.field-0-is at c.in-Ok-Some.ensures.read)) words)
+
+pub returns-in-Load-clause-serve_status : goal.returns-in-Load-clause-serve_status
+returns-in-Load-clause-serve_status g c until_eof folder socket uid most words =
+    absurd (unbuilt_or_serve c.args.words.now (Load c.in-Load.items c.in-Load.seed) until_eof folder socket uid most tt (rw c.in-Load.is at (rw c.in-Ok-Some.field-0-is at c.in-Ok-Some.ensures.read)) words)
+
+pub returns-in-Load-clause-serve_complete : goal.returns-in-Load-clause-serve_complete
+returns-in-Load-clause-serve_complete g c until_eof folder socket uid most words =
+    absurd (unbuilt_or_serve c.args.words.now (Load c.in-Load.items c.in-Load.seed) until_eof folder socket uid most tt (rw c.in-Load.is at (rw c.in-Ok-Some.field-0-is at c.in-Ok-Some.ensures.read)) words)
+
+pub returns-in-Load-clause-serve_recorded : goal.returns-in-Load-clause-serve_recorded
+returns-in-Load-clause-serve_recorded g c until_eof folder socket uid most words =
+    absurd (unbuilt_or_serve c.args.words.now (Load c.in-Load.items c.in-Load.seed) until_eof folder socket uid most tt (rw c.in-Load.is at (rw c.in-Ok-Some.field-0-is at c.in-Ok-Some.ensures.read)) words)
 
 -- the arguments are those of `check`
-pub returns-in-Check-clause-usage : goal.returns-in-Check-clause-usage
-returns-in-Check-clause-usage g c = (
-  λ same. absurd (subst IsCheckStatus same c.run_check.ensures.status),
+pub returns-clause-usage : goal.returns-clause-usage
+returns-clause-usage g c = (
+  λ same. absurd (let never : ⊥ = cc in never),
   λ none. absurd (none (Check c.in-Check.folder c.in-Check.password) (rw c.in-Check.is at (rw c.in-Ok-Some.field-0-is at c.in-Ok-Some.ensures.read))),
 )
 
-pub returns-in-Check-clause-not_built : goal.returns-in-Check-clause-not_built
-returns-in-Check-clause-not_built g c same = absurd (subst IsCheckStatus same c.run_check.ensures.status)
+pub returns-clause-not_built : goal.returns-clause-not_built
+returns-clause-not_built g c same = (Check c.in-Check.folder c.in-Check.password, rw c.in-Check.is at (rw c.in-Ok-Some.field-0-is at c.in-Ok-Some.ensures.read), tt)
 
-pub returns-in-Check-clause-unbuilt : goal.returns-in-Check-clause-unbuilt
-returns-in-Check-clause-unbuilt g c un = absurd (is_built c.args.words.now (Check c.in-Check.folder c.in-Check.password) (rw c.in-Check.is at (rw c.in-Ok-Some.field-0-is at c.in-Ok-Some.ensures.read)) (λ none. none) un)
+pub returns-clause-opened : goal.returns-clause-opened
+returns-clause-opened g c folder uid images words =
+    absurd (unbuilt_or_stdio c.args.words.now (Check c.in-Check.folder c.in-Check.password) folder uid tt (rw c.in-Check.is at (rw c.in-Ok-Some.field-0-is at c.in-Ok-Some.ensures.read)) words)
 
-pub returns-in-Check-clause-untouched : goal.returns-in-Check-clause-untouched
-returns-in-Check-clause-untouched g c (inl same) = absurd (subst IsCheckStatus same c.run_check.ensures.status)
-returns-in-Check-clause-untouched g c (inr same) = absurd (subst IsCheckStatus same c.run_check.ensures.status)
+pub returns-clause-served : goal.returns-clause-served
+returns-clause-served g c folder uid words =
+    absurd (unbuilt_or_stdio c.args.words.now (Check c.in-Check.folder c.in-Check.password) folder uid tt (rw c.in-Check.is at (rw c.in-Ok-Some.field-0-is at c.in-Ok-Some.ensures.read)) words)
 
-pub returns-in-Check-clause-unserved : goal.returns-in-Check-clause-unserved
-returns-in-Check-clause-unserved g c failed other = absurd (other (c.in-Check.folder, c.in-Check.password, rw c.in-Check.is at (rw c.in-Ok-Some.field-0-is at c.in-Ok-Some.ensures.read)))
+pub returns-clause-complete : goal.returns-clause-complete
+returns-clause-complete g c folder uid bytes words =
+    absurd (unbuilt_or_stdio c.args.words.now (Check c.in-Check.folder c.in-Check.password) folder uid tt (rw c.in-Check.is at (rw c.in-Ok-Some.field-0-is at c.in-Ok-Some.ensures.read)) words)
 
-pub returns-in-Check-clause-had_folder : goal.returns-in-Check-clause-had_folder
-returns-in-Check-clause-had_folder g c had other = absurd (other (c.in-Check.folder, c.in-Check.password, rw c.in-Check.is at (rw c.in-Ok-Some.field-0-is at c.in-Ok-Some.ensures.read)))
+pub returns-clause-stdio_status : goal.returns-clause-stdio_status
+returns-clause-stdio_status g c folder uid words =
+    absurd (unbuilt_or_stdio c.args.words.now (Check c.in-Check.folder c.in-Check.password) folder uid tt (rw c.in-Check.is at (rw c.in-Ok-Some.field-0-is at c.in-Ok-Some.ensures.read)) words)
 
-pub returns-in-Check-clause-listen_fault : goal.returns-in-Check-clause-listen_fault
-returns-in-Check-clause-listen_fault g c same = absurd (subst IsCheckStatus same c.run_check.ensures.status)
+pub returns-clause-serve_status : goal.returns-clause-serve_status
+returns-clause-serve_status g c until_eof folder socket uid most words =
+    absurd (unbuilt_or_serve c.args.words.now (Check c.in-Check.folder c.in-Check.password) until_eof folder socket uid most tt (rw c.in-Check.is at (rw c.in-Ok-Some.field-0-is at c.in-Ok-Some.ensures.read)) words)
 
-pub returns-in-Check-clause-opened : goal.returns-in-Check-clause-opened
-returns-in-Check-clause-opened g c folder uid images words = absurd (check_or_stdio c.args.words.now c.in-Check.folder folder c.in-Check.password uid (rw c.in-Check.is at (rw c.in-Ok-Some.field-0-is at c.in-Ok-Some.ensures.read)) words)
+pub returns-clause-serve_complete : goal.returns-clause-serve_complete
+returns-clause-serve_complete g c until_eof folder socket uid most words =
+    absurd (unbuilt_or_serve c.args.words.now (Check c.in-Check.folder c.in-Check.password) until_eof folder socket uid most tt (rw c.in-Check.is at (rw c.in-Ok-Some.field-0-is at c.in-Ok-Some.ensures.read)) words)
 
-pub returns-in-Check-clause-served : goal.returns-in-Check-clause-served
-returns-in-Check-clause-served g c folder uid words = absurd (check_or_stdio c.args.words.now c.in-Check.folder folder c.in-Check.password uid (rw c.in-Check.is at (rw c.in-Ok-Some.field-0-is at c.in-Ok-Some.ensures.read)) words)
-
-pub returns-in-Check-clause-complete : goal.returns-in-Check-clause-complete
-returns-in-Check-clause-complete g c folder uid bytes words = absurd (check_or_stdio c.args.words.now c.in-Check.folder folder c.in-Check.password uid (rw c.in-Check.is at (rw c.in-Ok-Some.field-0-is at c.in-Ok-Some.ensures.read)) words)
-
-pub returns-in-Check-clause-stdio_status : goal.returns-in-Check-clause-stdio_status
-returns-in-Check-clause-stdio_status g c folder uid words = absurd (check_or_stdio c.args.words.now c.in-Check.folder folder c.in-Check.password uid (rw c.in-Check.is at (rw c.in-Ok-Some.field-0-is at c.in-Ok-Some.ensures.read)) words)
-
-pub returns-in-Check-clause-serve_status : goal.returns-in-Check-clause-serve_status
-returns-in-Check-clause-serve_status g c folder socket uid most words = absurd (check_or_serve c.args.words.now c.in-Check.folder folder socket c.in-Check.password uid most (rw c.in-Check.is at (rw c.in-Ok-Some.field-0-is at c.in-Ok-Some.ensures.read)) words)
-
-pub returns-in-Check-clause-serve_done : goal.returns-in-Check-clause-serve_done
-returns-in-Check-clause-serve_done g c folder socket uid most words = absurd (check_or_serve c.args.words.now c.in-Check.folder folder socket c.in-Check.password uid most (rw c.in-Check.is at (rw c.in-Ok-Some.field-0-is at c.in-Ok-Some.ensures.read)) words)
-
-pub returns-in-Check-clause-serve_opened : goal.returns-in-Check-clause-serve_opened
-returns-in-Check-clause-serve_opened g c folder socket uid most images words = absurd (check_or_serve c.args.words.now c.in-Check.folder folder socket c.in-Check.password uid most (rw c.in-Check.is at (rw c.in-Ok-Some.field-0-is at c.in-Ok-Some.ensures.read)) words)
-
-pub returns-in-Check-clause-serve_complete : goal.returns-in-Check-clause-serve_complete
-returns-in-Check-clause-serve_complete g c folder socket uid most words = absurd (check_or_serve c.args.words.now c.in-Check.folder folder socket c.in-Check.password uid most (rw c.in-Check.is at (rw c.in-Ok-Some.field-0-is at c.in-Ok-Some.ensures.read)) words)
-
-pub returns-in-Check-clause-serve_recorded : goal.returns-in-Check-clause-serve_recorded
-returns-in-Check-clause-serve_recorded g c folder socket uid most words = absurd (check_or_serve c.args.words.now c.in-Check.folder folder socket c.in-Check.password uid most (rw c.in-Check.is at (rw c.in-Ok-Some.field-0-is at c.in-Ok-Some.ensures.read)) words)
-
-pub returns-in-Check-clause-check_status : goal.returns-in-Check-clause-check_status
-returns-in-Check-clause-check_status g c folder is_asked words =
-    (c.run_check.ensures.status, c.run_check.ensures.coming, c.run_check.ensures.doors, c.run_check.ensures.unread)
-
-pub returns-in-Check-clause-check_reads : goal.returns-in-Check-clause-check_reads
-returns-in-Check-clause-check_reads g c folder is_asked words =
-    let same = one_check c.args.words.now c.in-Check.folder folder c.in-Check.password is_asked (rw c.in-Check.is at (rw c.in-Ok-Some.field-0-is at c.in-Ok-Some.ensures.read)) words in
-    rw (sym same.1) c.run_check.ensures.reads
-
-pub returns-in-Check-clause-checked : goal.returns-in-Check-clause-checked
-returns-in-Check-clause-checked g c folder is_asked words =
-    let same = one_check c.args.words.now c.in-Check.folder folder c.in-Check.password is_asked (rw c.in-Check.is at (rw c.in-Ok-Some.field-0-is at c.in-Ok-Some.ensures.read)) words in
-    rw (sym same.1, sym (c.as_str-path.ensures.value ∙ same.0)) (none-or-some c.run_check.result.checked (λ one. one.folder) (λ one. one.looked.items) _ _ _ _ _
-    c.run_check.ensures.unchecked c.run_check.ensures.given c.run_check.ensures.checks)
+pub returns-clause-serve_recorded : goal.returns-clause-serve_recorded
+returns-clause-serve_recorded g c until_eof folder socket uid most words =
+    absurd (unbuilt_or_serve c.args.words.now (Check c.in-Check.folder c.in-Check.password) until_eof folder socket uid most tt (rw c.in-Check.is at (rw c.in-Ok-Some.field-0-is at c.in-Ok-Some.ensures.read)) words)
