@@ -1,0 +1,4 @@
+mod PartLemmas
+mod PlanLemmas
+mod SendingLemmas
+mod AnsweredLemmas
