@@ -6,5 +6,6 @@ pub mod FolderLemmas
 pub mod GivingLemmas
 pub mod LineLemmas
 pub mod LinksLemmas
+pub mod LoadLemmas
 pub mod ServeLemmas
 pub mod WrittenLemmas

@@ -21,14 +21,14 @@ is_until_eof (Check folder password) = false
 abbrev pub IsUntilEof : List (List ℕ) → Type 0
 IsUntilEof words = (line : CommandLine) × IsCommandLine line words × IsTrue (is_until_eof line)
 
--- a command line of a command that the program doesn't have yet
-abbrev pub IsUnbuiltLine : CommandLine → Type 0
-IsUnbuiltLine (Stdio folder uid) = ⊥
-IsUnbuiltLine (Serve folder socket uid connections) = ⊥
-IsUnbuiltLine (ServeUntilEof folder socket uid connections) = ⊥
-IsUnbuiltLine (Load items seed) = Unit {0}
-IsUnbuiltLine (Check folder password) = Unit {0}
+-- a command line of a service over a folder of the host
+abbrev pub ServesFolder : CommandLine → Type 0
+ServesFolder (Stdio folder uid) = Unit {0}
+ServesFolder (Serve folder socket uid connections) = Unit {0}
+ServesFolder (ServeUntilEof folder socket uid connections) = Unit {0}
+ServesFolder (Load items seed) = ⊥
+ServesFolder (Check folder password) = ⊥
 
 -- the words are such a command line
-abbrev pub IsUnbuilt : List (List ℕ) → Type 0
-IsUnbuilt words = (line : CommandLine) × IsCommandLine line words × IsUnbuiltLine line
+abbrev pub AsksForService : List (List ℕ) → Type 0
+AsksForService words = (line : CommandLine) × IsCommandLine line words × ServesFolder line

@@ -26,7 +26,6 @@ pub record HasOpened (S : Type 0) (images : List ℕ → Image) (contents : Cont
 -- a run of a service that ended with this status had its folder open
 abbrev pub HadFolder : Status → Type 0
 HadFolder status.Usage = ⊥
-HadFolder status.NotBuilt = ⊥
 HadFolder status.FolderFault = ⊥
 HadFolder status.Memory = ⊥
 HadFolder status.PasswordTooLong = ⊥

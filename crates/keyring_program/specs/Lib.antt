@@ -6,6 +6,7 @@ pub mod Events
 pub mod FirstLine
 pub mod Folder
 pub mod InputEnd
+pub mod Loads
 pub mod ServerNumber
 pub mod Serves
 pub mod ServesLinks

@@ -24,7 +24,6 @@ number_of (status.AuthRefused why) = 8
 number_of status.Memory = 9
 number_of status.ListenFault = 10
 number_of status.EventsSpent = 11
-number_of status.NotBuilt = 12
 number_of status.PasswordTooLong = 13
 
 -- serving the only connection of a service may end in this way: nobody else ends it, and no output is lost
@@ -37,7 +36,6 @@ IsOnlyEnd _ = Unit {0}
 abbrev pub IsStdioStatus : Status → Type 0
 IsStdioStatus status.Usage = ⊥
 IsStdioStatus status.ListenFault = ⊥
-IsStdioStatus status.NotBuilt = ⊥
 IsStdioStatus status.Damaged = ⊥
 IsStdioStatus status.PasswordTooLong = ⊥
 IsStdioStatus _ = Unit {0}
@@ -49,6 +47,24 @@ IsServeStatus status.FolderFault = Unit {0}
 IsServeStatus status.ListenFault = Unit {0}
 IsServeStatus status.Memory = Unit {0}
 IsServeStatus _ = ⊥
+
+-- the connection of a client in memory may end early in this way
+abbrev pub IsStopped : Status → Type 0
+IsStopped status.Memory = Unit {0}
+IsStopped (status.Violation cause) = Unit {0}
+IsStopped (status.AuthRefused why) = Unit {0}
+IsStopped status.EventsSpent = Unit {0}
+IsStopped _ = ⊥
+
+-- a command that is there and serves a client in memory may end in this way
+abbrev pub IsLoadStatus : Status → Type 0
+IsLoadStatus status.Usage = ⊥
+IsLoadStatus status.ReadFault = ⊥
+IsLoadStatus status.FolderFault = ⊥
+IsLoadStatus status.ListenFault = ⊥
+IsLoadStatus status.Damaged = ⊥
+IsLoadStatus status.PasswordTooLong = ⊥
+IsLoadStatus _ = Unit {0}
 
 -- it may end in this way before the door is open
 abbrev pub IsUnservedStatus : Status → Type 0

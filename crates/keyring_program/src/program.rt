@@ -9,17 +9,19 @@ ghost use Rattle.ring_check.specs.Batches.{KeepsOutput};
 ghost use Rattle.ring_check.specs.Looks.{IsUntouched};
 ghost use Rattle.ring_check.specs.declared.reading.Looked.{Looked};
 ghost use Rattle.keyring_program.specs.Checks.{Checks, ReadsPassword};
-ghost use Rattle.keyring_program.specs.Commands.{AsksForCheck, IsUnbuilt, serve_line};
+ghost use Rattle.keyring_program.specs.Commands.{AsksForService, serve_line};
 ghost use Rattle.keyring_program.specs.Doors.{HasServed, TakesBackOneAtMost};
 ghost use Rattle.keyring_program.specs.FirstLine.{TakesPassword};
 ghost use Rattle.keyring_program.specs.Folder.{IsOpened, HadFolder, HasOpened};
+ghost use Rattle.keyring_program.specs.Loads.{LoadEnds};
 ghost use Rattle.lone_desk.specs.service_tables.specs.Opened.{Contents};
 ghost use Rattle.keyring_program.specs.Serves.{Serves};
 ghost use Rattle.keyring_program.specs.ServesLinks.{IsUnserved, ServesDoor};
-ghost use Rattle.keyring_program.specs.Status.{IsCheckStatus, IsServeStatus, IsStdioStatus, IsUncheckedStatus};
+ghost use Rattle.keyring_program.specs.Status.{IsCheckStatus, IsLoadStatus, IsServeStatus, IsStdioStatus, IsUncheckedStatus};
 ghost use Rattle.keyring_program.specs.WholeInput.{IsWholeInput};
 
 use crate::check::run_check;
+use crate::load::run_load;
 use crate::serve::{HostSpawner, run_serve};
 use crate::status::Status;
 use crate::stdio::run_stdio;
@@ -48,10 +50,14 @@ use std::thread::Threads;
 /// a password is asked for, it is the first line of the input, which is read before the folder is opened. Nothing in
 /// the folder is changed. How far the check has come is told to `progress`.
 ///
-/// Ends with `Usage` exactly if the arguments are invalid; with `NotBuilt` only if they are those
-/// of the command that isn't there yet, `load`; with `FolderFault` only if the host's
+/// `load N SEED` serves a client that makes N items in a folder in memory, searches for them and reads them, and
+/// writes four lines to the output: what was counted over the replies. SEED determines the items. The input and
+/// the host are left alone.
+///
+/// Ends with `Usage` exactly if the arguments are invalid; with `FolderFault` only if the host's
 /// count of faults rose, or the folder that it opened may fail; and with `Memory` only if none is left.
-/// `serve` otherwise ends with `Done`, or with `ListenFault`, and with that only if that count rose, or
+/// `load` otherwise ends with `Done`, with `WriteFault` only if the output's count of faults rose, or as the connection
+/// of its client ends. `serve` otherwise ends with `Done`, or with `ListenFault`, and with that only if that count rose, or
 /// the socket that it opened may fail. `stdio` otherwise ends as `one_thread` of connection_worker says
 /// (its `HasCause` has a row for each end); everything that was put out is written by then, except that
 /// at `WriteFault` and `Memory` it may be only a prefix of it. `check` otherwise ends with `Done`, or with `Damaged` if a
@@ -90,19 +96,16 @@ where
     // comes next: until it is open nothing is read, except for the password of `check`, or written, and the clock
     // isn't taken.
     ensures usage { (result ≡ Status.Usage) ↔ IsNoCommandLine words.now }
-    ensures not_built { result ≡ Status.NotBuilt → IsUnbuilt words.now }
-    ensures unbuilt { IsUnbuilt words.now
-        → (result ≡ Status.NotBuilt) ⊎ (result ≡ Status.Memory) }
-    ensures untouched { (result ≡ Status.Usage) ⊎ (result ≡ Status.NotBuilt)
+    ensures untouched { result ≡ Status.Usage
         → (input.new ≡ input.old) × (output.new ≡ output.old) × (host.new ≡ host.old) }
-    ensures unserved { result ≡ Status.FolderFault → ¬ (AsksForCheck words.now)
+    ensures unserved { result ≡ Status.FolderFault → AsksForService words.now
         → (input.new ≡ input.old) × (output.new ≡ output.old)
         × (H.coming host.new ≡ H.coming host.old) }
 
-    // The host opens one folder at most, and exactly one if the run had it; it takes back one door at
-    // most. No job is left.
+    // The host opens one folder at most, and exactly one if the command is one of a service and the run had it; it
+    // takes back one door at most. No job is left.
     ensures one_folder { GivesOneAtMost (H.given host.old) (H.given host.new) }
-    ensures had_folder { HadFolder result → ¬ (AsksForCheck words.now)
+    ensures had_folder { HadFolder result → AsksForService words.now
         → GivesOne (H.given host.old) (H.given host.new) }
     ensures one_door { TakesBackOneAtMost (H.shut_doors host.old) (H.shut_doors host.new) }
     ensures idle { spawner.new.started ≡ [] }
@@ -216,6 +219,13 @@ where
         H.Dir.Cell.may_leave H.Dir.Cell.is_honest H.Dir.Cell.is_steady)
         (H.told host.old folder) (H.is_honest host.old) (H.is_steady host.old) password
         (O.written output.old) (O.written output.new) result after looked) }
+
+    // `load` leaves the input and the host alone. If it is done, it has written what was counted over the replies.
+    ensures loaded { (items number : ℕ) → IsCommandLine (CommandLine.Load items number) words.now
+        → IsLoadStatus result × (input.new ≡ input.old) × (host.new ≡ host.old)
+        × LoadEnds items number seed
+        (output_of O.written O.faults O.is_steady O.is_closed output.old)
+        (output_of O.written O.faults O.is_steady O.is_closed output.new) result }
 {
     let line = match read_words(words) {
         Ok(Some(line)) => line,
@@ -260,6 +270,9 @@ where
             let path = folder.as_str();
             run_check(rt, path, password, input, output, host, progress).status
         }
-        CommandLine::Load { .. } => Status::NotBuilt,
+        CommandLine::Load {
+            items,
+            seed: number,
+        } => run_load(rt, items, number, output, seed),
     }
 }

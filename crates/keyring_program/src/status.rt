@@ -14,8 +14,8 @@ use std::fmt;
 #[derive(Clone, Copy, Debug, PartialEq, Eq)]
 pub enum Status {
     /// `stdio`: the input ended between two messages, and every call was answered. `serve`: no further link
-    /// comes, or as many as were to be accepted were, and all have ended. `check`: all lines were written, and no
-    /// file is damaged.
+    /// comes, or as many as were to be accepted were, and all have ended. `load`: the four lines were written.
+    /// `check`: all lines were written, and no file is damaged.
     Done,
     /// The arguments are invalid (docs/DECISIONS.md, "Words of the command line").
     Usage,
@@ -37,8 +37,6 @@ pub enum Status {
     ListenFault,
     /// The service has recorded as many events as it can count (`most_events` of service_machine).
     EventsSpent,
-    /// The command isn't there yet.
-    NotBuilt,
     /// The first 4,096 bytes of the input, whose first line is the password, have no line feed.
     PasswordTooLong,
 }
@@ -114,7 +112,6 @@ impl Status {
             Status::Memory => 9,
             Status::ListenFault => 10,
             Status::EventsSpent => 11,
-            Status::NotBuilt => 12,
             Status::PasswordTooLong => 13,
         }
     }
@@ -136,7 +133,6 @@ impl fmt::Display for Status {
             Status::Memory => f.write_str("out of memory"),
             Status::ListenFault => f.write_str("socket failed"),
             Status::EventsSpent => f.write_str("events spent"),
-            Status::NotBuilt => f.write_str("input of a form that is not built"),
             Status::PasswordTooLong => f.write_str("password too long"),
         }
     }

@@ -18,7 +18,7 @@ ghost use Rattle.command_words.specs.CommandLines.{IsCommandLine, IsNoCommandLin
 ghost use Rattle.command_words.specs.declared.command_line.CommandLine.TheVariants.{Stdio};
 ghost use Rattle.kr_outside.specs.Faults.{Rose};
 ghost use Rattle.kr_outside.specs.Host.{GivesOne, GivesOneAtMost};
-ghost use Rattle.keyring_program.specs.Commands.{IsUnbuilt, serve_line};
+ghost use Rattle.keyring_program.specs.Commands.{AsksForService, serve_line};
 ghost use Rattle.keyring_program.specs.Doors.{HasServed, TakesBackOneAtMost};
 ghost use Rattle.keyring_program.specs.Folder.{HadFolder};
 ghost use Rattle.keyring_program.specs.Status.{IsServeStatus, IsStdioStatus, number_of};
@@ -127,13 +127,13 @@ where
     requires output_open { IsFalse (O.is_closed output.old) }
     // The arguments are looked at first.
     ensures usage { (result ≡ Status.Usage) ↔ IsNoCommandLine words.now }
-    ensures not_built { result ≡ Status.NotBuilt → IsUnbuilt words.now }
-    ensures untouched { (result ≡ Status.Usage) ⊎ (result ≡ Status.NotBuilt)
+    ensures untouched { result ≡ Status.Usage
         → (input.new ≡ input.old) × (output.new ≡ output.old) × (host.new ≡ host.old) }
 
     // What the host gave and took back, and whose fault it is.
     ensures one_folder { GivesOneAtMost (H.given host.old) (H.given host.new) }
-    ensures had_folder { HadFolder result → GivesOne (H.given host.old) (H.given host.new) }
+    ensures had_folder { HadFolder result → AsksForService words.now
+        → GivesOne (H.given host.old) (H.given host.new) }
     ensures one_door { TakesBackOneAtMost (H.shut_doors host.old) (H.shut_doors host.new) }
     ensures folder_fault { result ≡ Status.FolderFault
         → Rose (H.faults host.old) (H.faults host.new) ⊎ ¬ (IsTrue (H.is_steady host.old)) }

@@ -1,16 +1,14 @@
 use Rattle.std.proofs.Common.{true, false, inl, inr, refl, sym, ◌∙◌, subst}
 use Rattle.command_words.specs.declared.command_line.CommandLine.TheVariants.{Stdio, Serve, ServeUntilEof, Load, Check}
 use Rattle.service_hub.specs.connection_worker.specs.Streams.{input_of, output_of}
-use Rattle.keyring_program.specs.Status.{IsStdioStatus, IsServeStatus}
+use Rattle.keyring_program.specs.Status.{IsCheckStatus, IsLoadStatus, IsStdioStatus, IsServeStatus}
 use Rattle.keyring_program.specs.Commands.{serve_line}
-use Rattle.keyring_program.proofs.CommandLemmas.{one_stdio, one_serve, serve_or_stdio, unbuilt_or_stdio, unbuilt_or_serve, is_built}
+use Rattle.keyring_program.proofs.CommandLemmas.{one_stdio, one_serve, one_check, one_load, serve_or_stdio, load_or_stdio, load_or_serve, check_or_stdio, check_or_serve, check_or_load, load-few, no_service}
+use Rattle.keyring_program.proofs.CheckLemmas.{none-or-some}
 use Rattle.keyring_program.proofs.ServeLemmas.{nothing, nothing-sound, serves-none}
 use Rattle.keyring_program.proofs.program.run.Goals as goal
 
 -- the arguments are invalid
-pub returns-in-Ok-None-clause-unbuilt : goal.returns-in-Ok-None-clause-unbuilt
-returns-in-Ok-None-clause-unbuilt g c un = absurd ((rw c.in-Ok-None.field-0-is at c.in-Ok-None.ensures.read) un.0 un.1)
-
 pub returns-in-Ok-None-clause-opened : goal.returns-in-Ok-None-clause-opened
 returns-in-Ok-None-clause-opened g c folder uid images words = absurd ((rw c.in-Ok-None.field-0-is at c.in-Ok-None.ensures.read) (Stdio folder uid) words)
 
@@ -35,6 +33,21 @@ returns-in-Ok-None-clause-serve_recorded g c until_eof folder socket uid most wo
 pub returns-in-Ok-None-clause-stdio_status : goal.returns-in-Ok-None-clause-stdio_status
 returns-in-Ok-None-clause-stdio_status g c folder uid words = absurd ((rw c.in-Ok-None.field-0-is at c.in-Ok-None.ensures.read) (Stdio folder uid) words)
 
+pub returns-in-Ok-None-clause-loaded : goal.returns-in-Ok-None-clause-loaded
+returns-in-Ok-None-clause-loaded g c items number words = absurd ((rw c.in-Ok-None.field-0-is at c.in-Ok-None.ensures.read) (Load items number) words)
+
+pub returns-in-Ok-None-clause-check_status : goal.returns-in-Ok-None-clause-check_status
+returns-in-Ok-None-clause-check_status g c folder is_asked words = absurd ((rw c.in-Ok-None.field-0-is at c.in-Ok-None.ensures.read) (Check folder is_asked) words)
+
+pub returns-in-Ok-None-clause-check_reads : goal.returns-in-Ok-None-clause-check_reads
+returns-in-Ok-None-clause-check_reads g c folder is_asked words = absurd ((rw c.in-Ok-None.field-0-is at c.in-Ok-None.ensures.read) (Check folder is_asked) words)
+
+pub returns-in-Ok-None-clause-check_writes : goal.returns-in-Ok-None-clause-check_writes
+returns-in-Ok-None-clause-check_writes g c folder is_asked words = absurd ((rw c.in-Ok-None.field-0-is at c.in-Ok-None.ensures.read) (Check folder is_asked) words)
+
+pub returns-in-Ok-None-clause-checked : goal.returns-in-Ok-None-clause-checked
+returns-in-Ok-None-clause-checked g c folder is_asked words = absurd ((rw c.in-Ok-None.field-0-is at c.in-Ok-None.ensures.read) (Check folder is_asked) words)
+
 -- no memory was left to read them
 pub returns-in-Err-clause-usage : goal.returns-in-Err-clause-usage
 returns-in-Err-clause-usage g c =
@@ -52,19 +65,15 @@ returns-in-Err-clause-served g c folder uid words =
 pub returns-in-Err-clause-serve_recorded : goal.returns-in-Err-clause-serve_recorded
 returns-in-Err-clause-serve_recorded g c until_eof folder socket uid most words = inl (record { unserved = tt; doors = refl; jobs = refl })
 
+pub returns-in-Err-clause-loaded : goal.returns-in-Err-clause-loaded
+returns-in-Err-clause-loaded g c items number words = (tt, refl, refl, (refl, record { may = tt; why = inl refl }))
+
 -- the arguments are those of `stdio`
 pub returns-in-Stdio-clause-usage : goal.returns-in-Stdio-clause-usage
 returns-in-Stdio-clause-usage g c = (
   λ same. absurd (subst IsStdioStatus same c.run_stdio.ensures.status),
   λ none. absurd (none (Stdio c.in-Stdio.folder c.in-Stdio.uid) (rw c.in-Stdio.is at (rw c.in-Ok-Some.field-0-is at c.in-Ok-Some.ensures.read))),
 )
-
-pub returns-in-Stdio-clause-not_built : goal.returns-in-Stdio-clause-not_built
-returns-in-Stdio-clause-not_built g c same = absurd (subst IsStdioStatus same c.run_stdio.ensures.status)
-
-pub returns-in-Stdio-clause-unbuilt : goal.returns-in-Stdio-clause-unbuilt
-returns-in-Stdio-clause-unbuilt g c un =
-    absurd (is_built c.args.words.now (Stdio c.in-Stdio.folder c.in-Stdio.uid) (rw c.in-Stdio.is at (rw c.in-Ok-Some.field-0-is at c.in-Ok-Some.ensures.read)) (λ none. none) un)
 
 pub returns-in-Stdio-clause-opened : goal.returns-in-Stdio-clause-opened
 returns-in-Stdio-clause-opened g c folder uid images words honest told had =
@@ -108,23 +117,30 @@ pub returns-in-Stdio-clause-serve_recorded : goal.returns-in-Stdio-clause-serve_
 returns-in-Stdio-clause-serve_recorded g c until_eof folder socket uid most words =
     absurd (serve_or_stdio c.args.words.now until_eof folder c.in-Stdio.folder socket uid c.in-Stdio.uid most words (rw c.in-Stdio.is at (rw c.in-Ok-Some.field-0-is at c.in-Ok-Some.ensures.read)))
 
+pub returns-in-Stdio-clause-had_folder : goal.returns-in-Stdio-clause-had_folder
+returns-in-Stdio-clause-had_folder g c had has = (c.run_stdio.ensures.had_folder had).0
+
+pub returns-in-Stdio-clause-loaded : goal.returns-in-Stdio-clause-loaded
+returns-in-Stdio-clause-loaded g c items number words = absurd (load_or_stdio c.args.words.now c.in-Stdio.folder items number c.in-Stdio.uid words (rw c.in-Stdio.is at (rw c.in-Ok-Some.field-0-is at c.in-Ok-Some.ensures.read)))
+
+pub returns-in-Stdio-clause-check_status : goal.returns-in-Stdio-clause-check_status
+returns-in-Stdio-clause-check_status g c folder is_asked words = absurd (check_or_stdio c.args.words.now folder c.in-Stdio.folder is_asked c.in-Stdio.uid words (rw c.in-Stdio.is at (rw c.in-Ok-Some.field-0-is at c.in-Ok-Some.ensures.read)))
+
+pub returns-in-Stdio-clause-check_reads : goal.returns-in-Stdio-clause-check_reads
+returns-in-Stdio-clause-check_reads g c folder is_asked words = absurd (check_or_stdio c.args.words.now folder c.in-Stdio.folder is_asked c.in-Stdio.uid words (rw c.in-Stdio.is at (rw c.in-Ok-Some.field-0-is at c.in-Ok-Some.ensures.read)))
+
+pub returns-in-Stdio-clause-check_writes : goal.returns-in-Stdio-clause-check_writes
+returns-in-Stdio-clause-check_writes g c folder is_asked words = absurd (check_or_stdio c.args.words.now folder c.in-Stdio.folder is_asked c.in-Stdio.uid words (rw c.in-Stdio.is at (rw c.in-Ok-Some.field-0-is at c.in-Ok-Some.ensures.read)))
+
+pub returns-in-Stdio-clause-checked : goal.returns-in-Stdio-clause-checked
+returns-in-Stdio-clause-checked g c folder is_asked words = absurd (check_or_stdio c.args.words.now folder c.in-Stdio.folder is_asked c.in-Stdio.uid words (rw c.in-Stdio.is at (rw c.in-Ok-Some.field-0-is at c.in-Ok-Some.ensures.read)))
+
 -- the arguments are those of `serve`
 pub returns-in-Serve-clause-usage : goal.returns-in-Serve-clause-usage
 returns-in-Serve-clause-usage g c = (
   λ same. absurd (subst IsServeStatus same c.run_serve.ensures.status),
   λ none. absurd (none (Serve c.in-Serve.folder c.in-Serve.socket c.in-Serve.uid c.in-Serve.connections) (rw c.in-Serve.is at (rw c.in-Ok-Some.field-0-is at c.in-Ok-Some.ensures.read))),
 )
-
-pub returns-in-Serve-clause-not_built : goal.returns-in-Serve-clause-not_built
-returns-in-Serve-clause-not_built g c same = absurd (subst IsServeStatus same c.run_serve.ensures.status)
-
-pub returns-in-Serve-clause-unbuilt : goal.returns-in-Serve-clause-unbuilt
-returns-in-Serve-clause-unbuilt g c un =
-    absurd (is_built c.args.words.now (Serve c.in-Serve.folder c.in-Serve.socket c.in-Serve.uid c.in-Serve.connections) (rw c.in-Serve.is at (rw c.in-Ok-Some.field-0-is at c.in-Ok-Some.ensures.read)) (λ none. none) un)
-
-pub returns-in-Serve-clause-untouched : goal.returns-in-Serve-clause-untouched
-returns-in-Serve-clause-untouched g c (inl same) = absurd (subst IsServeStatus same c.run_serve.ensures.status)
-returns-in-Serve-clause-untouched g c (inr same) = absurd (subst IsServeStatus same c.run_serve.ensures.status)
 
 pub returns-in-Serve-clause-opened : goal.returns-in-Serve-clause-opened
 returns-in-Serve-clause-opened g c folder uid images words =
@@ -157,23 +173,38 @@ returns-in-Serve-clause-serve_recorded g c until_eof folder socket uid most word
     let same = one_serve c.args.words.now false until_eof c.in-Serve.folder folder c.in-Serve.socket socket c.in-Serve.uid uid c.in-Serve.connections most (rw c.in-Serve.is at (rw c.in-Ok-Some.field-0-is at c.in-Ok-Some.ensures.read)) words in
     rw (sym same.1, sym same.2, sym (c.as_str-in-Serve.ensures.value ∙ same.0)) c.run_serve.ensures.served
 
+pub returns-in-Serve-clause-untouched : goal.returns-in-Serve-clause-untouched
+returns-in-Serve-clause-untouched g c same = absurd (subst IsServeStatus same c.run_serve.ensures.status)
+
+pub returns-in-Serve-clause-had_folder : goal.returns-in-Serve-clause-had_folder
+returns-in-Serve-clause-had_folder g c had has = c.run_serve.ensures.had_folder had
+
+pub returns-in-Serve-clause-loaded : goal.returns-in-Serve-clause-loaded
+returns-in-Serve-clause-loaded g c items number words =
+    absurd (load_or_serve c.args.words.now false c.in-Serve.folder c.in-Serve.socket items number c.in-Serve.uid c.in-Serve.connections words (rw c.in-Serve.is at (rw c.in-Ok-Some.field-0-is at c.in-Ok-Some.ensures.read)))
+
+pub returns-in-Serve-clause-check_status : goal.returns-in-Serve-clause-check_status
+returns-in-Serve-clause-check_status g c folder is_asked words =
+    absurd (check_or_serve c.args.words.now false folder c.in-Serve.folder c.in-Serve.socket is_asked c.in-Serve.uid c.in-Serve.connections words (rw c.in-Serve.is at (rw c.in-Ok-Some.field-0-is at c.in-Ok-Some.ensures.read)))
+
+pub returns-in-Serve-clause-check_reads : goal.returns-in-Serve-clause-check_reads
+returns-in-Serve-clause-check_reads g c folder is_asked words =
+    absurd (check_or_serve c.args.words.now false folder c.in-Serve.folder c.in-Serve.socket is_asked c.in-Serve.uid c.in-Serve.connections words (rw c.in-Serve.is at (rw c.in-Ok-Some.field-0-is at c.in-Ok-Some.ensures.read)))
+
+pub returns-in-Serve-clause-check_writes : goal.returns-in-Serve-clause-check_writes
+returns-in-Serve-clause-check_writes g c folder is_asked words =
+    absurd (check_or_serve c.args.words.now false folder c.in-Serve.folder c.in-Serve.socket is_asked c.in-Serve.uid c.in-Serve.connections words (rw c.in-Serve.is at (rw c.in-Ok-Some.field-0-is at c.in-Ok-Some.ensures.read)))
+
+pub returns-in-Serve-clause-checked : goal.returns-in-Serve-clause-checked
+returns-in-Serve-clause-checked g c folder is_asked words =
+    absurd (check_or_serve c.args.words.now false folder c.in-Serve.folder c.in-Serve.socket is_asked c.in-Serve.uid c.in-Serve.connections words (rw c.in-Serve.is at (rw c.in-Ok-Some.field-0-is at c.in-Ok-Some.ensures.read)))
+
 -- the arguments are those of `serve` with `--until-eof`
 pub returns-in-ServeUntilEof-clause-usage : goal.returns-in-ServeUntilEof-clause-usage
 returns-in-ServeUntilEof-clause-usage g c = (
   λ same. absurd (subst IsServeStatus same c.run_serve-in-ServeUntilEof.ensures.status),
   λ none. absurd (none (ServeUntilEof c.in-ServeUntilEof.folder c.in-ServeUntilEof.socket c.in-ServeUntilEof.uid c.in-ServeUntilEof.connections) (rw c.in-ServeUntilEof.is at (rw c.in-Ok-Some.field-0-is at c.in-Ok-Some.ensures.read))),
 )
-
-pub returns-in-ServeUntilEof-clause-not_built : goal.returns-in-ServeUntilEof-clause-not_built
-returns-in-ServeUntilEof-clause-not_built g c same = absurd (subst IsServeStatus same c.run_serve-in-ServeUntilEof.ensures.status)
-
-pub returns-in-ServeUntilEof-clause-unbuilt : goal.returns-in-ServeUntilEof-clause-unbuilt
-returns-in-ServeUntilEof-clause-unbuilt g c un =
-    absurd (is_built c.args.words.now (ServeUntilEof c.in-ServeUntilEof.folder c.in-ServeUntilEof.socket c.in-ServeUntilEof.uid c.in-ServeUntilEof.connections) (rw c.in-ServeUntilEof.is at (rw c.in-Ok-Some.field-0-is at c.in-Ok-Some.ensures.read)) (λ none. none) un)
-
-pub returns-in-ServeUntilEof-clause-untouched : goal.returns-in-ServeUntilEof-clause-untouched
-returns-in-ServeUntilEof-clause-untouched g c (inl same) = absurd (subst IsServeStatus same c.run_serve-in-ServeUntilEof.ensures.status)
-returns-in-ServeUntilEof-clause-untouched g c (inr same) = absurd (subst IsServeStatus same c.run_serve-in-ServeUntilEof.ensures.status)
 
 pub returns-in-ServeUntilEof-clause-opened : goal.returns-in-ServeUntilEof-clause-opened
 returns-in-ServeUntilEof-clause-opened g c folder uid images words =
@@ -206,78 +237,188 @@ returns-in-ServeUntilEof-clause-serve_recorded g c until_eof folder socket uid m
     let same = one_serve c.args.words.now true until_eof c.in-ServeUntilEof.folder folder c.in-ServeUntilEof.socket socket c.in-ServeUntilEof.uid uid c.in-ServeUntilEof.connections most (rw c.in-ServeUntilEof.is at (rw c.in-Ok-Some.field-0-is at c.in-Ok-Some.ensures.read)) words in
     rw (sym same.1, sym same.2, sym (c.as_str-in-ServeUntilEof.ensures.value ∙ same.0)) c.run_serve-in-ServeUntilEof.ensures.served
 
--- the arguments are those of `load`
-pub returns-in-Load-clause-usage : goal.returns-in-Load-clause-usage
-returns-in-Load-clause-usage g c = (
-  λ same. absurd (let never : ⊥ = cc in never),
-  λ none. absurd (none (Load c.in-Load.items c.in-Load.seed) (rw c.in-Load.is at (rw c.in-Ok-Some.field-0-is at c.in-Ok-Some.ensures.read))),
-)
+pub returns-in-ServeUntilEof-clause-untouched : goal.returns-in-ServeUntilEof-clause-untouched
+returns-in-ServeUntilEof-clause-untouched g c same = absurd (subst IsServeStatus same c.run_serve-in-ServeUntilEof.ensures.status)
 
-pub returns-in-Load-clause-not_built : goal.returns-in-Load-clause-not_built
-returns-in-Load-clause-not_built g c same = (Load c.in-Load.items c.in-Load.seed, rw c.in-Load.is at (rw c.in-Ok-Some.field-0-is at c.in-Ok-Some.ensures.read), tt)
+pub returns-in-ServeUntilEof-clause-had_folder : goal.returns-in-ServeUntilEof-clause-had_folder
+returns-in-ServeUntilEof-clause-had_folder g c had has = c.run_serve-in-ServeUntilEof.ensures.had_folder had
 
-pub returns-in-Load-clause-opened : goal.returns-in-Load-clause-opened
-returns-in-Load-clause-opened g c folder uid images words =
-    absurd (unbuilt_or_stdio c.args.words.now (Load c.in-Load.items c.in-Load.seed) folder uid tt (rw c.in-Load.is at (rw c.in-Ok-Some.field-0-is at c.in-Ok-Some.ensures.read)) words)
+pub returns-in-ServeUntilEof-clause-loaded : goal.returns-in-ServeUntilEof-clause-loaded
+returns-in-ServeUntilEof-clause-loaded g c items number words =
+    absurd (load_or_serve c.args.words.now true c.in-ServeUntilEof.folder c.in-ServeUntilEof.socket items number c.in-ServeUntilEof.uid c.in-ServeUntilEof.connections words (rw c.in-ServeUntilEof.is at (rw c.in-Ok-Some.field-0-is at c.in-Ok-Some.ensures.read)))
 
-pub returns-in-Load-clause-served : goal.returns-in-Load-clause-served
-returns-in-Load-clause-served g c folder uid words =
-    absurd (unbuilt_or_stdio c.args.words.now (Load c.in-Load.items c.in-Load.seed) folder uid tt (rw c.in-Load.is at (rw c.in-Ok-Some.field-0-is at c.in-Ok-Some.ensures.read)) words)
+pub returns-in-ServeUntilEof-clause-check_status : goal.returns-in-ServeUntilEof-clause-check_status
+returns-in-ServeUntilEof-clause-check_status g c folder is_asked words =
+    absurd (check_or_serve c.args.words.now true folder c.in-ServeUntilEof.folder c.in-ServeUntilEof.socket is_asked c.in-ServeUntilEof.uid c.in-ServeUntilEof.connections words (rw c.in-ServeUntilEof.is at (rw c.in-Ok-Some.field-0-is at c.in-Ok-Some.ensures.read)))
 
-pub returns-in-Load-clause-complete : goal.returns-in-Load-clause-complete
-returns-in-Load-clause-complete g c folder uid bytes words =
-    absurd (unbuilt_or_stdio c.args.words.now (Load c.in-Load.items c.in-Load.seed) folder uid tt (rw c.in-Load.is at (rw c.in-Ok-Some.field-0-is at c.in-Ok-Some.ensures.read)) words)
+pub returns-in-ServeUntilEof-clause-check_reads : goal.returns-in-ServeUntilEof-clause-check_reads
+returns-in-ServeUntilEof-clause-check_reads g c folder is_asked words =
+    absurd (check_or_serve c.args.words.now true folder c.in-ServeUntilEof.folder c.in-ServeUntilEof.socket is_asked c.in-ServeUntilEof.uid c.in-ServeUntilEof.connections words (rw c.in-ServeUntilEof.is at (rw c.in-Ok-Some.field-0-is at c.in-Ok-Some.ensures.read)))
 
-pub returns-in-Load-clause-stdio_status : goal.returns-in-Load-clause-stdio_status
-returns-in-Load-clause-stdio_status g c folder uid words =
-    absurd (unbuilt_or_stdio c.args.words.now (Load c.in-Load.items c.in-Load.seed) folder uid tt (rw c.in-Load.is at (rw c.in-Ok-Some.field-0-is at c.in-Ok-Some.ensures.read)) words)
+pub returns-in-ServeUntilEof-clause-check_writes : goal.returns-in-ServeUntilEof-clause-check_writes
+returns-in-ServeUntilEof-clause-check_writes g c folder is_asked words =
+    absurd (check_or_serve c.args.words.now true folder c.in-ServeUntilEof.folder c.in-ServeUntilEof.socket is_asked c.in-ServeUntilEof.uid c.in-ServeUntilEof.connections words (rw c.in-ServeUntilEof.is at (rw c.in-Ok-Some.field-0-is at c.in-Ok-Some.ensures.read)))
 
-pub returns-in-Load-clause-serve_status : goal.returns-in-Load-clause-serve_status
-returns-in-Load-clause-serve_status g c until_eof folder socket uid most words =
-    absurd (unbuilt_or_serve c.args.words.now (Load c.in-Load.items c.in-Load.seed) until_eof folder socket uid most tt (rw c.in-Load.is at (rw c.in-Ok-Some.field-0-is at c.in-Ok-Some.ensures.read)) words)
-
-pub returns-in-Load-clause-serve_complete : goal.returns-in-Load-clause-serve_complete
-returns-in-Load-clause-serve_complete g c until_eof folder socket uid most words =
-    absurd (unbuilt_or_serve c.args.words.now (Load c.in-Load.items c.in-Load.seed) until_eof folder socket uid most tt (rw c.in-Load.is at (rw c.in-Ok-Some.field-0-is at c.in-Ok-Some.ensures.read)) words)
-
-pub returns-in-Load-clause-serve_recorded : goal.returns-in-Load-clause-serve_recorded
-returns-in-Load-clause-serve_recorded g c until_eof folder socket uid most words =
-    absurd (unbuilt_or_serve c.args.words.now (Load c.in-Load.items c.in-Load.seed) until_eof folder socket uid most tt (rw c.in-Load.is at (rw c.in-Ok-Some.field-0-is at c.in-Ok-Some.ensures.read)) words)
+pub returns-in-ServeUntilEof-clause-checked : goal.returns-in-ServeUntilEof-clause-checked
+returns-in-ServeUntilEof-clause-checked g c folder is_asked words =
+    absurd (check_or_serve c.args.words.now true folder c.in-ServeUntilEof.folder c.in-ServeUntilEof.socket is_asked c.in-ServeUntilEof.uid c.in-ServeUntilEof.connections words (rw c.in-ServeUntilEof.is at (rw c.in-Ok-Some.field-0-is at c.in-Ok-Some.ensures.read)))
 
 -- the arguments are those of `check`
-pub returns-clause-usage : goal.returns-clause-usage
-returns-clause-usage g c = (
-  λ same. absurd (let never : ⊥ = cc in never),
+pub returns-in-Check-clause-usage : goal.returns-in-Check-clause-usage
+returns-in-Check-clause-usage g c = (
+  λ same. absurd (subst IsCheckStatus same c.run_check.ensures.status),
   λ none. absurd (none (Check c.in-Check.folder c.in-Check.password) (rw c.in-Check.is at (rw c.in-Ok-Some.field-0-is at c.in-Ok-Some.ensures.read))),
 )
 
-pub returns-clause-not_built : goal.returns-clause-not_built
-returns-clause-not_built g c same = (Check c.in-Check.folder c.in-Check.password, rw c.in-Check.is at (rw c.in-Ok-Some.field-0-is at c.in-Ok-Some.ensures.read), tt)
+pub returns-in-Check-clause-untouched : goal.returns-in-Check-clause-untouched
+returns-in-Check-clause-untouched g c same = absurd (subst IsCheckStatus same c.run_check.ensures.status)
 
-pub returns-clause-opened : goal.returns-clause-opened
-returns-clause-opened g c folder uid images words =
-    absurd (unbuilt_or_stdio c.args.words.now (Check c.in-Check.folder c.in-Check.password) folder uid tt (rw c.in-Check.is at (rw c.in-Ok-Some.field-0-is at c.in-Ok-Some.ensures.read)) words)
+pub returns-in-Check-clause-unserved : goal.returns-in-Check-clause-unserved
+returns-in-Check-clause-unserved g c failed has =
+    absurd (no_service c.args.words.now (Check c.in-Check.folder c.in-Check.password) (rw c.in-Check.is at (rw c.in-Ok-Some.field-0-is at c.in-Ok-Some.ensures.read)) (λ none. none) has)
 
-pub returns-clause-served : goal.returns-clause-served
-returns-clause-served g c folder uid words =
-    absurd (unbuilt_or_stdio c.args.words.now (Check c.in-Check.folder c.in-Check.password) folder uid tt (rw c.in-Check.is at (rw c.in-Ok-Some.field-0-is at c.in-Ok-Some.ensures.read)) words)
+pub returns-in-Check-clause-had_folder : goal.returns-in-Check-clause-had_folder
+returns-in-Check-clause-had_folder g c had has =
+    absurd (no_service c.args.words.now (Check c.in-Check.folder c.in-Check.password) (rw c.in-Check.is at (rw c.in-Ok-Some.field-0-is at c.in-Ok-Some.ensures.read)) (λ none. none) has)
 
-pub returns-clause-complete : goal.returns-clause-complete
-returns-clause-complete g c folder uid bytes words =
-    absurd (unbuilt_or_stdio c.args.words.now (Check c.in-Check.folder c.in-Check.password) folder uid tt (rw c.in-Check.is at (rw c.in-Ok-Some.field-0-is at c.in-Ok-Some.ensures.read)) words)
+pub returns-in-Check-clause-listen_fault : goal.returns-in-Check-clause-listen_fault
+returns-in-Check-clause-listen_fault g c same = absurd (subst IsCheckStatus same c.run_check.ensures.status)
 
-pub returns-clause-stdio_status : goal.returns-clause-stdio_status
-returns-clause-stdio_status g c folder uid words =
-    absurd (unbuilt_or_stdio c.args.words.now (Check c.in-Check.folder c.in-Check.password) folder uid tt (rw c.in-Check.is at (rw c.in-Ok-Some.field-0-is at c.in-Ok-Some.ensures.read)) words)
+pub returns-in-Check-clause-opened : goal.returns-in-Check-clause-opened
+returns-in-Check-clause-opened g c folder uid images words =
+    absurd (check_or_stdio c.args.words.now c.in-Check.folder folder c.in-Check.password uid (rw c.in-Check.is at (rw c.in-Ok-Some.field-0-is at c.in-Ok-Some.ensures.read)) words)
 
-pub returns-clause-serve_status : goal.returns-clause-serve_status
-returns-clause-serve_status g c until_eof folder socket uid most words =
-    absurd (unbuilt_or_serve c.args.words.now (Check c.in-Check.folder c.in-Check.password) until_eof folder socket uid most tt (rw c.in-Check.is at (rw c.in-Ok-Some.field-0-is at c.in-Ok-Some.ensures.read)) words)
+pub returns-in-Check-clause-served : goal.returns-in-Check-clause-served
+returns-in-Check-clause-served g c folder uid words =
+    absurd (check_or_stdio c.args.words.now c.in-Check.folder folder c.in-Check.password uid (rw c.in-Check.is at (rw c.in-Ok-Some.field-0-is at c.in-Ok-Some.ensures.read)) words)
 
-pub returns-clause-serve_complete : goal.returns-clause-serve_complete
-returns-clause-serve_complete g c until_eof folder socket uid most words =
-    absurd (unbuilt_or_serve c.args.words.now (Check c.in-Check.folder c.in-Check.password) until_eof folder socket uid most tt (rw c.in-Check.is at (rw c.in-Ok-Some.field-0-is at c.in-Ok-Some.ensures.read)) words)
+pub returns-in-Check-clause-complete : goal.returns-in-Check-clause-complete
+returns-in-Check-clause-complete g c folder uid bytes words =
+    absurd (check_or_stdio c.args.words.now c.in-Check.folder folder c.in-Check.password uid (rw c.in-Check.is at (rw c.in-Ok-Some.field-0-is at c.in-Ok-Some.ensures.read)) words)
 
-pub returns-clause-serve_recorded : goal.returns-clause-serve_recorded
-returns-clause-serve_recorded g c until_eof folder socket uid most words =
-    absurd (unbuilt_or_serve c.args.words.now (Check c.in-Check.folder c.in-Check.password) until_eof folder socket uid most tt (rw c.in-Check.is at (rw c.in-Ok-Some.field-0-is at c.in-Ok-Some.ensures.read)) words)
+pub returns-in-Check-clause-stdio_status : goal.returns-in-Check-clause-stdio_status
+returns-in-Check-clause-stdio_status g c folder uid words =
+    absurd (check_or_stdio c.args.words.now c.in-Check.folder folder c.in-Check.password uid (rw c.in-Check.is at (rw c.in-Ok-Some.field-0-is at c.in-Ok-Some.ensures.read)) words)
+
+pub returns-in-Check-clause-serve_status : goal.returns-in-Check-clause-serve_status
+returns-in-Check-clause-serve_status g c until_eof folder socket uid most words =
+    absurd (check_or_serve c.args.words.now until_eof c.in-Check.folder folder socket c.in-Check.password uid most (rw c.in-Check.is at (rw c.in-Ok-Some.field-0-is at c.in-Ok-Some.ensures.read)) words)
+
+pub returns-in-Check-clause-serve_done : goal.returns-in-Check-clause-serve_done
+returns-in-Check-clause-serve_done g c until_eof folder socket uid most words =
+    absurd (check_or_serve c.args.words.now until_eof c.in-Check.folder folder socket c.in-Check.password uid most (rw c.in-Check.is at (rw c.in-Ok-Some.field-0-is at c.in-Ok-Some.ensures.read)) words)
+
+pub returns-in-Check-clause-serve_opened : goal.returns-in-Check-clause-serve_opened
+returns-in-Check-clause-serve_opened g c until_eof folder socket uid most images words =
+    absurd (check_or_serve c.args.words.now until_eof c.in-Check.folder folder socket c.in-Check.password uid most (rw c.in-Check.is at (rw c.in-Ok-Some.field-0-is at c.in-Ok-Some.ensures.read)) words)
+
+pub returns-in-Check-clause-serve_complete : goal.returns-in-Check-clause-serve_complete
+returns-in-Check-clause-serve_complete g c until_eof folder socket uid most words =
+    absurd (check_or_serve c.args.words.now until_eof c.in-Check.folder folder socket c.in-Check.password uid most (rw c.in-Check.is at (rw c.in-Ok-Some.field-0-is at c.in-Ok-Some.ensures.read)) words)
+
+pub returns-in-Check-clause-serve_recorded : goal.returns-in-Check-clause-serve_recorded
+returns-in-Check-clause-serve_recorded g c until_eof folder socket uid most words =
+    absurd (check_or_serve c.args.words.now until_eof c.in-Check.folder folder socket c.in-Check.password uid most (rw c.in-Check.is at (rw c.in-Ok-Some.field-0-is at c.in-Ok-Some.ensures.read)) words)
+
+pub returns-in-Check-clause-loaded : goal.returns-in-Check-clause-loaded
+returns-in-Check-clause-loaded g c items number words =
+    absurd (check_or_load c.args.words.now c.in-Check.folder c.in-Check.password items number (rw c.in-Check.is at (rw c.in-Ok-Some.field-0-is at c.in-Ok-Some.ensures.read)) words)
+
+pub returns-in-Check-clause-check_status : goal.returns-in-Check-clause-check_status
+returns-in-Check-clause-check_status g c folder is_asked words =
+    (c.run_check.ensures.status, c.run_check.ensures.coming, c.run_check.ensures.doors, c.run_check.ensures.unread)
+
+pub returns-in-Check-clause-check_reads : goal.returns-in-Check-clause-check_reads
+returns-in-Check-clause-check_reads g c folder is_asked words =
+    let same = one_check c.args.words.now c.in-Check.folder folder c.in-Check.password is_asked (rw c.in-Check.is at (rw c.in-Ok-Some.field-0-is at c.in-Ok-Some.ensures.read)) words in
+    rw (sym same.1) c.run_check.ensures.reads
+
+pub returns-in-Check-clause-checked : goal.returns-in-Check-clause-checked
+returns-in-Check-clause-checked g c folder is_asked words =
+    let same = one_check c.args.words.now c.in-Check.folder folder c.in-Check.password is_asked (rw c.in-Check.is at (rw c.in-Ok-Some.field-0-is at c.in-Ok-Some.ensures.read)) words in
+    rw (sym same.1, sym (c.as_str-path.ensures.value ∙ same.0)) (none-or-some c.run_check.result.checked (λ one. one.folder) (λ one. one.looked.items) _ _ _ _ _
+    c.run_check.ensures.unchecked c.run_check.ensures.given c.run_check.ensures.checks)
+
+-- the arguments are those of `load`
+pub returns-in-Load-clause-usage : goal.returns-in-Load-clause-usage
+returns-in-Load-clause-usage g c = (
+  λ same. absurd (subst IsLoadStatus same c.run_load.ensures.status),
+  λ none. absurd (none _ (rw c.in-Load.is at (rw c.in-Ok-Some.field-0-is at c.in-Ok-Some.ensures.read))),
+)
+
+pub returns-in-Load-clause-opened : goal.returns-in-Load-clause-opened
+returns-in-Load-clause-opened g c folder uid images words =
+    absurd (load_or_stdio c.args.words.now folder c.in-Load.items _ uid (rw c.in-Load.is at (rw c.in-Ok-Some.field-0-is at c.in-Ok-Some.ensures.read)) words)
+
+pub returns-in-Load-clause-served : goal.returns-in-Load-clause-served
+returns-in-Load-clause-served g c folder uid words =
+    absurd (load_or_stdio c.args.words.now folder c.in-Load.items _ uid (rw c.in-Load.is at (rw c.in-Ok-Some.field-0-is at c.in-Ok-Some.ensures.read)) words)
+
+pub returns-in-Load-clause-complete : goal.returns-in-Load-clause-complete
+returns-in-Load-clause-complete g c folder uid bytes words =
+    absurd (load_or_stdio c.args.words.now folder c.in-Load.items _ uid (rw c.in-Load.is at (rw c.in-Ok-Some.field-0-is at c.in-Ok-Some.ensures.read)) words)
+
+pub returns-in-Load-clause-stdio_status : goal.returns-in-Load-clause-stdio_status
+returns-in-Load-clause-stdio_status g c folder uid words =
+    absurd (load_or_stdio c.args.words.now folder c.in-Load.items _ uid (rw c.in-Load.is at (rw c.in-Ok-Some.field-0-is at c.in-Ok-Some.ensures.read)) words)
+
+pub returns-in-Load-clause-serve_status : goal.returns-in-Load-clause-serve_status
+returns-in-Load-clause-serve_status g c until_eof folder socket uid most words =
+    absurd (load_or_serve c.args.words.now until_eof folder socket c.in-Load.items _ uid most (rw c.in-Load.is at (rw c.in-Ok-Some.field-0-is at c.in-Ok-Some.ensures.read)) words)
+
+pub returns-in-Load-clause-serve_done : goal.returns-in-Load-clause-serve_done
+returns-in-Load-clause-serve_done g c until_eof folder socket uid most words =
+    absurd (load_or_serve c.args.words.now until_eof folder socket c.in-Load.items _ uid most (rw c.in-Load.is at (rw c.in-Ok-Some.field-0-is at c.in-Ok-Some.ensures.read)) words)
+
+pub returns-in-Load-clause-serve_opened : goal.returns-in-Load-clause-serve_opened
+returns-in-Load-clause-serve_opened g c until_eof folder socket uid most images words =
+    absurd (load_or_serve c.args.words.now until_eof folder socket c.in-Load.items _ uid most (rw c.in-Load.is at (rw c.in-Ok-Some.field-0-is at c.in-Ok-Some.ensures.read)) words)
+
+pub returns-in-Load-clause-serve_complete : goal.returns-in-Load-clause-serve_complete
+returns-in-Load-clause-serve_complete g c until_eof folder socket uid most words =
+    absurd (load_or_serve c.args.words.now until_eof folder socket c.in-Load.items _ uid most (rw c.in-Load.is at (rw c.in-Ok-Some.field-0-is at c.in-Ok-Some.ensures.read)) words)
+
+pub returns-in-Load-clause-serve_recorded : goal.returns-in-Load-clause-serve_recorded
+returns-in-Load-clause-serve_recorded g c until_eof folder socket uid most words =
+    absurd (load_or_serve c.args.words.now until_eof folder socket c.in-Load.items _ uid most (rw c.in-Load.is at (rw c.in-Ok-Some.field-0-is at c.in-Ok-Some.ensures.read)) words)
+
+pub returns-in-Load-clause-check_status : goal.returns-in-Load-clause-check_status
+returns-in-Load-clause-check_status g c folder is_asked words =
+    absurd (check_or_load c.args.words.now folder is_asked c.in-Load.items _ words (rw c.in-Load.is at (rw c.in-Ok-Some.field-0-is at c.in-Ok-Some.ensures.read)))
+
+pub returns-in-Load-clause-check_reads : goal.returns-in-Load-clause-check_reads
+returns-in-Load-clause-check_reads g c folder is_asked words =
+    absurd (check_or_load c.args.words.now folder is_asked c.in-Load.items _ words (rw c.in-Load.is at (rw c.in-Ok-Some.field-0-is at c.in-Ok-Some.ensures.read)))
+
+pub returns-in-Load-clause-check_writes : goal.returns-in-Load-clause-check_writes
+returns-in-Load-clause-check_writes g c folder is_asked words =
+    absurd (check_or_load c.args.words.now folder is_asked c.in-Load.items _ words (rw c.in-Load.is at (rw c.in-Ok-Some.field-0-is at c.in-Ok-Some.ensures.read)))
+
+pub returns-in-Load-clause-checked : goal.returns-in-Load-clause-checked
+returns-in-Load-clause-checked g c folder is_asked words =
+    absurd (check_or_load c.args.words.now folder is_asked c.in-Load.items _ words (rw c.in-Load.is at (rw c.in-Ok-Some.field-0-is at c.in-Ok-Some.ensures.read)))
+
+pub returns-in-Load-clause-untouched : goal.returns-in-Load-clause-untouched
+returns-in-Load-clause-untouched g c same = absurd (subst IsLoadStatus same c.run_load.ensures.status)
+
+pub returns-in-Load-clause-unserved : goal.returns-in-Load-clause-unserved
+returns-in-Load-clause-unserved g c same has = absurd (subst IsLoadStatus same c.run_load.ensures.status)
+
+pub returns-in-Load-clause-folder_fault : goal.returns-in-Load-clause-folder_fault
+returns-in-Load-clause-folder_fault g c same = absurd (subst IsLoadStatus same c.run_load.ensures.status)
+
+pub returns-in-Load-clause-listen_fault : goal.returns-in-Load-clause-listen_fault
+returns-in-Load-clause-listen_fault g c same = absurd (subst IsLoadStatus same c.run_load.ensures.status)
+
+pub returns-in-Load-clause-had_folder : goal.returns-in-Load-clause-had_folder
+returns-in-Load-clause-had_folder g c had has =
+    absurd (no_service c.args.words.now (Load c.in-Load.items _) (rw c.in-Load.is at (rw c.in-Ok-Some.field-0-is at c.in-Ok-Some.ensures.read)) (λ none. none) has)
+
+pub returns-in-Load-clause-loaded : goal.returns-in-Load-clause-loaded
+returns-in-Load-clause-loaded g c items number words =
+    let same = one_load c.args.words.now c.in-Load.items items _ number (rw c.in-Load.is at (rw c.in-Ok-Some.field-0-is at c.in-Ok-Some.ensures.read)) words in
+    (c.run_load.ensures.status, refl, refl, rw (sym same.0, sym same.1) c.run_load.ensures.loads)
+
+-- there are at most 1,000 items
+pub run_load-requires-clause-few : goal.run_load-requires-clause-few
+run_load-requires-clause-few g c = load-few c.args.words.now c.in-Load.items _ (rw c.in-Load.is at (rw c.in-Ok-Some.field-0-is at c.in-Ok-Some.ensures.read))
