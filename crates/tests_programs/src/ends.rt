@@ -27,7 +27,9 @@ const COMMANDS: &str = "\
 /stdio//4294967295 handshake refused: BeginTooSoon
 /stdio/--/-d/1000 done
 /stdio/./1000/-- done
-/load/1/0 input of a form that is not built
+/load/1/0 done
+/load/1000/01 usage
+/load/1001/1 usage
 /load/0/0 usage
  usage
 /stdio usage
@@ -191,8 +193,6 @@ fn each_end_has_its_number_and_its_text(rt: HostRuntime) -> Result<(), Fail> {
     is_end(&rt, Status::Memory, 9, "out of memory")?;
     is_end(&rt, Status::ListenFault, 10, "socket failed")?;
     is_end(&rt, Status::EventsSpent, 11, "events spent")?;
-    let unbuilt = "input of a form that is not built";
-    is_end(&rt, Status::NotBuilt, 12, unbuilt)?;
     let command =
         "usage: keyringd stdio DIR UID | serve DIR SOCKET --uid U [--connections N] [--until-eof] | load N SEED";
     ends(&rt, Status::Usage, command, "usage")

@@ -18,6 +18,8 @@ mod desktop;
 #[cfg(test)]
 mod ends;
 #[cfg(test)]
+mod loads;
+#[cfg(test)]
 mod locked;
 #[cfg(test)]
 mod parts;
