@@ -28,7 +28,7 @@ c.keyring=odd|-|damaged|c.keyring: AreaLength;
 s.keyring=slow|-|damaged|s.keyring: TooManyIterations;
 a.keyring=00 a-b.keyring=00 B.keyring=00|-|damaged|B.keyring: Magic;a-b.keyring: Magic;a.keyring: Magic;
 .keyring=00|-|damaged|.keyring: Magic;
-aliases=00 a.keyring.tmp=00 a.keyring~=00 keyring=00 a.Keyring=00|-|done|
+aliases=00 a.keyring.old=00 a.keyring~=00 keyring=00 a.Keyring=00|-|done|
 a.keyring=00 b.keyring=large c.keyring=00|-|damaged|a.keyring: Magic;b.keyring: TooLarge;c.keyring: Magic;
 ";
 
