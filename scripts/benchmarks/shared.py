@@ -23,12 +23,12 @@ def processor_time():
     return used.ru_utime + used.ru_stime
 
 
-def best(words, rounds=5):
-    """The least seconds that the processor spent on some runs, and what was printed."""
+def best(words, rounds=5, given=None):
+    """The least seconds that the processor spent on some runs, and what was printed. `given` is the text of their input."""
     least, printed = None, None
     for _ in range(rounds):
         before = processor_time()
-        printed = run(words)
+        printed = run(words, input=given)
         took = processor_time() - before
         least = took if least is None else min(least, took)
     return least, printed
@@ -116,7 +116,7 @@ def escaped(text):
     return "".join(f"\\x{byte:02x}" for byte in bytes.fromhex(text))
 
 
-def keyring_file(path, items, shared=False):
+def keyring_file(path, items, shared=False, iterations=1):
     """Writes a keyring file of so many items under the password of the program, and gives the length of its area. If it is
     asked for, each item has a second pair, which all have."""
     number = lambda n: n.to_bytes(4, "big")
@@ -132,9 +132,11 @@ def keyring_file(path, items, shared=False):
     area += bytes(-len(area) % 16)
     area = hashlib.md5(area).digest() + area
     digest = hashlib.sha256(b"passwordsaltsalt").digest()
+    for _ in range(iterations - 1):
+        digest = hashlib.sha256(digest).digest()
     words = ["openssl", "enc", "-aes-128-cbc", "-nopad", "-K", digest[:16].hex(), "-iv", digest[16:].hex()]
     hidden = subprocess.run(words, input=area, capture_output=True, check=True).stdout
     clear = b"".join(number(n) + number(0) + attributes(n, md5) for n in range(items))
-    path.write_bytes(b"GnomeKeyring\n\r\0\n" + bytes(4) + string(b"login") + bytes(16) + bytes(8) + number(1) + b"saltsalt" + bytes(16)
+    path.write_bytes(b"GnomeKeyring\n\r\0\n" + bytes(4) + string(b"login") + bytes(16) + bytes(8) + number(iterations) + b"saltsalt" + bytes(16)
                      + number(items) + clear + number(len(area)) + hidden)
     return len(area)
