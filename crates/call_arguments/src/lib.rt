@@ -12,7 +12,7 @@ mod values;
 pub use arguments::{are_listed, held_in, one_string_in, string_in, two_in, without_arguments};
 pub use meanings::{
     alias_in, attributes_in, label_in, name_in, objects_in, prompt_in, property, secret_in,
-    session_in, wanted_alias_in,
+    session_in, text_pair_in, wanted_alias_in,
 };
 pub use values::{
     ElementType, bytes_in, elements_in, entry_in, four_in, long_in, one_in, parts_in, path_in,

@@ -141,8 +141,8 @@ pub fn wanted_alias_in(value: &Value) -> Result<Option<Option<AliasName>>, OutOf
     }
 }
 
-// The two texts of an entry.
-fn text_pair_in(value: &Value) -> Option<(&Text, &Text)>
+/// The two texts of an entry of a dict of texts.
+pub fn text_pair_in(value: &Value) -> Option<(&Text, &Text)>
     ensures { option_map (λ two. (two.0.now, two.1.now)) result
         ≡ text_pair_in (value_as (type_of_element (ElementType.TextPair)) value.now) }
 {

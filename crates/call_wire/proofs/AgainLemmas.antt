@@ -27,6 +27,12 @@ use Rattle.secret_calls.specs.declared.out.ErrorName.{ErrorName}
 use Rattle.secret_calls.specs.declared.out.ErrorName.TheVariants as name
 use Rattle.secret_calls.specs.declared.out.Out.{Out}
 use Rattle.secret_calls.specs.declared.out.Out.TheVariants as out
+use Rattle.secret_calls.specs.declared.property.Attribute.{Attribute}
+use Rattle.secret_calls.specs.declared.property.Property.{Property}
+use Rattle.secret_calls.specs.declared.property.Property.TheVariants as property
+use Rattle.secret_calls.specs.declared.property.PropertyValue.{PropertyValue}
+use Rattle.secret_calls.specs.declared.property.PropertyValue.TheVariants as shown
+use Rattle.secret_calls.specs.declared.property.ShownProperty.{ShownProperty}
 use Rattle.secret_calls.specs.declared.secret.ReturnedSecret.{ReturnedSecret}
 use Rattle.secret_calls.specs.declared.secret.ItemSecret.{ItemSecret}
 use Rattle.secret_calls.specs.declared.serial.Serial.{Serial}
@@ -38,10 +44,10 @@ use Rattle.secret_calls.specs.declared.signal.Signal.{Signal}
 use Rattle.secret_calls.specs.declared.signal.Signal.TheVariants as signal
 use Rattle.secret_calls.proofs.SerialLemmas.{one_serial}
 use Rattle.secret_calls.proofs.SizeLemmas.{prompt-short, fields-most}
-use Rattle.secret_calls.specs.Outs.{error_text, session_path, prompt_path, prompt_text, prompt_value, path_values, secret_value, secret_values, values_of, kind_text, completion_value, signal_values, emitter, header_of, values_sent, sent, AreTyped, IsPrompt, IsSecret, AreSecrets, IsResult, IsSignal, IsTyped, HasSpelling, spelled}
+use Rattle.secret_calls.specs.Outs.{error_text, session_path, prompt_path, prompt_text, prompt_value, path_values, secret_value, secret_values, property_text, attribute_values, property_value, shown_values, values_of, kind_text, completion_value, signal_values, emitter, header_of, values_sent, sent, AreTyped, IsPrompt, IsSecret, AreSecrets, IsResult, IsSignal, IsTyped, HasSpelling, spelled}
 use Rattle.call_wire.specs.Said.{said, IsSendable}
 use Rattle.call_wire.proofs.PlainLemmas.{plain_text, plain_literal, path_plain, path_is, prompt_plain, prompt_is}
-use Rattle.call_wire.proofs.FitLemmas.{Within, all_within, all_short, text_is, path_fits, paths_fit, fields_fit, secrets_fit}
+use Rattle.call_wire.proofs.FitLemmas.{Within, all_within, all_short, text_is, path_fits, paths_fit, fields_fit, secrets_fit, bit_fits, shown_fits, properties_fit}
 
 -- ---- bodies
 
@@ -114,16 +120,26 @@ body_is (body.Secrets secrets) typed short =
       spelled = ((refl, secrets_fit secrets typed few.0, refl), tt);
       arrays = all_short (values_of (body.Secrets secrets)) 0 short;
     }
+body_is (body.Property value) typed short =
+    let few = all_within array_limit (values_of (body.Property value)) 0 short in
+    record {
+      listed = refl;
+      spelled = (shown_fits 60 value typed few.0, tt);
+      arrays = all_short (values_of (body.Property value)) 0 short;
+    }
+body_is (body.Properties properties) typed short =
+    let few = all_within array_limit (values_of (body.Properties properties)) 0 short in
+    record {
+      listed = refl;
+      spelled = ((refl, properties_fit properties typed few.0, refl), tt);
+      arrays = all_short (values_of (body.Properties properties)) 0 short;
+    }
 
 -- ---- signals
 
 kind_fits : (depth : ℕ) (kind : AskKind) → Fits depth (Ty.basic basics.String) (Val.text basics.String (kind_text kind))
 kind_fits depth kind.Unlock = (refl, (plain_text (codes "unlock") (plain_literal (codes "unlock") refl), omega arith))
 kind_fits depth kind.Create = (refl, (plain_text (codes "create") (plain_literal (codes "create") refl), omega arith))
-
-bit_fits : (depth : ℕ) (truth : Bool) → Fits depth (Ty.basic basics.Boolean) (Val.number basics.Boolean (bit_of truth))
-bit_fits depth true = (refl, omega arith)
-bit_fits depth false = (refl, omega arith)
 
 -- what a prompt completes with, as a variant
 completion_fits : (result : Completion) → IsResult result → Within array_limit (completion_value result) → Fits 64 Ty.variant (Val.variant (completion_value result))
@@ -200,7 +216,49 @@ abbrev secrets_in : Vals → List ItemSecret
 secrets_in Vals.end = []
 secrets_in (Vals.more value values) = item_secret_in value ∷ secrets_in values
 
+abbrev attribute_in : Val → Attribute
+attribute_in (Val.entry name value) = record { name = text_in name; value = text_in value }
+attribute_in value = record { name = []; value = [] }
+
+abbrev attributes_in : Vals → List Attribute
+attributes_in Vals.end = []
+attributes_in (Vals.more value values) = attribute_in value ∷ attributes_in values
+
+abbrev elements_shown : Ty → Vals → PropertyValue
+elements_shown (Ty.entry key t) elements = shown.Attributes (attributes_in elements)
+elements_shown t elements = shown.Objects (texts_in elements)
+
+abbrev shown_in : Val → PropertyValue
+shown_in (Val.text b text) = shown.Text text
+shown_in (Val.array t elements) = elements_shown t elements
+shown_in (Val.number basics.Boolean bit) = shown.Truth (not (bit == 0))
+shown_in (Val.number b number) = shown.Moment number
+shown_in value = shown.Text []
+
+abbrev held_shown : Val → PropertyValue
+held_shown (Val.variant value) = shown_in value
+held_shown value = shown_in value
+
+-- the property with a name
+abbrev property_named : List ℕ → Property
+property_named text =
+    if bytes_eq text (property_text property.Collections) then property.Collections else
+    if bytes_eq text (property_text property.Items) then property.Items else
+    if bytes_eq text (property_text property.Label) then property.Label else
+    if bytes_eq text (property_text property.Attributes) then property.Attributes else
+    if bytes_eq text (property_text property.Locked) then property.Locked else
+    if bytes_eq text (property_text property.Created) then property.Created else property.Modified
+
+abbrev property_in : Val → ShownProperty
+property_in (Val.entry name held) = record { property = property_named (text_in name); value = held_shown held }
+property_in value = record { property = property.Modified; value = shown.Text [] }
+
+abbrev properties_in : Vals → List ShownProperty
+properties_in Vals.end = []
+properties_in (Vals.more value values) = property_in value ∷ properties_in values
+
 abbrev array_in : Ty → Vals → Body
+array_in (Ty.entry key Ty.variant) elements = body.Properties (properties_in elements)
 array_in (Ty.entry key t) elements = body.Secrets (secrets_in elements)
 array_in t elements = body.Objects (texts_in elements)
 
@@ -208,6 +266,7 @@ abbrev one_in : Val → Body
 one_in (Val.text b text) = body.Object text
 one_in (Val.array t elements) = array_in t elements
 one_in (Val.struct fields) = body.Secret (secret_of fields)
+one_in (Val.variant value) = body.Property (shown_in value)
 one_in value = body.Empty
 
 abbrev two_in : Val → Val → Body
@@ -240,6 +299,32 @@ prompt_again : (prompt : Option PromptId) → IsPrompt prompt → prompt_in (pro
 prompt_again None is = refl
 prompt_again (Some prompt) is = ap (λ (n : ℕ). Some (record { 0 = n })) ((decimal_is_IsNumeral prompt.0 is).1)
 
+bit_again : (truth : Bool) → not (bit_of truth == 0) ≡ truth
+bit_again true = refl
+bit_again false = refl
+
+attributes_again : (attributes : List Attribute) → attributes_in (attribute_values attributes) ≡ attributes
+attributes_again [] = refl
+attributes_again (one ∷ attributes) = ap (λ (more : List Attribute). one ∷ more) (attributes_again attributes)
+
+shown_again : (value : PropertyValue) → shown_in (property_value value) ≡ value
+shown_again (shown.Objects objects) = ap shown.Objects (texts_again objects)
+shown_again (shown.Text text) = refl
+shown_again (shown.Attributes attributes) = ap shown.Attributes (attributes_again attributes)
+shown_again (shown.Truth truth) = ap shown.Truth (bit_again truth)
+shown_again (shown.Moment seconds) = refl
+
+property_again : (property : Property) → property_named (property_text property) ≡ property
+property_again property.Collections = refl
+property_again _ = refl
+
+properties_again : (properties : List ShownProperty) → properties_in (shown_values properties) ≡ properties
+properties_again [] = refl
+properties_again (one ∷ properties) =
+    ap (λ (it : Property). record { property = it; value = shown_in (property_value one.value) } ∷ properties_in (shown_values properties)) (property_again one.property)
+    ∙ ap (λ (value : PropertyValue). record one { value = value } ∷ properties_in (shown_values properties)) (shown_again one.value)
+    ∙ ap (λ (more : List ShownProperty). one ∷ more) (properties_again properties)
+
 body_again : (body : Body) → AreTyped body → body_in (values_of body) ≡ body
 body_again (body.Session session) typed = ap (λ n. body.Session (record { 0 = n })) ((decimal_is_IsNumeral session.0 typed).1)
 body_again (body.Found unlocked locked) typed =
@@ -250,6 +335,8 @@ body_again (body.Objects objects) typed = ap body.Objects (texts_again objects)
 body_again (body.ObjectAndPrompt object prompt) typed = ap (body.ObjectAndPrompt object) (prompt_again prompt typed.1)
 body_again (body.Secret secret) typed = ap body.Secret (secret_again secret typed)
 body_again (body.Secrets secrets) typed = ap body.Secrets (secrets_again secrets typed)
+body_again (body.Property value) typed = ap body.Property (shown_again value)
+body_again (body.Properties properties) typed = ap body.Properties (properties_again properties)
 body_again _ typed = refl
 
 one_body : (one other : Body) → AreTyped one → AreTyped other → values_of one ≡ values_of other → one ≡ other
@@ -284,10 +371,6 @@ kind_again : (kind : AskKind) → kind_in (kind_text kind) ≡ kind
 kind_again kind.Unlock = refl
 kind_again kind.Create = refl
 
-bit_again : (truth : Bool) → not (bit_of truth == 0) ≡ truth
-bit_again true = refl
-bit_again false = refl
-
 completion_again : (result : Completion) → completion_in (completion_value result) ≡ result
 completion_again (completion.Objects objects) = ap completion.Objects (texts_again objects)
 completion_again (completion.Object object) = refl
@@ -317,6 +400,8 @@ which text =
     if bytes_eq text (error_text name.UnknownObject) then name.UnknownObject else
     if bytes_eq text (error_text name.UnknownInterface) then name.UnknownInterface else
     if bytes_eq text (error_text name.UnknownMethod) then name.UnknownMethod else
+    if bytes_eq text (error_text name.UnknownProperty) then name.UnknownProperty else
+    if bytes_eq text (error_text name.PropertyReadOnly) then name.PropertyReadOnly else
     if bytes_eq text (error_text name.InvalidArgs) then name.InvalidArgs else
     if bytes_eq text (error_text name.LimitsExceeded) then name.LimitsExceeded else
     if bytes_eq text (error_text name.IOError) then name.IOError else

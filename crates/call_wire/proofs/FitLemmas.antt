@@ -16,15 +16,22 @@ use Rattle.dbus_types.specs.declared.complete_type.BasicType.TheVariants as basi
 use Rattle.dbus_types.specs.declared.endian.Endian.TheVariants.{Little}
 use Rattle.dbus_types.specs.Paths.{is_element_code, are_elements, is_object_path}
 use Rattle.dbus_types.specs.Types.{Ty, text_of}
+use Rattle.dbus_types.specs.ValueViews.{bit_of}
 use Rattle.dbus_types.specs.Values.{Val, Vals, ty_of, tys_of}
 use Rattle.dbus_marshal.specs.Limits.{array_limit}
 use Rattle.dbus_marshal.specs.Wire.{width_of, alignment_of, padding, behind, start_of, zeros, number_bytes, is_text}
 use Rattle.dbus_marshal.specs.Spelling.{text_spelled, first_at, spelled, all_spelled, is_short, are_short}
 use Rattle.dbus_marshal.specs.Fitting.{Fits, AllFit, EachFits}
+use Rattle.secret_calls.specs.declared.property.Attribute.{Attribute}
+use Rattle.secret_calls.specs.declared.property.Property.{Property}
+use Rattle.secret_calls.specs.declared.property.Property.TheVariants as property
+use Rattle.secret_calls.specs.declared.property.PropertyValue.{PropertyValue}
+use Rattle.secret_calls.specs.declared.property.PropertyValue.TheVariants as shown
+use Rattle.secret_calls.specs.declared.property.ShownProperty.{ShownProperty}
 use Rattle.secret_calls.specs.declared.secret.ReturnedSecret.{ReturnedSecret}
 use Rattle.secret_calls.specs.declared.secret.ItemSecret.{ItemSecret}
-use Rattle.secret_calls.specs.Outs.{session_path, path_values, secret_type, secret_values, ArePaths, IsSecret, AreSecrets}
-use Rattle.call_wire.proofs.PlainLemmas.{false_unless, plain_text, path_plain, path_is}
+use Rattle.secret_calls.specs.Outs.{session_path, path_values, secret_type, secret_values, property_text, property_value, attribute_values, shown_values, ArePaths, IsSecret, AreSecrets, AreAttributes, IsShown, AreShown}
+use Rattle.call_wire.proofs.PlainLemmas.{false_unless, plain_literal, plain_text, path_plain, path_is}
 
 -- ---- lengths
 
@@ -189,3 +196,39 @@ pub secrets_fit : (secrets : List ItemSecret) → AreSecrets secrets → AllWith
 secrets_fit [] are few = tt
 secrets_fit (one ∷ secrets) are few =
     ((path_fits 62 one.item are.0 few.0.0, fields_fit 60 one.secret are.1 few.0.1), secrets_fit secrets are.2 few.1)
+
+-- ---- properties
+
+-- the text of a property or an attribute
+pub string_fits : (depth : ℕ) (text : List ℕ) → IsText text → length text ≤ array_limit → Fits depth (Ty.basic basics.String) (Val.text basics.String text)
+string_fits depth text is few = (refl, (text_is text is, omega (arith, few)))
+
+pub bit_fits : (depth : ℕ) (truth : Bool) → Fits depth (Ty.basic basics.Boolean) (Val.number basics.Boolean (bit_of truth))
+bit_fits depth true = (refl, omega arith)
+bit_fits depth false = (refl, omega arith)
+
+attributes_fit : (depth : ℕ) (attributes : List Attribute) → AreAttributes attributes → AllWithin array_limit (attribute_values attributes)
+    → EachFits (suc (suc depth)) (Ty.entry basics.String (Ty.basic basics.String)) (attribute_values attributes)
+attributes_fit depth [] are few = tt
+attributes_fit depth (one ∷ attributes) are few =
+    ((string_fits (suc depth) one.name are.0 few.0.0, string_fits (suc depth) one.value are.1 few.0.1), attributes_fit depth attributes are.2 few.1)
+
+-- the value of a property, as a variant
+pub shown_fits : (depth : ℕ) (value : PropertyValue) → IsShown value → Within array_limit (property_value value)
+    → Fits (suc (suc (suc (suc depth)))) Ty.variant (Val.variant (property_value value))
+shown_fits depth (shown.Objects objects) is few = (refl, (refl, paths_fit (suc (suc depth)) objects is few, refl))
+shown_fits depth (shown.Text text) is few = (refl, string_fits (suc (suc (suc depth))) text is few)
+shown_fits depth (shown.Attributes attributes) is few = (refl, (refl, attributes_fit depth attributes is few, refl))
+shown_fits depth (shown.Truth truth) is few = (refl, bit_fits (suc (suc (suc depth))) truth)
+shown_fits depth (shown.Moment seconds) is few = (refl, (refl, is))
+
+-- the name of a property
+name_fits : (depth : ℕ) (it : Property) → Fits depth (Ty.basic basics.String) (Val.text basics.String (property_text it))
+name_fits depth property.Collections = (refl, (plain_text (property_text property.Collections) (plain_literal (property_text property.Collections) refl), omega arith))
+name_fits depth it = (refl, (plain_text (property_text it) (plain_literal (property_text it) refl), omega arith))
+
+-- properties with their values
+pub properties_fit : (properties : List ShownProperty) → AreShown properties → AllWithin array_limit (shown_values properties)
+    → EachFits 63 (Ty.entry basics.String Ty.variant) (shown_values properties)
+properties_fit [] are few = tt
+properties_fit (one ∷ properties) are few = ((name_fits 62 one.property, shown_fits 58 one.value are.0 few.0.1), properties_fit properties are.1 few.1)

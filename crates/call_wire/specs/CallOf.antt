@@ -1,7 +1,7 @@
 -- Which call of the service a message is, or why it isn't one: D-Bus Specification, "Message Format" and "Standard
 -- Interfaces"; Secret Service API draft 0.2, the interfaces' methods.
 use Rattle.std.specs.Prelude.{◌≡◌, ℕ, ◌%◌, ◌==◌, Bool, if◌then◌else◌, List, Option, Some, None, Result, Err, option_and_then}
-use Rattle.std.specs.List.{list_any}
+use Rattle.std.specs.Option.{is_some}
 use Rattle.std.specs.Str.{bytes_eq}
 use Rattle.dbus_types.specs.Types.{texts_of}
 use Rattle.dbus_framing.specs.Messages.{Parts}
@@ -12,7 +12,8 @@ use Rattle.secret_calls.specs.declared.call.Call.{Call}
 use Rattle.secret_calls.specs.declared.call.CallFault.{CallFault}
 use Rattle.secret_calls.specs.declared.call.CallFault.TheVariants as fault
 use Rattle.secret_calls.specs.declared.call.Request.{Request}
-use Rattle.call_wire.specs.Members.{Member, interfaces_of, means, member_in, call_with}
+use Rattle.call_wire.specs.Interfaces.{interface_named}
+use Rattle.call_wire.specs.Members.{Member, member_in, call_with}
 
 -- the object that the path names, which may not exist; none if it isn't a path of the service
 abbrev pub object_of : Option (List ℕ) → Option ObjectName
@@ -30,8 +31,8 @@ call_by member object parts =
 abbrev pub lack_of : Option ObjectName → Option (List ℕ) → CallFault
 lack_of None interface = fault.UnknownObject
 lack_of (Some name.Nothing) interface = fault.UnknownObject
-lack_of (Some object) interface =
-    if list_any (means interface) (interfaces_of (Some object)) then fault.UnknownMethod else fault.UnknownInterface
+lack_of (Some object) None = fault.UnknownMethod
+lack_of (Some object) (Some named) = if is_some (interface_named (Some object) named) then fault.UnknownMethod else fault.UnknownInterface
 
 -- the call, given the member that was found for it
 abbrev pub call_found : Option Member → Option ObjectName → Parts → Result Call CallFault

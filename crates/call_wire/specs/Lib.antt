@@ -5,6 +5,8 @@ pub mod Item
 pub mod Session
 pub mod Prompt
 pub mod Agent
+pub mod Interfaces
+pub mod Properties
 pub mod Members
 pub mod CallOf
 pub mod Said

@@ -1,24 +1,24 @@
 -- The members that are implemented, which objects have them, and how their arguments are read: D-Bus Specification, "Standard
 -- Interfaces"; Secret Service API draft 0.2, the interfaces' methods; for the agent, docs/SERVICE.md, "Interfaces".
-use Rattle.std.specs.Prelude.{ℕ, ◌&&◌, Bool, true, false, List, [], ◌∷◌, Option, Some, None, Result, Ok, map, codes}
-use Rattle.std.specs.List.{filter, find}
+use Rattle.std.specs.Prelude.{ℕ, ◌&&◌, Bool, false, List, [], ◌∷◌, Option, Some, None, Result, Ok, codes}
+use Rattle.std.specs.List.{find}
 use Rattle.std.specs.Str.{bytes_eq}
 use Rattle.dbus_types.specs.Values.{Vals}
 use Rattle.kr_names.specs.declared.object_name.ObjectName.{ObjectName}
-use Rattle.kr_names.specs.declared.object_name.ObjectName.TheVariants as name
 use Rattle.secret_calls.specs.declared.call.Call.{Call}
 use Rattle.secret_calls.specs.declared.call.Call.TheVariants as call
 use Rattle.secret_calls.specs.declared.call.CallFault.{CallFault}
-use Rattle.call_wire.specs.declared.members.Interface.{Interface}
-use Rattle.call_wire.specs.declared.members.Interface.TheVariants as interface
+use Rattle.call_wire.specs.declared.interfaces.Interface.{Interface}
+use Rattle.call_wire.specs.declared.interfaces.Interface.TheVariants as interface
 use Rattle.call_wire.specs.declared.members.Method.{Method}
 use Rattle.call_wire.specs.declared.members.Method.TheVariants as method
 use Rattle.call_wire.specs.declared.members.Row.{Row}
 use Rattle.call_wire.specs.Agent as agent
 use Rattle.call_wire.specs.Collection as collection
 use Rattle.call_wire.specs.Item as item
-use Rattle.call_wire.specs.Peer as peer
+use Rattle.call_wire.specs.Interfaces.{is_on, means}
 use Rattle.call_wire.specs.Prompt as prompt
+use Rattle.call_wire.specs.Properties as properties
 use Rattle.call_wire.specs.Service as service
 use Rattle.call_wire.specs.Session as session
 
@@ -58,43 +58,15 @@ members =
     record { interface = interface.Agent; name = codes "Unregister"; arguments = []; method = method.Unregister } ∷
     record { interface = interface.Agent; name = codes "Answer"; arguments = codes "otay"; method = method.Answer } ∷
     record { interface = interface.Agent; name = codes "Refuse"; arguments = codes "ot"; method = method.Refuse } ∷
+    record { interface = interface.Properties; name = codes "Get"; arguments = codes "ss"; method = method.Get } ∷
+    record { interface = interface.Properties; name = codes "GetAll"; arguments = codes "s"; method = method.GetAll } ∷
+    record { interface = interface.Properties; name = codes "Set"; arguments = codes "ssv"; method = method.Set } ∷
     record { interface = interface.Peer; name = codes "Ping"; arguments = []; method = method.Ping } ∷ []
-
--- the name of an interface
-abbrev pub interface_name : Interface → List ℕ
-interface_name interface.Service = service.interface
-interface_name interface.Collection = collection.interface
-interface_name interface.Item = item.interface
-interface_name interface.Session = session.interface
-interface_name interface.Prompt = prompt.interface
-interface_name interface.Agent = agent.interface
-interface_name interface.Peer = peer.interface
-
--- An object has the interface of its kind. Ping is answered on every path, so Peer is there even if there is no object.
-abbrev pub is_on : Interface → Option ObjectName → Bool
-is_on interface.Service (Some name.Service) = true
-is_on interface.Collection (Some (name.Collection stem)) = true
-is_on interface.Collection (Some (name.Alias alias)) = true
-is_on interface.Item (Some (name.Item stem item)) = true
-is_on interface.Session (Some (name.Session session)) = true
-is_on interface.Prompt (Some (name.Prompt prompt)) = true
-is_on interface.Agent (Some name.Agent) = true
-is_on interface.Peer object = true
-is_on it object = false
-
--- the interfaces of an object, in order; an interface is listed once for each of its members
-abbrev pub interfaces_of : Option ObjectName → List Interface
-interfaces_of object = filter (λ it. is_on it object) (map (λ member. member.interface) members)
 
 -- the header field has this text
 abbrev pub says : Option (List ℕ) → List ℕ → Bool
 says None text = false
 says (Some said) text = bytes_eq said text
-
--- a call means the interface that it names, or any if it names none
-abbrev pub means : Option (List ℕ) → Interface → Bool
-means None it = true
-means (Some said) it = bytes_eq said (interface_name it)
 
 -- a call on the object that names this interface and this member is a call of the member
 abbrev pub is_called : Option ObjectName → Option (List ℕ) → Option (List ℕ) → Member → Bool
@@ -128,4 +100,7 @@ call_with method.Register object values = Ok call.Register
 call_with method.Unregister object values = Ok call.Unregister
 call_with method.Answer object values = agent.answer values
 call_with method.Refuse object values = agent.refuse values
+call_with method.Get object values = properties.get object values
+call_with method.GetAll object values = properties.get_all object values
+call_with method.Set object values = properties.set object values
 call_with method.Ping object values = Ok call.Ping

@@ -26,8 +26,8 @@ const LABEL: &str = "org.freedesktop.Secret.Item.Label";
 
 const ATTRIBUTES: &str = "org.freedesktop.Secret.Item.Attributes";
 
-// The collection that the call is made on, or the alias that names it.
-fn collection_of(object: &Option<ObjectName>) -> Result<Option<ObjectName>, OutOfMemory>
+/// The collection that the call is made on, or the alias that names it.
+pub fn collection_of(object: &Option<ObjectName>) -> Result<Option<ObjectName>, OutOfMemory>
     ensures { IfOk result (λ collection. collection ≡ collection_of object.now) }
 {
     match object {

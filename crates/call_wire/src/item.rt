@@ -16,8 +16,8 @@ use std::alloc::Global;
 /// The name of the interface.
 pub const INTERFACE: &str = "org.freedesktop.Secret.Item";
 
-// The item that the call is made on: the stem of its collection, and its number.
-fn item_of(object: &Option<ObjectName>) -> Result<Option<(Stem, ItemId)>, OutOfMemory>
+/// The item that the call is made on: the stem of its collection, and its number.
+pub fn item_of(object: &Option<ObjectName>) -> Result<Option<(Stem, ItemId)>, OutOfMemory>
     ensures { IfOk result (λ it. it ≡ item_of object.now) }
 {
     match object {

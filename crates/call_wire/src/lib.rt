@@ -1,17 +1,19 @@
 //! From messages to calls, and from outputs to messages (D-Bus Specification, "Message Format";
-//! Secret Service API draft 0.2). Which objects have which interfaces, and which arguments a method
-//! takes, is in one table. Callers may rely on these: a method call is read as exactly one request,
+//! Secret Service API draft 0.2). Which interface has which members, and which arguments
+//! these take, is in one table, and which properties it has in another. Callers may rely on these: a method call is read as exactly one request,
 //! with the call that the table gives or with the first of the message's faults, in order; and an
 //! output is written as its one spelling.
 #![tactic(auto)]
 
 mod agent;
 mod collection;
+mod interfaces;
 mod item;
 mod laws;
 mod members;
 mod peer;
 mod prompt;
+mod properties;
 mod reading;
 mod service;
 mod session;

@@ -1,35 +1,17 @@
 // The members that are implemented, as one table (docs/SERVICE.md, "Interfaces"): a call is looked up here, and
 // its arguments are read by the method of its row.
-ghost use Rattle.std.specs.Prelude.{◌≡◌, IfOk, List, map, option_map};
-ghost use Rattle.std.specs.List.{filter, find, list_any};
+ghost use Rattle.std.specs.Prelude.{◌≡◌, IfOk, map, option_map};
+ghost use Rattle.std.specs.List.{find};
 ghost use Rattle.dbus_types.specs.ValueViews.{values_of};
-ghost use Rattle.call_wire.specs.Members.{seen, members, interface_name, interfaces_of, is_on, says, means, is_called, member_in, call_with};
+ghost use Rattle.call_wire.specs.Members.{seen, members, says, is_called, member_in, call_with};
 
-use crate::{OutOfMemory, agent, collection, item, peer, prompt, service, session};
+use crate::interfaces::{Interface, is_meant};
+use crate::{OutOfMemory, agent, collection, item, prompt, properties, service, session};
 use dbus_types::Value;
 use kr_base::Text;
 use kr_names::ObjectName;
 use secret_calls::{Call, CallFault};
 use std::alloc::Global;
-
-/// An interface of which a member is implemented.
-#[derive(Clone, Copy, PartialEq, Eq)]
-pub enum Interface {
-    /// `org.freedesktop.Secret.Service`.
-    Service,
-    /// `org.freedesktop.Secret.Collection`.
-    Collection,
-    /// `org.freedesktop.Secret.Item`.
-    Item,
-    /// `org.freedesktop.Secret.Session`.
-    Session,
-    /// `org.freedesktop.Secret.Prompt`.
-    Prompt,
-    /// `org.keyringd.Agent1`.
-    Agent,
-    /// `org.freedesktop.DBus.Peer`.
-    Peer,
-}
 
 /// A method, which reads the arguments of its calls.
 #[derive(Clone, Copy, PartialEq, Eq)]
@@ -76,6 +58,12 @@ pub enum Method {
     Answer,
     /// `Agent1.Refuse`.
     Refuse,
+    /// `Properties.Get`.
+    Get,
+    /// `Properties.GetAll`.
+    GetAll,
+    /// `Properties.Set`.
+    Set,
     /// `Peer.Ping`.
     Ping,
 }
@@ -222,6 +210,24 @@ const MEMBERS: &[Row] = &[
         method: Method::Refuse,
     },
     Row {
+        interface: Interface::Properties,
+        name: "Get",
+        arguments: "ss",
+        method: Method::Get,
+    },
+    Row {
+        interface: Interface::Properties,
+        name: "GetAll",
+        arguments: "s",
+        method: Method::GetAll,
+    },
+    Row {
+        interface: Interface::Properties,
+        name: "Set",
+        arguments: "ssv",
+        method: Method::Set,
+    },
+    Row {
         interface: Interface::Peer,
         name: "Ping",
         arguments: "",
@@ -234,50 +240,6 @@ fn members() -> &'static [Row]
     ensures { map seen result.now ≡ members }
 {
     MEMBERS
-}
-
-impl Interface {
-    /// The name of the interface.
-    fn name(self) -> &'static str
-        ensures { result.now ≡ interface_name self }
-    {
-        match self {
-            Interface::Service => service::INTERFACE,
-            Interface::Collection => collection::INTERFACE,
-            Interface::Item => item::INTERFACE,
-            Interface::Session => session::INTERFACE,
-            Interface::Prompt => prompt::INTERFACE,
-            Interface::Agent => agent::INTERFACE,
-            Interface::Peer => peer::INTERFACE,
-        }
-    }
-
-    /// Whether the object has the interface.
-    fn is_on(self, object: &Option<ObjectName>) -> bool
-        ensures { result ≡ is_on self object.now }
-    {
-        match (self, object) {
-            (Interface::Service, Some(ObjectName::Service)) => true,
-            (Interface::Collection, Some(ObjectName::Collection(_))) => true,
-            (Interface::Collection, Some(ObjectName::Alias(_))) => true,
-            (Interface::Item, Some(ObjectName::Item(_, _))) => true,
-            (Interface::Session, Some(ObjectName::Session(_))) => true,
-            (Interface::Prompt, Some(ObjectName::Prompt(_))) => true,
-            (Interface::Agent, Some(ObjectName::Agent)) => true,
-            (Interface::Peer, _) => true,
-            _ => false,
-        }
-    }
-}
-
-// Whether a call that names this interface, or no interface, means `interface`.
-fn is_meant(named: &Option<Text>, interface: Interface) -> bool
-    ensures { result ≡ means named.now interface }
-{
-    match named {
-        Some(name) => name.as_str() == interface.name(),
-        None => true,
-    }
 }
 
 fn has_name(member: &Option<Text>, name: &str) -> bool
@@ -328,25 +290,6 @@ pub fn member_called(
     first_called(members(), object, interface, member)
 }
 
-fn have_meant(rows: &[Row], object: &Option<ObjectName>, named: &Option<Text>) -> bool
-    ensures { result ≡ list_any (means named.now)
-        (filter (λ it. is_on it object.now) (map (λ m. m.interface) (map seen rows.now))) }
-{
-    for row in rows {
-        if row.interface.is_on(object) && is_meant(named, row.interface) {
-            return true;
-        }
-    }
-    false
-}
-
-/// Whether the object has an interface that a call means if it names this one, or none.
-pub fn has_meant(object: &Option<ObjectName>, named: &Option<Text>) -> bool
-    ensures { result ≡ list_any (means named.now) (interfaces_of object.now) }
-{
-    have_meant(members(), object, named)
-}
-
 /// The call of a method on the object with these values, or the fault that they have.
 pub fn call_with(
     alloc: Global,
@@ -378,6 +321,9 @@ pub fn call_with(
         Method::Unregister => Ok(Ok(Call::Unregister)),
         Method::Answer => agent::answer(alloc, values),
         Method::Refuse => agent::refuse(alloc, values),
+        Method::Get => properties::get(object, values),
+        Method::GetAll => properties::get_all(alloc, object, values),
+        Method::Set => properties::set(alloc, object, values),
         Method::Ping => Ok(Ok(Call::Ping)),
     }
 }

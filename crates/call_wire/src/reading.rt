@@ -5,7 +5,8 @@ ghost use Rattle.call_wire.specs.Members.{seen};
 ghost use Rattle.call_wire.specs.CallOf.{CallOf, object_of, call_by, lack_of, call_on};
 
 use crate::OutOfMemory;
-use crate::members::{Row, call_with, has_meant, member_called};
+use crate::interfaces::interface_named;
+use crate::members::{Row, call_with, member_called};
 use call_arguments::are_listed;
 use dbus_types::Message;
 use kr_base::Text;
@@ -43,16 +44,14 @@ fn call_of_member(
 fn lack(object: &Option<ObjectName>, interface: &Option<Text>) -> CallFault
     ensures { result ≡ lack_of object.now interface.now }
 {
-    match object {
-        None => CallFault::UnknownObject,
-        Some(ObjectName::Nothing) => CallFault::UnknownObject,
-        Some(_) => {
-            if has_meant(object, interface) {
-                CallFault::UnknownMethod
-            } else {
-                CallFault::UnknownInterface
-            }
-        }
+    match (object, interface) {
+        (None, _) => CallFault::UnknownObject,
+        (Some(ObjectName::Nothing), _) => CallFault::UnknownObject,
+        (Some(_), None) => CallFault::UnknownMethod,
+        (Some(_), Some(name)) => match interface_named(object, name) {
+            Some(_) => CallFault::UnknownMethod,
+            None => CallFault::UnknownInterface,
+        },
     }
 }
 

@@ -1,9 +1,10 @@
 // Calls in words: objects as their paths, sessions and prompts as their numbers, and the values of secrets and passwords in hex.
 
+use crate::shown::write_properties;
 use check_rows::Line;
 use kr_base::{AttrValue, Attributes, ItemId, PromptId, SessionId, Stem};
 use kr_names::{ObjectName, path_of};
-use secret_calls::{AliasName, Call, Secret};
+use secret_calls::{AliasName, Call, Property, Secret};
 
 fn write_path(line: &mut Line, name: &ObjectName) {
     if !name.has_path() {
@@ -74,6 +75,29 @@ fn write_text(line: &mut Line, before: &str, text: &str, after: &str) {
     line.add(before);
     line.add(text);
     line.add(after);
+}
+
+// An object, and what of it a call reads.
+fn write_object(line: &mut Line, word: &str, object: &ObjectName, after: &str) {
+    line.add(word);
+    write_path(line, object);
+    line.add(after);
+}
+
+fn write_all(line: &mut Line, object: &ObjectName, properties: &[Property]) {
+    write_object(line, "GetAll ", object, "");
+    write_properties(line, properties);
+}
+
+fn write_get(line: &mut Line, object: &ObjectName, property: Property) {
+    write_object(line, "Get ", object, " ");
+    line.add(property.as_str());
+}
+
+// An item, and the label that it is set to.
+fn write_labelled(line: &mut Line, stem: &Stem, item: ItemId, label: &str) {
+    write_item(line, "SetItemLabel ", stem, item);
+    write_text(line, " to \"", label, "\"");
 }
 
 fn write_search(line: &mut Line, collection: &ObjectName, wanted: &Attributes) {
@@ -182,6 +206,24 @@ pub fn write_called(line: &mut Line, call: &Call) {
         Call::SetSecret { stem, item, secret } => {
             write_item(line, "SetSecret ", stem, *item);
             write_secret(line, secret);
+        }
+        Call::Get { object, property } => write_get(line, object, *property),
+        Call::GetAll { object, properties } => write_all(line, object, properties.as_slice()),
+        Call::SetCollectionLabel { collection, label } => {
+            write_object(line, "SetCollectionLabel ", collection, "");
+            write_text(line, " to \"", label.as_str(), "\"");
+        }
+        Call::SetItemLabel { stem, item, label } => {
+            write_labelled(line, stem, *item, label.as_str());
+        }
+        Call::SetAttributes {
+            stem,
+            item,
+            attributes,
+        } => {
+            write_item(line, "SetAttributes ", stem, *item);
+            line.add(" ");
+            write_attributes(line, attributes);
         }
         Call::Prompt { prompt } => write_number(line, "Prompt ", prompt.0, ""),
         Call::Dismiss { prompt } => write_number(line, "Dismiss ", prompt.0, ""),

@@ -8,6 +8,7 @@ mod messages;
 mod outputs;
 mod replies;
 mod requests;
+mod shown;
 mod signals;
 
 use check_rows::{Line, Subject, check_rows};

@@ -10,11 +10,13 @@ use dbus_types::Message;
 use secret_calls::{CallFault, ErrorName, Out, Serial, body_size, size_of_out};
 use std::alloc::Global;
 
-const NAMES: [ErrorName; 13] = [
+const NAMES: [ErrorName; 15] = [
     ErrorName::NotSupported,
     ErrorName::UnknownObject,
     ErrorName::UnknownInterface,
     ErrorName::UnknownMethod,
+    ErrorName::UnknownProperty,
+    ErrorName::PropertyReadOnly,
     ErrorName::InvalidArgs,
     ErrorName::LimitsExceeded,
     ErrorName::IOError,
@@ -167,6 +169,8 @@ pub fn write_fault(line: &mut Line, cells: &str) {
         CallFault::UnknownObject,
         CallFault::UnknownInterface,
         CallFault::UnknownMethod,
+        CallFault::UnknownProperty,
+        CallFault::PropertyReadOnly,
         CallFault::InvalidArgs,
     ] {
         if fault_name(fault) == cells {

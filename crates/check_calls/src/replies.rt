@@ -9,7 +9,7 @@ use client_core::{Reply, ReplyFault, reply_of};
 use kr_base::{Attributes, ItemId, Stem};
 use kr_items::Items;
 use kr_names::ObjectName;
-use secret_calls::{Call, Out, Serial};
+use secret_calls::{Call, Out, Property, Serial};
 use std::alloc::Global;
 
 fn search(alloc: Global) -> Option<Call> {
@@ -49,6 +49,21 @@ fn read_alias(alloc: Global) -> Option<Call> {
     Some(Call::ReadAlias { name })
 }
 
+fn get_all(alloc: Global) -> Call {
+    Call::GetAll {
+        object: ObjectName::Service,
+        properties: Items::empty(alloc),
+    }
+}
+
+fn set_label(alloc: Global) -> Option<Call> {
+    let label = text_of(alloc, "")?;
+    Some(Call::SetCollectionLabel {
+        collection: ObjectName::Nothing,
+        label,
+    })
+}
+
 // A call of this method. Its arguments don't matter.
 fn call_named(alloc: Global, name: &str) -> Option<Call> {
     match name {
@@ -66,6 +81,12 @@ fn call_named(alloc: Global, name: &str) -> Option<Call> {
             items: Items::empty(alloc),
             session: None,
         }),
+        "Get" => Some(Call::Get {
+            object: ObjectName::Service,
+            property: Property::Collections,
+        }),
+        "GetAll" => Some(get_all(alloc)),
+        "Set" => set_label(alloc),
         _ => None,
     }
 }

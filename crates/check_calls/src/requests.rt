@@ -10,6 +10,8 @@ pub fn fault_name(fault: CallFault) -> &'static str {
         CallFault::UnknownObject => "UnknownObject",
         CallFault::UnknownInterface => "UnknownInterface",
         CallFault::UnknownMethod => "UnknownMethod",
+        CallFault::UnknownProperty => "UnknownProperty",
+        CallFault::PropertyReadOnly => "PropertyReadOnly",
         CallFault::InvalidArgs => "InvalidArgs",
     }
 }

@@ -1,6 +1,7 @@
 // Calls from words.
 
 use crate::prompt_calls::prompt_call;
+use crate::property_calls::{attributing, getting_one, labelling, showing};
 use crate::secrets::{alias, attribute, item, label, object, objects, secret, session};
 use crate::values::{number, text};
 use check_rows::cell;
@@ -123,6 +124,10 @@ fn call(alloc: Global, what: &str, words: &str) -> Option<Call> {
         "set" => setting(alloc, words),
         "read" => reading(alloc, words),
         "alias" => aliasing(alloc, words),
+        "get" => getting_one(alloc, words),
+        "show" => showing(alloc, words),
+        "label" => labelling(alloc, words),
+        "attributes" => attributing(alloc, words),
         _ => prompt_call(alloc, what, words),
     }
 }
@@ -131,6 +136,8 @@ fn call(alloc: Global, what: &str, words: &str) -> Option<Call> {
 pub fn call_of(alloc: Global, row: &str) -> Option<Result<Call, CallFault>> {
     match cell(row, 1) {
         "unknown" => Some(Err(CallFault::UnknownMethod)),
+        "unknown property" => Some(Err(CallFault::UnknownProperty)),
+        "read only" => Some(Err(CallFault::PropertyReadOnly)),
         what => Some(Ok(call(alloc, what, cell(row, 2))?)),
     }
 }

@@ -5,7 +5,9 @@
 mod calls;
 mod outputs;
 mod prompt_calls;
+mod property_calls;
 mod secrets;
+mod shown;
 mod signals;
 mod values;
 

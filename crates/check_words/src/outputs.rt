@@ -1,5 +1,6 @@
 // Outputs in words.
 
+use crate::shown::{write_all_shown, write_shown};
 use crate::signals::write_signal;
 use check_rows::Line;
 use kr_base::{PromptId, Text};
@@ -74,6 +75,8 @@ fn write_body(line: &mut Line, body: &Body) {
         Body::Object(object) => line.add(object.as_str()),
         Body::Secret(secret) => write_secret(line, secret),
         Body::Secrets(secrets) => write_secrets(line, secrets.as_slice()),
+        Body::Property(value) => write_shown(line, value),
+        Body::Properties(properties) => write_all_shown(line, properties.as_slice()),
     }
 }
 
@@ -83,6 +86,8 @@ fn error_word(name: ErrorName) -> &'static str {
         ErrorName::UnknownObject => "UnknownObject",
         ErrorName::UnknownInterface => "UnknownInterface",
         ErrorName::UnknownMethod => "UnknownMethod",
+        ErrorName::UnknownProperty => "UnknownProperty",
+        ErrorName::PropertyReadOnly => "PropertyReadOnly",
         ErrorName::InvalidArgs => "InvalidArgs",
         ErrorName::LimitsExceeded => "LimitsExceeded",
         ErrorName::IOError => "IOError",

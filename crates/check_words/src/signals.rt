@@ -5,8 +5,8 @@ use check_rows::Line;
 use kr_base::{PromptId, Text};
 use secret_calls::{AskKind, Completion, Signal};
 
-// A label, or the number of its bytes if it is long.
-fn write_label(line: &mut Line, label: &Text) {
+/// Writes a label, or the number of its bytes if it is long.
+pub fn write_label(line: &mut Line, label: &Text) {
     let length = label.as_bytes().len();
     if length > 100 {
         line.number(length as u64);

@@ -1,6 +1,7 @@
 -- What the service sends is read as what it sent.
 use Rattle.std.proofs.Common.{◌≡◌, ℕ, rules, ◌^◌, ◌<◌, ◌==◌, Bool, true, false, List, [], ◌∷◌, Option, Some, None, IfSome, Ok, Err, option_map, option_and_then, if◌then◌else◌, refl, sym, ap, ◌∙◌}
 use Rattle.std.specs.List.{AllByRecursion}
+use Rattle.std.specs.Option.{option_or}
 use Rattle.std.proofs.lemmas.Bool.{eqb-true}
 use Rattle.kr_base.specs.declared.ids.PromptId.{PromptId}
 use Rattle.kr_base.specs.declared.ids.SessionId.{SessionId}
@@ -10,8 +11,15 @@ use Rattle.kr_names.specs.Naming.{name_of_path}
 use Rattle.kr_names.specs.Path.{path_text, sessions, prompts, IsName, IsPathOf}
 use Rattle.dbus_types.specs.declared.complete_type.BasicType.TheVariants as basics
 use Rattle.dbus_types.specs.Values.{Val}
+use Rattle.dbus_types.specs.ValueViews.{bit_of}
 use Rattle.dbus_framing.specs.Headers.{path_in}
 use Rattle.dbus_framing.specs.Messages.{Parts}
+use Rattle.secret_calls.specs.declared.property.Attribute.{Attribute}
+use Rattle.secret_calls.specs.declared.property.Property.{Property}
+use Rattle.secret_calls.specs.declared.property.Property.TheVariants as property
+use Rattle.secret_calls.specs.declared.property.PropertyValue.{PropertyValue}
+use Rattle.secret_calls.specs.declared.property.PropertyValue.TheVariants as shown
+use Rattle.secret_calls.specs.declared.property.ShownProperty.{ShownProperty}
 use Rattle.secret_calls.specs.declared.secret.ReturnedSecret.{ReturnedSecret}
 use Rattle.secret_calls.specs.declared.secret.ItemSecret.{ItemSecret}
 use Rattle.secret_calls.specs.declared.serial.Serial.{Serial}
@@ -19,14 +27,14 @@ use Rattle.secret_calls.specs.declared.out.Body.{Body}
 use Rattle.secret_calls.specs.declared.out.Body.TheVariants as body
 use Rattle.secret_calls.specs.declared.out.ErrorName.{ErrorName}
 use Rattle.secret_calls.specs.declared.out.Out.TheVariants as out
-use Rattle.secret_calls.specs.Outs.{error_text, session_path, prompt_text, path_values, paths_value, secret_value, secret_values, values_of, AreTyped, IsPrompt, IsSecret, AreSecrets}
-use Rattle.call_arguments.specs.Arguments.{all_in, session_named, session_of_name, prompt_of_name}
+use Rattle.secret_calls.specs.Outs.{error_text, session_path, prompt_text, path_values, paths_value, secret_value, secret_values, property_text, attribute_values, property_value, shown_value, shown_values, values_of, AreTyped, IsPrompt, IsSecret, AreSecrets}
+use Rattle.call_arguments.specs.Arguments.{all_in, truth_in, session_named, session_of_name, prompt_of_name}
 use Rattle.call_wire.specs.Said.{said}
 use Rattle.client_core.specs.declared.reply.Shape.{Shape}
 use Rattle.client_core.specs.declared.reply.Shape.TheVariants as shape
 use Rattle.client_core.specs.declared.reply.Reply.TheVariants as reply
 use Rattle.client_core.specs.declared.reply.ReplyFault.TheVariants as fault
-use Rattle.client_core.specs.Replies.{shape_in, prompt_of, paths_in, secret_at, item_secret_at, body_in, answers, returned, failed, reply_in, HasNumbers}
+use Rattle.client_core.specs.Replies.{shape_in, prompt_of, paths_in, secret_at, item_secret_at, property_named, attribute_in, shown_in, property_at, body_in, answers, returned, failed, reply_in, HasNumbers}
 
 -- a path has the name whose path it is; a law of kr_names
 abbrev pub Naming : Type 0
@@ -69,6 +77,40 @@ module _ (naming : Naming) where
       ap (λ o. option_and_then (λ (it : ItemSecret). option_map (λ more. it ∷ more) (all_in item_secret_at (secret_values secrets))) o) held
       ∙ ap (λ o. option_map (λ (more : List ItemSecret). one ∷ more) o) (secrets_among_again secrets are.2 some.1)
 
+  -- ---- properties
+
+  property_again : (it : Property) → property_named (property_text it) ≡ Some it
+  property_again property.Collections = refl
+  property_again _ = refl
+
+  attributes_again : (attributes : List Attribute) → all_in attribute_in (attribute_values attributes) ≡ Some attributes
+  attributes_again [] = refl
+  attributes_again (one ∷ attributes) = ap (λ (o : Option (List Attribute)). option_map (λ more. one ∷ more) o) (attributes_again attributes)
+
+  bit_again : (truth : Bool) → truth_in (Val.number basics.Boolean (bit_of truth)) ≡ Some truth
+  bit_again true = refl
+  bit_again false = refl
+
+  shown_again : (value : PropertyValue) → shown_in (property_value value) ≡ Some value
+  shown_again (shown.Objects objects) =
+      ap (λ (o : Option (List (List ℕ))). option_or (option_map (λ (them : List (List ℕ)). shown.Objects them) o) None) (paths_again objects)
+  shown_again (shown.Text text) = refl
+  shown_again (shown.Attributes attributes) = ap (λ (o : Option (List Attribute)). option_map (λ (them : List Attribute). shown.Attributes them) o) (attributes_again attributes)
+  shown_again (shown.Truth true) = refl
+  shown_again (shown.Truth false) = refl
+  shown_again (shown.Moment seconds) = refl
+
+  one_again : (one : ShownProperty) → property_at (shown_value one) ≡ Some one
+  one_again one =
+      ap (λ (o : Option Property). option_and_then (λ it. option_map (λ (value : PropertyValue). record { property = it; value = value }) (shown_in (property_value one.value))) o) (property_again one.property)
+      ∙ ap (λ (o : Option PropertyValue). option_map (λ (value : PropertyValue). record { property = one.property; value = value }) o) (shown_again one.value)
+
+  properties_again : (properties : List ShownProperty) → all_in property_at (shown_values properties) ≡ Some properties
+  properties_again [] = refl
+  properties_again (one ∷ properties) =
+      ap (λ (o : Option ShownProperty). option_and_then (λ (it : ShownProperty). option_map (λ more. it ∷ more) (all_in property_at (shown_values properties))) o) (one_again one)
+      ∙ ap (λ (o : Option (List ShownProperty)). option_map (λ more. one ∷ more) o) (properties_again properties)
+
   -- ---- bodies
 
   body_again : (body : Body) → AreTyped body → HasNumbers body → body_in (shape_in body) (values_of body) ≡ Some body
@@ -86,6 +128,8 @@ module _ (naming : Naming) where
   body_again (body.Object object) typed some = refl
   body_again (body.Secret secret) typed some = ap (λ o. option_map (λ (it : ReturnedSecret). body.Secret it) o) (secret_again secret typed some)
   body_again (body.Secrets secrets) typed some = ap (λ o. option_map (λ (them : List ItemSecret). body.Secrets them) o) (secrets_among_again secrets typed some)
+  body_again (body.Property value) typed some = ap (λ o. option_map (λ (it : PropertyValue). body.Property it) o) (shown_again value)
+  body_again (body.Properties properties) typed some = ap (λ o. option_map (λ (them : List ShownProperty). body.Properties them) o) (properties_again properties)
 
 -- a body isn't one of another shape
 other_body : (shape : Shape) (body : Body) → (shape_in body ≡ shape → ⊥) → body_in shape (values_of body) ≡ None
@@ -98,6 +142,8 @@ other_body shape.ObjectAndPrompt (body.ObjectAndPrompt object prompt) not = absu
 other_body shape.Object (body.Object object) not = absurd (not refl)
 other_body shape.Secret (body.Secret secret) not = absurd (not refl)
 other_body shape.Secrets (body.Secrets secrets) not = absurd (not refl)
+other_body shape.Property (body.Property value) not = absurd (not refl)
+other_body shape.Properties (body.Properties properties) not = absurd (not refl)
 other_body shape.Found (body.ObjectsAndPrompt objects prompt) not =
     ap (λ o. option_and_then (λ (them : List (List ℕ)). option_map (λ (others : List (List ℕ)). body.Found them others) None) o) (paths_again objects)
 other_body shape.ObjectsAndPrompt (body.Found unlocked locked) not =

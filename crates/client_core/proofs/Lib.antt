@@ -4,3 +4,4 @@ mod SentLemmas
 mod ReadLemmas
 mod ReplyLemmas
 mod AnswerLemmas
+mod AskableLemmas

@@ -5,6 +5,7 @@ use Rattle.std.specs.List.{list_all}
 use Rattle.std.proofs.lemmas.Bool.Decides.{nat_tests, Decides-by_and}
 use Rattle.kr_base.specs.declared.attributes.AttrValue.{AttrValue}
 use Rattle.kr_base.specs.declared.attributes.AttrValue.TheVariants as value
+use Rattle.kr_base.specs.declared.ids.ItemId.{ItemId}
 use Rattle.kr_base.specs.declared.ids.PromptId.{PromptId}
 use Rattle.kr_base.specs.declared.ids.SessionId.{SessionId}
 use Rattle.kr_base.specs.Attributes.{gathered}
@@ -24,16 +25,22 @@ use Rattle.secret_calls.specs.declared.call.Call.TheVariants as call
 use Rattle.secret_calls.specs.declared.call.CallFault.TheVariants as fault
 use Rattle.secret_calls.specs.declared.call.Request.{Request}
 use Rattle.secret_calls.specs.declared.secret.Secret.{Secret}
-use Rattle.secret_calls.specs.Outs.{path_values}
+use Rattle.secret_calls.specs.declared.property.Property.{Property}
+use Rattle.secret_calls.specs.declared.property.Property.TheVariants as property
+use Rattle.secret_calls.specs.Outs.{path_values, property_text}
 use Rattle.call_arguments.specs.Arguments.{attributes_of, all_in, object_in, session_named, session_of_name, session_in, prompt_of_name, prompt_in, name_in, alias_named, wanted_alias, text_pair_in, attributes_in, secret_in, truth_in}
 use Rattle.call_wire.specs.Collection.{description_in, made_with}
+use Rattle.call_wire.specs.declared.properties.Setter.{Setter}
+use Rattle.call_wire.specs.declared.properties.Setter.TheVariants as setter
+use Rattle.call_wire.specs.Interfaces.{interface_name, interfaces}
 use Rattle.call_wire.specs.Members.{members, call_with}
+use Rattle.call_wire.specs.Properties.{got, all_got, call_by, set_by}
 use Rattle.call_wire.specs.declared.members.Method.{Method}
 use Rattle.call_wire.specs.declared.members.Method.TheVariants as method
 use Rattle.call_wire.specs.CallOf as reading
 use Rattle.call_wire.specs.CallOf.{CallOf, call_on}
-use Rattle.client_core.specs.Arguments.{nothing_path, strange_path, path_value, session_text, prompt_text, object_text, alias_text, attribute_text, attribute_values, attributes_value, given_secret, item_properties, arguments_of}
-use Rattle.client_core.specs.Askable.{IsSessionName, IsPromptName, IsGiven, AreNames, ArePairs, AreAttributes, HasArguments, CanBeAsked}
+use Rattle.client_core.specs.Arguments.{nothing_path, strange_path, path_value, session_text, prompt_text, object_text, alias_text, attribute_text, attribute_values, attributes_value, given_secret, item_properties, own_interface, arguments_of}
+use Rattle.client_core.specs.Askable.{IsCollection, IsObject, has_property, own_properties, IsSessionName, IsPromptName, IsGiven, AreNames, ArePairs, AreAttributes, HasArguments, CanBeAsked}
 use Rattle.client_core.specs.Asked.{object_of, spelled, said}
 
 -- a path has the name whose path it is; a law of kr_names
@@ -150,6 +157,11 @@ module _ (naming : Naming) where
   method_of (call.GetSecret stem item session) = method.GetSecret
   method_of (call.SetSecret stem item secret) = method.SetSecret
   method_of (call.CloseSession session) = method.CloseSession
+  method_of (call.Get object property) = method.Get
+  method_of (call.GetAll object properties) = method.GetAll
+  method_of (call.SetCollectionLabel collection label) = method.Set
+  method_of (call.SetItemLabel stem item label) = method.Set
+  method_of (call.SetAttributes stem item attributes) = method.Set
   method_of (call.Prompt prompt) = method.Prompt
   method_of (call.Dismiss prompt) = method.Dismiss
   method_of call.Register = method.Register
@@ -157,6 +169,21 @@ module _ (naming : Naming) where
   method_of (call.Answer prompt round password) = method.Answer
   method_of (call.Refuse prompt round) = method.Refuse
   method_of call.Ping = method.Ping
+
+  -- the interface Properties is on each object
+  get_on : (serial : ℕ) (object : ObjectName) (it : Property) → IsTrue (has_property object it)
+      → call_on (Some object) (said (call.Get object it) serial) ≡ call_with method.Get (Some object) (arguments_of (call.Get object it))
+  unfolding members
+  get_on serial name.Nothing it has = absurd (let no : false ≡ true = has in cc)
+  get_on serial name.Service it has = refl
+  get_on serial _ it has = refl
+
+  all_on : (serial : ℕ) (object : ObjectName) (them : List Property) → IsObject object
+      → call_on (Some object) (said (call.GetAll object them) serial) ≡ call_with method.GetAll (Some object) (arguments_of (call.GetAll object them))
+  unfolding members
+  all_on serial name.Nothing them is = absurd is
+  all_on serial name.Service them is = refl
+  all_on serial _ them is = refl
 
   -- on its object, it is a call of this method
   on_object : (serial : ℕ) (call : Call) → HasArguments call → call_on (Some (object_of call)) (said call serial) ≡ call_with (method_of call) (Some (object_of call)) (arguments_of call)
@@ -170,6 +197,11 @@ module _ (naming : Naming) where
   on_object serial (call.DeleteCollection (name.Collection stem)) has = refl
   on_object serial (call.DeleteCollection (name.Alias alias)) has = refl
   on_object serial (call.DeleteCollection _) has = absurd has
+  on_object serial (call.Get object property) has = get_on serial object property has
+  on_object serial (call.GetAll object properties) has = all_on serial object properties has.0
+  on_object serial (call.SetCollectionLabel (name.Collection stem) label) has = refl
+  on_object serial (call.SetCollectionLabel (name.Alias alias) label) has = refl
+  on_object serial (call.SetCollectionLabel _ label) has = absurd has.0
   on_object serial call has = refl
 
   -- the properties of a new item
@@ -190,6 +222,54 @@ module _ (naming : Naming) where
       (described label attributes are)
       ∙ ap (λ (o : Option Secret). ok_or (option_and_then (λ held. option_map (λ again. call.CreateItem collection label attributes held again) (truth_in truth)) o) fault.InvalidArgs) (secret_again secret is)
       ∙ ap (λ (o : Option Bool). ok_or (option_map (λ again. call.CreateItem collection label attributes secret again) o) fault.InvalidArgs) (bit_again replace)
+
+  -- the property of an object is found by the names of its interface and of itself
+  got_again : (object : ObjectName) (it : Property) → IsTrue (has_property object it) → got (Some object) (interface_name (own_interface object), property_text it) ≡ Ok (call.Get object it)
+  unfolding interfaces
+  got_again name.Service property.Collections has = refl
+  got_again (name.Collection stem) property.Items has = refl
+  got_again (name.Collection stem) property.Label has = refl
+  got_again (name.Collection stem) property.Locked has = refl
+  got_again (name.Collection stem) property.Created has = refl
+  got_again (name.Collection stem) property.Modified has = refl
+  got_again (name.Alias alias) property.Items has = refl
+  got_again (name.Alias alias) property.Label has = refl
+  got_again (name.Alias alias) property.Locked has = refl
+  got_again (name.Alias alias) property.Created has = refl
+  got_again (name.Alias alias) property.Modified has = refl
+  got_again (name.Item stem item) property.Label has = refl
+  got_again (name.Item stem item) property.Attributes has = refl
+  got_again (name.Item stem item) property.Locked has = refl
+  got_again (name.Item stem item) property.Created has = refl
+  got_again (name.Item stem item) property.Modified has = refl
+  got_again _ _ has = absurd (let no : false ≡ true = has in cc)
+
+  all_again : (object : ObjectName) → IsObject object → all_got (Some object) (interface_name (own_interface object)) ≡ Ok (call.GetAll object (own_properties object))
+  unfolding interfaces
+  all_again name.Nothing is = absurd is
+  all_again name.Service is = refl
+  all_again _ is = refl
+
+  -- a property is set to what the value is read as
+  set_again : (setter : Setter) (object : ObjectName) (held : Val) (wanted : Call) → call_by setter (Some object) held ≡ Some wanted → set_by (Some setter) (Some object) held ≡ Ok wanted
+  set_again setter object held wanted is = ap (λ o. ok_or o fault.InvalidArgs) is
+
+  set_label : (collection : ObjectName) (label : List ℕ) → IsCollection collection
+      → call_with method.Set (Some collection) (arguments_of (call.SetCollectionLabel collection label)) ≡ Ok (call.SetCollectionLabel collection label)
+  unfolding interfaces
+  set_label (name.Collection stem) label is = refl
+  set_label (name.Alias alias) label is = refl
+  set_label _ label is = absurd is
+
+  set_item_label : (stem : List ℕ) (item : ItemId) (label : List ℕ)
+      → call_with method.Set (Some (name.Item stem item)) (arguments_of (call.SetItemLabel stem item label)) ≡ Ok (call.SetItemLabel stem item label)
+  unfolding interfaces
+  set_item_label stem item label = refl
+
+  set_attributes : (stem : List ℕ) (item : ItemId) (attributes : List (List ℕ × AttrValue))
+      → call_with method.Set (Some (name.Item stem item)) (arguments_of (call.SetAttributes stem item attributes)) ≡ set_by (Some setter.ItemAttributes) (Some (name.Item stem item)) (attributes_value attributes)
+  unfolding interfaces
+  set_attributes stem item attributes = refl
 
   -- and the method reads its arguments
   by_method : (call : Call) → HasArguments call → call_with (method_of call) (Some (object_of call)) (arguments_of call) ≡ Ok call
@@ -224,6 +304,14 @@ module _ (naming : Naming) where
       ap (λ (o : Option (Option SessionId)). ok_or (option_map (λ it. call.GetSecret stem item it) o) fault.InvalidArgs) (session_again session has)
   by_method (call.SetSecret stem item secret) has =
       ap (λ (o : Option Secret). ok_or (option_map (λ it. call.SetSecret stem item it) o) fault.InvalidArgs) (secret_again secret has)
+  by_method (call.Get object property) has = got_again object property has
+  by_method (call.GetAll object properties) has = all_again object has.0 ∙ ap (λ them. Ok (call.GetAll object them)) (sym has.1)
+  by_method (call.SetCollectionLabel collection label) has = set_label collection label has.0
+  by_method (call.SetItemLabel stem item label) has = set_item_label stem item label
+  by_method (call.SetAttributes stem item attributes) has =
+      set_attributes stem item attributes
+      ∙ set_again setter.ItemAttributes (name.Item stem item) (attributes_value attributes) (call.SetAttributes stem item attributes)
+      (ap (λ (o : Option (List (List ℕ × AttrValue))). option_map (λ it. call.SetAttributes stem item it) o) (attributes_again attributes has))
   by_method (call.Answer prompt round password) has =
       ap (λ (o : Option (Option PromptId)). ok_or (option_and_then (λ it. Some (call.Answer it round password)) o) fault.InvalidArgs) (prompt_again prompt has.0)
   by_method (call.Refuse prompt round) has =

@@ -27,13 +27,15 @@ use Rattle.dbus_sending.proofs.MessageLemmas.{sent_is_message}
 use Rattle.secret_calls.specs.declared.call.Call.{Call}
 use Rattle.secret_calls.specs.declared.call.Call.TheVariants as call
 use Rattle.secret_calls.specs.declared.secret.Secret.{Secret}
-use Rattle.secret_calls.specs.Outs.{path_values}
-use Rattle.call_wire.specs.declared.members.Interface.{Interface}
-use Rattle.call_wire.specs.declared.members.Interface.TheVariants as interface
-use Rattle.call_wire.specs.Members.{interface_name}
+use Rattle.secret_calls.specs.declared.property.Property.{Property}
+use Rattle.secret_calls.specs.declared.property.Property.TheVariants as property
+use Rattle.secret_calls.specs.Outs.{path_values, property_text}
+use Rattle.call_wire.specs.declared.interfaces.Interface.{Interface}
+use Rattle.call_wire.specs.declared.interfaces.Interface.TheVariants as interface
+use Rattle.call_wire.specs.Interfaces.{interface_name}
 use Rattle.call_wire.specs.Service as service
 use Rattle.call_wire.specs.Collection as collection
-use Rattle.client_core.specs.Arguments.{text_value, path_value, session_text, prompt_text, object_text, alias_text, attribute_values, arguments_of}
+use Rattle.client_core.specs.Arguments.{text_value, path_value, session_text, prompt_text, object_text, alias_text, attribute_values, own_interface, arguments_of}
 use Rattle.client_core.specs.Askable.{IsSessionName, IsPromptName, IsGiven, AreNames, ArePairs, HasArguments, CanBeAsked}
 use Rattle.client_core.specs.Asked.{object_of, interface_of, method_name, sent, spelled, said, most_bytes}
 use Rattle.client_core.proofs.TextLemmas.{plain_text, literal_text, path_is, name_is, string_is}
@@ -105,6 +107,15 @@ record AreBody (values : Vals) : Type 0 where
 none_are : AreBody Vals.end
 none_are = record { listed = refl; spelled = tt }
 
+-- the names of interfaces and of properties
+interface_text : (it : Interface) → IsString (interface_name it)
+interface_text interface.Service = (literal_text (interface_name interface.Service) refl, omega arith)
+interface_text it = (literal_text (interface_name it) refl, omega arith)
+
+property_is : (it : Property) → IsString (property_text it)
+property_is property.Collections = (literal_text (property_text property.Collections) refl, omega arith)
+property_is it = (literal_text (property_text it) refl, omega arith)
+
 arguments_are : (call : Call) → HasArguments call → IsShort (arguments_of call) → AreBody (arguments_of call)
 arguments_are (call.OpenSession algorithm) has short =
     let few = all_within array_limit (arguments_of (call.OpenSession algorithm)) 0 short in
@@ -164,6 +175,30 @@ arguments_are (call.GetSecret stem item session) has short =
 arguments_are (call.SetSecret stem item secret) has short =
     let few = all_within array_limit (arguments_of (call.SetSecret stem item secret)) 0 short in
     record { listed = refl; spelled = (secret_fits 62 secret has few.0, tt) }
+arguments_are (call.Get object property) has short =
+    record { listed = refl; spelled = ((refl, interface_text (own_interface object)), ((refl, property_is property), tt)) }
+arguments_are (call.GetAll object properties) has short = record { listed = refl; spelled = ((refl, interface_text (own_interface object)), tt) }
+arguments_are (call.SetCollectionLabel collection label) has short =
+    let few = all_within array_limit (arguments_of (call.SetCollectionLabel collection label)) 0 short in
+    record {
+      listed = refl;
+      spelled = ((refl, interface_text interface.Collection), ((refl, property_is property.Label), ((refl, (refl, string_is label has.1 few.1.1.0)), tt)));
+    }
+arguments_are (call.SetItemLabel stem item label) has short =
+    let few = all_within array_limit (arguments_of (call.SetItemLabel stem item label)) 0 short in
+    record {
+      listed = refl;
+      spelled = ((refl, interface_text interface.Item), ((refl, property_is property.Label), ((refl, (refl, string_is label has few.1.1.0)), tt)));
+    }
+arguments_are (call.SetAttributes stem item attributes) has short =
+    let few = all_within array_limit (arguments_of (call.SetAttributes stem item attributes)) 0 short in
+    record {
+      listed = refl;
+      spelled = (
+        (refl, interface_text interface.Item),
+        ((refl, property_is property.Attributes), ((refl, (refl, pairs_fit 61 attributes has.texts few.1.1.0, refl)), tt)),
+      );
+    }
 arguments_are (call.Prompt prompt) has short = record { listed = refl; spelled = ((refl, empty_is), tt) }
 arguments_are (call.Answer prompt round password) has short =
     let few = all_within array_limit (arguments_of (call.Answer prompt round password)) 0 short in

@@ -6,6 +6,7 @@ use Rattle.kr_base.specs.declared.attributes.AttrValue.TheVariants as value
 use Rattle.kr_base.specs.declared.ids.PromptId.{PromptId}
 use Rattle.kr_base.specs.declared.ids.SessionId.{SessionId}
 use Rattle.kr_names.specs.declared.object_name.ObjectName.{ObjectName}
+use Rattle.kr_names.specs.declared.object_name.ObjectName.TheVariants as name
 use Rattle.kr_names.specs.Path.{path_text}
 use Rattle.dbus_types.specs.declared.complete_type.BasicType.TheVariants as basics
 use Rattle.dbus_types.specs.Types.{Ty}
@@ -14,7 +15,11 @@ use Rattle.dbus_types.specs.ValueViews.{bit_of}
 use Rattle.secret_calls.specs.declared.secret.Secret.{Secret}
 use Rattle.secret_calls.specs.declared.call.Call.{Call}
 use Rattle.secret_calls.specs.declared.call.Call.TheVariants as call
-use Rattle.secret_calls.specs.Outs.{session_path, prompt_path, paths_value}
+use Rattle.secret_calls.specs.declared.property.Property.TheVariants as property
+use Rattle.secret_calls.specs.Outs.{session_path, prompt_path, paths_value, property_text}
+use Rattle.call_wire.specs.declared.interfaces.Interface.{Interface}
+use Rattle.call_wire.specs.declared.interfaces.Interface.TheVariants as interface
+use Rattle.call_wire.specs.Interfaces.{interface_name}
 use Rattle.call_wire.specs.Service as service
 use Rattle.call_wire.specs.Collection as collection
 
@@ -88,6 +93,21 @@ abbrev pub alias_text : Option (List ℕ) → List ℕ
 alias_text None = []
 alias_text (Some alias) = alias
 
+-- the interface that has the properties of an object, if it has any
+abbrev pub own_interface : ObjectName → Interface
+own_interface name.Nothing = interface.Peer
+own_interface name.Service = interface.Service
+own_interface name.Agent = interface.Agent
+own_interface (name.Collection stem) = interface.Collection
+own_interface (name.Alias alias) = interface.Collection
+own_interface (name.Item stem item) = interface.Item
+own_interface (name.Session session) = interface.Session
+own_interface (name.Prompt prompt) = interface.Prompt
+
+-- a value that a property is set to, after the names of its interface and of itself
+abbrev pub set_values : List ℕ → List ℕ → Val → Vals
+set_values interface name held = Vals.more (text_value interface) (Vals.more (text_value name) (Vals.more (Val.variant held) Vals.end))
+
 -- the first path, or that of no object
 abbrev pub first_path : List (List ℕ) → List ℕ
 first_path [] = nothing_path
@@ -116,6 +136,15 @@ arguments_with (call.CreateItem collection label attributes secret replace) path
     Vals.more (item_properties label attributes) (Vals.more (given_secret secret) (Vals.more (Val.number basics.Boolean (bit_of replace)) Vals.end))
 arguments_with (call.GetSecret stem item session) paths = Vals.more (path_value (session_text session)) Vals.end
 arguments_with (call.SetSecret stem item secret) paths = Vals.more (given_secret secret) Vals.end
+arguments_with (call.Get object property) paths =
+    Vals.more (text_value (interface_name (own_interface object))) (Vals.more (text_value (property_text property)) Vals.end)
+arguments_with (call.GetAll object properties) paths = Vals.more (text_value (interface_name (own_interface object))) Vals.end
+arguments_with (call.SetCollectionLabel collection label) paths =
+    set_values (interface_name interface.Collection) (property_text property.Label) (text_value label)
+arguments_with (call.SetItemLabel stem item label) paths =
+    set_values (interface_name interface.Item) (property_text property.Label) (text_value label)
+arguments_with (call.SetAttributes stem item attributes) paths =
+    set_values (interface_name interface.Item) (property_text property.Attributes) (attributes_value attributes)
 arguments_with (call.Prompt prompt) paths = Vals.more (text_value []) Vals.end
 arguments_with (call.Answer prompt round password) paths =
     Vals.more (path_value (prompt_text prompt)) (Vals.more (Val.number basics.Uint64 round) (Vals.more (Val.bytes password) Vals.end))

@@ -1,5 +1,5 @@
 -- Which calls a client can make: what must be true of a call beyond its type to have a spelling, and what all of it is.
-use Rattle.std.specs.Prelude.{ℕ, ◌^◌, ◌<◌, IsTrue, Bool, true, false, List, [], ◌∷◌, Option, IfSome, All}
+use Rattle.std.specs.Prelude.{◌≡◌, ℕ, ◌^◌, ◌<◌, IsTrue, Bool, true, false, List, [], ◌∷◌, map, Option, IfSome, All}
 use Rattle.kr_base.specs.declared.attributes.AttrValue.{AttrValue}
 use Rattle.kr_base.specs.declared.attributes.AttrValue.TheVariants as value
 use Rattle.kr_base.specs.declared.ids.PromptId.{PromptId}
@@ -13,6 +13,10 @@ use Rattle.dbus_marshal.specs.Wire.{AreBytes}
 use Rattle.secret_calls.specs.declared.secret.Secret.{Secret}
 use Rattle.secret_calls.specs.declared.call.Call.{Call}
 use Rattle.secret_calls.specs.declared.call.Call.TheVariants as call
+use Rattle.secret_calls.specs.declared.property.Property.{Property}
+use Rattle.secret_calls.specs.declared.property.Property.TheVariants as property
+use Rattle.call_wire.specs.Properties.{properties}
+use Rattle.client_core.specs.Arguments.{own_interface}
 use Rattle.client_core.specs.Asked.{object_of}
 
 -- the name is that of a collection, or of an alias
@@ -42,8 +46,42 @@ IsSession session = IfSome session (λ it. 0 < it.0)
 abbrev pub IsPrompt : Option PromptId → Type 0
 IsPrompt prompt = IfSome prompt (λ it. 0 < it.0)
 
+-- the name is that of an object
+abbrev pub IsObject : ObjectName → Type 0
+IsObject name.Nothing = ⊥
+IsObject object = Unit {0}
+
+-- whether the service has a property
+abbrev pub of_service : Property → Bool
+of_service property.Collections = true
+of_service other = false
+
+-- whether a collection has
+abbrev pub of_collection : Property → Bool
+of_collection property.Collections = false
+of_collection property.Attributes = false
+of_collection other = true
+
+-- whether an item has
+abbrev pub of_item : Property → Bool
+of_item property.Collections = false
+of_item property.Items = false
+of_item other = true
+
+-- whether an object has
+abbrev pub has_property : ObjectName → Property → Bool
+has_property name.Service it = of_service it
+has_property (name.Collection stem) it = of_collection it
+has_property (name.Alias alias) it = of_collection it
+has_property (name.Item stem item) it = of_item it
+has_property object it = false
+
+-- the properties of an object, in the order of the table
+abbrev pub own_properties : ObjectName → List Property
+own_properties object = map (λ row. row.property) (properties (own_interface object))
+
 -- The call has a spelling: sessions and prompts have numbers other than 0, aliases have names of aliases, attributes have
--- texts, and what is called on a collection is called on a collection or an alias.
+-- texts, what is called on a collection is called on a collection or an alias, and the properties are those of their object.
 abbrev pub IsAskable : Call → Type 0
 IsAskable (call.CloseSession session) = 0 < session.0
 IsAskable (call.SearchItems wanted) = AreTexts wanted
@@ -57,6 +95,10 @@ IsAskable (call.CreateItem collection label attributes secret replace) =
 IsAskable (call.DeleteCollection collection) = IsCollection collection × HasPath collection
 IsAskable (call.GetSecret stem item session) = IsSession session
 IsAskable (call.SetSecret stem item secret) = IsSession secret.session
+IsAskable (call.Get object property) = HasPath object × IsTrue (has_property object property)
+IsAskable (call.GetAll object properties) = IsObject object × HasPath object × (properties ≡ own_properties object)
+IsAskable (call.SetCollectionLabel collection label) = IsCollection collection × HasPath collection
+IsAskable (call.SetAttributes stem item attributes) = AreTexts attributes
 IsAskable (call.Prompt prompt) = 0 < prompt.0
 IsAskable (call.Dismiss prompt) = 0 < prompt.0
 IsAskable (call.Answer prompt round password) = IsPrompt prompt
@@ -111,6 +153,11 @@ HasArguments (call.CreateItem collection label attributes secret replace) =
 HasArguments (call.DeleteCollection collection) = IsCollection collection
 HasArguments (call.GetSecret stem item session) = IsSessionName session
 HasArguments (call.SetSecret stem item secret) = IsGiven secret
+HasArguments (call.Get object property) = IsTrue (has_property object property)
+HasArguments (call.GetAll object properties) = IsObject object × (properties ≡ own_properties object)
+HasArguments (call.SetCollectionLabel collection label) = IsCollection collection × IsText label
+HasArguments (call.SetItemLabel stem item label) = IsText label
+HasArguments (call.SetAttributes stem item attributes) = AreAttributes attributes
 HasArguments (call.Answer prompt round password) = IsPromptName prompt × (round < 2 ^ 64) × AreBytes password
 HasArguments (call.Refuse prompt round) = IsPromptName prompt × (round < 2 ^ 64)
 HasArguments call = Unit {0}

@@ -8,9 +8,9 @@ use Rattle.dbus_framing.specs.Messages.{Parts}
 use Rattle.dbus_sending.specs.Sent.{SentHeader, Sent, bare_header, spelled_message, said_by}
 use Rattle.secret_calls.specs.declared.call.Call.{Call}
 use Rattle.secret_calls.specs.declared.call.Call.TheVariants as call
-use Rattle.call_wire.specs.declared.members.Interface.{Interface}
-use Rattle.call_wire.specs.declared.members.Interface.TheVariants as interface
-use Rattle.call_wire.specs.Members.{interface_name}
+use Rattle.call_wire.specs.declared.interfaces.Interface.{Interface}
+use Rattle.call_wire.specs.declared.interfaces.Interface.TheVariants as interface
+use Rattle.call_wire.specs.Interfaces.{interface_name}
 use Rattle.client_core.specs.Arguments.{arguments_of, arguments_with}
 
 -- the object that a call is made on; every object answers Ping
@@ -22,6 +22,11 @@ object_of (call.DeleteCollection collection) = collection
 object_of (call.DeleteItem stem item) = name.Item stem item
 object_of (call.GetSecret stem item session) = name.Item stem item
 object_of (call.SetSecret stem item secret) = name.Item stem item
+object_of (call.Get object property) = object
+object_of (call.GetAll object properties) = object
+object_of (call.SetCollectionLabel collection label) = collection
+object_of (call.SetItemLabel stem item label) = name.Item stem item
+object_of (call.SetAttributes stem item attributes) = name.Item stem item
 object_of (call.Prompt prompt) = name.Prompt prompt
 object_of (call.Dismiss prompt) = name.Prompt prompt
 object_of call.Register = name.Agent
@@ -40,6 +45,11 @@ interface_of (call.DeleteCollection collection) = interface.Collection
 interface_of (call.DeleteItem stem item) = interface.Item
 interface_of (call.GetSecret stem item session) = interface.Item
 interface_of (call.SetSecret stem item secret) = interface.Item
+interface_of (call.Get object property) = interface.Properties
+interface_of (call.GetAll object properties) = interface.Properties
+interface_of (call.SetCollectionLabel collection label) = interface.Properties
+interface_of (call.SetItemLabel stem item label) = interface.Properties
+interface_of (call.SetAttributes stem item attributes) = interface.Properties
 interface_of (call.Prompt prompt) = interface.Prompt
 interface_of (call.Dismiss prompt) = interface.Prompt
 interface_of call.Register = interface.Agent
@@ -66,6 +76,11 @@ method_name (call.DeleteCollection collection) = codes "Delete"
 method_name (call.DeleteItem stem item) = codes "Delete"
 method_name (call.GetSecret stem item session) = codes "GetSecret"
 method_name (call.SetSecret stem item secret) = codes "SetSecret"
+method_name (call.Get object property) = codes "Get"
+method_name (call.GetAll object properties) = codes "GetAll"
+method_name (call.SetCollectionLabel collection label) = codes "Set"
+method_name (call.SetItemLabel stem item label) = codes "Set"
+method_name (call.SetAttributes stem item attributes) = codes "Set"
 method_name (call.Prompt prompt) = codes "Prompt"
 method_name (call.Dismiss prompt) = codes "Dismiss"
 method_name call.Register = codes "Register"

@@ -1,7 +1,8 @@
 -- How what the service sends is read as the answer to a call: D-Bus Specification, "Message Format"; Secret Service API draft
 -- 0.2, the interfaces' methods. It is the way back from `Rattle.secret_calls.specs.Outs.sent`.
-use Rattle.std.specs.Prelude.{ℕ, ◌==◌, ◌&&◌, Bool, true, false, List, [], ◌<◌, Option, Some, None, IfSome, Result, Err, codes, ok_or, option_map, option_and_then, if◌then◌else◌}
-use Rattle.std.specs.List.{AllByRecursion}
+use Rattle.std.specs.Prelude.{ℕ, ◌==◌, ◌&&◌, Bool, true, false, List, [], ◌∷◌, ◌<◌, Option, Some, None, IfSome, Result, Err, codes, ok_or, option_map, option_and_then, if◌then◌else◌}
+use Rattle.std.specs.List.{AllByRecursion, find}
+use Rattle.std.specs.Option.{option_or}
 use Rattle.std.specs.Str.{bytes_eq}
 use Rattle.kr_base.specs.declared.ids.PromptId.{PromptId}
 use Rattle.kr_base.specs.declared.ids.SessionId.{SessionId}
@@ -17,9 +18,15 @@ use Rattle.secret_calls.specs.declared.call.Call.{Call}
 use Rattle.secret_calls.specs.declared.call.Call.TheVariants as call
 use Rattle.secret_calls.specs.declared.out.Body.{Body}
 use Rattle.secret_calls.specs.declared.out.Body.TheVariants as body
-use Rattle.secret_calls.specs.Outs.{secret_type}
+use Rattle.secret_calls.specs.declared.property.Attribute.{Attribute}
+use Rattle.secret_calls.specs.declared.property.Property.{Property}
+use Rattle.secret_calls.specs.declared.property.Property.TheVariants as property
+use Rattle.secret_calls.specs.declared.property.PropertyValue.{PropertyValue}
+use Rattle.secret_calls.specs.declared.property.PropertyValue.TheVariants as shown
+use Rattle.secret_calls.specs.declared.property.ShownProperty.{ShownProperty}
+use Rattle.secret_calls.specs.Outs.{secret_type, property_text}
 use Rattle.call_arguments.specs.declared.values.ElementType.TheVariants as element
-use Rattle.call_arguments.specs.Arguments.{bytes_in, four_of, elements_in, all_in, entry_in, session_named, prompt_named, is_path_type, is_text_type}
+use Rattle.call_arguments.specs.Arguments.{bytes_in, four_of, elements_in, all_in, entry_in, truth_in, long_in, text_pair_in, session_named, prompt_named, is_path_type, is_text_type}
 use Rattle.client_core.specs.declared.reply.Shape.{Shape}
 use Rattle.client_core.specs.declared.reply.Shape.TheVariants as shape
 use Rattle.client_core.specs.declared.reply.Reply.{Reply}
@@ -43,6 +50,8 @@ shape_of (call.CreateItem collection label attributes secret replace) = shape.Ob
 shape_of (call.DeleteCollection collection) = shape.Object
 shape_of (call.DeleteItem stem item) = shape.Object
 shape_of (call.GetSecret stem item session) = shape.Secret
+shape_of (call.Get object property) = shape.Property
+shape_of (call.GetAll object properties) = shape.Properties
 shape_of _ = shape.Empty
 
 -- the shape of a body
@@ -56,6 +65,8 @@ shape_in (body.ObjectAndPrompt object prompt) = shape.ObjectAndPrompt
 shape_in (body.Object object) = shape.Object
 shape_in (body.Secret secret) = shape.Secret
 shape_in (body.Secrets secrets) = shape.Secrets
+shape_in (body.Property value) = shape.Property
+shape_in (body.Properties properties) = shape.Properties
 
 -- ---- what values contain
 
@@ -201,6 +212,61 @@ item_secrets_in value = option_and_then (all_in item_secret_at) (secret_entries 
 abbrev pub secrets_body : Vals → Option Body
 secrets_body values = option_map (λ secrets. body.Secrets secrets) (option_and_then item_secrets_in (one_of values))
 
+-- ---- properties
+
+-- the properties
+abbrev pub all_properties : List Property
+all_properties =
+    property.Collections ∷ property.Items ∷ property.Label ∷ property.Attributes ∷ property.Locked ∷ property.Created ∷ property.Modified ∷ []
+
+-- whether a property has this name
+abbrev pub is_called : List ℕ → Property → Bool
+is_called name it = bytes_eq name (property_text it)
+
+-- the property of this name
+abbrev pub property_named : List ℕ → Option Property
+property_named name = find (is_called name) all_properties
+
+-- an attribute, as an entry of a dict of texts
+abbrev pub attribute_in : Val → Option Attribute
+attribute_in value = option_map (λ pair. record { name = pair.0; value = pair.1 }) (text_pair_in value)
+
+-- the attributes in a value of type `a{ss}`
+abbrev pub attributes_in : Val → Option (List Attribute)
+attributes_in value = option_and_then (all_in attribute_in) (elements_in element.TextPair value)
+
+-- the value of a property, by its type
+abbrev pub shown_in : Val → Option PropertyValue
+shown_in value =
+    option_or (option_map (λ text. shown.Text text) (string_in value)) (option_or (option_map (λ truth. shown.Truth truth) (truth_in value))
+    (option_or (option_map (λ seconds. shown.Moment seconds) (long_in value)) (option_or (option_map (λ objects. shown.Objects objects) (paths_in value))
+    (option_map (λ attributes. shown.Attributes attributes) (attributes_in value)))))
+
+-- the same in a variant
+abbrev pub shown_held : Val → Option PropertyValue
+shown_held value = option_and_then shown_in (held_in value)
+
+-- the property of this name and of this value
+abbrev pub property_of : Val × Val → Option ShownProperty
+property_of pair =
+    option_and_then (λ it. option_map (λ value. record { property = it; value = value }) (shown_held pair.1)) (option_and_then property_named (string_in pair.0))
+
+-- the property and its value in an entry
+abbrev pub property_at : Val → Option ShownProperty
+property_at value = option_and_then property_of (entry_in value)
+
+-- the properties in a value of type `a{sv}`
+abbrev pub properties_in : Val → Option (List ShownProperty)
+properties_in value = option_and_then (all_in property_at) (elements_in element.Property value)
+
+-- Get returns the value of a property
+abbrev pub property_body : Vals → Option Body
+property_body values = option_map (λ value. body.Property value) (option_and_then shown_held (one_of values))
+
+-- GetAll returns properties with their values
+abbrev pub properties_body : Vals → Option Body
+properties_body values = option_map (λ properties. body.Properties properties) (option_and_then properties_in (one_of values))
+
 -- ---- replies
 
 -- the body of this shape that the values are
@@ -214,6 +280,8 @@ body_in shape.ObjectAndPrompt = object_and_prompt_body
 body_in shape.Object = object_body
 body_in shape.Secret = secret_body
 body_in shape.Secrets = secrets_body
+body_in shape.Property = property_body
+body_in shape.Properties = properties_body
 
 -- the message answers the call with this serial
 abbrev pub answers : ℕ → Option ℕ → Bool

@@ -5,16 +5,19 @@ ghost use Rattle.dbus_types.specs.Types.{texts_of};
 ghost use Rattle.dbus_types.specs.Values.{Val, Vals, tys_of};
 ghost use Rattle.dbus_types.specs.ValueViews.{bit_of};
 ghost use Rattle.dbus_marshal.specs.Putting.{put, puts};
-ghost use Rattle.secret_calls.specs.Outs.{paths_value};
-ghost use Rattle.client_core.specs.Arguments.{text_value, path_value, session_text, prompt_text, attribute_text, attribute_values, attributes_value, property_value, collection_properties, item_properties, given_secret, alias_text, first_path, arguments_with};
+ghost use Rattle.secret_calls.specs.Outs.{paths_value, property_text};
+ghost use Rattle.call_wire.specs.Interfaces.{interface_name};
+ghost use Rattle.client_core.specs.Arguments.{text_value, path_value, session_text, prompt_text, attribute_text, attribute_values, attributes_value, property_value, collection_properties, item_properties, given_secret, alias_text, own_interface, set_values, first_path, arguments_with};
 
+use crate::asking::{collection_interface, item_interface, own_interface};
 use dbus_marshal::{
     Put, PutValues, pad_to, put_array, put_bytes, put_long_path, put_path, put_signature, put_text,
     put_text_variant, put_u32, put_u64,
 };
 use itoa::Buffer;
 use kr_base::{AttrValue, Attributes, Bytes, PromptId, SessionId, Text};
-use secret_calls::{AliasName, Call, Secret};
+use kr_names::ObjectName;
+use secret_calls::{AliasName, Call, Property, Secret};
 
 const SESSIONS: &str = "/org/freedesktop/secrets/session/s";
 
@@ -351,6 +354,48 @@ fn put_create_item<P: Put>(
     put_truth(out, replace)
 }
 
+// Writes the arguments of Get.
+fn put_get<P: Put>(out: &mut P, object: &ObjectName, property: Property) -> Result<(), P::Refused>
+    ensures { (before : List ℕ) → P.stands out.old before → OnOk result (P.stands out.new
+        (puts before (Vals.more (text_value (interface_name (own_interface object.now)))
+        (Vals.more (text_value (property_text property)) Vals.end)))) }
+{
+    put_text(out, own_interface(object).as_bytes())?;
+    put_text(out, property.as_str().as_bytes())
+}
+
+// Writes the arguments of Set of a property whose value is a text.
+fn put_set_text<P: Put>(
+    out: &mut P,
+    interface: &str,
+    property: Property,
+    text: &Text,
+) -> Result<(), P::Refused>
+    ensures { (before : List ℕ) → P.stands out.old before → OnOk result (P.stands out.new
+        (puts before (set_values interface.now (property_text property)
+        (text_value text.now)))) }
+{
+    put_text(out, interface.as_bytes())?;
+    put_text(out, property.as_str().as_bytes())?;
+    put_text_variant(out, text.as_bytes())
+}
+
+// Writes the arguments of Set of a property whose value is attributes.
+fn put_set_attributes<P: Put>(
+    out: &mut P,
+    interface: &str,
+    property: Property,
+    attributes: &Attributes,
+) -> Result<(), P::Refused>
+    ensures { (before : List ℕ) → P.stands out.old before → OnOk result (P.stands out.new
+        (puts before (set_values interface.now (property_text property)
+        (attributes_value attributes.now)))) }
+{
+    put_text(out, interface.as_bytes())?;
+    put_text(out, property.as_str().as_bytes())?;
+    put_attributes_variant(out, attributes)
+}
+
 // Writes the arguments of Answer.
 fn put_answer<P: Put>(
     out: &mut P,
@@ -416,6 +461,17 @@ impl PutValues for Asking<'_> {
             Call::DeleteItem { .. } => Ok(()),
             Call::GetSecret { session, .. } => put_session(out, *session),
             Call::SetSecret { secret, .. } => put_secret(out, secret),
+            Call::Get { object, property } => put_get(out, object, *property),
+            Call::GetAll { object, .. } => put_text(out, own_interface(object).as_bytes()),
+            Call::SetCollectionLabel { label, .. } => {
+                put_set_text(out, collection_interface(), Property::Label, label)
+            }
+            Call::SetItemLabel { label, .. } => {
+                put_set_text(out, item_interface(), Property::Label, label)
+            }
+            Call::SetAttributes { attributes, .. } => {
+                put_set_attributes(out, item_interface(), Property::Attributes, attributes)
+            }
             Call::Prompt { .. } => put_text(out, b""),
             Call::Dismiss { .. } => Ok(()),
             Call::Register => Ok(()),
@@ -452,6 +508,11 @@ pub fn signature_of(call: &Call) -> &'static str
         Call::DeleteItem { .. } => "",
         Call::GetSecret { .. } => "o",
         Call::SetSecret { .. } => "(oayays)",
+        Call::Get { .. } => "ss",
+        Call::GetAll { .. } => "s",
+        Call::SetCollectionLabel { .. } => "ssv",
+        Call::SetItemLabel { .. } => "ssv",
+        Call::SetAttributes { .. } => "ssv",
         Call::Prompt { .. } => "s",
         Call::Dismiss { .. } => "",
         Call::Register => "",

@@ -1,11 +1,30 @@
 // Which calls a client can make.
 ghost use Rattle.std.specs.Prelude.{◌≡◌, ◌↔◌, IsTrue, IfSome};
 ghost use Rattle.kr_names.specs.Path.{HasPath};
-ghost use Rattle.client_core.specs.Askable.{IsCollection, is_text_value, AreTexts, HavePaths, IsSession, IsPrompt, IsAskable};
+ghost use Rattle.client_core.specs.Askable.{IsCollection, IsObject, is_text_value, AreTexts, HavePaths, IsSession, IsPrompt, of_service, of_collection, of_item, has_property, own_properties, IsAskable};
 
 use kr_base::{AttrValue, Attributes, PromptId, SessionId};
 use kr_names::ObjectName;
-use secret_calls::Call;
+use secret_calls::{Call, Property};
+
+// The properties of the service, of a collection and of an item.
+const OF_THE_SERVICE: &[Property] = &[Property::Collections];
+
+const OF_A_COLLECTION: &[Property] = &[
+    Property::Items,
+    Property::Label,
+    Property::Locked,
+    Property::Created,
+    Property::Modified,
+];
+
+const OF_AN_ITEM: &[Property] = &[
+    Property::Label,
+    Property::Attributes,
+    Property::Locked,
+    Property::Created,
+    Property::Modified,
+];
 
 // Whether the name is that of a collection, or of an alias.
 fn is_collection(name: &ObjectName) -> bool
@@ -80,8 +99,96 @@ fn has_path(object: &Option<ObjectName>) -> bool
     }
 }
 
+// Whether the name is that of an object.
+fn is_object(name: &ObjectName) -> bool
+    ensures { IsTrue result ↔ IsObject name.now }
+{
+    match name {
+        ObjectName::Nothing => false,
+        ObjectName::Service => true,
+        ObjectName::Agent => true,
+        ObjectName::Collection(_) => true,
+        ObjectName::Item(_, _) => true,
+        ObjectName::Alias(_) => true,
+        ObjectName::Session(_) => true,
+        ObjectName::Prompt(_) => true,
+    }
+}
+
+// Whether the service has the property.
+fn of_service(property: Property) -> bool
+    ensures { result ≡ of_service property }
+{
+    match property {
+        Property::Collections => true,
+        _ => false,
+    }
+}
+
+// Whether a collection has the property.
+fn of_collection(property: Property) -> bool
+    ensures { result ≡ of_collection property }
+{
+    match property {
+        Property::Collections => false,
+        Property::Attributes => false,
+        _ => true,
+    }
+}
+
+// Whether an item has the property.
+fn of_item(property: Property) -> bool
+    ensures { result ≡ of_item property }
+{
+    match property {
+        Property::Collections => false,
+        Property::Items => false,
+        _ => true,
+    }
+}
+
+// Whether the object has the property.
+fn has_property(object: &ObjectName, property: Property) -> bool
+    ensures { result ≡ has_property object.now property }
+{
+    match object {
+        ObjectName::Service => of_service(property),
+        ObjectName::Collection(_) => of_collection(property),
+        ObjectName::Alias(_) => of_collection(property),
+        ObjectName::Item(_, _) => of_item(property),
+        ObjectName::Nothing => false,
+        ObjectName::Agent => false,
+        ObjectName::Session(_) => false,
+        ObjectName::Prompt(_) => false,
+    }
+}
+
+// The properties of the object, in the order of the table.
+fn own_properties(object: &ObjectName) -> &'static [Property]
+    ensures { result.now ≡ own_properties object.now }
+{
+    match object {
+        ObjectName::Service => OF_THE_SERVICE,
+        ObjectName::Collection(_) => OF_A_COLLECTION,
+        ObjectName::Alias(_) => OF_A_COLLECTION,
+        ObjectName::Item(_, _) => OF_AN_ITEM,
+        ObjectName::Nothing => &[],
+        ObjectName::Agent => &[],
+        ObjectName::Session(_) => &[],
+        ObjectName::Prompt(_) => &[],
+    }
+}
+
+// Whether the properties are those of the object.
+fn are_own(properties: &[Property], object: &ObjectName) -> bool
+    ensures { IsTrue result ↔ (properties.now ≡ own_properties object.now) }
+{
+    properties == own_properties(object)
+}
+
 /// Whether a client can make the call: sessions and prompts have numbers other than 0, objects have
-/// paths, attributes have texts, and a call of a collection is made on a collection or an alias.
+/// paths, attributes have texts, a call of a collection is made on a collection or an alias, and
+/// properties are those of the object.
 pub fn can_be_asked(call: &Call) -> bool
     ensures { IsTrue result ↔ IsAskable call.now }
 {
@@ -113,6 +220,14 @@ pub fn can_be_asked(call: &Call) -> bool
         }
         Call::GetSecret { session, .. } => is_session(*session),
         Call::SetSecret { secret, .. } => is_session(secret.session),
+        Call::Get { object, property } => object.has_path() && has_property(object, *property),
+        Call::GetAll { object, properties } => {
+            is_object(object) && object.has_path() && are_own(properties.as_slice(), object)
+        }
+        Call::SetCollectionLabel { collection, .. } => {
+            is_collection(collection) && collection.has_path()
+        }
+        Call::SetAttributes { attributes, .. } => are_texts(attributes),
         Call::Prompt { prompt } => prompt.0 != 0,
         Call::Dismiss { prompt } => prompt.0 != 0,
         Call::Answer { prompt, .. } => is_prompt(*prompt),
@@ -122,6 +237,7 @@ pub fn can_be_asked(call: &Call) -> bool
         Call::CreateCollection { .. } => true,
         Call::ReadAlias { .. } => true,
         Call::DeleteItem { .. } => true,
+        Call::SetItemLabel { .. } => true,
         Call::Register => true,
         Call::Unregister => true,
     }

@@ -2,8 +2,9 @@
 ghost use Rattle.std.specs.Prelude.{◌≡◌, [], ◌∷◌, map, IfOk, IfSome};
 ghost use Rattle.kr_names.specs.Path.{HasPath, path_text, IsPathOf};
 ghost use Rattle.dbus_sending.specs.HeaderViews.{seen};
-ghost use Rattle.call_wire.specs.Members.{interface_name};
-ghost use Rattle.client_core.specs.Arguments.{object_text, paths_among};
+ghost use Rattle.call_wire.specs.declared.interfaces.Interface.TheVariants as Interface;
+ghost use Rattle.call_wire.specs.Interfaces.{interface_name};
+ghost use Rattle.client_core.specs.Arguments.{object_text, own_interface, paths_among};
 ghost use Rattle.client_core.specs.Askable.{HavePaths, IsAskable};
 ghost use Rattle.client_core.specs.Asked.{object_of, interface_of, method_name, header_with};
 
@@ -27,10 +28,42 @@ const PROMPT: &str = "org.freedesktop.Secret.Prompt";
 
 const AGENT: &str = "org.keyringd.Agent1";
 
+const PROPERTIES: &str = "org.freedesktop.DBus.Properties";
+
 const PEER: &str = "org.freedesktop.DBus.Peer";
 
 /// The path of an object that isn't one of the service.
 const STRANGE: &str = "/none";
+
+/// The name of the interface of a collection.
+pub fn collection_interface() -> &'static str
+    ensures { result.now ≡ interface_name Interface.Collection }
+{
+    COLLECTION
+}
+
+/// The name of the interface of an item.
+pub fn item_interface() -> &'static str
+    ensures { result.now ≡ interface_name Interface.Item }
+{
+    ITEM
+}
+
+/// The name of the interface that has the object's properties, if it has any.
+pub fn own_interface(object: &ObjectName) -> &'static str
+    ensures { result.now ≡ interface_name (own_interface object.now) }
+{
+    match object {
+        ObjectName::Nothing => PEER,
+        ObjectName::Service => SERVICE,
+        ObjectName::Agent => AGENT,
+        ObjectName::Collection(_) => COLLECTION,
+        ObjectName::Alias(_) => COLLECTION,
+        ObjectName::Item(_, _) => ITEM,
+        ObjectName::Session(_) => SESSION,
+        ObjectName::Prompt(_) => PROMPT,
+    }
+}
 
 // The object that the call is made on.
 fn object_of(call: &Call) -> Result<ObjectName, OutOfMemory>
@@ -44,6 +77,11 @@ fn object_of(call: &Call) -> Result<ObjectName, OutOfMemory>
         Call::DeleteItem { stem, item } => Ok(ObjectName::Item(stem.copy()?, *item)),
         Call::GetSecret { stem, item, .. } => Ok(ObjectName::Item(stem.copy()?, *item)),
         Call::SetSecret { stem, item, .. } => Ok(ObjectName::Item(stem.copy()?, *item)),
+        Call::Get { object, .. } => object.copy(),
+        Call::GetAll { object, .. } => object.copy(),
+        Call::SetCollectionLabel { collection, .. } => collection.copy(),
+        Call::SetItemLabel { stem, item, .. } => Ok(ObjectName::Item(stem.copy()?, *item)),
+        Call::SetAttributes { stem, item, .. } => Ok(ObjectName::Item(stem.copy()?, *item)),
         Call::Prompt { prompt } => Ok(ObjectName::Prompt(*prompt)),
         Call::Dismiss { prompt } => Ok(ObjectName::Prompt(*prompt)),
         Call::Register => Ok(ObjectName::Agent),
@@ -75,6 +113,11 @@ fn object_has_path(call: &Call)
         Call::DeleteItem { .. } => {}
         Call::GetSecret { .. } => {}
         Call::SetSecret { .. } => {}
+        Call::Get { .. } => {}
+        Call::GetAll { .. } => {}
+        Call::SetCollectionLabel { .. } => {}
+        Call::SetItemLabel { .. } => {}
+        Call::SetAttributes { .. } => {}
         Call::Prompt { .. } => {}
         Call::Dismiss { .. } => {}
         Call::Register => {}
@@ -157,6 +200,11 @@ pub fn paths_among(alloc: Global, call: &Call) -> Result<Items<Text>, OutOfMemor
         Call::DeleteItem { .. } => Ok(Items::empty(alloc)),
         Call::GetSecret { .. } => Ok(Items::empty(alloc)),
         Call::SetSecret { .. } => Ok(Items::empty(alloc)),
+        Call::Get { .. } => Ok(Items::empty(alloc)),
+        Call::GetAll { .. } => Ok(Items::empty(alloc)),
+        Call::SetCollectionLabel { .. } => Ok(Items::empty(alloc)),
+        Call::SetItemLabel { .. } => Ok(Items::empty(alloc)),
+        Call::SetAttributes { .. } => Ok(Items::empty(alloc)),
         Call::Prompt { .. } => Ok(Items::empty(alloc)),
         Call::Dismiss { .. } => Ok(Items::empty(alloc)),
         Call::Register => Ok(Items::empty(alloc)),
@@ -193,6 +241,11 @@ fn method_of(call: &Call) -> (&'static str, &'static str)
         Call::DeleteItem { .. } => (ITEM, "Delete"),
         Call::GetSecret { .. } => (ITEM, "GetSecret"),
         Call::SetSecret { .. } => (ITEM, "SetSecret"),
+        Call::Get { .. } => (PROPERTIES, "Get"),
+        Call::GetAll { .. } => (PROPERTIES, "GetAll"),
+        Call::SetCollectionLabel { .. } => (PROPERTIES, "Set"),
+        Call::SetItemLabel { .. } => (PROPERTIES, "Set"),
+        Call::SetAttributes { .. } => (PROPERTIES, "Set"),
         Call::Prompt { .. } => (PROMPT, "Prompt"),
         Call::Dismiss { .. } => (PROMPT, "Dismiss"),
         Call::Register => (AGENT, "Register"),

@@ -6,9 +6,10 @@ ghost use Rattle.dbus_types.specs.Types.{Ty};
 ghost use Rattle.dbus_types.specs.ValueViews.{value_of, values_of, each_as};
 ghost use Rattle.dbus_framing.specs.Headers.{path_in};
 ghost use Rattle.call_arguments.specs.Arguments.{all_in, session_named};
-ghost use Rattle.client_core.specs.Replies.{session_at, prompt_of, prompt_at, paths_in, text_held, session_body, found_body, objects_and_prompt_body, objects_body, object_and_prompt_body, object_body, secret_body, secrets_body, empty_body, body_in};
+ghost use Rattle.client_core.specs.Replies.{session_at, prompt_of, prompt_at, paths_in, text_held, session_body, found_body, objects_and_prompt_body, objects_body, object_and_prompt_body, object_body, secret_body, secrets_body, property_body, properties_body, empty_body, body_in};
 
 use crate::OutOfMemory;
+use crate::properties::{properties_in, shown_held};
 use crate::reply::Shape;
 use crate::secrets::{item_secrets_in, secret_at};
 use call_arguments::{ElementType, elements_in, held_in, one_in, path_in, string_in, two_in};
@@ -84,8 +85,8 @@ fn paths_among(alloc: Global, elements: &[Value]) -> Result<Option<Items<Text>>,
     Ok(Some(Items::new(paths)))
 }
 
-// The paths in a value of type `ao`.
-fn paths_in(alloc: Global, value: &Value) -> Result<Option<Items<Text>>, OutOfMemory>
+/// The paths in a value of type `ao`.
+pub fn paths_in(alloc: Global, value: &Value) -> Result<Option<Items<Text>>, OutOfMemory>
     ensures { IfOk result (λ paths. paths ≡ paths_in (value_of value.now)) }
 {
     match elements_in(value, ElementType::Path) {
@@ -222,6 +223,30 @@ fn secrets_body(alloc: Global, values: &[Value]) -> Result<Option<Body>, OutOfMe
     }
 }
 
+fn property_body(alloc: Global, values: &[Value]) -> Result<Option<Body>, OutOfMemory>
+    ensures { IfOk result (λ body. body ≡ property_body (values_of values.now)) }
+{
+    let Some(value) = one_in(values) else {
+        return Ok(None);
+    };
+    match shown_held(alloc, value)? {
+        Some(value) => Ok(Some(Body::Property(value))),
+        None => Ok(None),
+    }
+}
+
+fn properties_body(alloc: Global, values: &[Value]) -> Result<Option<Body>, OutOfMemory>
+    ensures { IfOk result (λ body. body ≡ properties_body (values_of values.now)) }
+{
+    let Some(value) = one_in(values) else {
+        return Ok(None);
+    };
+    match properties_in(alloc, value)? {
+        Some(properties) => Ok(Some(Body::Properties(properties))),
+        None => Ok(None),
+    }
+}
+
 /// The body of this shape that the values are.
 pub fn body_in(alloc: Global, shape: Shape, values: &[Value]) -> Result<Option<Body>, OutOfMemory>
     ensures { IfOk result (λ body. body ≡ body_in shape (values_of values.now)) }
@@ -236,5 +261,7 @@ pub fn body_in(alloc: Global, shape: Shape, values: &[Value]) -> Result<Option<B
         Shape::Object => object_body(values),
         Shape::Secret => secret_body(alloc, values),
         Shape::Secrets => secrets_body(alloc, values),
+        Shape::Property => property_body(alloc, values),
+        Shape::Properties => properties_body(alloc, values),
     }
 }

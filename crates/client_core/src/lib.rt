@@ -18,6 +18,7 @@ mod asking;
 mod bodies;
 mod bytes;
 mod laws;
+mod properties;
 mod reply;
 mod secrets;
 

@@ -31,6 +31,10 @@ pub enum Shape {
     Secret,
     /// `a{o(oayays)}`: items with their secrets.
     Secrets,
+    /// `v`: the value of a property.
+    Property,
+    /// `a{sv}`: properties with their values.
+    Properties,
 }
 
 /// The answer to a call.
@@ -82,6 +86,11 @@ pub fn shape_of(call: &Call) -> Shape
         Call::DeleteItem { .. } => Shape::Object,
         Call::GetSecret { .. } => Shape::Secret,
         Call::SetSecret { .. } => Shape::Empty,
+        Call::Get { .. } => Shape::Property,
+        Call::GetAll { .. } => Shape::Properties,
+        Call::SetCollectionLabel { .. } => Shape::Empty,
+        Call::SetItemLabel { .. } => Shape::Empty,
+        Call::SetAttributes { .. } => Shape::Empty,
         Call::Prompt { .. } => Shape::Empty,
         Call::Dismiss { .. } => Shape::Empty,
         Call::Register => Shape::Empty,

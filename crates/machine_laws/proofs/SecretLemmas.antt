@@ -136,6 +136,8 @@ own-filled caller state (Returns (public.ObjectsAndPrompt objects prompt)) = tt
 own-filled caller state (Returns (public.Objects objects)) = tt
 own-filled caller state (Returns (public.ObjectAndPrompt object prompt)) = tt
 own-filled caller state (Returns (public.Object object)) = tt
+own-filled caller state (Returns (public.Property value)) = tt
+own-filled caller state (Returns (public.Properties properties)) = tt
 own-filled caller state (Gives gift) =
     let pass : (b : Bool) → owns caller (session_of gift) state.sessions ≡ b → AreOwnAndOpen caller state (cond b (with_own_gift state gift) (Err name.NoSession)) =
     elim [ true ↦ λ own. own-given caller state gift own | false ↦ λ other. tt ] in
@@ -211,6 +213,8 @@ module _ (caller : ConnId) (brought : Brought) (fates : List Fate) (state : Stat
   public-none (public.Objects objects) = refl
   public-none (public.ObjectAndPrompt object prompt) = refl
   public-none (public.Object object) = refl
+  public-none (public.Property value) = refl
+  public-none (public.Properties properties) = refl
 
   filled-none : (answer : Answer) → GivesIf false answer → (at : State) → secrets_in path (message_of serial (filled caller at answer)) ≡ []
   filled-none (Returns body) gives at = public-none body

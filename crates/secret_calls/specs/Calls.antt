@@ -10,4 +10,6 @@ abbrev pub error_of : CallFault → ErrorName
 error_of fault.UnknownObject = name.UnknownObject
 error_of fault.UnknownInterface = name.UnknownInterface
 error_of fault.UnknownMethod = name.UnknownMethod
+error_of fault.UnknownProperty = name.UnknownProperty
+error_of fault.PropertyReadOnly = name.PropertyReadOnly
 error_of fault.InvalidArgs = name.InvalidArgs

@@ -3,6 +3,12 @@
 use Rattle.std.specs.Prelude.{ℕ, ◌^◌, ◌<◌, ◌≤◌, nat_le, IsTrue, List, [], ◌∷◌, ◌++◌, length, Option, Some, None, IfSome, codes, decimal, if◌then◌else◌}
 use Rattle.kr_base.specs.declared.ids.PromptId.{PromptId}
 use Rattle.kr_base.specs.Text.{IsText}
+use Rattle.secret_calls.specs.declared.property.Attribute.{Attribute}
+use Rattle.secret_calls.specs.declared.property.Property.{Property}
+use Rattle.secret_calls.specs.declared.property.Property.TheVariants as property
+use Rattle.secret_calls.specs.declared.property.PropertyValue.{PropertyValue}
+use Rattle.secret_calls.specs.declared.property.PropertyValue.TheVariants as shown
+use Rattle.secret_calls.specs.declared.property.ShownProperty.{ShownProperty}
 use Rattle.secret_calls.specs.declared.secret.ReturnedSecret.{ReturnedSecret}
 use Rattle.secret_calls.specs.declared.secret.ItemSecret.{ItemSecret}
 use Rattle.secret_calls.specs.declared.out.Body.{Body}
@@ -34,6 +40,8 @@ error_text name.NotSupported = codes "org.freedesktop.DBus.Error.NotSupported"
 error_text name.UnknownObject = codes "org.freedesktop.DBus.Error.UnknownObject"
 error_text name.UnknownInterface = codes "org.freedesktop.DBus.Error.UnknownInterface"
 error_text name.UnknownMethod = codes "org.freedesktop.DBus.Error.UnknownMethod"
+error_text name.UnknownProperty = codes "org.freedesktop.DBus.Error.UnknownProperty"
+error_text name.PropertyReadOnly = codes "org.freedesktop.DBus.Error.PropertyReadOnly"
 error_text name.InvalidArgs = codes "org.freedesktop.DBus.Error.InvalidArgs"
 error_text name.LimitsExceeded = codes "org.freedesktop.DBus.Error.LimitsExceeded"
 error_text name.IOError = codes "org.freedesktop.DBus.Error.IOError"
@@ -91,6 +99,50 @@ secret_values (one ∷ secrets) = Vals.more (Val.entry (Val.text basics.ObjectPa
 abbrev pub secrets_value : List ItemSecret → Val
 secrets_value secrets = Val.array (Ty.entry basics.ObjectPath secret_type) (secret_values secrets)
 
+-- the name of a property
+abbrev pub property_text : Property → List ℕ
+property_text property.Collections = codes "Collections"
+property_text property.Items = codes "Items"
+property_text property.Label = codes "Label"
+property_text property.Attributes = codes "Attributes"
+property_text property.Locked = codes "Locked"
+property_text property.Created = codes "Created"
+property_text property.Modified = codes "Modified"
+
+-- an attribute, as an entry of a dict
+abbrev pub attribute_value : Attribute → Val
+attribute_value one = Val.entry (Val.text basics.String one.name) (Val.text basics.String one.value)
+
+-- attributes, as the entries of a dict
+abbrev pub attribute_values : List Attribute → Vals
+attribute_values [] = Vals.end
+attribute_values (one ∷ attributes) = Vals.more (attribute_value one) (attribute_values attributes)
+
+-- a dict of attributes
+abbrev pub attributes_value : List Attribute → Val
+attributes_value attributes = Val.array (Ty.entry basics.String (Ty.basic basics.String)) (attribute_values attributes)
+
+-- the value of a property
+abbrev pub property_value : PropertyValue → Val
+property_value (shown.Objects objects) = paths_value objects
+property_value (shown.Text text) = Val.text basics.String text
+property_value (shown.Attributes attributes) = attributes_value attributes
+property_value (shown.Truth truth) = Val.number basics.Boolean (bit_of truth)
+property_value (shown.Moment seconds) = Val.number basics.Uint64 seconds
+
+-- a property with its value, as an entry of a dict
+abbrev pub shown_value : ShownProperty → Val
+shown_value one = Val.entry (Val.text basics.String (property_text one.property)) (Val.variant (property_value one.value))
+
+-- properties with their values, as the entries of a dict
+abbrev pub shown_values : List ShownProperty → Vals
+shown_values [] = Vals.end
+shown_values (one ∷ properties) = Vals.more (shown_value one) (shown_values properties)
+
+-- a dict of properties with their values
+abbrev pub properties_value : List ShownProperty → Val
+properties_value properties = Val.array (Ty.entry basics.String Ty.variant) (shown_values properties)
+
 -- A body's values. OpenSession returns the output of `plain`, which is the empty text, and the session's path. The others are the
 -- values that their methods return.
 abbrev pub values_of : Body → Vals
@@ -104,6 +156,8 @@ values_of (body.ObjectAndPrompt object prompt) = Vals.more (Val.text basics.Obje
 values_of (body.Object object) = Vals.more (Val.text basics.ObjectPath object) Vals.end
 values_of (body.Secret secret) = Vals.more (secret_value secret) Vals.end
 values_of (body.Secrets secrets) = Vals.more (secrets_value secrets) Vals.end
+values_of (body.Property value) = Vals.more (Val.variant (property_value value)) Vals.end
+values_of (body.Properties properties) = Vals.more (properties_value properties) Vals.end
 
 -- a body's bytes
 abbrev pub spelled_body : Body → List ℕ
@@ -199,6 +253,24 @@ AreSecrets (one ∷ secrets) = IsTrue (is_object_path one.item) × IsSecret one.
 abbrev pub IsPrompt : Option PromptId → Type 0
 IsPrompt prompt = IfSome prompt (λ it. it.0 < 2 ^ 64)
 
+-- the names and the values of attributes are texts
+abbrev pub AreAttributes : List Attribute → Type 0
+AreAttributes [] = Unit {0}
+AreAttributes (one ∷ attributes) = IsText one.name × IsText one.value × AreAttributes attributes
+
+-- The value of a property has its type: objects have object paths, and a moment is a number of 64 bits.
+abbrev pub IsShown : PropertyValue → Type 0
+IsShown (shown.Objects objects) = ArePaths objects
+IsShown (shown.Text text) = IsText text
+IsShown (shown.Attributes attributes) = AreAttributes attributes
+IsShown (shown.Truth truth) = Unit {0}
+IsShown (shown.Moment seconds) = seconds < 2 ^ 64
+
+-- the value of each property has
+abbrev pub AreShown : List ShownProperty → Type 0
+AreShown [] = Unit {0}
+AreShown (one ∷ properties) = IsShown one.value × AreShown properties
+
 -- A body's values have their types: sessions and prompts have numbers of 64 bits, paths are object paths, content types are
 -- texts.
 abbrev pub AreTyped : Body → Type 0
@@ -211,6 +283,8 @@ AreTyped (body.ObjectAndPrompt object prompt) = IsTrue (is_object_path object) �
 AreTyped (body.Object object) = IsTrue (is_object_path object)
 AreTyped (body.Secret secret) = IsSecret secret
 AreTyped (body.Secrets secrets) = AreSecrets secrets
+AreTyped (body.Property value) = IsShown value
+AreTyped (body.Properties properties) = AreShown properties
 
 -- what a prompt completes with are object paths
 abbrev pub IsResult : Completion → Type 0

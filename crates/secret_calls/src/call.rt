@@ -1,6 +1,7 @@
 ghost use Rattle.std.specs.Prelude.{◌≡◌};
 
 use crate::alias::AliasName;
+use crate::property::Property;
 use crate::secret::Secret;
 use crate::{ErrorName, Serial};
 use kr_base::{Attributes, Bytes, ItemId, PromptId, SessionId, Stem, Text};
@@ -117,6 +118,45 @@ pub enum Call {
         /// The new secret.
         secret: Secret,
     },
+    /// `Properties.Get`, of a property that the object's kind has.
+    Get {
+        /// The object that the call is made on.
+        object: ObjectName,
+        /// The property.
+        property: Property,
+    },
+    /// `Properties.GetAll`.
+    GetAll {
+        /// The object that the call is made on.
+        object: ObjectName,
+        /// The properties of the interface that the call names, in order.
+        properties: Items<Property>,
+    },
+    /// `Properties.Set` of the label of a collection.
+    SetCollectionLabel {
+        /// The collection, or an alias that names it.
+        collection: ObjectName,
+        /// The new label.
+        label: Text,
+    },
+    /// `Properties.Set` of the label of an item.
+    SetItemLabel {
+        /// The stem of the item's collection.
+        stem: Stem,
+        /// The item's number.
+        item: ItemId,
+        /// The new label.
+        label: Text,
+    },
+    /// `Properties.Set` of the attributes of an item.
+    SetAttributes {
+        /// The stem of the item's collection.
+        stem: Stem,
+        /// The item's number.
+        item: ItemId,
+        /// The new attributes.
+        attributes: Attributes,
+    },
     /// `Prompt.Prompt`. Its argument isn't kept: the agent needs no window of the caller.
     Prompt {
         /// The prompt that the call is made on.
@@ -158,6 +198,10 @@ pub enum CallFault {
     UnknownInterface,
     /// The object has no such method.
     UnknownMethod,
+    /// The interface has no such property.
+    UnknownProperty,
+    /// The property can't be set.
+    PropertyReadOnly,
     /// The arguments have the wrong types.
     InvalidArgs,
 }
@@ -173,6 +217,8 @@ impl CallFault {
             CallFault::UnknownObject => ErrorName::UnknownObject,
             CallFault::UnknownInterface => ErrorName::UnknownInterface,
             CallFault::UnknownMethod => ErrorName::UnknownMethod,
+            CallFault::UnknownProperty => ErrorName::UnknownProperty,
+            CallFault::PropertyReadOnly => ErrorName::PropertyReadOnly,
             CallFault::InvalidArgs => ErrorName::InvalidArgs,
         }
     }

@@ -1,6 +1,7 @@
 // Copies of the lists in bodies.
 ghost use Rattle.std.specs.Prelude.{◌≡◌, IfOk};
 
+use crate::property::{Attribute, ShownProperty};
 use crate::secret::ItemSecret;
 use kr_base::{OutOfMemory, Text};
 use kr_items::Items;
@@ -27,6 +28,34 @@ pub fn copied_secrets(
     let mut copied = Vec::with_capacity(alloc, secrets.len())?;
     for secret in secrets {
         copied.push(secret.copy()?)?;
+    }
+    Ok(Items::new(copied))
+}
+
+/// A copy of the attributes.
+pub fn copied_attributes(
+    alloc: Global,
+    attributes: &[Attribute],
+) -> Result<Items<Attribute>, OutOfMemory>
+    ensures { IfOk result (λ copied. copied ≡ attributes.now) }
+{
+    let mut copied = Vec::with_capacity(alloc, attributes.len())?;
+    for attribute in attributes {
+        copied.push(attribute.copy()?)?;
+    }
+    Ok(Items::new(copied))
+}
+
+/// A copy of the properties and their values.
+pub fn copied_properties(
+    alloc: Global,
+    properties: &[ShownProperty],
+) -> Result<Items<ShownProperty>, OutOfMemory>
+    ensures { IfOk result (λ copied. copied ≡ properties.now) }
+{
+    let mut copied = Vec::with_capacity(alloc, properties.len())?;
+    for property in properties {
+        copied.push(property.copy(alloc)?)?;
     }
     Ok(Items::new(copied))
 }

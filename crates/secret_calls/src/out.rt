@@ -5,7 +5,8 @@ ghost use Rattle.dbus_sending.specs.Sent.{bare_header};
 ghost use Rattle.secret_calls.specs.Outs.{values_of, header_of, spelled};
 
 use crate::Serial;
-use crate::copies::{copied_secrets, copied_texts};
+use crate::copies::{copied_properties, copied_secrets, copied_texts};
+use crate::property::{PropertyValue, ShownProperty, put_properties, put_property};
 use crate::returns::{
     put_found, put_object, put_object_and_prompt, put_objects, put_objects_and_prompt, put_secret,
     put_secrets, put_session,
@@ -30,6 +31,10 @@ pub enum ErrorName {
     UnknownInterface,
     /// The object has no such method.
     UnknownMethod,
+    /// The interface has no such property.
+    UnknownProperty,
+    /// The property can't be set.
+    PropertyReadOnly,
     /// The arguments are of other types.
     InvalidArgs,
     /// A limit of the service is reached.
@@ -62,6 +67,8 @@ impl ErrorName {
             ErrorName::UnknownObject => "org.freedesktop.DBus.Error.UnknownObject",
             ErrorName::UnknownInterface => "org.freedesktop.DBus.Error.UnknownInterface",
             ErrorName::UnknownMethod => "org.freedesktop.DBus.Error.UnknownMethod",
+            ErrorName::UnknownProperty => "org.freedesktop.DBus.Error.UnknownProperty",
+            ErrorName::PropertyReadOnly => "org.freedesktop.DBus.Error.PropertyReadOnly",
             ErrorName::InvalidArgs => "org.freedesktop.DBus.Error.InvalidArgs",
             ErrorName::LimitsExceeded => "org.freedesktop.DBus.Error.LimitsExceeded",
             ErrorName::IOError => "org.freedesktop.DBus.Error.IOError",
@@ -113,6 +120,10 @@ pub enum Body {
     Secret(ReturnedSecret),
     /// Of GetSecrets, `a{o(oayays)}`: items with their secrets.
     Secrets(Items<ItemSecret>),
+    /// Of Get, `v`: the value of a property.
+    Property(PropertyValue),
+    /// Of GetAll, `a{sv}`: properties with their values.
+    Properties(Items<ShownProperty>),
 }
 
 impl Body {
@@ -158,6 +169,14 @@ impl Body {
                 let secrets = copied_secrets(alloc, secrets.as_slice())?;
                 Ok(Body::Secrets(secrets))
             }
+            Body::Property(value) => {
+                let value = value.copy(alloc)?;
+                Ok(Body::Property(value))
+            }
+            Body::Properties(properties) => {
+                let properties = copied_properties(alloc, properties.as_slice())?;
+                Ok(Body::Properties(properties))
+            }
         }
     }
 }
@@ -183,6 +202,8 @@ impl Body {
             Body::Object(_) => "o",
             Body::Secret(_) => "(oayays)",
             Body::Secrets(_) => "a{o(oayays)}",
+            Body::Property(_) => "v",
+            Body::Properties(_) => "a{sv}",
         }
     }
 }
@@ -209,6 +230,8 @@ impl PutValues for Body {
             Body::Object(object) => put_object(out, object),
             Body::Secret(secret) => put_secret(out, secret),
             Body::Secrets(secrets) => put_secrets(out, secrets.as_slice()),
+            Body::Property(value) => put_property(out, value),
+            Body::Properties(properties) => put_properties(out, properties.as_slice()),
         }
     }
 }

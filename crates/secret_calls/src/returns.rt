@@ -1,6 +1,7 @@
 // The values that calls return.
 ghost use Rattle.std.specs.Prelude.{ℕ, List, ◌++◌, OnOk, decimal};
 ghost use Rattle.dbus_types.specs.declared.complete_type.BasicType.TheVariants as basics;
+ghost use Rattle.dbus_types.specs.ValueViews.{bit_of};
 ghost use Rattle.dbus_types.specs.Values.{Val, Vals};
 ghost use Rattle.dbus_marshal.specs.Putting.{put, puts};
 ghost use Rattle.secret_calls.specs.Outs.{session_path, prompt_path, prompt_value, paths_value, secret_value, secrets_value, values_of};
@@ -9,7 +10,7 @@ use crate::out::Body;
 use crate::secret::{ItemSecret, ReturnedSecret};
 use dbus_marshal::{
     Put, PutValues, pad_to, put_array, put_bytes, put_long_path, put_path, put_text,
-    put_text_variant,
+    put_text_variant, put_u32,
 };
 use itoa::Buffer;
 use kr_base::{PromptId, SessionId, Text};
@@ -22,6 +23,19 @@ pub const PROMPTS: &str = "/org/freedesktop/secrets/prompt/p";
 
 /// The path of no object, which is returned if no prompt is needed.
 const NO_OBJECT: &str = "/";
+
+/// Writes a BOOLEAN.
+#[tactic(auto, unfolding(dbus_marshal::specs::Putting::put))]
+pub fn put_truth<P: Put>(out: &mut P, truth: bool) -> Result<(), P::Refused>
+    ensures { (before : List ℕ) → P.stands out.old before → OnOk result (P.stands out.new
+        (put before (Val.number basics.Boolean (bit_of truth)))) }
+{
+    if truth {
+        put_u32(out, 1)
+    } else {
+        put_u32(out, 0)
+    }
+}
 
 // Writes a path that consists of a prefix and the digits of a number.
 fn put_numbered_path<P: Put>(out: &mut P, front: &str, number: u64) -> Result<(), P::Refused>

@@ -11,7 +11,7 @@ ghost use Rattle.secret_calls.specs.declared.out.Out.TheVariants as outs;
 ghost use Rattle.secret_calls.specs.Outs.{completion_value, signal_values, prompt_path, spelled};
 
 use crate::copies::copied_texts;
-use crate::returns::{PROMPTS, put_paths, put_prompt_path};
+use crate::returns::{PROMPTS, put_paths, put_prompt_path, put_truth};
 use arrayvec::ArrayString;
 use dbus_marshal::{Put, PutValues, put_path, put_signature, put_text, put_u32, put_u64};
 use dbus_sending::{Header, put_message};
@@ -95,19 +95,6 @@ pub enum Signal {
         /// What it completes with.
         completion: Completion,
     },
-}
-
-// Writes a BOOLEAN.
-#[tactic(auto, unfolding(dbus_marshal::specs::Putting::put))]
-fn put_truth<P: Put>(out: &mut P, truth: bool) -> Result<(), P::Refused>
-    ensures { (before : List ℕ) → P.stands out.old before → OnOk result (P.stands out.new
-        (put before (Val.number basics.Boolean (bit_of truth)))) }
-{
-    if truth {
-        put_u32(out, 1)
-    } else {
-        put_u32(out, 0)
-    }
 }
 
 // Writes what a prompt completes with, as a variant.

@@ -4,8 +4,8 @@ use Rattle.std.proofs.lemmas.Bool.{leb-true}
 use Rattle.std.proofs.lemmas.Option.{none-some}
 use Rattle.std.specs.Option.{option_map_or}
 use Rattle.kr_base.specs.declared.ids.ConnId.{ConnId}
-use Rattle.kr_base.specs.declared.ids.ItemId.{ItemId}
 use Rattle.kr_outside.specs.RenameDisk.{Image}
+use Rattle.service_events.specs.collection_store.specs.declared.change.Changed.{Changed}
 use Rattle.service_events.specs.collection_table.specs.Rows.{Rows}
 use Rattle.prompt_state.specs.Targets.{all_left}
 use Rattle.prompt_state.specs.declared.row.PromptKind.TheVariants as kind
@@ -409,14 +409,14 @@ module _ {F S : Type 0} (is_honest is_steady : S → Bool) (faults moment : S �
   at-moved before before' after after' old old' new first second third at =
       subst (λ b. At b after' old' new) first (subst (λ a. At before a old' new) second (subst (λ o. At before after o new) third at))
 
--- ---- the plan of an edit, by the item that it would make
+-- ---- the plan of an edit, by what it would do
 
-pub plan-none : (stem : List ℕ) (edit : Edit) (returned : ItemId → PublicBody) (item : Option ItemId) → item ≡ None → storing stem edit returned item ≡ refused name.LimitsExceeded
-plan-none stem edit returned item is = ap (storing stem edit returned) is
+pub plan-none : (stem : List ℕ) (edit : Edit) (returned : Changed → PublicBody) (answer : Option Changed) → answer ≡ None → storing stem edit returned answer ≡ refused name.LimitsExceeded
+plan-none stem edit returned answer is = ap (storing stem edit returned) is
 
-pub plan-some : (stem : List ℕ) (edit : Edit) (returned : ItemId → PublicBody) (item : Option ItemId) (made : ItemId) → item ≡ Some made
-    → storing stem edit returned item ≡ Asks (Store stem edit) (by_fate (returned made))
-plan-some stem edit returned item made is = ap (storing stem edit returned) is
+pub plan-some : (stem : List ℕ) (edit : Edit) (returned : Changed → PublicBody) (answer : Option Changed) (made : Changed) → answer ≡ Some made
+    → storing stem edit returned answer ≡ Asks (Store stem edit) (by_fate (returned made))
+plan-some stem edit returned answer made is = ap (storing stem edit returned) is
 
 -- ---- the plans of calls that begin a prompt
 

@@ -1,8 +1,8 @@
 -- What a call led to, and that it is what its plan leads to.
 use Rattle.std.specs.Prelude.{◌≡◌, ℕ, Bool, List, [], ◌∷◌, ◌++◌, Option, Some, None, Result, Ok, Err}
 use Rattle.kr_base.specs.declared.ids.ConnId.{ConnId}
-use Rattle.kr_base.specs.declared.ids.ItemId.{ItemId}
 use Rattle.kr_outside.specs.RenameDisk.{Image}
+use Rattle.service_events.specs.collection_store.specs.declared.change.Changed.{Changed}
 use Rattle.service_events.specs.secret_calls.specs.declared.out.Body.{Body}
 use Rattle.service_events.specs.secret_calls.specs.declared.out.ErrorName.{ErrorName}
 use Rattle.service_events.specs.secret_calls.specs.declared.out.ErrorName.TheVariants as name
@@ -49,10 +49,10 @@ answer_by body fate.Before = Err name.IOError
 answer_by body fate.Unsure = Err name.IOError
 
 -- what an edit returns
-abbrev pub body_of : Returned → List ℕ → ItemId → PublicBody
-body_of returned.Item stem item = made stem item
-body_of returned.NoPrompt stem item = no_prompt
-body_of returned.Nothing stem item = public.Empty
+abbrev pub body_of : Returned → List ℕ → Changed → PublicBody
+body_of returned.Item stem answer = made stem answer
+body_of returned.NoPrompt stem answer = no_prompt
+body_of returned.Nothing stem answer = public.Empty
 
 module _ {F S : Type 0} (folder_honest folder_steady : F → Bool) (folder_faults : F → ℕ) (images : F → List ℕ → Image)
     (folder_leaves : F → List ℕ → Image → Type 0) (names_made : F → List (List ℕ)) (is_honest is_steady : S → Bool) (faults moment : S → ℕ)

@@ -12,6 +12,7 @@ mod collection;
 mod creating;
 mod item;
 mod prompt;
+mod properties;
 mod service;
 mod session;
 mod storing;

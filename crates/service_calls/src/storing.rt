@@ -3,8 +3,10 @@ ghost use Rattle.std.specs.Prelude.{◌≡◌, ℕ, List, [], None, Some, IfOk, 
 ghost use Rattle.service_events.specs.secret_calls.specs.declared.out.Body.TheVariants as body;
 ghost use Rattle.kr_base.specs.declared.ids.ConnId.{ConnId};
 ghost use Rattle.service_events.specs.secret_calls.specs.declared.out.ErrorName.TheVariants.{IOError};
-ghost use Rattle.service_events.specs.service_tables.specs.Storing.{Add_item, Brought, Edit, change_of, storable_at};
-ghost use Rattle.service_events.specs.CollectionCalls.{create_item, delete_collection, secret_stored, storing};
+ghost use Rattle.service_events.specs.service_tables.specs.Storing.{Add_item, Brought, Edit, Set_attributes, Set_label, Set_name, change_of, item_in, storable_at};
+ghost use Rattle.kr_names.specs.Path.{path_text};
+ghost use Rattle.service_events.specs.CollectionCalls.{create_item, delete_collection, item_named, secret_stored, storing};
+ghost use Rattle.service_events.specs.PropertyCalls.{editing, editing_item, set_attributes, set_collection_label, set_item_label};
 ghost use Rattle.service_events.specs.ItemCalls.{delete_item, set_secret};
 ghost use Rattle.service_calls.specs.Rows.{disk_of, rows_of};
 ghost use Rattle.service_events.specs.PublicBody.{body_with};
@@ -17,7 +19,7 @@ use kr_base::{Attributes, ConnId, ItemId, OutOfMemory, SessionId, Stem, Text};
 use kr_items::Items;
 use kr_names::{ObjectName, path_of};
 use kr_outside::Folder;
-use service_events::collection_store::Change;
+use service_events::collection_store::{Change, Changed};
 use service_events::secret_calls::{Body, ErrorName, Secret};
 use service_events::service_tables::{Delivery, ReadFate, StoreFate, item_path};
 use std::alloc::Global;
@@ -150,18 +152,40 @@ pub fn ended(alloc: Global, body: Body, fate: StoreFate) -> Done
     }
 }
 
+// The item of what an edit does, if it is of one.
+fn item_in(answer: Changed) -> Option<ItemId>
+    ensures { result ≡ item_in answer }
+{
+    match answer {
+        Changed::Made(item) => Some(item),
+        Changed::Changed(item) => Some(item),
+        Changed::Removed(item) => Some(item),
+        Changed::Named => None,
+    }
+}
+
+// The path of that item, or of no object.
+fn path_named(alloc: Global, stem: &Stem, item: Option<ItemId>) -> Result<Text, OutOfMemory>
+    ensures { IfOk result (λ path. path ≡ path_text (item_named stem.now item)) }
+{
+    match item {
+        Some(item) => item_path(alloc, stem, item),
+        None => path_of(alloc, &ObjectName::Nothing),
+    }
+}
+
 // The values that an edit returns.
 fn body_of(
     alloc: Global,
     returned: Returned,
     stem: &Stem,
-    item: ItemId,
+    answer: Changed,
 ) -> Result<Body, OutOfMemory>
-    ensures { IfOk result (λ body. body ≡ body_with (body_of returned stem.now item)) }
+    ensures { IfOk result (λ body. body ≡ body_with (body_of returned stem.now answer)) }
 {
     match returned {
         Returned::Item => Ok(Body::ObjectAndPrompt {
-            object: item_path(alloc, stem, item)?,
+            object: path_named(alloc, stem, item_in(answer))?,
             prompt: None,
         }),
         Returned::NoPrompt => Ok(Body::Object(path_of(alloc, &ObjectName::Nothing)?)),
@@ -192,10 +216,10 @@ impl<F: Folder> Tables<F> {
         ensures unchanged { OnErr result ((rows_of self.new ≡ rows_of self.old)
             × (disk_of self.new ≡ disk_of self.old)) }
     {
-        let Some(item) = self.disk.answer_to(stem, &change) else {
+        let Some(answer) = self.disk.answer_to(stem, &change) else {
             return Ok(refused(self.alloc, ErrorName::LimitsExceeded));
         };
-        let body = body_of(self.alloc, returned, stem, item)?;
+        let body = body_of(self.alloc, returned, stem, answer)?;
         if !is_small(&body) {
             return Ok(refused(self.alloc, ErrorName::LimitsExceeded));
         }
@@ -391,6 +415,151 @@ impl<F: Folder> Tables<F> {
             &secret.content,
             change,
             Returned::Nothing,
+            now,
+        )
+    }
+
+    // Stores an edit of a collection that returns nothing, if the collection is unlocked.
+    fn store_if_open(&mut self, stem: &Stem, change: Change, now: u64) -> Result<Done, OutOfMemory>
+        ensures leads { IfOk result (λ done. (conn : ConnId) (edit : Edit) (value : List ℕ)
+            → change ≡ change_of value edit
+            → Leads F.is_honest F.is_steady F.faults F.images
+            F.may_leave F.made F.Cell.is_honest F.Cell.is_steady
+            F.Cell.faults F.Cell.moment
+            F.Cell.left_since F.Cell.may_leave conn (record { now = now; value = value })
+            (editing stem.now edit
+            (asked conn (record { now = now; value = value }) (rows_of self.old)))
+            (rows_of self.old) (rows_of self.new) (disk_of self.old) (disk_of self.new) done) }
+        ensures silent { IfOk result (λ done. done.sends ≡ []) }
+        ensures room { self.new.connections ≡ self.old.connections }
+        ensures unchanged { OnErr result ((rows_of self.new ≡ rows_of self.old)
+            × (disk_of self.new ≡ disk_of self.old)) }
+    {
+        if !self.disk.collections.is_open(stem) {
+            return Ok(refused(self.alloc, ErrorName::IsLocked));
+        }
+        self.store_edit(stem, change, Returned::Nothing, now)
+    }
+
+    // The same of an item, which must be there.
+    fn store_of_item(
+        &mut self,
+        stem: &Stem,
+        item: ItemId,
+        change: Change,
+        now: u64,
+    ) -> Result<Done, OutOfMemory>
+        ensures leads { IfOk result (λ done. (conn : ConnId) (edit : Edit) (value : List ℕ)
+            → change ≡ change_of value edit
+            → Leads F.is_honest F.is_steady F.faults F.images
+            F.may_leave F.made F.Cell.is_honest F.Cell.is_steady
+            F.Cell.faults F.Cell.moment
+            F.Cell.left_since F.Cell.may_leave conn (record { now = now; value = value })
+            (editing_item stem.now item edit
+            (asked conn (record { now = now; value = value }) (rows_of self.old)))
+            (rows_of self.old) (rows_of self.new) (disk_of self.old) (disk_of self.new) done) }
+        ensures silent { IfOk result (λ done. done.sends ≡ []) }
+        ensures room { self.new.connections ≡ self.old.connections }
+        ensures unchanged { OnErr result ((rows_of self.new ≡ rows_of self.old)
+            × (disk_of self.new ≡ disk_of self.old)) }
+    {
+        if !self.disk.collections.has_item(stem, item) {
+            return Ok(refused(self.alloc, ErrorName::NoSuchObject));
+        }
+        self.store_if_open(stem, change, now)
+    }
+
+    /// Performs the row of Set of the label of a collection. All memory is taken before the first call of
+    /// the device.
+    pub fn set_collection_label(
+        &mut self,
+        conn: ConnId,
+        collection: &ObjectName,
+        label: &Text,
+        now: u64,
+    ) -> Result<Done, OutOfMemory>
+        ensures leads { IfOk result (λ done. (value : List ℕ)
+            → Leads F.is_honest F.is_steady F.faults F.images
+            F.may_leave F.made F.Cell.is_honest F.Cell.is_steady
+            F.Cell.faults F.Cell.moment
+            F.Cell.left_since F.Cell.may_leave conn (record { now = now; value = value })
+            (set_collection_label collection.now label.now
+            (asked conn (record { now = now; value = value }) (rows_of self.old)))
+            (rows_of self.old) (rows_of self.new) (disk_of self.old) (disk_of self.new) done) }
+        ensures silent { IfOk result (λ done. done.sends ≡ []) }
+        ensures room { self.new.connections ≡ self.old.connections }
+        ensures unchanged { OnErr result ((rows_of self.new ≡ rows_of self.old)
+            × (disk_of self.new ≡ disk_of self.old)) }
+    {
+        let _ = conn;
+        let Some(stem) = self.disk.collection_named(collection) else {
+            return Ok(refused(self.alloc, ErrorName::NoSuchObject));
+        };
+        let stem = stem.copy()?;
+        let label = label.copy()?;
+        self.store_if_open(&stem, Change::SetName { label }, now)
+    }
+
+    /// Performs the row of Set of the label of an item. All memory is taken before the first call of the
+    /// device.
+    pub fn set_item_label(
+        &mut self,
+        conn: ConnId,
+        stem: &Stem,
+        item: ItemId,
+        label: &Text,
+        now: u64,
+    ) -> Result<Done, OutOfMemory>
+        ensures leads { IfOk result (λ done. (value : List ℕ)
+            → Leads F.is_honest F.is_steady F.faults F.images
+            F.may_leave F.made F.Cell.is_honest F.Cell.is_steady
+            F.Cell.faults F.Cell.moment
+            F.Cell.left_since F.Cell.may_leave conn (record { now = now; value = value })
+            (set_item_label stem.now item label.now
+            (asked conn (record { now = now; value = value }) (rows_of self.old)))
+            (rows_of self.old) (rows_of self.new) (disk_of self.old) (disk_of self.new) done) }
+        ensures silent { IfOk result (λ done. done.sends ≡ []) }
+        ensures room { self.new.connections ≡ self.old.connections }
+        ensures unchanged { OnErr result ((rows_of self.new ≡ rows_of self.old)
+            × (disk_of self.new ≡ disk_of self.old)) }
+    {
+        let _ = conn;
+        let label = label.copy()?;
+        self.store_of_item(stem, item, Change::SetLabel { id: item, label }, now)
+    }
+
+    /// Performs the row of Set of the attributes of an item. All memory is taken before the first call of
+    /// the device.
+    pub fn set_attributes(
+        &mut self,
+        conn: ConnId,
+        stem: &Stem,
+        item: ItemId,
+        attributes: &Attributes,
+        now: u64,
+    ) -> Result<Done, OutOfMemory>
+        ensures leads { IfOk result (λ done. (value : List ℕ)
+            → Leads F.is_honest F.is_steady F.faults F.images
+            F.may_leave F.made F.Cell.is_honest F.Cell.is_steady
+            F.Cell.faults F.Cell.moment
+            F.Cell.left_since F.Cell.may_leave conn (record { now = now; value = value })
+            (set_attributes stem.now item attributes.now
+            (asked conn (record { now = now; value = value }) (rows_of self.old)))
+            (rows_of self.old) (rows_of self.new) (disk_of self.old) (disk_of self.new) done) }
+        ensures silent { IfOk result (λ done. done.sends ≡ []) }
+        ensures room { self.new.connections ≡ self.old.connections }
+        ensures unchanged { OnErr result ((rows_of self.new ≡ rows_of self.old)
+            × (disk_of self.new ≡ disk_of self.old)) }
+    {
+        let _ = conn;
+        let attributes = attributes.copy()?;
+        self.store_of_item(
+            stem,
+            item,
+            Change::SetAttributes {
+                id: item,
+                attributes,
+            },
             now,
         )
     }

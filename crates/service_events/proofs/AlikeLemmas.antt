@@ -1,11 +1,13 @@
 -- Alike requests lead to the same: what a call leads to depends on its moment and on its salt only if it takes them, and on what it
 -- brings only by what it stores.
 use Rattle.std.proofs.Common.{◌≡◌, ℕ, nat_eq, Bool, true, false, cond, if◌then◌else◌, List, [], ◌∷◌, ◌++◌, Option, Some, None, Result, Ok, refl, sym, ap, subst, ◌∙◌}
+use Rattle.std.specs.List.{filter_map}
 use Rattle.kr_base.specs.declared.ids.ConnId.{ConnId}
 use Rattle.kr_base.specs.declared.ids.ItemId.{ItemId}
 use Rattle.kr_base.specs.declared.ids.PromptId.{PromptId}
 use Rattle.kr_base.specs.declared.ids.SessionId.{SessionId}
 use Rattle.kr_names.specs.declared.object_name.ObjectName.{ObjectName}
+use Rattle.kr_names.specs.declared.object_name.ObjectName.TheVariants as object
 use Rattle.prompt_state.specs.Prompts.{last_round}
 use Rattle.prompt_state.specs.declared.row.PromptKind.{PromptKind}
 use Rattle.prompt_state.specs.declared.row.PromptKind.TheVariants as kind
@@ -39,6 +41,7 @@ use Rattle.service_events.specs.Plan.{Demand, Store, Make, End_prompt, Erase, Se
 use Rattle.service_events.specs.PublicBody as public
 use Rattle.service_events.specs.PublicBody.{PublicBody}
 use Rattle.service_events.specs.Run.{AreFates, AreNone, Ran, asked, by_read, by_reading, by_store, by_test, demanded, failing, fits, is_in_doubt, promised, run, sending, sent_asked, sent_settled, settled}
+use Rattle.service_events.specs.PropertyCalls.{holder_of, on_holder, shown_by, value_of, value_returned}
 use Rattle.service_events.specs.ServiceCalls.{unlocking}
 use Rattle.service_events.specs.Step.{AreAlike, TakesMoment, TakesSalt, message_of, plan_of, step, value_in, with_delivered}
 use Rattle.service_events.specs.Stored.{StoresNothing}
@@ -227,6 +230,11 @@ module _ (caller : ConnId) (state : State) where
   refuse-same None round one other = refl
   refuse-same (Some prompt) round one other = refl
 
+  -- which objects are there
+  holder-same : (target : ObjectName) (one other : Brought) → holder_of target (asked caller one state) ≡ holder_of target (asked caller other state)
+  holder-same object.Nothing one other = refl
+  holder-same _ one other = refl
+
   -- a call that stores nothing
   quiet-alike : (given : Result Call CallFault) → StoresNothing given → (fates : List Fate) (a b : ℕ) (s t : List ℕ) → plan caller state s given a ≡ plan caller state t given b
       → leads caller fates state s given a ≡ leads caller fates state t given b
@@ -256,6 +264,17 @@ module _ (caller : ConnId) (state : State) where
       (erase-free caller (asked caller one state) (collection_named (asked_collections (contents_of state)) collection)) fates state
   moment-alike (Ok (call.DeleteItem stem item)) fates a b s t same salts = ap (leads caller fates state s (Ok (call.DeleteItem stem item))) (same tt)
   moment-alike (Ok (call.SetSecret stem item secret)) fates a b s t same salts = ap (leads caller fates state s (Ok (call.SetSecret stem item secret))) (same tt)
+  moment-alike (Ok (call.Get target property)) fates a b s t same salts =
+      let given : Result Call CallFault = Ok (call.Get target property) in
+      quiet-alike given tt fates a b s t
+      (ap (λ held. on_holder held (λ it. value_returned (value_of (asked_collections (contents_of state)) it property))) (holder-same target (brings given a) (brings given b)))
+  moment-alike (Ok (call.GetAll target properties)) fates a b s t same salts =
+      let given : Result Call CallFault = Ok (call.GetAll target properties) in
+      quiet-alike given tt fates a b s t
+      (ap (λ held. on_holder held (λ it. answered (public.Properties (filter_map (shown_by (asked_collections (contents_of state)) it) properties)) [])) (holder-same target (brings given a) (brings given b)))
+  moment-alike (Ok (call.SetCollectionLabel collection label)) fates a b s t same salts = ap (leads caller fates state s (Ok (call.SetCollectionLabel collection label))) (same tt)
+  moment-alike (Ok (call.SetItemLabel stem item label)) fates a b s t same salts = ap (leads caller fates state s (Ok (call.SetItemLabel stem item label))) (same tt)
+  moment-alike (Ok (call.SetAttributes stem item attributes)) fates a b s t same salts = ap (leads caller fates state s (Ok (call.SetAttributes stem item attributes))) (same tt)
   moment-alike (Ok (call.CreateCollection label alias)) fates a b s t same salts =
       quiet-alike (Ok (call.CreateCollection label alias)) tt fates a b s t (ap (λ salt. plan caller state salt (Ok (call.CreateCollection label alias)) a) (salts tt))
   moment-alike (Ok (call.Unlock objects)) fates a b s t same salts =
@@ -289,6 +308,15 @@ module _ (caller : ConnId) (state : State) where
       subst (λ now. AreFates caller (brings given now) (plan caller state s given now) fates state) (same tt) are
   moment-fates (Ok (call.SetSecret stem item secret)) fates a b s t same are =
       let given : Result Call CallFault = Ok (call.SetSecret stem item secret) in
+      subst (λ now. AreFates caller (brings given now) (plan caller state s given now) fates state) (same tt) are
+  moment-fates (Ok (call.SetCollectionLabel collection label)) fates a b s t same are =
+      let given : Result Call CallFault = Ok (call.SetCollectionLabel collection label) in
+      subst (λ now. AreFates caller (brings given now) (plan caller state s given now) fates state) (same tt) are
+  moment-fates (Ok (call.SetItemLabel stem item label)) fates a b s t same are =
+      let given : Result Call CallFault = Ok (call.SetItemLabel stem item label) in
+      subst (λ now. AreFates caller (brings given now) (plan caller state s given now) fates state) (same tt) are
+  moment-fates (Ok (call.SetAttributes stem item attributes)) fates a b s t same are =
+      let given : Result Call CallFault = Ok (call.SetAttributes stem item attributes) in
       subst (λ now. AreFates caller (brings given now) (plan caller state s given now) fates state) (same tt) are
   moment-fates (Ok (call.Answer prompt round password)) fates a b s t same are =
       let one = brings (Ok (call.Answer prompt round password)) a in

@@ -87,7 +87,7 @@ abbrev pub IsTypedDemand : Brought → Demand → Type 0
 IsTypedDemand brought (Store stem edit) = (brought.now < 2 ^ 64) × AreEditTypes brought.value edit
 IsTypedDemand brought (Erase stem) = Unit {0}
 IsTypedDemand brought (Set_alias alias stem) = IsAliasName alias × IfSome stem IsStem
-IsTypedDemand brought (Make stem label terms) = IsTypedText label × IsStem stem
+IsTypedDemand brought (Make stem label terms) = (brought.now < 2 ^ 64) × IsTypedText label × IsStem stem
 
 -- Each change of a plan is allowed, and what it asks of the disk, the files that it may open and the values of its answer are of their types, however
 -- what it asks of the disk ends.
@@ -130,7 +130,7 @@ sound-demanded brought (Make stem label terms) some state typed sound = record {
   connections = sound.connections;
   sessions = sound.sessions;
   prompts = sound.prompts;
-  collections = sound-made stem (made_of brought terms label) typed.1 (text-known label typed.0) some state.collections sound.collections;
+  collections = sound-made stem (made_of brought terms label) typed.0 typed.2 (text-known label typed.1) some state.collections sound.collections;
   aliases = sound.aliases;
   stems = stems-made stem (made_of brought terms label) some state.collections state.used sound.stems;
 }

@@ -1,5 +1,5 @@
 -- The plan of a derived key may be run in a sound state.
-use Rattle.std.proofs.Common.{◌≡◌, ℕ, ◌+◌, ◌≤◌, ◌⊎◌, Bool, true, false, cond, nat_le, List, [], ◌∷◌, ◌++◌, Option, Some, None, refl, sym, ap, subst, ◌∙◌, arith, inl, inr}
+use Rattle.std.proofs.Common.{◌≡◌, ℕ, ◌+◌, ◌^◌, ◌<◌, ◌≤◌, ◌⊎◌, Bool, true, false, cond, nat_le, List, [], ◌∷◌, ◌++◌, Option, Some, None, refl, sym, ap, subst, ◌∙◌, arith, inl, inr}
 use Rattle.std.specs.Option.{option_map}
 use Rattle.std.proofs.lemmas.Bool.{eqb-true}
 use Rattle.kr_base.specs.declared.ids.ConnId.{ConnId}
@@ -82,7 +82,7 @@ module _ (prompt : PromptId) (f : PromptRow → PromptRow) (keeps : KeepsAsked f
 
 -- ---- by how the collection opens
 
-module _ (caller : ConnId) (brought : Brought) (prompt : PromptId) where
+module _ (caller : ConnId) (brought : Brought) (prompt : PromptId) (small : brought.now < 2 ^ 64) where
   stage-deriving : (round : ℕ) (stage : Stage) → is_deriving_in round stage ≡ true → stage ≡ Deriving round
   stage-deriving round Made is = absurd (let no : false ≡ true = is in cc)
   stage-deriving round (Asked other) is = absurd (let no : false ≡ true = is in cc)
@@ -132,7 +132,7 @@ module _ (caller : ConnId) (brought : Brought) (prompt : PromptId) where
 
   asks-made : (label alias stem : List ℕ) (terms : KeyTerms) (state : State) → IsTypedText label → (alias ≡ []) ⊎ IsTypedAlias alias → IsStem stem
       → MayRun caller brought (Asks (Make stem label terms) (making_ended prompt alias stem)) state
-  asks-made label alias stem terms state text typed is = ((text, is), λ ended. ended-may alias stem ended (demanded brought (Make stem label terms) ended state) typed is)
+  asks-made label alias stem terms state text typed is = ((small, text, is), λ ended. ended-may alias stem ended (demanded brought (Make stem label terms) ended state) typed is)
 
   made-may : (label alias salt : List ℕ) (terms : KeyTerms) (state : State) → IsTypedText label → (alias ≡ []) ⊎ IsTypedAlias alias
       → MayRun caller brought (collection_made prompt label alias salt terms (asked caller brought state)) state

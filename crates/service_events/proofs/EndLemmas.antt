@@ -1,6 +1,6 @@
 -- How each row of the table of calls ends, and that of a derived key, whatever it is told: by changes that send nothing and leave the agent, or by an empty return
 -- with changes of which the last one alone may do either. So what is true of such ends and of the steps before them is true of all rows, without a word on each call.
-use Rattle.std.proofs.Common.{◌≡◌, ◌⊎◌, inl, inr, ⊎_elim, ℕ, ◌+◌, Bool, true, false, IsTrue, cond, nat_eq, nat_le, List, [], ◌∷◌, ◌++◌, length, map, Option, Some, None, Result, Ok, refl, sym, ap, subst, ◌∙◌, append-nil}
+use Rattle.std.proofs.Common.{◌≡◌, ◌⊎◌, inl, inr, ⊎_elim, ℕ, ◌+◌, Bool, true, false, IsTrue, cond, nat_eq, nat_le, List, [], ◌∷◌, ◌++◌, length, map, Option, Some, None, Result, Ok, Err, refl, sym, ap, subst, ◌∙◌, append-nil}
 use Rattle.std.specs.List.{AllByRecursion, filter_map}
 use Rattle.std.specs.Option.{option_and_then}
 use Rattle.kr_base.specs.declared.ids.ConnId.{ConnId}
@@ -25,7 +25,7 @@ use Rattle.service_prompts.specs.service_tables.specs.Limits.{most_content}
 use Rattle.service_prompts.specs.service_tables.specs.Objects.{alias_target, collection_around, collection_named}
 use Rattle.service_prompts.specs.service_tables.specs.Targets.{are_light}
 use Rattle.service_prompts.specs.service_tables.specs.State.{State}
-use Rattle.service_prompts.specs.service_tables.specs.Storing.{Brought, Edit, Remove_item, Set_secret}
+use Rattle.service_prompts.specs.service_tables.specs.Storing.{Brought, Edit, Remove_item, Set_attributes, Set_label, Set_name, Set_secret}
 use Rattle.service_prompts.specs.service_tables.specs.declared.fate.Fate.{Fate}
 use Rattle.service_prompts.specs.service_tables.specs.declared.fate.ReadFate.{ReadFate}
 use Rattle.service_prompts.specs.service_tables.specs.declared.fate.StoreFate.{StoreFate}
@@ -43,6 +43,10 @@ use Rattle.service_events.specs.PromptCalls.{is_made_row}
 use Rattle.service_events.specs.PublicBody.{PublicBody}
 use Rattle.service_events.specs.PublicBody as public
 use Rattle.service_events.specs.Run.{Ran, asked, by_read, by_reading, by_test, demanded, failing, filled, is_in_doubt, performed, performed_all, promised, run, sending, sent_all, sent_asked, sent_by, sent_opened, sent_settled, settled, unlocked_with}
+use Rattle.service_prompts.specs.collection_store.specs.declared.change.Changed.{Changed}
+use Rattle.service_prompts.specs.secret_calls.specs.declared.property.PropertyValue.{PropertyValue}
+use Rattle.service_events.specs.declared.holder.Holder.{Holder}
+use Rattle.service_events.specs.PropertyCalls.{editing, editing_item, holder_of, on_holder, value_of, value_returned}
 use Rattle.service_events.specs.ServiceCalls.{creating, is_plain, no_collection, there_already, unlocking, with_new_prompt}
 use Rattle.service_events.specs.SessionCalls.{with_session}
 use Rattle.service_events.specs.Step.{plan_of}
@@ -239,15 +243,15 @@ idle-if false plan error idle = (tt, refl)
 idle-alias : (alias : List ℕ) (stem : Option (List ℕ)) → AllEnds IsIdle (alias_settled alias stem)
 idle-alias alias stem = ((tt, refl), λ questions. idle-if (questions.aliases.can_set alias stem) _ name.LimitsExceeded (fate-idle public.Empty))
 
-idle-storing : (stem : List ℕ) (edit : Edit) (returned : ItemId → PublicBody) (item : Option ItemId) → AllEnds IsIdle (storing stem edit returned item)
+idle-storing : (stem : List ℕ) (edit : Edit) (returned : Changed → PublicBody) (answer : Option Changed) → AllEnds IsIdle (storing stem edit returned answer)
 idle-storing stem edit returned None = (tt, refl)
-idle-storing stem edit returned (Some item) = fate-idle (returned item)
+idle-storing stem edit returned (Some answer) = fate-idle (returned answer)
 
 idle-session : (session : Option SessionId) (questions : Questions) (next : SessionId → Plan) → ((own : SessionId) → AllEnds IsIdle (next own)) → AllEnds IsIdle (with_session session questions next)
 idle-session None questions next idle = (tt, refl)
 idle-session (Some session) questions next idle = idle-if (questions.sessions.owns session) (next session) name.NoSession (idle session)
 
-idle-secret : (session : Option SessionId) (stem content : List ℕ) (edit : Edit) (returned : ItemId → PublicBody) (questions : Questions) → AllEnds IsIdle (secret_stored session stem content edit returned questions)
+idle-secret : (session : Option SessionId) (stem content : List ℕ) (edit : Edit) (returned : Changed → PublicBody) (questions : Questions) → AllEnds IsIdle (secret_stored session stem content edit returned questions)
 idle-secret session stem content edit returned questions =
     idle-session session questions _
     (λ own. idle-if (questions.collections.is_open stem) _ name.IsLocked (idle-if (nat_le (length content) most_content) _ name.LimitsExceeded (idle-storing stem edit returned (questions.storable stem edit))))
@@ -255,6 +259,21 @@ idle-secret session stem content edit returned questions =
 idle-collection : (named : Option (List ℕ)) (next : List ℕ → Plan) → ((stem : List ℕ) → AllEnds IsIdle (next stem)) → AllEnds IsIdle (on_collection named next)
 idle-collection None next idle = (tt, refl)
 idle-collection (Some stem) next idle = idle stem
+
+idle-editing : (stem : List ℕ) (edit : Edit) (questions : Questions) → AllEnds IsIdle (editing stem edit questions)
+idle-editing stem edit questions =
+    idle-if (questions.collections.is_open stem) _ name.IsLocked (idle-storing stem edit (λ _. public.Empty) (questions.storable stem edit))
+
+idle-item : (stem : List ℕ) (item : ItemId) (edit : Edit) (questions : Questions) → AllEnds IsIdle (editing_item stem item edit questions)
+idle-item stem item edit questions = idle-if (questions.collections.has_item stem item) _ name.NoSuchObject (idle-editing stem edit questions)
+
+idle-object : (held : Result Holder ErrorName) (next : Holder → Plan) → ((it : Holder) → AllEnds IsIdle (next it)) → AllEnds IsIdle (on_holder held next)
+idle-object (Ok it) next idle = idle it
+idle-object (Err error) next idle = (tt, refl)
+
+idle-value : (value : Option PropertyValue) → AllEnds IsIdle (value_returned value)
+idle-value None = (tt, refl)
+idle-value (Some value) = (tt, refl)
 
 idle-target : (target : Option (Option (List ℕ))) (next : Option (List ℕ) → Plan) → ((stem : Option (List ℕ)) → AllEnds IsIdle (next stem)) → AllEnds IsIdle (on_target target next)
 idle-target None next idle = (tt, refl)
@@ -355,6 +374,17 @@ module _ (may : Bool) where
   call-ends salt (Ok (call.SetSecret stem item secret)) questions none =
       idle-call (plan_of salt (Ok (call.SetSecret stem item secret)) questions)
       (idle-if (questions.collections.has_item stem item) _ name.NoSuchObject (idle-secret secret.session stem secret.content (Set_secret item secret.content) (λ _. public.Empty) questions))
+  call-ends salt (Ok (call.Get object property)) questions none =
+      idle-call (plan_of salt (Ok (call.Get object property)) questions) (idle-object (holder_of object questions) _ (λ held. idle-value (value_of questions.collections held property)))
+  call-ends salt (Ok (call.GetAll object properties)) questions none =
+      idle-call (plan_of salt (Ok (call.GetAll object properties)) questions) (idle-object (holder_of object questions) _ (λ held. (tt, refl)))
+  call-ends salt (Ok (call.SetCollectionLabel collection label)) questions none =
+      idle-call (plan_of salt (Ok (call.SetCollectionLabel collection label)) questions)
+      (idle-collection (collection_named questions.collections collection) _ (λ stem. idle-editing stem (Set_name label) questions))
+  call-ends salt (Ok (call.SetItemLabel stem item label)) questions none =
+      idle-call (plan_of salt (Ok (call.SetItemLabel stem item label)) questions) (idle-item stem item (Set_label item label) questions)
+  call-ends salt (Ok (call.SetAttributes stem item attributes)) questions none =
+      idle-call (plan_of salt (Ok (call.SetAttributes stem item attributes)) questions) (idle-item stem item (Set_attributes item attributes) questions)
   call-ends salt (Ok (call.Prompt prompt)) questions none =
       let pass : (b : Bool) → OfCall (answered public.Empty (cond b (Go_on prompt ∷ []) [])) = elim [ true ↦ (tt, inr (refl, tt)) | false ↦ (tt, inl tt) ] in
       call-if (questions.prompts.owns prompt) _ (refused name.NoSuchObject) (pass (is_made_row (questions.prompts.row prompt))) (tt, inl tt)

@@ -2,9 +2,8 @@
 use Rattle.std.proofs.Common.{◌≡◌, ℕ, Bool, true, false, IfSome, List, [], ◌∷◌, length, Option, Some, None, Result, Ok}
 use mathlib.Core.HLevel.{×_prop, Unit-prop}
 use Rattle.std.proofs.Props.{props}
-use Rattle.std.specs.Coded.{le_prop, →_prop}
+use Rattle.std.specs.Coded.{le_prop}
 use Rattle.std.specs.List.{AllByRecursion-prop}
-use Rattle.std.specs.Str.{is_utf8}
 use Rattle.kr_base.specs.declared.ids.ConnId.{ConnId}
 use Rattle.service_prompts.specs.collection_table.specs.Rows.{CollectionRow, Rows}
 use Rattle.service_prompts.specs.secret_calls.specs.declared.call.Call.{Call}
@@ -16,10 +15,9 @@ use Rattle.service_prompts.specs.service_tables.specs.declared.fate.ReadFate.{Re
 use Rattle.service_prompts.specs.service_tables.specs.declared.fate.ReadFate.TheVariants as read
 use Rattle.service_prompts.specs.service_tables.specs.declared.fate.StoreFate.{StoreFate}
 use Rattle.service_prompts.specs.service_tables.specs.declared.fate.StoreFate.TheVariants as stored
-use Rattle.service_prompts.specs.service_tables.specs.Sound.{IsTypedText}
 use Rattle.service_prompts.specs.service_tables.specs.State.{State}
 use Rattle.service_prompts.specs.service_tables.specs.Storing.{Brought}
-use Rattle.service_prompts.specs.service_tables.proofs.TypedLemmas.{alias-prop, item-prop, secret-prop}
+use Rattle.service_prompts.specs.service_tables.proofs.TypedLemmas.{alias-prop, attributes-prop, item-prop, secret-prop, text-prop}
 use Rattle.service_events.specs.declared.event.Event.{Event}
 use Rattle.service_events.specs.declared.event.Event.TheVariants as event
 use Rattle.service_events.specs.declared.event.Recorded.{Recorded}
@@ -68,12 +66,6 @@ fates-prop caller brought (Resolves reading unread next) fates state =
     (fates-prop caller brought (next (asked caller brought state)) fates state)
 fates-prop caller brought (Opens stem terms next) fates state = fates-prop caller brought next fates (unlocked_with brought stem terms state)
 
-truth-prop : (b : Bool) → IsProp (b ≡ true)
-truth-prop b = Prim.hlevel props
-
-text-prop : (bytes : List ℕ) → IsProp (IsTypedText bytes)
-text-prop bytes one other = λ i. record { utf8 = truth-prop (is_utf8 bytes) one.utf8 other.utf8 i; no_zero = →_prop (λ e. absurd e) one.no_zero other.no_zero i }
-
 name-prop : (alias : Option (List ℕ)) → IsProp (IsTypedName alias)
 name-prop None = Unit-prop
 name-prop (Some alias) = alias-prop alias
@@ -85,6 +77,9 @@ types-prop : (given : Result Call CallFault) → IsProp (HasTypes given)
 types-prop (Ok (call.SetAlias alias object)) = alias-prop alias
 types-prop (Ok (call.CreateItem collection label attributes secret replace)) = ×_prop (item-prop label attributes) (secret-prop secret.value secret.content)
 types-prop (Ok (call.SetSecret stem item secret)) = secret-prop secret.value secret.content
+types-prop (Ok (call.SetCollectionLabel collection label)) = text-prop label
+types-prop (Ok (call.SetItemLabel stem item label)) = text-prop label
+types-prop (Ok (call.SetAttributes stem item attributes)) = attributes-prop attributes
 types-prop (Ok (call.CreateCollection label alias)) = ×_prop (text-prop label) (name-prop alias)
 types-prop (Ok (call.Answer prompt round password)) = bytes-prop password
 types-prop _ = Unit-prop

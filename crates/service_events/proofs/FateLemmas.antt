@@ -1,6 +1,6 @@
 -- How each storing and each resolve of an event ends is one thing if no device fails: unless a file is in doubt, nothing asks for a
 -- resolve, and each storing is done.
-use Rattle.std.proofs.Common.{◌≡◌, ℕ, ◌+◌, Bool, true, false, List, [], ◌∷◌, Option, Some, None, Result, refl, sym, subst, ◌∙◌}
+use Rattle.std.proofs.Common.{◌≡◌, ℕ, Bool, true, false, List, [], ◌∷◌, Option, Some, None, Result, refl, sym, subst, ◌∙◌}
 use Rattle.kr_base.specs.Attributes.{value_at}
 use Rattle.kr_base.specs.declared.ids.ConnId.{ConnId}
 use Rattle.service_prompts.specs.collection_table.specs.Rows.{CollectionRow, Rows}

@@ -1,5 +1,5 @@
 -- The collections stay sound once the file of one of them was read again, and once one was made.
-use Rattle.std.proofs.Common.{ℕ, Bool, true, false, cond, IfSome, List, [], ◌∷◌, filter, Option, Some, None}
+use Rattle.std.proofs.Common.{ℕ, ◌^◌, ◌<◌, Bool, true, false, cond, IfSome, List, [], ◌∷◌, filter, Option, Some, None}
 use Rattle.std.specs.Cmp.Lexicographic.{slice_cmp}
 use Rattle.std.specs.List.{AllByRecursion}
 use Rattle.std.specs.Ordering.{is_lt, nat_cmp}
@@ -67,9 +67,9 @@ sound-inserted stem value these one sound = record {
       (one, each-filter IsSoundCollection _ these sound.each);
 }
 
-module _ (stem : List ℕ) (plan : Plan) (is : IsStem stem) (label : IsText plan.label) where
+module _ (stem : List ℕ) (plan : Plan) (small : plan.now < 2 ^ 64) (is : IsStem stem) (label : IsText plan.label) where
   shown-made : AreShown (content_of plan).clear
-  shown-made = record { label = label; items = tt }
+  shown-made = record { label = label; created = small; modified = small; items = tt }
 
   -- a making of a collection, however it ended
   pub sound-made : (some : StoreFate) (these : Rows) → AreSoundCollections these → AreSoundCollections (rows_made stem plan some these)

@@ -1,7 +1,7 @@
 -- The plan of each row of the table of calls may be run in a sound state.
-use Rattle.std.proofs.Common.{◌≡◌, ℕ, ◌+◌, ◌^◌, ◌<◌, ◌≤◌, ◌⊎◌, ◌==◌, Bool, true, false, ◌&&◌, nat_le, cond, IfSome, List, Result, Ok, Err, [], ◌∷◌, ◌++◌, length, filter, map, Option, Some, None, refl, ap, sym, subst, ◌∙◌, arith, inl, inr}
-use Rattle.std.specs.List.{AllByRecursion, filter_map, list_any}
-use Rattle.std.specs.Option.{option_and_then, option_map_or}
+use Rattle.std.proofs.Common.{◌≡◌, ℕ, ◌+◌, ◌^◌, ◌<◌, ◌⊎◌, ◌==◌, Bool, true, false, ◌&&◌, nat_le, cond, IfSome, List, Result, Ok, Err, [], ◌∷◌, length, filter, map, Option, Some, None, refl, ap, sym, subst, ◌∙◌, arith, inl, inr}
+use Rattle.std.specs.List.{AllByRecursion, cons_option, filter_map, list_any}
+use Rattle.std.specs.Option.{option_and_then, option_map, option_map_or}
 use Rattle.std.proofs.lemmas.Bool.{eqb-true, or_cases, leb-false, leb-true}
 use Rattle.kr_base.specs.declared.ids.ConnId.{ConnId}
 use Rattle.kr_base.specs.declared.attributes.AttrValue.{AttrValue}
@@ -32,8 +32,12 @@ use Rattle.service_prompts.specs.secret_calls.specs.declared.call.Call.TheVarian
 use Rattle.service_prompts.specs.secret_calls.specs.declared.call.CallFault.{CallFault}
 use Rattle.service_prompts.specs.secret_calls.specs.declared.out.ErrorName.{ErrorName}
 use Rattle.service_prompts.specs.secret_calls.specs.declared.out.ErrorName.TheVariants as name
+use Rattle.service_prompts.specs.secret_calls.specs.declared.property.Property.{Property}
+use Rattle.service_prompts.specs.secret_calls.specs.declared.property.Property.TheVariants as property
+use Rattle.service_prompts.specs.secret_calls.specs.declared.property.PropertyValue.{PropertyValue}
+use Rattle.service_prompts.specs.secret_calls.specs.declared.property.ShownProperty.{ShownProperty}
 use Rattle.service_prompts.specs.secret_calls.specs.declared.secret.ReturnedSecret.{ReturnedSecret}
-use Rattle.service_prompts.specs.secret_calls.specs.Outs.{ArePaths, AreTyped}
+use Rattle.service_prompts.specs.secret_calls.specs.Outs.{ArePaths, AreShown, AreTyped, IsShown}
 use Rattle.session_table.specs.Sessions.{is_of, owns, rows_of, is_full, most_sessions, last_session}
 use Rattle.service_prompts.specs.service_tables.specs.State.{State}
 use Rattle.service_prompts.specs.service_tables.specs.Connections.{left}
@@ -41,7 +45,7 @@ use Rattle.service_prompts.specs.service_tables.specs.Targets.{are_light, weight
 use Rattle.service_prompts.specs.service_tables.specs.Limits.{most_content, most_weight}
 use Rattle.service_events.specs.AgentCalls.{refuse, unless_refused}
 use Rattle.service_events.specs.AliasCalls.{alias_body, alias_settled, alias_stored, on_target}
-use Rattle.service_events.specs.CollectionCalls.{by_fate, if_open, made, no_prompt, on_collection, secret_stored, storing, storing_secret}
+use Rattle.service_events.specs.CollectionCalls.{by_fate, if_open, item_named, made, no_prompt, on_collection, secret_stored, storing, storing_secret}
 use Rattle.service_events.specs.ItemCalls.{get_secret, secret_if_open}
 use Rattle.service_prompts.specs.service_tables.specs.Objects.{alias_target, collection_around, collection_named, is_open_item, is_there, item_paths, once}
 use Rattle.service_prompts.specs.service_tables.specs.Opened.{contents_of}
@@ -51,10 +55,15 @@ use Rattle.service_events.specs.PromptCalls.{first_advance}
 use Rattle.service_events.specs.PublicBody as public
 use Rattle.service_events.specs.PublicBody.{PublicBody, body_with}
 use Rattle.service_events.specs.Run.{asked, demanded, performed, secret_returned, session_of, settled, with_gift, with_own_gift}
+use Rattle.service_prompts.specs.collection_store.specs.declared.change.Changed.{Changed}
+use Rattle.service_prompts.specs.service_tables.proofs.ShownLemmas.{item-attributes-typed, item-label-typed, item-times-typed, stems-typed, times-typed}
+use Rattle.service_events.specs.declared.holder.Holder.{Holder}
+use Rattle.service_events.specs.declared.holder.Holder.TheVariants as holder
+use Rattle.service_events.specs.PropertyCalls.{editing, editing_item, holder_of, on_holder, shown_by, value_of, value_returned}
 use Rattle.service_events.specs.ServiceCalls.{creating, is_plain, lock, get_secrets, next_prompt, no_collection, there_already, unlocking, with_new_prompt}
 use Rattle.service_events.specs.SessionCalls.{with_session}
 use Rattle.service_events.specs.Step.{HasTypes, IsSalt, IsTypedName, plan_of, value_in}
-use Rattle.service_prompts.specs.service_tables.specs.Storing.{AreEditTypes, Brought, Edit, Add_item, Set_secret, Remove_item, storable_edit}
+use Rattle.service_prompts.specs.service_tables.specs.Storing.{AreEditTypes, Brought, Edit, Add_item, Set_secret, Remove_item, Set_attributes, Set_label, Set_name, item_in, storable_edit}
 use Rattle.service_prompts.specs.service_tables.specs.declared.fate.StoreFate.{StoreFate}
 use Rattle.service_prompts.specs.service_tables.specs.declared.fate.StoreFate.TheVariants as stored
 use Rattle.service_prompts.specs.service_tables.specs.Sound.{AreSecretTypes, HasLeft, IsSoundKind, IsSoundTarget, IsTypedAlias, IsTypedText, AreOpened, IsSound}
@@ -67,7 +76,7 @@ use Rattle.std.proofs.Common.{nat_eq}
 use Rattle.std.proofs.lemmas.Bool.Decides.{nat_tests}
 use Rattle.prompt_state.specs.Prompts.{IsStage, is_asked_in, refusal_of}
 use Rattle.prompt_state.specs.declared.table.PromptRefused.TheVariants as refused_by
-use Rattle.service_prompts.proofs.SignalLemmas.{found-row}
+use Rattle.service_prompts.proofs.SignalLemmas.{found-row, label-text}
 use Rattle.service_prompts.specs.service_tables.specs.Sound.{IsSoundPrompt}
 use Rattle.service_events.specs.AnswerCalls.{answer_prompt, deriving_key, going_on, kind_answered, left_answered, row_answered, target_answered}
 use Rattle.service_events.proofs.AllowedLemmas.{AreAllowed, HasMore, IsAllowed, IsTypedAnswer, IsTypedDemand, MayRun, ask-round, some-same}
@@ -195,28 +204,35 @@ module _ (caller : ConnId) (brought : Brought) where
   if-may true plan error state may = may
   if-may false plan error state may = (tt, tt)
 
-  stored-may : (stem : List ℕ) (edit : Edit) (returned : ItemId → PublicBody) (item : Option ItemId) (state : State) → IsTypedDemand brought (Store stem edit) → IfSome item (λ made. AreTyped (body_with (returned made)))
-      → MayRun caller brought (storing stem edit returned item) state
+  stored-may : (stem : List ℕ) (edit : Edit) (returned : Changed → PublicBody) (answer : Option Changed) (state : State) → IsTypedDemand brought (Store stem edit) → IfSome answer (λ made. AreTyped (body_with (returned made)))
+      → MayRun caller brought (storing stem edit returned answer) state
   stored-may stem edit returned None state given typed = (tt, tt)
-  stored-may stem edit returned (Some item) state given typed =
-      asks-may (Store stem edit) (returned item) state given typed
+  stored-may stem edit returned (Some answer) state given typed =
+      asks-may (Store stem edit) (returned answer) state given typed
 
-  kept-may : (session : Option SessionId) (stem content : List ℕ) (edit : Edit) (returned : ItemId → PublicBody) (state : State) → IsTypedDemand brought (Store stem edit)
+  kept-may : (session : Option SessionId) (stem content : List ℕ) (edit : Edit) (returned : Changed → PublicBody) (state : State) → IsTypedDemand brought (Store stem edit)
       → IfSome (storable_edit brought state.collections stem edit) (λ made. AreTyped (body_with (returned made))) → MayRun caller brought (secret_stored session stem content edit returned (asked caller brought state)) state
   kept-may session stem content edit returned state given typed =
-      let item = storable_edit brought state.collections stem edit in
+      let answer = storable_edit brought state.collections stem edit in
       session-may session _ state
       (λ own is. if-may (is_open stem state.collections) (storing_secret content stem edit returned (asked caller brought state)) name.IsLocked state
-      (if-may (nat_le (length content) most_content) (storing stem edit returned item) name.LimitsExceeded state (stored-may stem edit returned item state given typed)))
+      (if-may (nat_le (length content) most_content) (storing stem edit returned answer) name.LimitsExceeded state (stored-may stem edit returned answer state given typed)))
 
   -- the path of an item that can be stored
-  made-typed : (stem : List ℕ) (edit : Edit) (state : State) → IsSound state → IsTypedDemand brought (Store stem edit) → IfSome (storable_edit brought state.collections stem edit) (λ item. AreTyped (body_with (made stem item)))
+  item-typed : (stem : List ℕ) (item : Option ItemId) → IfSome item (λ it. IsName (object.Item stem it)) → IsName (item_named stem item)
+  item-typed stem None is = tt
+  item-typed stem (Some item) is = is
+
+  made-typed : (stem : List ℕ) (edit : Edit) (state : State) → IsSound state → IsTypedDemand brought (Store stem edit)
+      → IfSome (storable_edit brought state.collections stem edit) (λ answer. AreTyped (body_with (made stem answer)))
   made-typed stem edit state sound given =
-      let pass : (o : Option ItemId) → storable_edit brought state.collections stem edit ≡ o → IfSome o (λ item. AreTyped (body_with (made stem item))) =
+      let pass : (o : Option Changed) → storable_edit brought state.collections stem edit ≡ o → IfSome o (λ answer. AreTyped (body_with (made stem answer))) =
       elim [
         | None ↦ λ is. tt
-        | Some item ↦ λ is.
-            (path-of (object.Item stem item) (storable-named brought.now given.0 edit brought.value given.1 stem state.collections item sound.collections is), tt)
+        | Some answer ↦ λ is. (
+          path-of (item_named stem (item_in answer)) (item-typed stem (item_in answer) (storable-named brought.now given.0 edit brought.value given.1 stem state.collections answer sound.collections is)),
+          tt,
+        )
       ] in
       pass (storable_edit brought state.collections stem edit) refl
 
@@ -227,6 +243,57 @@ module _ (caller : ConnId) (brought : Brought) where
   each-typed : {A : Type 0} (o : Option A) (P : A → Type 0) → ((x : A) → P x) → IfSome o P
   each-typed None P all = tt
   each-typed (Some x) P all = all x
+
+  -- ---- properties
+
+  object-may : (held : Result Holder ErrorName) (next : Holder → Plan) (state : State) → ((it : Holder) → MayRun caller brought (next it) state) → MayRun caller brought (on_holder held next) state
+  object-may (Ok it) next state may = may it
+  object-may (Err error) next state may = (tt, tt)
+
+  -- what is shown has its types
+  value-typed : (held : Holder) (it : Property) (state : State) → IsSound state → IfSome (value_of (asked_collections (contents_of state)) held it) IsShown
+  value-typed holder.Service property.Collections state sound = stems-typed state.collections sound.collections
+  value-typed holder.Service _ state sound = tt
+  value-typed (holder.Collection stem) property.Items state sound = found-in-paths stem [] state.collections sound.collections
+  value-typed (holder.Collection stem) property.Label state sound = label-text stem state.collections sound.collections
+  value-typed (holder.Collection stem) property.Created state sound = (times-typed stem state.collections sound.collections).0
+  value-typed (holder.Collection stem) property.Modified state sound = (times-typed stem state.collections sound.collections).1
+  value-typed (holder.Collection stem) _ state sound = tt
+  value-typed (holder.Item stem item) property.Label state sound = item-label-typed stem item state.collections sound.collections
+  value-typed (holder.Item stem item) property.Attributes state sound = item-attributes-typed stem item state.collections sound.collections
+  value-typed (holder.Item stem item) property.Created state sound = (item-times-typed stem item state.collections sound.collections).0
+  value-typed (holder.Item stem item) property.Modified state sound = (item-times-typed stem item state.collections sound.collections).1
+  value-typed (holder.Item stem item) _ state sound = tt
+  value-typed holder.Nothing it state sound = tt
+
+  value-may : (value : Option PropertyValue) (state : State) → IfSome value IsShown → MayRun caller brought (value_returned value) state
+  value-may None state typed = (tt, tt)
+  value-may (Some value) state typed = (tt, typed)
+
+  -- one more property that is shown
+  more-shown : (it : Property) (value : Option PropertyValue) (more : List ShownProperty) → IfSome value IsShown → AreShown more
+      → AreShown (cons_option (option_map (λ value. record { property = it; value = value }) value) more)
+  more-shown it None more typed all = all
+  more-shown it (Some value) more typed all = (typed, all)
+
+  all-shown : (held : Holder) (properties : List Property) (state : State) → IsSound state → AreShown (filter_map (shown_by (asked_collections (contents_of state)) held) properties)
+  all-shown held [] state sound = tt
+  all-shown held (it ∷ properties) state sound =
+      more-shown it (value_of (asked_collections (contents_of state)) held it) _ (value-typed held it state sound) (all-shown held properties state sound)
+
+  editing-may : (stem : List ℕ) (edit : Edit) (state : State) → IsTypedDemand brought (Store stem edit) → MayRun caller brought (editing stem edit (asked caller brought state)) state
+  editing-may stem edit state given =
+      let answer = storable_edit brought state.collections stem edit in
+      if-may (is_open stem state.collections) (storing stem edit (λ _. public.Empty) answer) name.IsLocked state
+      (stored-may stem edit (λ _. public.Empty) answer state given (each-typed answer _ (λ made. tt)))
+
+  named-may : (label : List ℕ) (state : State) (named : Option (List ℕ)) → (brought.now < 2 ^ 64) × IsTypedText label
+      → MayRun caller brought (on_collection named (λ stem. editing stem (Set_name label) (asked caller brought state))) state
+  named-may label state None given = (tt, tt)
+  named-may label state (Some stem) given = editing-may stem (Set_name label) state given
+
+  edited-may : (stem : List ℕ) (item : ItemId) (edit : Edit) (state : State) → IsTypedDemand brought (Store stem edit) → MayRun caller brought (editing_item stem item edit (asked caller brought state)) state
+  edited-may stem item edit state given = if-may (has_item stem item.0 state.collections) (editing stem edit (asked caller brought state)) name.NoSuchObject state (editing-may stem edit state given)
 
   created-may : (edit : Edit) (session : Option SessionId) (content : List ℕ) (state : State) → IsSound state → (brought.now < 2 ^ 64) × AreEditTypes brought.value edit → (named : Option (List ℕ))
       → MayRun caller brought (on_collection named (λ stem. secret_stored session stem content edit (made stem) (asked caller brought state))) state
@@ -443,6 +510,15 @@ module _ (caller : ConnId) (brought : Brought) where
   may-run salt state (Ok (call.Unlock objects)) sound small random types same =
       let asks = asked_collections (contents_of state) in
       unlocking-may (unlocked_there asks objects) (targets_of asks objects) state sound (unlocked-paths (contents_of state) sound.collections objects) (targets-sound (contents_of state) sound.collections objects)
+  may-run salt state (Ok (call.Get target property)) sound small random types same =
+      let asks = asked_collections (contents_of state) in
+      object-may (holder_of target (asked caller brought state)) _ state (λ held. value-may (value_of asks held property) state (value-typed held property state sound))
+  may-run salt state (Ok (call.GetAll target properties)) sound small random types same =
+      object-may (holder_of target (asked caller brought state)) _ state (λ held. (tt, all-shown held properties state sound))
+  may-run salt state (Ok (call.SetCollectionLabel collection label)) sound small random types same =
+      named-may label state (collection_named (asked_collections (contents_of state)) collection) (small, types)
+  may-run salt state (Ok (call.SetItemLabel stem item label)) sound small random types same = edited-may stem item (Set_label item label) state (small, types)
+  may-run salt state (Ok (call.SetAttributes stem item attributes)) sound small random types same = edited-may stem item (Set_attributes item attributes) state (small, types)
   may-run salt state (Ok (call.Prompt prompt)) sound small random types same =
       let asks = asked_collections (contents_of state) in
       if-may (prompts.owns caller prompt state.prompts) (answered public.Empty (first_advance prompt (row_at prompt state.prompts))) name.NoSuchObject state

@@ -1,5 +1,5 @@
 -- What a plan leaves alone, whatever it does, and which plans ask nothing of the disk.
-use Rattle.std.proofs.Common.{◌≡◌, ℕ, Bool, true, false, cond, nat_le, List, [], ◌∷◌, ◌++◌, map, Option, Some, None, Result, Ok, refl, ap, ◌∙◌}
+use Rattle.std.proofs.Common.{◌≡◌, ℕ, Bool, true, false, cond, nat_le, List, [], ◌∷◌, ◌++◌, map, Option, Some, None, Result, Ok, Err, refl, ap, ◌∙◌}
 use Rattle.std.specs.List.{AllByRecursion}
 use Rattle.std.specs.Option.{option_and_then}
 use Rattle.kr_base.specs.declared.ids.ConnId.{ConnId}
@@ -38,6 +38,9 @@ use Rattle.service_events.specs.Plan.{Aliases_file, Answer, Change, Collection_f
 use Rattle.service_events.specs.PublicBody.{PublicBody}
 use Rattle.service_events.specs.PublicBody as public
 use Rattle.service_events.specs.Run.{AreFates, AreNone, asked, by_read, by_reading, by_store, by_test, demanded, failing, filled, fits, if_fits, is_in_doubt, performed, performed_all, promised, sending, sent_all, sent_asked, sent_by, sent_opened, sent_settled, settled, Ran, run, unlocked_with}
+use Rattle.service_prompts.specs.secret_calls.specs.declared.property.PropertyValue.{PropertyValue}
+use Rattle.service_events.specs.declared.holder.Holder.{Holder}
+use Rattle.service_events.specs.PropertyCalls.{holder_of, on_holder, value_of, value_returned}
 use Rattle.service_events.specs.ServiceCalls.{creating, is_plain, no_collection, there_already, unlocking, with_new_prompt}
 use Rattle.service_events.specs.SessionCalls.{with_session}
 use Rattle.service_events.specs.Step.{brought_by, plan_of, served}
@@ -275,6 +278,14 @@ quiet-round : (prompt : Option PromptId) (round : ℕ) (asked : Questions) (next
 quiet-round None round asked next quiet = quiet-if asked.prompts.is_agent (refused name.NoSuchObject) (refused name.AccessDenied) tt tt
 quiet-round (Some prompt) round asked next quiet = quiet-unless (asked.prompts.refusal prompt round) (next prompt) (quiet prompt)
 
+quiet-object : (held : Result Holder ErrorName) (next : Holder → Plan) → ((it : Holder) → EndsAtOnce (next it)) → EndsAtOnce (on_holder held next)
+quiet-object (Ok it) next quiet = quiet it
+quiet-object (Err error) next quiet = tt
+
+quiet-value : (value : Option PropertyValue) → EndsAtOnce (value_returned value)
+quiet-value None = tt
+quiet-value (Some value) = tt
+
 pub quiet-row : (salt : List ℕ) (call : Result Call CallFault) (asked : Questions) → StoresNothing call → EndsAtOnce (plan_of salt call asked)
 quiet-row salt (Ok (call.OpenSession algorithm)) asked nothing =
     quiet-if (is_plain algorithm) _ (refused name.NotSupported) (quiet-if asked.sessions.is_full (refused name.LimitsExceeded) _ tt tt) tt
@@ -289,6 +300,11 @@ quiet-row salt (Ok (call.CreateItem collection label attributes secret replace))
 quiet-row salt (Ok (call.DeleteCollection collection)) asked nothing = absurd nothing
 quiet-row salt (Ok (call.DeleteItem stem item)) asked nothing = absurd nothing
 quiet-row salt (Ok (call.SetSecret stem item secret)) asked nothing = absurd nothing
+quiet-row salt (Ok (call.Get object property)) asked nothing = quiet-object (holder_of object asked) _ (λ held. quiet-value (value_of asked.collections held property))
+quiet-row salt (Ok (call.GetAll object properties)) asked nothing = quiet-object (holder_of object asked) _ (λ held. tt)
+quiet-row salt (Ok (call.SetCollectionLabel collection label)) asked nothing = absurd nothing
+quiet-row salt (Ok (call.SetItemLabel stem item label)) asked nothing = absurd nothing
+quiet-row salt (Ok (call.SetAttributes stem item attributes)) asked nothing = absurd nothing
 quiet-row salt (Ok (call.CreateCollection label alias)) asked nothing = quiet-there (option_and_then asked.collections.alias alias) (creating label alias salt asked) (quiet-creating label alias salt asked)
 quiet-row salt (Ok (call.Unlock objects)) asked nothing = quiet-unlocking (unlocked_there asked.collections objects) (targets_of asked.collections objects) asked
 quiet-row salt (Ok (call.Prompt prompt)) asked nothing = quiet-if (asked.prompts.owns prompt) _ (refused name.NoSuchObject) tt tt

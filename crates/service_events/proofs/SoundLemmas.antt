@@ -103,7 +103,7 @@ finished-well : (came : Derivation) (state : State) → IsSound state → has ca
 finished-well came state sound there fits =
     let brought = brought_derived came in
     well-run came.conn brought (derived came.prompt came.round (terms_of came) (asked came.conn brought state)) came.fates state there
-    (derived-may came.conn brought came.prompt came.round (terms_of came) state sound fits.files) sound
+    (derived-may came.conn brought came.prompt fits.moment came.round (terms_of came) state sound fits.files) sound
 
 -- ---- an event, a list of events
 

@@ -7,6 +7,7 @@ use Rattle.kr_base.specs.declared.ids.SessionId.{SessionId}
 use Rattle.kr_names.specs.declared.object_name.ObjectName.{ObjectName}
 use Rattle.kr_names.specs.declared.object_name.ObjectName.TheVariants as object
 use Rattle.kr_names.specs.Path.{path_text}
+use Rattle.service_prompts.specs.collection_store.specs.declared.change.Changed.{Changed}
 use Rattle.service_events.specs.PublicBody.{PublicBody}
 use Rattle.service_events.specs.PublicBody as public
 use Rattle.service_prompts.specs.secret_calls.specs.declared.out.ErrorName.TheVariants as name
@@ -14,7 +15,7 @@ use Rattle.service_prompts.specs.service_tables.specs.declared.fate.StoreFate.{S
 use Rattle.service_prompts.specs.service_tables.specs.declared.fate.StoreFate.TheVariants as fate
 use Rattle.service_prompts.specs.service_tables.specs.Limits.{most_content}
 use Rattle.service_prompts.specs.service_tables.specs.Objects.{collection_named, item_paths}
-use Rattle.service_prompts.specs.service_tables.specs.Storing.{Edit}
+use Rattle.service_prompts.specs.service_tables.specs.Storing.{Edit, item_in}
 use Rattle.service_events.specs.Plan.{Questions, Plan, Asks, Store, Erase, refused, answered}
 use Rattle.service_events.specs.SessionCalls.{with_session}
 
@@ -39,19 +40,19 @@ by_fate body fate.Before = refused name.IOError
 by_fate body fate.Unsure = refused name.IOError
 
 -- An edit of an unlocked collection is stored: LimitsExceeded if a limit is in the way, and IOError if the disk fails.
-abbrev pub storing : List ℕ → Edit → (ItemId → PublicBody) → Option ItemId → Plan
+abbrev pub storing : List ℕ → Edit → (Changed → PublicBody) → Option Changed → Plan
 storing stem edit returned None = refused name.LimitsExceeded
-storing stem edit returned (Some item) = Asks (Store stem edit) (by_fate (returned item))
+storing stem edit returned (Some answer) = Asks (Store stem edit) (by_fate (returned answer))
 
 -- the same of an edit that brings a secret with this content type, which may be too long
-abbrev pub storing_secret : List ℕ → List ℕ → Edit → (ItemId → PublicBody) → Questions → Plan
+abbrev pub storing_secret : List ℕ → List ℕ → Edit → (Changed → PublicBody) → Questions → Plan
 storing_secret content stem edit returned asked =
     if nat_le (length content) most_content
     then storing stem edit returned (asked.storable stem edit)
     else refused name.LimitsExceeded
 
 -- the same for a session of the caller, if the collection is unlocked
-abbrev pub secret_stored : Option SessionId → List ℕ → List ℕ → Edit → (ItemId → PublicBody) → Questions → Plan
+abbrev pub secret_stored : Option SessionId → List ℕ → List ℕ → Edit → (Changed → PublicBody) → Questions → Plan
 secret_stored session stem content edit returned asked =
     with_session session asked (λ own. if_open stem asked (storing_secret content stem edit returned asked))
 
@@ -59,9 +60,14 @@ secret_stored session stem content edit returned asked =
 abbrev pub no_prompt : PublicBody
 no_prompt = public.Object (path_text object.Nothing)
 
+-- the item of what an edit does, as an object
+abbrev pub item_named : List ℕ → Option ItemId → ObjectName
+item_named stem None = object.Nothing
+item_named stem (Some item) = object.Item stem item
+
 -- the return of an item that was made or replaced
-abbrev pub made : List ℕ → ItemId → PublicBody
-made stem item = public.ObjectAndPrompt (path_text (object.Item stem item)) None
+abbrev pub made : List ℕ → Changed → PublicBody
+made stem answer = public.ObjectAndPrompt (path_text (item_named stem (item_in answer))) None
 
 -- CreateItem: an item is added or replaced
 abbrev pub create_item : ObjectName → Edit → Option SessionId → List ℕ → Questions → Plan

@@ -17,6 +17,7 @@ pub mod Incoming
 pub mod ItemCalls
 pub mod Plan
 pub mod PromptCalls
+pub mod PropertyCalls
 pub mod PublicBody
 pub mod Replay
 pub mod Run

@@ -14,6 +14,7 @@ use Rattle.service_disk.specs.declared.opening.Opening.{Opening}
 use Rattle.service_prompts.specs.service_tables.specs.declared.fate.StoreFate.{StoreFate}
 use Rattle.service_prompts.specs.service_tables.specs.Questions.{AliasQuestions, CollectionQuestions, PromptQuestions}
 use Rattle.service_prompts.specs.service_tables.specs.Storing.{Edit}
+use Rattle.service_prompts.specs.collection_store.specs.declared.change.Changed.{Changed}
 use Rattle.service_events.specs.PublicBody as public
 use Rattle.service_events.specs.PublicBody.{PublicBody}
 
@@ -47,8 +48,8 @@ pub record Questions : Type 0 where
   pub aliases : AliasQuestions
   pub prompts : PromptQuestions
   pub files : FileQuestions
-  -- the item that an edit of an unlocked collection would make, change or remove, if the edit keeps within all limits
-  pub storable : List ℕ → Edit → Option ItemId
+  -- what an edit of an unlocked collection would do, if the edit keeps within all limits
+  pub storable : List ℕ → Edit → Option Changed
 
 -- what a row may ask of the disk
 pub data Demand : Type 0 where

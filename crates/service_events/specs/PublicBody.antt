@@ -2,6 +2,8 @@
 use Rattle.std.specs.Prelude.{ℕ, List, Option}
 use Rattle.kr_base.specs.declared.ids.PromptId.{PromptId}
 use Rattle.kr_base.specs.declared.ids.SessionId.{SessionId}
+use Rattle.service_prompts.specs.secret_calls.specs.declared.property.PropertyValue.{PropertyValue}
+use Rattle.service_prompts.specs.secret_calls.specs.declared.property.ShownProperty.{ShownProperty}
 use Rattle.service_prompts.specs.secret_calls.specs.declared.out.Body.{Body}
 use Rattle.service_prompts.specs.secret_calls.specs.declared.out.Body.TheVariants as body
 
@@ -21,6 +23,10 @@ pub data PublicBody : Type 0 where
   ObjectAndPrompt : (object : List ℕ) → (prompt : Option PromptId) → PublicBody
   -- an object
   Object : (object : List ℕ) → PublicBody
+  -- the value of a property
+  Property : (value : PropertyValue) → PublicBody
+  -- properties with their values
+  Properties : (properties : List ShownProperty) → PublicBody
 
 -- the values as a body
 abbrev pub body_with : PublicBody → Body
@@ -31,3 +37,5 @@ body_with (ObjectsAndPrompt objects prompt) = body.ObjectsAndPrompt objects prom
 body_with (Objects objects) = body.Objects objects
 body_with (ObjectAndPrompt object prompt) = body.ObjectAndPrompt object prompt
 body_with (Object object) = body.Object object
+body_with (Property value) = body.Property value
+body_with (Properties properties) = body.Properties properties

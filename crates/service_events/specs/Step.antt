@@ -30,7 +30,7 @@ use Rattle.replace_slot.specs.Cell.{File, new_image, old_image}
 use Rattle.session_table.specs.Sessions.{abandoned}
 use Rattle.service_prompts.specs.service_tables.specs.declared.rows.ConnRow.{ConnRow}
 use Rattle.service_prompts.specs.service_tables.specs.Storing.{Add_item, Brought}
-use Rattle.service_prompts.specs.service_tables.specs.Sound.{AreItemTypes, AreSecretTypes, IsTypedAlias, IsTypedText}
+use Rattle.service_prompts.specs.service_tables.specs.Sound.{AreAttributeTypes, AreItemTypes, AreSecretTypes, IsTypedAlias, IsTypedText}
 use Rattle.service_events.specs.declared.event.Arrival.{Arrival}
 use Rattle.service_events.specs.declared.event.Derivation.{Derivation}
 use Rattle.service_events.specs.declared.event.Recorded.{Recorded}
@@ -49,6 +49,7 @@ use Rattle.service_events.specs.ItemCalls.{get_secret, delete_item, set_secret}
 use Rattle.service_prompts.specs.service_tables.specs.Limits.{most_connections, last_connection}
 use Rattle.service_events.specs.Plan.{KeyTerms, Questions, Plan, refused}
 use Rattle.service_events.specs.PromptCalls.{call_prompt, dismiss}
+use Rattle.service_events.specs.PropertyCalls.{get, get_all, set_attributes, set_collection_label, set_item_label}
 use Rattle.service_events.specs.Run.{Ran, ran, AreFatesOf}
 use Rattle.service_events.specs.ServiceCalls.{open_session, create_collection, search_items, unlock, lock, get_secrets}
 use Rattle.service_events.specs.SessionCalls.{ping, close_session}
@@ -77,6 +78,11 @@ row_of salt (call.DeleteCollection collection) asked = delete_collection collect
 row_of salt (call.DeleteItem stem item) asked = delete_item stem item asked
 row_of salt (call.GetSecret stem item session) asked = get_secret stem item session asked
 row_of salt (call.SetSecret stem item secret) asked = set_secret stem item secret.session secret.content asked
+row_of salt (call.Get object property) asked = get object property asked
+row_of salt (call.GetAll object properties) asked = get_all object properties asked
+row_of salt (call.SetCollectionLabel collection label) asked = set_collection_label collection label asked
+row_of salt (call.SetItemLabel stem item label) asked = set_item_label stem item label asked
+row_of salt (call.SetAttributes stem item attributes) asked = set_attributes stem item attributes asked
 row_of salt (call.Prompt prompt) asked = call_prompt prompt asked
 row_of salt (call.Dismiss prompt) asked = dismiss prompt asked
 row_of salt call.Register asked = register asked
@@ -248,6 +254,9 @@ IsTypedName (Some alias) = IsTypedAlias alias
 abbrev pub HasTypes : Result Call CallFault → Type 0
 HasTypes (Ok (call.CreateItem collection label attributes secret replace)) = AreItemTypes label attributes × AreSecretTypes secret.value secret.content
 HasTypes (Ok (call.SetSecret stem item secret)) = AreSecretTypes secret.value secret.content
+HasTypes (Ok (call.SetCollectionLabel collection label)) = IsTypedText label
+HasTypes (Ok (call.SetItemLabel stem item label)) = IsTypedText label
+HasTypes (Ok (call.SetAttributes stem item attributes)) = AreAttributeTypes attributes
 HasTypes (Ok (call.CreateCollection label alias)) = IsTypedText label × IsTypedName alias
 HasTypes (Ok (call.SetAlias alias object)) = IsTypedAlias alias
 HasTypes (Ok (call.Answer prompt round password)) = IsBytes password
@@ -290,6 +299,9 @@ abbrev pub TakesMoment : Result Call CallFault → Type 0
 TakesMoment (Ok (call.CreateItem collection label attributes secret replace)) = Unit {0}
 TakesMoment (Ok (call.DeleteItem stem item)) = Unit {0}
 TakesMoment (Ok (call.SetSecret stem item secret)) = Unit {0}
+TakesMoment (Ok (call.SetCollectionLabel collection label)) = Unit {0}
+TakesMoment (Ok (call.SetItemLabel stem item label)) = Unit {0}
+TakesMoment (Ok (call.SetAttributes stem item attributes)) = Unit {0}
 TakesMoment _ = ⊥
 
 -- what a call leads to depends on its salt: a prompt keeps it

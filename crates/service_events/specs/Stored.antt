@@ -1,5 +1,5 @@
 -- What each storing that a plan asks for does to the disk, one after the other, and which calls ask for one.
-use Rattle.std.specs.Prelude.{◌≡◌, ℕ, ◌⊎◌, Bool, List, ◌∷◌, Result, Ok}
+use Rattle.std.specs.Prelude.{◌≡◌, ℕ, ◌⊎◌, Bool, List, Result, Ok}
 use Rattle.kr_base.specs.declared.ids.ConnId.{ConnId}
 use Rattle.kr_outside.specs.RenameDisk.{Image}
 use Rattle.service_prompts.specs.secret_calls.specs.declared.call.Call.{Call}
@@ -32,6 +32,9 @@ StoresNothing (Ok (call.CreateItem collection label attributes secret replace)) 
 StoresNothing (Ok (call.DeleteCollection collection)) = ⊥
 StoresNothing (Ok (call.DeleteItem stem item)) = ⊥
 StoresNothing (Ok (call.SetSecret stem item secret)) = ⊥
+StoresNothing (Ok (call.SetCollectionLabel collection label)) = ⊥
+StoresNothing (Ok (call.SetItemLabel stem item label)) = ⊥
+StoresNothing (Ok (call.SetAttributes stem item attributes)) = ⊥
 StoresNothing (Ok (call.SetAlias alias object)) = ⊥
 StoresNothing (Ok (call.Answer prompt round password)) = ⊥
 StoresNothing _ = Unit {0}

@@ -9,6 +9,7 @@
 mod boxed;
 mod event;
 mod fates;
+mod holder;
 mod laws;
 
 pub use boxed::Boxed;
@@ -17,6 +18,7 @@ pub use event::{
     Recorded,
 };
 pub use fates::Fates;
+pub use holder::Holder;
 pub use laws::{
     alike_requests_lead_to_one_state, lists_of_events_go_on, outputs_can_wait,
     steps_keep_the_rows_sound,

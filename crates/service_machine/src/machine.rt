@@ -28,8 +28,8 @@ use prompt_state::PromptState;
 use service_answers::secret_calls::{AliasName, Body, Call, CallFault, Out, Request, Serial, Work};
 use service_answers::service_calls::{Answer, Done, Tables, refused};
 use service_answers::service_tables::{
-    Connections, Delivery, DeskRow, Disk, OpenRefused, Rows, known_alias, known_item, known_secret,
-    known_text,
+    Connections, Delivery, DeskRow, Disk, OpenRefused, Rows, known_alias, known_attributes,
+    known_item, known_secret, known_text,
 };
 use service_answers::{answer_prompt, password_in, work_of};
 use session_table::SessionTable;
@@ -374,6 +374,27 @@ impl<F: Folder> Machine<F> {
                 let answer = self.tables.get_secret(conn, stem, *item, *session)?;
                 Ok(self.tables.answered(answer))
             }
+            Call::Get { object, property } => {
+                let answer = self.tables.get(conn, object, *property)?;
+                Ok(self.tables.answered(answer))
+            }
+            Call::GetAll { object, properties } => {
+                let answer = self.tables.get_all(conn, object, properties.as_slice())?;
+                Ok(self.tables.answered(answer))
+            }
+            Call::SetCollectionLabel { collection, label } => self
+                .tables
+                .set_collection_label(conn, collection, label, now),
+            Call::SetItemLabel { stem, item, label } => {
+                self.tables.set_item_label(conn, stem, *item, label, now)
+            }
+            Call::SetAttributes {
+                stem,
+                item,
+                attributes,
+            } => self
+                .tables
+                .set_attributes(conn, stem, *item, attributes, now),
             Call::CreateCollection { label, alias } => {
                 self.tables.create_collection(conn, label, alias, salt)
             }
@@ -512,6 +533,9 @@ fn known_request(arrival: &Arrival)
             known_secret(&secret.value, &secret.content);
         }
         Ok(Call::SetSecret { secret, .. }) => known_secret(&secret.value, &secret.content),
+        Ok(Call::SetCollectionLabel { label, .. }) => known_text(label),
+        Ok(Call::SetItemLabel { label, .. }) => known_text(label),
+        Ok(Call::SetAttributes { attributes, .. }) => known_attributes(attributes),
         Ok(Call::CreateCollection { label, alias }) => {
             known_text(label);
             known_name(alias);

@@ -62,7 +62,8 @@ shown-text label is =
     let pass : (b : Bool) → IsText (cond b label []) = elim [ true ↦ is | false ↦ empty-text ] in
     pass (nat_le (length label) most_label)
 
-label-text : (stem : List ℕ) (rows : Rows) → AreSoundCollections rows → IsText (label_of stem rows)
+-- the label of a collection
+pub label-text : (stem : List ℕ) (rows : Rows) → AreSoundCollections rows → IsText (label_of stem rows)
 label-text stem rows sound =
     let pass : (o : Option CollectionRow) → value_at stem rows ≡ o → IsText (option_map_or (λ (row : CollectionRow). row.clear.name) o []) =
     elim [

@@ -280,7 +280,8 @@ held-known id None full sound is = absurd (none-some full is)
 held-known id (Some held) full sound is =
     each-found (λ (row : Row). row.1) IsKnownItem (λ row. nat_eq (row_number row) id) held.rows full (each-weaker IsSoundItem _ (λ row one. one.full) held.rows sound) is
 
-item-known : (stem : List ℕ) (id : ℕ) (rows : Rows) (full : FullItem) → AllByRecursion IsSoundCollection rows → item_of stem id rows ≡ Some full → IsKnownItem full
+-- an item of an unlocked collection has its types
+pub item-known : (stem : List ℕ) (id : ℕ) (rows : Rows) (full : FullItem) → AllByRecursion IsSoundCollection rows → item_of stem id rows ≡ Some full → IsKnownItem full
 item-known stem id rows full all is =
     let pass : (o : Option CollectionRow) → value_at stem rows ≡ o → option_map_or (λ (row : CollectionRow). item_at id row.held) o None ≡ Some full → IsKnownItem full =
     elim [

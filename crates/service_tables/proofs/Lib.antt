@@ -10,6 +10,7 @@ pub mod LoadedLemmas
 pub mod NotedLemmas
 pub mod ObjectLemmas
 pub mod RoomLemmas
+pub mod ShownLemmas
 pub mod SlotLemmas
 pub mod SpreadLemmas
 pub mod StemLemmas

@@ -1,6 +1,6 @@
 -- What a start lists has its types: a stem is that of a file's name, and the label and the items of a clear part are those that a file
 -- spells.
-use Rattle.std.proofs.Common.{◌≡◌, ℕ, List, [], ◌∷◌, map, codes, refl, sym, ap, subst, arith}
+use Rattle.std.proofs.Common.{◌≡◌, ℕ, ◌^◌, ◌<◌, List, [], ◌∷◌, map, codes, refl, sym, ap, subst, arith}
 use Rattle.std.specs.Cmp.Lexicographic.{slice_cmp}
 use Rattle.std.specs.List.{AllByRecursion}
 use Rattle.std.specs.List.Sorted.{IsStrictlySortedBy}
@@ -57,12 +57,18 @@ clear-known image clear (area, text) =
 label-known : (image : List ℕ) (clear : ClearPart) → HasClear image clear → IsText clear.name
 label-known image clear (area, text) = text.text.is_first.is_second.is_second.is_first.is_first.text
 
+times-known : (image : List ℕ) (clear : ClearPart) → HasClear image clear → (clear.created < 2 ^ 64) × (clear.modified < 2 ^ 64)
+times-known image clear (area, text) =
+    let front = text.text.is_first.is_second.is_second.is_first in
+    (front.is_second.is_first.fits, front.is_second.is_second.is_first.fits)
+
 -- ---- what is listed
 
--- the stem of a collection is one, and its label and its items are those of a file
+-- the stem of a collection is one, and its label, its times and its items are those of a file
 record IsSoundRing (ring : RingRow) : Type 0 where
   stem : IsStem ring.stem
   label : IsText ring.clear.name
+  times : (ring.clear.created < 2 ^ 64) × (ring.clear.modified < 2 ^ 64)
   items : AllByRecursion IsKnownClearItem ring.clear.items
 
 taken-sound : (limits : Limits) (name image : List ℕ) (opening next : Opening) → Takes limits name image opening next → AllByRecursion IsSoundRing opening.rings
@@ -71,7 +77,7 @@ taken-sound limits name image opening _ (other off) all = all
 taken-sound limits name image opening _ (left_alone stem named off) all = all
 taken-sound limits name image opening _ (listed stem clear named reads fits) all =
     each-append IsSoundRing opening.rings ((record { stem = stem; clear = clear; image = image }) ∷ []) all
-    (record { stem = named.is_stem; label = label-known image clear reads; items = clear-known image clear reads }, tt)
+    (record { stem = named.is_stem; label = label-known image clear reads; times = times-known image clear reads; items = clear-known image clear reads }, tt)
 
 opens-sound : (limits : Limits) (files : List (List ℕ × List ℕ)) (opening : Opening) → Opens limits files opening → AllByRecursion IsSoundRing opening.rings
 opens-sound limits _ _ none = tt
@@ -89,7 +95,7 @@ module _ {S : Type 0} where
   rows-sound (ring ∷ these) all = (
     record {
       stem = all.0.stem;
-      shown = record { label = all.0.label; items = all_by_number (λ (item : ClearItem). item.id.0) IsKnownClearItem ring.clear.items all.0.items };
+      shown = record { label = all.0.label; created = all.0.times.0; modified = all.0.times.1; items = all_by_number (λ (item : ClearItem). item.id.0) IsKnownClearItem ring.clear.items all.0.items };
       other = tt;
       held = tt;
     },

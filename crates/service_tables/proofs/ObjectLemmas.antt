@@ -10,6 +10,8 @@ use Rattle.collection_table.specs.Entries.{Entries, row_of, rows_of}
 use Rattle.collection_table.specs.Rows as collections
 use Rattle.collection_table.specs.Rows.{CollectionRow}
 use Rattle.collection_table.proofs.RowLemmas.{ids_are, value-rows}
+use Rattle.service_tables.specs.Reading.{clear_times, no_times}
+use Rattle.service_tables.specs.declared.times.Times.{Times}
 
 module _ {S : Type 0} (stem : List ℕ) (wanted : List (List ℕ × AttrValue)) (entries : Entries S) where
   -- the items that match in a collection, by its row
@@ -37,3 +39,13 @@ module _ {S : Type 0} (stem : List ℕ) (entries : Entries S) where
   -- there is none where there is no collection of the stem
   pub label-missing : None ≡ value_at stem entries → [] ≡ label_in (value_at stem (rows_of entries))
   label-missing none = sym (ap label_in (value-rows stem entries ∙ ap (option_map row_of) (sym none)))
+
+  -- the same of its times
+  abbrev times_in : Option CollectionRow → Times
+  times_in row = option_map_or clear_times row no_times
+
+  pub times-there : (c : CollectionState S) → Some c ≡ value_at stem entries → record { created = c.clear.created; modified = c.clear.modified } ≡ times_in (value_at stem (rows_of entries))
+  times-there c there = sym (ap times_in (value-rows stem entries ∙ ap (option_map row_of) (sym there)))
+
+  pub times-missing : None ≡ value_at stem entries → no_times ≡ times_in (value_at stem (rows_of entries))
+  times-missing none = sym (ap times_in (value-rows stem entries ∙ ap (option_map row_of) (sym none)))

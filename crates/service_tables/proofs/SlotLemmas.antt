@@ -2,7 +2,6 @@
 use Rattle.std.proofs.Common.{◌≡◌, ◌↔◌, ℕ, ◌<◌, ◌⊎◌, Bool, true, false, cond, IsTrue, IsSome, IfSome, IfNone, IfOk, OnErr, List, length, nat_le, Option, Some, None, Result, Ok, Err, IsOk, refl, sym, ap, subst, ◌∙◌, arith, inl, inr}
 use Rattle.std.specs.Option.{is_some, option_and_then, option_map, option_map_or}
 use Rattle.kr_base.specs.Attributes.{value_at}
-use Rattle.kr_base.specs.declared.ids.ItemId.{ItemId}
 use Rattle.kr_outside.specs.Faults.{KeepsSteady, Rose, last_count}
 use Rattle.kr_outside.specs.Moments.{LeavesOnly}
 use Rattle.kr_outside.specs.RenameDisk.{Image}
@@ -169,10 +168,10 @@ sized-answer these most held (Err fault) is = absurd (never is)
 
 module _ (stem : List ℕ) (given : Change) (now : ℕ) where
   -- what an unlocked collection answers, before its content is sealed and after it
-  abbrev answer_in : Rows → CollectionRow → Held → Option ItemId
+  abbrev answer_in : Rows → CollectionRow → Held → Option Changed
   answer_in these row held = placed these (answer_of (content_changed given now row.clear held.rows))
 
-  abbrev storable_in : Rows → CollectionRow → Held → Option ItemId
+  abbrev storable_in : Rows → CollectionRow → Held → Option Changed
   storable_in these row held = placed these (storable given now (room_in these) row.file row.clear held)
 
   -- what is stored is what was answered

@@ -6,6 +6,7 @@ use Rattle.std.proofs.lemmas.Bool.{eqb-true, or_cases}
 use Rattle.std.proofs.lemmas.Bool.Decides.{nat_tests}
 use Rattle.std.proofs.lemmas.Option.{none-some}
 use Rattle.kr_base.specs.Attributes.{is_name, value_at}
+use Rattle.kr_base.specs.Stem.{IsStem}
 use Rattle.kr_base.specs.Text.{IsText}
 use Rattle.kr_base.specs.declared.attributes.AttrValue.{AttrValue}
 use Rattle.kr_base.specs.declared.ids.ItemId.{ItemId}
@@ -19,7 +20,7 @@ use Rattle.keyring_seal.specs.declared.content.Content.{Content}
 use Rattle.item_store.specs.Rows.{Row as Kept, first_id, greatest_id, has_just, ids_where, last_id, most_attributes, next_id}
 use Rattle.item_store.specs.declared.fault.ItemFault.{ItemFault}
 use Rattle.item_store.specs.declared.fault.ItemFault.TheVariants as item_fault
-use Rattle.collection_store.specs.Changes.{as_content, at_item, content_changed, content_stored, equal_id, has_row, made_added, made_new, name_made, new_row, replaced, rows_changed, rows_made, rows_without, store_rows, with_secret, within_most}
+use Rattle.collection_store.specs.Changes.{as_content, at_item, content_changed, content_stored, equal_id, has_row, made_added, made_new, name_made, new_row, replaced, rows_changed, rows_made, rows_without, store_rows, with_secret, within_most, with_label, with_attributes}
 use Rattle.collection_store.specs.Outcomes.{most_for}
 use Rattle.collection_store.specs.State.{Held}
 use Rattle.collection_store.specs.Storable.{sized, storable}
@@ -31,8 +32,8 @@ use Rattle.collection_table.specs.Rows.{CollectionRow, Rows, perhaps_removed, ro
 use Rattle.collection_table.proofs.EntryLemmas.{changed_in_order, order_kept}
 use Rattle.service_tables.specs.declared.fate.StoreFate.{StoreFate}
 use Rattle.service_tables.specs.declared.fate.StoreFate.TheVariants as fate
-use Rattle.service_tables.specs.Sound.{AreItemTypes, AreSecretTypes, AreShown, AreSoundCollections, AreSoundItems, IsSoundCollection, IsSoundItem}
-use Rattle.service_tables.specs.Storing.{AreEditTypes, Edit, Add_item, Set_secret, Remove_item, change_of, has_place, item_in, placed, placed_answer, row_after, row_changed, rows_erased, rows_stored, storable_at}
+use Rattle.service_tables.specs.Sound.{AreAttributeTypes, AreItemTypes, AreSecretTypes, AreShown, AreSoundCollections, AreSoundItems, IsSoundCollection, IsSoundItem, IsTypedText}
+use Rattle.service_tables.specs.Storing.{AreEditTypes, Edit, Add_item, Set_secret, Remove_item, Set_label, Set_attributes, Set_name, change_of, has_place, item_in, placed, placed_answer, row_after, row_changed, rows_erased, rows_stored, storable_at}
 use Rattle.service_tables.proofs.CollectionLemmas.{at-stem}
 use Rattle.service_tables.proofs.EachLemmas.{each-append, each-filter, each-mapped, each-weaker}
 use Rattle.service_tables.proofs.TypedLemmas.{pairs-known, text-known}
@@ -104,9 +105,9 @@ within-sound attributes made all =
     let pass : (b : Bool) → MadeSound (cond b (Err item_fault.TooManyAttributes) (Ok made)) = elim [ true ↦ tt | false ↦ all ] in
     pass (nat_lt most_attributes (length attributes))
 
-at-sound : (id : ℕ) (these : List Row) (made : List Row × Changed) → (has_row id these ≡ true → MadeSound (Ok made)) → MadeSound (at_item id these (Ok made))
+at-sound : (id : ℕ) (these : List Row) (made : Result (List Row × Changed) ItemFault) → (has_row id these ≡ true → MadeSound made) → MadeSound (at_item id these made)
 at-sound id these made all =
-    let pass : (b : Bool) → has_row id these ≡ b → MadeSound (cond b (Ok made) (Err item_fault.NoItem)) = elim [ true ↦ λ is. all is | false ↦ λ is. tt ] in
+    let pass : (b : Bool) → has_row id these ≡ b → MadeSound (cond b made (Err item_fault.NoItem)) = elim [ true ↦ λ is. all is | false ↦ λ is. tt ] in
     pass (has_row id these) refl
 
 module _ (now : ℕ) (small : now < 2 ^ 64) where
@@ -154,6 +155,34 @@ module _ (now : ℕ) (small : now < 2 ^ 64) where
     };
   }
 
+  label-sound : (label : List ℕ) → IsTypedText label → (row : Row) → IsSoundItem row → IsSoundItem (with_label now label row)
+  label-sound label typed row sound = record {
+    clear = sound.clear;
+    full = record {
+      label = text-known label typed;
+      value = sound.full.value;
+      created = sound.full.created;
+      modified = small;
+      ordered = sound.full.ordered;
+      attributes = sound.full.attributes;
+      access = sound.full.access;
+    };
+  }
+
+  attributes-sound : (attributes : List (List ℕ × AttrValue)) → AreAttributeTypes attributes → (row : Row) → IsSoundItem row → IsSoundItem (with_attributes now attributes row)
+  attributes-sound attributes types row sound = record {
+    clear = record { id = sound.clear.id; kind = sound.clear.kind; content = sound.clear.content };
+    full = record {
+      label = sound.full.label;
+      value = sound.full.value;
+      created = sound.full.created;
+      modified = small;
+      ordered = types.ordered;
+      attributes = pairs-known attributes types.attributes;
+      access = sound.full.access;
+    };
+  }
+
   made-sound : (id : Option ℕ) (label : List ℕ) (attributes : List (List ℕ × AttrValue)) (value content : List ℕ) (these : List Row) → ((n : ℕ) → id ≡ Some n → n < 2 ^ 32)
       → AreItemTypes label attributes → AreSecretTypes value content → AreSound these → MadeSound (made_new id now label attributes value content these)
   made-sound None label attributes value content these is item secret all = tt
@@ -173,10 +202,18 @@ module _ (now : ℕ) (small : now < 2 ^ 64) where
   rows-sound (Add_item label attributes content replace) value these types all =
       added-sound (equal_id replace attributes these) label attributes value content these (λ n. equal-small replace attributes these n all) types.0 types.1 all
   rows-sound (Set_secret item content) value these types all =
-      at-sound item.0 these (rows_changed item.0 (with_secret now value content) these, changes.Changed item)
+      at-sound item.0 these (Ok (rows_changed item.0 (with_secret now value content) these, changes.Changed item))
       (λ there. (changed-sound item.0 (with_secret now value content) (secret-sound value content types) these all, has-small item.0 these all there))
   rows-sound (Remove_item item) value these types all =
-      at-sound item.0 these (rows_without item.0 these, changes.Removed item) (λ there. (each-filter IsSoundItem _ these all, has-small item.0 these all there))
+      at-sound item.0 these (Ok (rows_without item.0 these, changes.Removed item)) (λ there. (each-filter IsSoundItem _ these all, has-small item.0 these all there))
+  rows-sound (Set_label item label) value these types all =
+      at-sound item.0 these (Ok (rows_changed item.0 (with_label now label) these, changes.Changed item))
+      (λ there. (changed-sound item.0 (with_label now label) (label-sound label types) these all, has-small item.0 these all there))
+  rows-sound (Set_attributes item attributes) value these types all =
+      at-sound item.0 these (within_most attributes (rows_changed item.0 (with_attributes now attributes) these, changes.Changed item))
+      (λ there. within-sound attributes (rows_changed item.0 (with_attributes now attributes) these, changes.Changed item)
+      (changed-sound item.0 (with_attributes now attributes) (attributes-sound attributes types) these all, has-small item.0 these all there))
+  rows-sound (Set_name label) value these types all = (all, tt)
 
 -- ---- the content that is stored
 
@@ -189,9 +226,9 @@ record IsSoundContent (content : Content) : Type 0 where
   shown : AreShown content.clear
   held : AreSound (rows content)
 
-stored-sound : (now : ℕ) (front : ClearPart) (these : List Row) → IsText front.name → AreSound these → IsSoundContent (content_stored now front these)
-stored-sound now front these label all = record {
-  shown = record { label = label; items = each-mapped (λ (row : Row). row.0) IsKnownClearItem these (each-weaker IsSoundItem _ (λ row sound. sound.clear) these all) };
+stored-sound : (now : ℕ) (front : ClearPart) (these : List Row) → now < 2 ^ 64 → IsText front.name → front.created < 2 ^ 64 → AreSound these → IsSoundContent (content_stored now front these)
+stored-sound now front these small label made all = record {
+  shown = record { label = label; created = made; modified = small; items = each-mapped (λ (row : Row). row.0) IsKnownClearItem these (each-weaker IsSoundItem _ (λ row sound. sound.clear) these all) };
   held = subst AreSound (sym (zip-rows these)) all;
 }
 
@@ -199,23 +236,28 @@ abbrev ContentSound : Result (Content × Changed) ItemFault → Type 0
 ContentSound (Ok made) = IsSoundContent made.0 × IfSome (item_in made.1) IsSmall
 ContentSound (Err fault) = Unit {0}
 
-as-sound : (now : ℕ) (front : ClearPart) (made : Result (List Row × Changed) ItemFault) → IsText front.name → MadeSound made → ContentSound (as_content now front made)
-as-sound now front (Ok made) label all = (stored-sound now front made.0 label all.0, all.1)
-as-sound now front (Err fault) label all = tt
+as-sound : (now : ℕ) (front : ClearPart) (made : Result (List Row × Changed) ItemFault) → now < 2 ^ 64 → IsText front.name → front.created < 2 ^ 64 → MadeSound made
+    → ContentSound (as_content now front made)
+as-sound now front (Ok made) small label created all = (stored-sound now front made.0 small label created all.0, all.1)
+as-sound now front (Err fault) small label created all = tt
 
--- no edit changes the label of a collection
-label-kept : (value : List ℕ) (edit : Edit) (label : List ℕ) → IsText label → IsText (name_made (change_of value edit) label)
-label-kept value (Add_item name attributes content replace) label is = is
-label-kept value (Set_secret item content) label is = is
-label-kept value (Remove_item item) label is = is
+-- the label of the collection after an edit is a text
+label-kept : (value : List ℕ) (edit : Edit) (label : List ℕ) → AreEditTypes value edit → IsText label → IsText (name_made (change_of value edit) label)
+label-kept value (Set_name name) label types is = text-known name types
+label-kept value (Add_item name attributes content replace) label types is = is
+label-kept value (Set_secret item content) label types is = is
+label-kept value (Remove_item item) label types is = is
+label-kept value (Set_label item name) label types is = is
+label-kept value (Set_attributes item attributes) label types is = is
 
 -- ---- collections
 
 module _ (now : ℕ) (small : now < 2 ^ 64) (edit : Edit) (value : List ℕ) (types : AreEditTypes value edit) where
   -- what the edit makes of the rows of a sound collection
-  content-sound : (row : CollectionRow) (held : Held) → IsText row.clear.name → AreSound held.rows → ContentSound (content_changed (change_of value edit) now row.clear held.rows)
-  content-sound row held label all =
-      as-sound now (record row.clear { name = name_made (change_of value edit) row.clear.name }) (rows_made (change_of value edit) now held.rows) (label-kept value edit row.clear.name label)
+  content-sound : (row : CollectionRow) (held : Held) → AreShown row.clear → AreSound held.rows → ContentSound (content_changed (change_of value edit) now row.clear held.rows)
+  content-sound row held shown all =
+      as-sound now (record row.clear { name = name_made (change_of value edit) row.clear.name }) (rows_made (change_of value edit) now held.rows) small
+      (label-kept value edit row.clear.name types shown.label) shown.created
       (rows-sound now small edit value held.rows types all)
 
   after-sound : (stem : List ℕ) (row : CollectionRow) (held : Held) (some : StoreFate) (made : Result (Content × Changed) ItemFault) → IsSoundCollection (stem, row) → ContentSound made
@@ -235,7 +277,7 @@ module _ (now : ℕ) (small : now < 2 ^ 64) (edit : Edit) (value : List ℕ) (ty
         | Some held ↦ λ is.
             let all : AreSound held.rows = subst (λ o. IfSome o AreSoundItems) is sound.held in
             subst (λ (r : CollectionRow). IsSoundCollection (stem, r)) (sym (ap becomes is))
-            (after-sound stem row held some (content_changed (change_of value edit) now row.clear held.rows) sound (content-sound row held sound.shown.label all))
+            (after-sound stem row held some (content_changed (change_of value edit) now row.clear held.rows) sound (content-sound row held sound.shown all))
       ] in
       pass row.held refl
 
@@ -255,41 +297,50 @@ module _ (now : ℕ) (small : now < 2 ^ 64) (edit : Edit) (value : List ℕ) (ty
 
   -- ---- the item of an edit that can be stored
 
-  placed-small : (these : Rows) (answer : Changed) (item : ItemId) → IfSome (item_in answer) IsSmall → placed_answer answer these ≡ Some item → IsSmall item
-  placed-small these answer item small is =
-      let pass : (b : Bool) → cond b (item_in answer) None ≡ Some item → IsSmall item =
+  -- the item of what an edit does, if there is one, has its type
+  abbrev HasSmall : Changed → Type 0
+  HasSmall answer = IfSome (item_in answer) IsSmall
+
+  placed-small : (these : Rows) (answer other : Changed) → HasSmall answer → placed_answer answer these ≡ Some other → HasSmall other
+  placed-small these answer other small is =
+      let pass : (b : Bool) → cond b (Some answer) None ≡ Some other → HasSmall other =
       elim [
-        | true ↦ λ has. subst (λ o. IfSome o IsSmall) has small
-        | false ↦ λ has. absurd (none-some item has)
+        | true ↦ λ has. subst (λ (o : Option Changed). IfSome o HasSmall) has small
+        | false ↦ λ has. absurd (none-some other has)
       ] in
       pass (has_place answer these) is
 
-  sized-small : (these : Rows) (most : ℕ) (held : Held) (made : Result (Content × Changed) ItemFault) (item : ItemId) → ContentSound made → placed these (sized most held made) ≡ Some item → IsSmall item
-  sized-small these most held (Ok made) item sound is =
-      let pass : (b : Bool) → placed these (cond b (Ok made.1) (Err refused.TooLarge)) ≡ Some item → IsSmall item =
+  sized-small : (these : Rows) (most : ℕ) (held : Held) (made : Result (Content × Changed) ItemFault) (answer : Changed) → ContentSound made → placed these (sized most held made) ≡ Some answer → HasSmall answer
+  sized-small these most held (Ok made) answer sound is =
+      let pass : (b : Bool) → placed these (cond b (Ok made.1) (Err refused.TooLarge)) ≡ Some answer → HasSmall answer =
       elim [
-        | true ↦ λ has. placed-small these made.1 item sound.1 has
-        | false ↦ λ has. absurd (none-some item has)
+        | true ↦ λ has. placed-small these made.1 answer sound.1 has
+        | false ↦ λ has. absurd (none-some answer has)
       ] in
       pass (nat_le (length (sealed made.0 held.key held.vector)) most) is
-  sized-small these most held (Err fault) item sound is = absurd (none-some item is)
+  sized-small these most held (Err fault) answer sound is = absurd (none-some answer is)
 
-  pub storable-named : (stem : List ℕ) (these : Rows) (item : ItemId) → AreSoundCollections these → storable_at stem (change_of value edit) now these ≡ Some item → IsName (name.Item stem item)
-  storable-named stem these item sound is =
+  named-item : (stem : List ℕ) (item : Option ItemId) → IsStem stem → IfSome item IsSmall → IfSome item (λ it. IsName (name.Item stem it))
+  named-item stem None is small = tt
+  named-item stem (Some item) is small = (is, small)
+
+  pub storable-named : (stem : List ℕ) (these : Rows) (answer : Changed) → AreSoundCollections these → storable_at stem (change_of value edit) now these ≡ Some answer
+      → IfSome (item_in answer) (λ item. IsName (name.Item stem item))
+  storable-named stem these answer sound is =
       let given = change_of value edit in
-      let in_row : CollectionRow → Option ItemId =
+      let in_row : CollectionRow → Option Changed =
       λ row. option_and_then (λ (held : Held). placed these (storable given now (room_in these) row.file row.clear held)) row.held in
-      let pass : (o : Option CollectionRow) → value_at stem these ≡ o → option_and_then in_row o ≡ Some item → IsName (name.Item stem item) =
+      let pass : (o : Option CollectionRow) → value_at stem these ≡ o → option_and_then in_row o ≡ Some answer → IfSome (item_in answer) (λ item. IsName (name.Item stem item)) =
       elim [
-        | None ↦ λ at has. absurd (none-some item has)
+        | None ↦ λ at has. absurd (none-some answer has)
         | Some row ↦ λ at has.
             let here = at-stem IsSoundCollection stem row these sound.each at in
-            let inner : (h : Option Held) → IfSome h AreSoundItems → option_and_then (λ (held : Held). placed these (storable given now (room_in these) row.file row.clear held)) h ≡ Some item → IsSmall item =
+            let inner : (h : Option Held) → IfSome h AreSoundItems → option_and_then (λ (held : Held). placed these (storable given now (room_in these) row.file row.clear held)) h ≡ Some answer → HasSmall answer =
             elim [
-              | None ↦ λ all got. absurd (none-some item got)
-              | Some held ↦ λ all got. sized-small these (most_for (room_in these) row.file) held (content_changed given now row.clear held.rows) item (content-sound row held here.shown.label all) got
+              | None ↦ λ all got. absurd (none-some answer got)
+              | Some held ↦ λ all got. sized-small these (most_for (room_in these) row.file) held (content_changed given now row.clear held.rows) answer (content-sound row held here.shown all) got
             ] in
-            (here.stem, inner row.held here.held has)
+            named-item stem (item_in answer) here.stem (inner row.held here.held has)
       ] in
       pass (value_at stem these) refl is
 

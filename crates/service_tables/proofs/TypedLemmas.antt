@@ -15,7 +15,7 @@ use Rattle.kr_base.specs.declared.attributes.AttrValue.TheVariants as value
 use Rattle.kr_names.specs.Naming.{is_alias}
 use Rattle.keyring_text.specs.Fields.{IsBytes}
 use Rattle.keyring_file.specs.Known.{IsKnownPair, IsKnownValue}
-use Rattle.service_tables.specs.Sound.{AreItemTypes, AreSecretTypes, IsTypedAlias, IsTypedPair, IsTypedText, IsTypedValue}
+use Rattle.service_tables.specs.Sound.{AreAttributeTypes, AreItemTypes, AreSecretTypes, IsTypedAlias, IsTypedPair, IsTypedText, IsTypedValue}
 
 -- ---- to the types of items, and from them
 
@@ -46,7 +46,7 @@ pairs-typed (pair ∷ pairs) all = (record { name = text-typed pair.0 all.0.name
 bool-prop : (b : Bool) → IsProp (b ≡ true)
 bool-prop b = Prim.hlevel props
 
-text-prop : (bytes : List ℕ) → IsProp (IsTypedText bytes)
+pub text-prop : (bytes : List ℕ) → IsProp (IsTypedText bytes)
 text-prop bytes one other = λ i. record { utf8 = bool-prop (is_utf8 bytes) one.utf8 other.utf8 i; no_zero = →_prop (λ e. absurd e) one.no_zero other.no_zero i }
 
 value-prop : (v : AttrValue) → IsProp (IsTypedValue v)
@@ -62,6 +62,12 @@ alias-prop alias = bool-prop (is_alias alias)
 pub item-prop : (label : List ℕ) (attributes : List (List ℕ × AttrValue)) → IsProp (AreItemTypes label attributes)
 item-prop label attributes one other = λ i. record {
   label = text-prop label one.label other.label i;
+  ordered = IsStrictlySortedBy-prop (slice_cmp nat_cmp) (keys_of attributes) one.ordered other.ordered i;
+  attributes = AllByRecursion-prop IsTypedPair pair-prop attributes one.attributes other.attributes i;
+}
+
+pub attributes-prop : (attributes : List (List ℕ × AttrValue)) → IsProp (AreAttributeTypes attributes)
+attributes-prop attributes one other = λ i. record {
   ordered = IsStrictlySortedBy-prop (slice_cmp nat_cmp) (keys_of attributes) one.ordered other.ordered i;
   attributes = AllByRecursion-prop IsTypedPair pair-prop attributes one.attributes other.attributes i;
 }

@@ -75,6 +75,10 @@ HaveSamePaths these those = (path : List ℕ) → is_listed path these ≡ is_li
 abbrev pub item_paths : List ℕ → List ItemId → List (List ℕ)
 item_paths stem ids = map (λ id. path_text (name.Item stem id)) ids
 
+-- the paths of collections
+abbrev pub collection_paths : List (List ℕ) → List (List ℕ)
+collection_paths stems = map (λ stem. path_text (name.Collection stem)) stems
+
 -- the paths of the items that were found in one collection
 abbrev pub paths_in : Matches → List (List ℕ)
 paths_in matches = item_paths matches.stem matches.ids

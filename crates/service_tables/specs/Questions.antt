@@ -6,6 +6,8 @@ use Rattle.kr_base.specs.declared.ids.PromptId.{PromptId}
 use Rattle.collection_table.specs.declared.matches.Matches.{Matches}
 use Rattle.prompt_state.specs.declared.row.PromptRow.{PromptRow}
 use Rattle.prompt_state.specs.declared.table.PromptRefused.{PromptRefused}
+use Rattle.secret_calls.specs.declared.property.Attribute.{Attribute}
+use Rattle.service_tables.specs.declared.times.Times.{Times}
 
 -- what may be asked of the collections, and which of them an alias stands for
 pub record CollectionQuestions : Type 0 where
@@ -13,14 +15,22 @@ pub record CollectionQuestions : Type 0 where
   pub alias : List ℕ → Option (List ℕ)
   -- how many collections there are
   pub count : ℕ
+  -- the stems of the collections, in byte order
+  pub stems : List (List ℕ)
   -- whether there is a collection of the stem
   pub has : List ℕ → Bool
   -- whether there is one, and it is unlocked
   pub is_open : List ℕ → Bool
   -- its label, which is shown while it is locked, too; empty if there is none
   pub label : List ℕ → List ℕ
+  -- its times, which are shown while it is locked, too; 0 if there is none
+  pub times : List ℕ → Times
   -- whether there is one, and it has the item, locked or not
   pub has_item : List ℕ → ItemId → Bool
+  -- the label, the attributes and the times of an item; they are empty and 0 while its collection is locked
+  pub item_label : List ℕ → ItemId → List ℕ
+  pub item_attributes : List ℕ → ItemId → List Attribute
+  pub item_times : List ℕ → ItemId → Times
   -- the items of one collection that match, by rising numbers
   pub found_in : List ℕ → List (List ℕ × AttrValue) → List ItemId
   -- the items of each collection that match, in byte order of the collections' stems

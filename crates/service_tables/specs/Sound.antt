@@ -107,9 +107,11 @@ pub record IsSoundItem (row : Row) : Type 0 where
 abbrev pub AreSoundItems : Held → Type 0
 AreSoundItems held = AllByRecursion IsSoundItem held.rows
 
--- the label and the items of a clear part have their types
+-- the label, the times and the items of a clear part have their types
 pub record AreShown (clear : ClearPart) : Type 0 where
   pub label : IsText clear.name
+  pub created : clear.created < 2 ^ 64
+  pub modified : clear.modified < 2 ^ 64
   pub items : AllByRecursion IsKnownClearItem clear.items
 
 -- what is known of a collection has its types: its stem is one, and the label and the items are those of a file
@@ -221,6 +223,11 @@ pub record IsTypedPair (pair : List ℕ × AttrValue) : Type 0 where
 -- the label and the attributes of an item
 pub record AreItemTypes (name : List ℕ) (pairs : List (List ℕ × AttrValue)) : Type 0 where
   pub label : IsTypedText name
+  pub ordered : IsInOrder pairs
+  pub attributes : AllByRecursion IsTypedPair pairs
+
+-- the attributes of an item
+pub record AreAttributeTypes (pairs : List (List ℕ × AttrValue)) : Type 0 where
   pub ordered : IsInOrder pairs
   pub attributes : AllByRecursion IsTypedPair pairs
 

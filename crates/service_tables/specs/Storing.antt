@@ -17,7 +17,7 @@ use Rattle.collection_store.specs.declared.change.Changed.{Changed}
 use Rattle.collection_store.specs.declared.change.Changed.TheVariants as changes
 use Rattle.collection_table.specs.Entries.{changed, without}
 use Rattle.collection_table.specs.Rows.{CollectionRow, Rows, is_full, perhaps_removed, perhaps_stored, room_in, stored}
-use Rattle.service_tables.specs.Sound.{AreItemTypes, AreSecretTypes}
+use Rattle.service_tables.specs.Sound.{AreAttributeTypes, AreItemTypes, AreSecretTypes, IsTypedText}
 use Rattle.service_tables.specs.declared.fate.StoreFate.{StoreFate}
 use Rattle.service_tables.specs.declared.fate.StoreFate.TheVariants as fate
 
@@ -35,18 +35,30 @@ pub data Edit : Type 0 where
   Set_secret : (item : ItemId) → (content : List ℕ) → Edit
   -- an item is removed
   Remove_item : (item : ItemId) → Edit
+  -- an item gets another label
+  Set_label : (item : ItemId) → (label : List ℕ) → Edit
+  -- an item gets other attributes
+  Set_attributes : (item : ItemId) → (attributes : List (List ℕ × AttrValue)) → Edit
+  -- the collection gets another label
+  Set_name : (label : List ℕ) → Edit
 
 -- an edit as a change of a collection, with the value that the request brings
 abbrev pub change_of : List ℕ → Edit → Change
 change_of value (Add_item label attributes content replace) = change.Add label attributes value content replace
 change_of value (Set_secret item content) = change.SetSecret item value content
 change_of value (Remove_item item) = change.Remove item
+change_of value (Set_label item label) = change.SetLabel item label
+change_of value (Set_attributes item attributes) = change.SetAttributes item attributes
+change_of value (Set_name label) = change.SetName label
 
 -- what an edit brings has its types
 abbrev pub AreEditTypes : List ℕ → Edit → Type 0
 AreEditTypes value (Add_item label attributes content replace) = AreItemTypes label attributes × AreSecretTypes value content
 AreEditTypes value (Set_secret item content) = AreSecretTypes value content
 AreEditTypes value (Remove_item item) = Unit {0}
+AreEditTypes value (Set_label item label) = IsTypedText label
+AreEditTypes value (Set_attributes item attributes) = AreAttributeTypes attributes
+AreEditTypes value (Set_name label) = IsTypedText label
 
 -- ---- what can be stored
 
@@ -57,39 +69,39 @@ has_place (changes.Changed item) rows = true
 has_place (changes.Removed item) rows = true
 has_place changes.Named rows = true
 
--- the item that was made, changed or removed
+-- the item that was made, changed or removed, if it was one
 abbrev pub item_in : Changed → Option ItemId
 item_in (changes.Made item) = Some item
 item_in (changes.Changed item) = Some item
 item_in (changes.Removed item) = Some item
 item_in changes.Named = None
 
--- the item of an answer, unless it is one too many
-abbrev pub placed_answer : Changed → Rows → Option ItemId
-placed_answer answer rows = if has_place answer rows then item_in answer else None
+-- an answer, unless its item is one too many
+abbrev pub placed_answer : Changed → Rows → Option Changed
+placed_answer answer rows = if has_place answer rows then Some answer else None
 
 -- the same, if there is an answer
-abbrev pub placed : {E : Type 0} → Rows → Result Changed E → Option ItemId
+abbrev pub placed : {E : Type 0} → Rows → Result Changed E → Option Changed
 placed rows (Ok answer) = placed_answer answer rows
 placed rows (Err fault) = None
 
--- the item that a change of the collection of a stem would make, change or remove, whatever the length of its file is; None if the
--- collection is locked, the change can't be made, or it makes an item too many
-abbrev pub answered_at : List ℕ → Change → ℕ → Rows → Option ItemId
+-- what a change of the collection of a stem would do, whatever the length of its file is; None if the collection is locked, the change
+-- can't be made, or it makes an item too many
+abbrev pub answered_at : List ℕ → Change → ℕ → Rows → Option Changed
 answered_at stem change now rows =
     option_and_then
     (λ (row : CollectionRow). option_and_then (λ (held : Held). placed rows (answer_of (content_changed change now row.clear held.rows))) row.held)
     (value_at stem rows)
 
 -- the same, if the file of the changed collection keeps within its limits
-abbrev pub storable_at : List ℕ → Change → ℕ → Rows → Option ItemId
+abbrev pub storable_at : List ℕ → Change → ℕ → Rows → Option Changed
 storable_at stem change now rows =
     option_and_then
     (λ (row : CollectionRow). option_and_then (λ (held : Held). placed rows (storable change now (room_in rows) row.file row.clear held)) row.held)
     (value_at stem rows)
 
 -- the same of an edit
-abbrev pub storable_edit : Brought → Rows → List ℕ → Edit → Option ItemId
+abbrev pub storable_edit : Brought → Rows → List ℕ → Edit → Option Changed
 storable_edit brought rows stem edit = storable_at stem (change_of brought.value edit) brought.now rows
 
 -- ---- what becomes of a collection

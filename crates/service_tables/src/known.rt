@@ -4,7 +4,7 @@ ghost use Rattle.std.specs.List.{AllByRecursion};
 ghost use Rattle.kr_base.specs.Attributes.{IsInOrder};
 ghost use Rattle.kr_names.specs.Path.{IsAliasName};
 ghost use Rattle.keyring_file.specs.Known.{IsKnownPair};
-ghost use Rattle.service_tables.specs.Sound.{AreItemTypes, AreSecretTypes, IsTypedAlias, IsTypedText};
+ghost use Rattle.service_tables.specs.Sound.{AreAttributeTypes, AreItemTypes, AreSecretTypes, IsTypedAlias, IsTypedText};
 
 use crate::objects::is_alias;
 use keyring_text::known_bytes;
@@ -24,7 +24,7 @@ fn known_pair(pair: &(Text, AttrValue))
     }
 }
 
-fn known_attributes(attributes: &Attributes)
+fn known_pairs(attributes: &Attributes)
     ensures ordered { IsInOrder attributes.now }
     ensures each { AllByRecursion IsKnownPair attributes.now }
 {
@@ -53,7 +53,14 @@ pub fn known_item(label: &Text, attributes: &Attributes)
     ensures { AreItemTypes label.now attributes.now }
 {
     known_text(label);
-    known_attributes(attributes);
+    known_pairs(attributes);
+}
+
+/// A law: what the type of attributes guarantees. The call does nothing.
+pub fn known_attributes(attributes: &Attributes)
+    ensures { AreAttributeTypes attributes.now }
+{
+    known_pairs(attributes);
 }
 
 /// A law: what the types of a secret's value and of its content type guarantee. The call does nothing.

@@ -23,6 +23,7 @@ mod paths;
 mod reading;
 mod rows;
 mod storing;
+mod times;
 
 pub use alias_table;
 pub use aliases::KeptAliases;
@@ -32,9 +33,11 @@ pub use disk::{Disk, OpenRefused};
 pub use fate::{Fate, ReadFate, StoreFate};
 pub use folder_store;
 pub use kept::KeptSlot;
-pub use known::{known_alias, known_item, known_secret, known_text};
+pub use known::{known_alias, known_attributes, known_item, known_secret, known_text};
 pub use paths::{
-    collection_path, is_new, item_path, item_paths, locked_paths, put_path, unlocked_paths,
+    collection_path, collection_paths, is_new, item_path, item_paths, locked_paths, put_path,
+    unlocked_paths,
 };
 pub use rows::{ConnRow, ConnRows, Delivery, DeskRow, Rows};
 pub use secret_calls;
+pub use times::Times;

@@ -2,7 +2,7 @@
 ghost use Rattle.std.specs.Prelude.{◌≡◌, ◌++◌, ◌||◌, ℕ, List, not, nat_eq, IfOk, OnOk};
 ghost use Rattle.std.specs.Cmp.Lexicographic.{pointwise};
 ghost use Rattle.kr_names.specs.Path.{HasPath, path_text};
-ghost use Rattle.service_tables.specs.Objects.{HaveSamePaths, is_listed, item_paths, locked_paths, paths_of, unlocked_paths, with_object, with_path};
+ghost use Rattle.service_tables.specs.Objects.{HaveSamePaths, collection_paths, is_listed, item_paths, locked_paths, paths_of, unlocked_paths, with_object, with_path};
 
 use collection_table::Matches;
 use kr_base::{ItemId, OutOfMemory, Stem, Text};
@@ -40,6 +40,18 @@ fn put_paths(
         paths.push(path)?;
     }
     Ok(())
+}
+
+/// The paths of collections.
+pub fn collection_paths(alloc: Global, stems: &[Stem]) -> Result<Vec<Text>, OutOfMemory>
+    ensures { IfOk result (λ paths. paths.items ≡ collection_paths stems.now) }
+{
+    let mut paths = Vec::with_capacity(alloc, stems.len())?;
+    for stem in stems {
+        let path = collection_path(alloc, stem)?;
+        paths.push(path)?;
+    }
+    Ok(paths)
 }
 
 /// The paths of items of one collection.

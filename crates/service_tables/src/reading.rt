@@ -1,17 +1,67 @@
-// What is read of the collections: the items that match, and secrets.
-ghost use Rattle.std.specs.Prelude.{◌≡◌, [], IfOk};
+// What is read of the collections: what is shown of them and of their items, the items that match, and secrets.
+ghost use Rattle.std.specs.Prelude.{◌≡◌, [], IfOk, map};
 ghost use Rattle.std.specs.Option.{option_copied, option_map, option_map_or};
 ghost use Rattle.std.specs.List.{filter_map};
 ghost use Rattle.service_tables.specs.Disk.{contents_in};
-ghost use Rattle.service_tables.specs.Reading.{asked_collections, found_in, item_secret, secret_of};
+ghost use Rattle.attribute_match.specs.Match.{text_of};
+ghost use Rattle.service_tables.specs.Reading.{asked_collections, found_in, item_secret, no_times, secret_of, shown_attribute};
 
-use crate::Disk;
 use crate::paths::item_path;
-use kr_base::{Attributes, ItemId, OutOfMemory, SessionId, Stem, Text};
+use crate::{Disk, Times};
+use itoa::Buffer;
+use kr_base::{AttrValue, Attributes, ItemId, OutOfMemory, SessionId, Stem, Text};
+use kr_items::Items;
 use kr_names::ObjectName;
 use kr_outside::Folder;
-use secret_calls::{ItemSecret, ReturnedSecret};
+use secret_calls::{Attribute, ItemSecret, ReturnedSecret, no_label};
 use std::alloc::Global;
+
+// No times.
+fn no_times() -> Times
+    ensures { result ≡ no_times }
+{
+    Times {
+        created: 0,
+        modified: 0,
+    }
+}
+
+// The number as a text in decimal.
+fn decimal(alloc: Global, number: u32) -> Result<Text, OutOfMemory>
+    ensures { IfOk result (λ text. text ≡ text_of (AttrValue.Number number)) }
+{
+    let mut buffer = Buffer::new();
+    match Text::from_str(alloc, buffer.format(number))? {
+        Some(text) => Ok(text),
+        None => unreachable!(),
+    }
+}
+
+// The text that is shown for the value of an attribute.
+fn text_of(alloc: Global, value: &AttrValue) -> Result<Text, OutOfMemory>
+    ensures { IfOk result (λ text. text ≡ text_of value.now) }
+{
+    match value {
+        AttrValue::Text(text) => text.copy(),
+        AttrValue::Number(number) => decimal(alloc, *number),
+    }
+}
+
+// The attributes as they are shown.
+fn shown_attributes(
+    alloc: Global,
+    pairs: &[(Text, AttrValue)],
+) -> Result<Vec<Attribute>, OutOfMemory>
+    ensures { IfOk result (λ shown. shown.items ≡ map shown_attribute pairs.now) }
+{
+    let mut shown = Vec::with_capacity(alloc, pairs.len())?;
+    for (name, value) in pairs {
+        let name = name.copy()?;
+        let value = text_of(alloc, value)?;
+        shown.push(Attribute { name, value })?;
+    }
+    Ok(shown)
+}
 
 impl<F: Folder> Disk<F> {
     /// The number of collections.
@@ -29,6 +79,70 @@ impl<F: Folder> Disk<F> {
         match self.collections.get(stem) {
             Some(collection) => Some(collection.label()),
             None => None,
+        }
+    }
+
+    /// The stems of the collections, in byte order.
+    pub fn stems(&self) -> Result<Vec<Stem>, OutOfMemory>
+        ensures { IfOk result (λ stems.
+            stems.items ≡ (asked_collections (contents_in self.now)).stems) }
+    {
+        self.collections.stems()
+    }
+
+    /// The times of the collection of a stem, also while it is locked. They are 0 if there is none.
+    pub fn times(&self, stem: &Stem) -> Times
+        ensures { result ≡ (asked_collections (contents_in self.now)).times stem.now }
+    {
+        match self.collections.get(stem) {
+            Some(collection) => Times {
+                created: collection.created(),
+                modified: collection.modified(),
+            },
+            None => no_times(),
+        }
+    }
+
+    /// The label of an item. It is empty while its collection is locked.
+    pub fn item_label(&self, alloc: Global, stem: &Stem, item: ItemId) -> Result<Text, OutOfMemory>
+        ensures { IfOk result (λ label.
+            label ≡ (asked_collections (contents_in self.now)).item_label stem.now item) }
+    {
+        match self.collections.item(stem, item) {
+            Some(full) => full.label.copy(),
+            None => Ok(no_label(alloc)),
+        }
+    }
+
+    /// The attributes of an item, numbers in decimal. There are none while its collection is locked.
+    pub fn item_attributes(
+        &self,
+        alloc: Global,
+        stem: &Stem,
+        item: ItemId,
+    ) -> Result<Items<Attribute>, OutOfMemory>
+        ensures { IfOk result (λ attributes. attributes
+            ≡ (asked_collections (contents_in self.now)).item_attributes stem.now item) }
+    {
+        match self.collections.item(stem, item) {
+            Some(full) => {
+                let shown = shown_attributes(alloc, full.attributes.as_slice())?;
+                Ok(Items::new(shown))
+            }
+            None => Ok(Items::empty(alloc)),
+        }
+    }
+
+    /// The times of an item. They are 0 while its collection is locked.
+    pub fn item_times(&self, stem: &Stem, item: ItemId) -> Times
+        ensures { result ≡ (asked_collections (contents_in self.now)).item_times stem.now item }
+    {
+        match self.collections.item(stem, item) {
+            Some(full) => Times {
+                created: full.created,
+                modified: full.modified,
+            },
+            None => no_times(),
         }
     }
 

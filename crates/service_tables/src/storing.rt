@@ -68,28 +68,27 @@ fn erase_in<S: Slot>(collection: &mut Collection<S>) -> bool
 }
 
 impl<F: Folder> Disk<F> {
-    // The item of an answer, unless it is one too many.
-    fn placed(&self, answer: Changed) -> Option<ItemId>
+    // An answer, unless its item is one too many.
+    fn placed(&self, answer: Changed) -> Option<Changed>
         ensures { result ≡ placed_answer answer (contents_in self.now).collections }
     {
         match answer {
-            Changed::Made(item) => {
+            Changed::Made(_) => {
                 if self.collections.is_full() {
                     None
                 } else {
-                    Some(item)
+                    Some(answer)
                 }
             }
-            Changed::Changed(item) => Some(item),
-            Changed::Removed(item) => Some(item),
-            Changed::Named => None,
+            Changed::Changed(_) => Some(answer),
+            Changed::Removed(_) => Some(answer),
+            Changed::Named => Some(answer),
         }
     }
 
-    /// The item that a change of the collection of a stem would make, change or remove, whatever the
-    /// length of its file is. None if there is no such collection or it is locked, if the change can't be
+    /// What a change of the collection of a stem would do, whatever the length of its file is. None if there is no such collection or it is locked, if the change can't be
     /// made, and if it makes an item too many. It takes no memory.
-    pub fn answer_to(&self, stem: &Stem, change: &Change) -> Option<ItemId>
+    pub fn answer_to(&self, stem: &Stem, change: &Change) -> Option<Changed>
         ensures { (now : ℕ) → result
             ≡ answered_at stem.now change.now now (contents_in self.now).collections }
     {

@@ -5,6 +5,6 @@ use Rattle.service_tables.proofs.known.known_item.Goals as goal
 pub returns : goal.returns
 returns c = record {
   label = c.known_text.ensures;
-  ordered = c.known_attributes.ensures.ordered;
-  attributes = pairs-typed c.args.attributes.now c.known_attributes.ensures.each;
+  ordered = c.known_pairs.ensures.ordered;
+  attributes = pairs-typed c.args.attributes.now c.known_pairs.ensures.each;
 }

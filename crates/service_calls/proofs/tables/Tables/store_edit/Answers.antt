@@ -41,15 +41,15 @@ returns-then-not-is_small-clause-leads g c = λ conn edit value is.
     let stem = c.args.stem.now in
     let returned = body_of c.args.returned stem in
     let plan = storing stem edit returned (storable_at stem c.args.change c.args.now old.collections) in
-    let made : (storable_at stem c.args.change c.args.now old.collections ≡ None) ⊎ (storable_at stem c.args.change c.args.now old.collections ≡ Some c.in-Some.item) =
+    let made : (storable_at stem c.args.change c.args.now old.collections ≡ None) ⊎ (storable_at stem c.args.change c.args.now old.collections ≡ Some c.in-Some.answer) =
     elim (storable-or-none stem c.args.change c.args.now old.collections) [ inl none ↦ inl none | inr same ↦ inr (same ∙ sym (c.in-Some.ensures c.args.now)) ] in
-    let large : is_small (body_with (returned c.in-Some.item)) ≡ false = ap is_small (sym c.in_ok-body.ensures) ∙ sym c.is_small.ensures ∙ c.if-not-is_small.true in
+    let large : is_small (body_with (returned c.in-Some.answer)) ≡ false = ap is_small (sym c.in_ok-body.ensures) ∙ sym c.is_small.ensures ∙ c.if-not-is_small.true in
     leads-done folder.is_honest folder.is_steady folder.faults folder.images folder.may_leave folder.made slot.is_honest slot.is_steady slot.faults slot.moment slot.left_since slot.may_leave conn brought old old disk disk plan _ _ c.refused-then-not-is_small.ensures
     (elim made [
       | inl none ↦ leads-as folder.is_honest folder.is_steady folder.faults folder.images folder.may_leave folder.made slot.is_honest slot.is_steady slot.faults slot.moment slot.left_since slot.may_leave conn brought old old disk disk plan _ _ (plan-none stem edit returned _ none)
           (leads-refused folder.is_honest folder.is_steady folder.faults folder.images folder.may_leave folder.made slot.is_honest slot.is_steady slot.faults slot.moment slot.left_since slot.may_leave conn brought old old disk disk name.LimitsExceeded refl refl)
-      | inr some ↦ leads-as folder.is_honest folder.is_steady folder.faults folder.images folder.may_leave folder.made slot.is_honest slot.is_steady slot.faults slot.moment slot.left_since slot.may_leave conn brought old old disk disk plan _ _ (plan-some stem edit returned _ c.in-Some.item some)
-          (leads-unasked folder.is_honest folder.is_steady folder.faults folder.images folder.may_leave folder.made slot.is_honest slot.is_steady slot.faults slot.moment slot.left_since slot.may_leave conn brought old old disk disk (Store stem edit) (returned c.in-Some.item) large refl refl)
+      | inr some ↦ leads-as folder.is_honest folder.is_steady folder.faults folder.images folder.may_leave folder.made slot.is_honest slot.is_steady slot.faults slot.moment slot.left_since slot.may_leave conn brought old old disk disk plan _ _ (plan-some stem edit returned _ c.in-Some.answer some)
+          (leads-unasked folder.is_honest folder.is_steady folder.faults folder.images folder.may_leave folder.made slot.is_honest slot.is_steady slot.faults slot.moment slot.left_since slot.may_leave conn brought old old disk disk (Store stem edit) (returned c.in-Some.answer) large refl refl)
     ])
 
 -- it is stored, and answered by how that ended
@@ -64,15 +64,15 @@ returns-in-Some-stored-clause-leads g c = λ conn edit value is.
     let returned = body_of c.args.returned stem in
     let plan = storing stem edit returned (storable_at stem c.args.change c.args.now old.collections) in
     let some = c.in-Some-stored.fate in
-    let made : storable_at stem c.args.change c.args.now old.collections ≡ Some c.in-Some.item = of-some _ c.in_ok-stored.stored some c.in-Some-stored.is c.in_ok-stored.ensures.fits ∙ sym (c.in-Some.ensures c.args.now) in
-    let small : is_small (body_with (returned c.in-Some.item)) ≡ true = ap is_small (sym c.in_ok-body.ensures) ∙ sym c.is_small.ensures ∙ c.if-not-is_small.false in
-    let done : c.ended.result ≡ record { answer = answer_by (body_with (returned c.in-Some.item)) some; sends = []; read = None; fate = Some some } =
+    let made : storable_at stem c.args.change c.args.now old.collections ≡ Some c.in-Some.answer = of-some _ c.in_ok-stored.stored some c.in-Some-stored.is c.in_ok-stored.ensures.fits ∙ sym (c.in-Some.ensures c.args.now) in
+    let small : is_small (body_with (returned c.in-Some.answer)) ≡ true = ap is_small (sym c.in_ok-body.ensures) ∙ sym c.is_small.ensures ∙ c.if-not-is_small.false in
+    let done : c.ended.result ≡ record { answer = answer_by (body_with (returned c.in-Some.answer)) some; sends = []; read = None; fate = Some some } =
     c.ended.ensures ∙ ap (λ body. record { answer = answer_by body some; sends = []; read = None; fate = Some some }) c.in_ok-body.ensures in
     let stored = of-some _ c.in_ok-stored.stored some c.in-Some-stored.is c.in_ok-stored.ensures.stored in
     let rows = ap (λ (contents : Contents). contents.collections) stored ∙ ap (λ given. rows_stored stem given c.args.now some old.collections) is in
     let state = ap (λ (contents : Contents). record old { collections = contents.collections; aliases = contents.aliases; used = contents.used }) stored
     ∙ ap (λ given. record old { collections = rows_stored stem given c.args.now some old.collections }) is in
     leads-done folder.is_honest folder.is_steady folder.faults folder.images folder.may_leave folder.made slot.is_honest slot.is_steady slot.faults slot.moment slot.left_since slot.may_leave conn brought old _ disk _ plan _ _ done
-    (leads-as folder.is_honest folder.is_steady folder.faults folder.images folder.may_leave folder.made slot.is_honest slot.is_steady slot.faults slot.moment slot.left_since slot.may_leave conn brought old _ disk _ plan _ _ (plan-some stem edit returned _ c.in-Some.item made)
-    (leads-asked folder.is_honest folder.is_steady folder.faults folder.images folder.may_leave folder.made slot.is_honest slot.is_steady slot.faults slot.moment slot.left_since slot.may_leave conn brought old _ disk _ (Store stem edit) (returned c.in-Some.item) some small state
+    (leads-as folder.is_honest folder.is_steady folder.faults folder.images folder.may_leave folder.made slot.is_honest slot.is_steady slot.faults slot.moment slot.left_since slot.may_leave conn brought old _ disk _ plan _ _ (plan-some stem edit returned _ c.in-Some.answer made)
+    (leads-asked folder.is_honest folder.is_steady folder.faults folder.images folder.may_leave folder.made slot.is_honest slot.is_steady slot.faults slot.moment slot.left_since slot.may_leave conn brought old _ disk _ (Store stem edit) (returned c.in-Some.answer) some small state
     (at-moved slot.is_honest slot.is_steady slot.faults slot.moment slot.left_since slot.may_leave stem (fate.Store some) _ _ _ _ _ _ _ refl rows refl (of-some _ c.in_ok-stored.stored some c.in-Some-stored.is c.in_ok-stored.ensures.disk))))

@@ -1,5 +1,6 @@
 use Rattle.std.proofs.Common.{[], sym}
 use Rattle.service_answers.specs.service_calls.proofs.LeadsLemmas.{map-ok}
+use Rattle.service_machine.proofs.RoomLemmas.{room_kept, room_left}
 use Rattle.service_machine.proofs.machine.Machine.perform.Goals as goal
 
 -- the row is performed as its function says, whatever the request brings
@@ -50,3 +51,24 @@ returns-in_ok-answer-in-ReadAlias-clause-leads g c = rw c.in-ReadAlias.is (c.ans
 
 pub returns-in_ok-answer-in-SearchCollection-clause-leads : goal.returns-in_ok-answer-in-SearchCollection-clause-leads
 returns-in_ok-answer-in-SearchCollection-clause-leads g c = rw c.in-SearchCollection.is (c.answered-in-SearchCollection.ensures.leads c.args.conn (record { now = c.args.now; value = [] }) _ (c.in_ok-answer-in-SearchCollection.ensures (record { now = c.args.now; value = [] })))
+
+pub returns-in_ok-answer-in-Get-clause-leads : goal.returns-in_ok-answer-in-Get-clause-leads
+returns-in_ok-answer-in-Get-clause-leads g c = rw c.in-Get.is (c.answered-in-Get.ensures.leads c.args.conn (record { now = c.args.now; value = [] }) _ (c.in_ok-answer-in-Get.ensures (record { now = c.args.now; value = [] })))
+
+pub returns-in_ok-answer-in-GetAll-clause-leads : goal.returns-in_ok-answer-in-GetAll-clause-leads
+returns-in_ok-answer-in-GetAll-clause-leads g c =
+    rw (c.in-GetAll.is, sym c.as_slice-in-GetAll.ensures) (c.answered-in-GetAll.ensures.leads c.args.conn (record { now = c.args.now; value = [] }) _ (c.in_ok-answer-in-GetAll.ensures (record { now = c.args.now; value = [] })))
+
+-- a property is set whatever value of a secret the request brings
+pub returns-in-SetCollectionLabel-clause-leads : goal.returns-in-SetCollectionLabel-clause-leads
+returns-in-SetCollectionLabel-clause-leads g c = rw c.in-SetCollectionLabel.is (map-ok c.set_collection_label.result _ _ (λ done leads. leads _) c.set_collection_label.ensures.leads)
+
+-- what sends nothing leaves room for the reply
+pub returns-in-CreateItem-clause-room : goal.returns-in-CreateItem-clause-room
+returns-in-CreateItem-clause-room g c = room_left c.args.conn c.create_item.result _ _ c.create_item.ensures.silent c.create_item.ensures.room c.requires
+
+pub returns-in-SetSecret-clause-room : goal.returns-in-SetSecret-clause-room
+returns-in-SetSecret-clause-room g c = room_left c.args.conn c.set_secret.result _ _ c.set_secret.ensures.silent c.set_secret.ensures.room c.requires
+
+pub returns-in-Unregister-clause-room : goal.returns-in-Unregister-clause-room
+returns-in-Unregister-clause-room g c = room_kept c.args.conn c.unregister.result _ _ c.unregister.ensures.silent c.unregister.ensures.room c.requires

@@ -1,0 +1,26 @@
+use Rattle.std.proofs.Common.{◌≡◌, cond, true, sym, ap, ◌∙◌}
+use Rattle.service_events.specs.collection_table.specs.Rows.{has_item}
+use Rattle.service_events.specs.secret_calls.specs.declared.out.ErrorName.TheVariants as name
+use Rattle.service_events.specs.service_tables.specs.Storing.{Brought}
+use Rattle.service_events.specs.PropertyCalls.{editing, editing_item}
+use Rattle.service_events.specs.Plan.{refused}
+use Rattle.service_calls.specs.Rows.{rows_of}
+use Rattle.service_events.specs.Run.{asked}
+use Rattle.service_calls.proofs.LeadsLemmas.{leads-as, map-ok}
+use Rattle.service_calls.proofs.tables.Tables.store_of_item.Goals as goal
+
+-- the item is there, and the edit is stored
+pub returns-clause-leads : goal.returns-clause-leads
+returns-clause-leads g c =
+    let folder = g.F.Folder in
+    let slot = g.F.Cell.Slot in
+    let old = rows_of c.args.self.now in
+    let stem = c.args.stem.now in
+    let there : has_item stem c.args.item.0 old.collections ≡ true = sym c.has_item.ensures ∙ c.if-not-has_item.false in
+    map-ok c.store_if_open.result _ _
+    (λ done leads conn edit value is.
+    let brought : Brought = record { now = c.args.now; value = value } in
+    let stores = editing stem edit (asked conn brought old) in
+    let plan : editing_item stem c.args.item edit (asked conn brought old) ≡ stores = ap (λ b. cond b stores (refused name.NoSuchObject)) there in
+    leads-as folder.is_honest folder.is_steady folder.faults folder.images folder.may_leave folder.made slot.is_honest slot.is_steady slot.faults slot.moment slot.left_since slot.may_leave conn brought old _ _ _ _ _ done plan (leads conn edit value is))
+    c.store_if_open.ensures.leads
