@@ -144,6 +144,11 @@ impl<S: Slot> Collection<S> {
             LeavesOnly S.moment S.left_since cell.slot back.slot (IsOneOf cell.file)) }
         ensures kept { KeepsNature S.is_honest S.is_steady S.faults (IsCreateFault result)
             cell.slot (slot_of result) }
+        ensures before_call { IfFaultBefore result (λ back. FailedBefore (S.failed back.slot)) }
+        ensures unsure_call { IfFaultUnsure result (λ made. FailedAfter DeviceCall.Rename (IsTrue
+            (S.is_honest cell.slot) → S.seen made.slot ≡ Some (sealed
+            (content_created now label key.salt key.iterations) (key_of key) (vector_of key)))
+            (S.failed made.slot)) }
     {
         let clear = Clear {
             name: label,
