@@ -4,15 +4,18 @@ use Rattle.kr_outside.specs.Listener.{LinkReport, IsNewEnd}
 use Rattle.kr_outside.specs.declared.listener.Link.{Link}
 use Rattle.kr_memory.specs.Plan.{FailingPlan}
 
--- a listener that fails as planned: the links left, its plan, how many links it has given, and whether it has ended
+-- a listener that fails as planned: its path, the links left, its plan, how many links it has given, and whether it
+-- has ended
 pub record LinksState (I O : Type 0) : Type 0 where
+  pub address : List ℕ
   pub links : List (Link I O)
   pub plan : FailingPlan
   pub given : ℕ
   pub has_ended : Bool
 
--- a listener that never fails: the links left, how many links it has given, and whether it has ended
+-- a listener that never fails: its path, the links left, how many links it has given, and whether it has ended
 pub record SteadyLinksState (I O : Type 0) : Type 0 where
+  pub address : List ℕ
   pub links : List (Link I O)
   pub given : ℕ
   pub has_ended : Bool

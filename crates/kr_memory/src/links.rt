@@ -1,5 +1,5 @@
 // Listeners over a list of links.
-ghost use Rattle.std.specs.Prelude.{◌≡◌, ℕ, ◌++◌, ◌∷◌, ◌↔◌, Bool, List, Option, [], Some, None, IsErr, IsOk, IfSome, IfOk, OnOk, OnErr, map, option_map, option_to_list, IsFalse, true, false};
+ghost use Rattle.std.specs.Prelude.{◌≡◌, ℕ, ◌++◌, ◌∷◌, ◌↔◌, Bool, List, Option, [], Some, None, IsErr, IsOk, IfSome, IfOk, OnOk, OnErr, map, option_map, option_to_list, string_bytes, IsFalse, true, false};
 ghost use Rattle.std.proofs.Common.{rules};
 ghost use Rattle.kr_outside.specs.Faults.{HasCause, KeepsSteady};
 ghost use Rattle.kr_outside.specs.Host.{GivesOne};
@@ -23,6 +23,7 @@ fn count_link(given: &mut u64)
 /// A listener that gives listed links in order, fails at planned calls, and ends after the last link.
 #[derive(Drop)]
 pub struct ListedLinks<I: Source + Drop, O: Sink + Drop> {
+    address: String,
     links: VecDeque<Link<I, O>>,
     plan: Plan,
     given: u64,
@@ -30,12 +31,13 @@ pub struct ListedLinks<I: Source + Drop, O: Sink + Drop> {
 }
 
 impl<I: Source + Drop, O: Sink + Drop> Model for ListedLinks<I, O> {
-    ghost use Rattle.std.specs.Prelude.{◌≡◌, IsTrue, []};
+    ghost use Rattle.std.specs.Prelude.{◌≡◌, IsTrue, [], string_bytes};
     ghost use Rattle.kr_memory.specs.Links.{LinksState, AreNew};
 
     ghost Value = { LinksState I O };
 
     ghost view = { λ l. record {
+      address = string_bytes l.address;
       links = l.links.items;
       plan = l.plan;
       given = l.given;
@@ -47,11 +49,12 @@ impl<I: Source + Drop, O: Sink + Drop> Model for ListedLinks<I, O> {
 }
 
 impl<I: Source + Drop, O: Sink + Drop> ListedLinks<I, O> {
-    /// A listener of these links. Its calls are numbered from 0, including those that fail. Call
-    /// number k fails if k is in `failing`; no link is lost by that.
+    /// A listener of these links, at the empty path. Its calls are numbered from 0, including those
+    /// that fail. Call number k fails if k is in `failing`; no link is lost by that.
     pub fn new(alloc: Global, links: Vec<Link<I, O>>, failing: Vec<u64>) -> Self
         requires { AreNew I.is_closed I.faults O.is_closed O.faults links.items }
         ensures { result ≡ record {
+          address = [];
           links = links.items;
           plan = plan_at_start [] failing.items;
           given = 0;
@@ -59,11 +62,21 @@ impl<I: Source + Drop, O: Sink + Drop> ListedLinks<I, O> {
         } }
     {
         ListedLinks {
+            address: String::new(alloc),
             links: VecDeque::from_vec(links),
             plan: Plan::new(Vec::new(alloc), failing),
             given: 0,
             has_ended: false,
         }
+    }
+
+    /// The listener, at this path.
+    pub fn at(self, address: String) -> Self
+        ensures { result ≡ record self { address = string_bytes address } }
+    {
+        let mut listener = self;
+        listener.address = address;
+        listener
     }
 
     /// Adds a link, which is given after the others.
@@ -96,6 +109,13 @@ impl<I: Source + Drop, O: Sink + Drop> ListedLinks<I, O> {
     {
         self.has_ended
     }
+
+    /// Its path. The links left are dropped.
+    pub fn into_address(self) -> String
+        ensures { string_bytes result ≡ self.address }
+    {
+        self.address
+    }
 }
 
 impl<I: Source + Drop + Send + 'static, O: Sink + Drop + Send + 'static> Listener
@@ -103,6 +123,8 @@ impl<I: Source + Drop + Send + 'static, O: Sink + Drop + Send + 'static> Listene
     type In = I;
 
     type Out = O;
+
+    ghost address = { λ l. l.address };
 
     ghost coming = { λ l. Some (map (report_of I.left I.is_steady O.written O.is_steady) l.links) };
 
@@ -140,18 +162,20 @@ impl<I: Source + Drop + Send + 'static, O: Sink + Drop + Send + 'static> Listene
 /// A listener that gives listed links in order, never fails, and ends after the last link.
 #[derive(Drop)]
 pub struct SteadyLinks<I: Source + Drop, O: Sink + Drop> {
+    address: String,
     links: VecDeque<Link<I, O>>,
     given: u64,
     has_ended: bool,
 }
 
 impl<I: Source + Drop, O: Sink + Drop> Model for SteadyLinks<I, O> {
-    ghost use Rattle.std.specs.Prelude.{◌≡◌, IsTrue, []};
+    ghost use Rattle.std.specs.Prelude.{◌≡◌, IsTrue, [], string_bytes};
     ghost use Rattle.kr_memory.specs.Links.{SteadyLinksState, AreNew};
 
     ghost Value = { SteadyLinksState I O };
 
     ghost view = { λ l. record {
+      address = string_bytes l.address;
       links = l.links.items;
       given = l.given;
       has_ended = l.has_ended;
@@ -162,16 +186,31 @@ impl<I: Source + Drop, O: Sink + Drop> Model for SteadyLinks<I, O> {
 }
 
 impl<I: Source + Drop, O: Sink + Drop> SteadyLinks<I, O> {
-    /// A listener of these links.
-    pub fn new(links: Vec<Link<I, O>>) -> Self
+    /// A listener of these links, at the empty path.
+    pub fn new(alloc: Global, links: Vec<Link<I, O>>) -> Self
         requires { AreNew I.is_closed I.faults O.is_closed O.faults links.items }
-        ensures { result ≡ record { links = links.items; given = 0; has_ended = false } }
+        ensures { result ≡ record {
+          address = [];
+          links = links.items;
+          given = 0;
+          has_ended = false;
+        } }
     {
         SteadyLinks {
+            address: String::new(alloc),
             links: VecDeque::from_vec(links),
             given: 0,
             has_ended: false,
         }
+    }
+
+    /// The listener, at this path.
+    pub fn at(self, address: String) -> Self
+        ensures { result ≡ record self { address = string_bytes address } }
+    {
+        let mut listener = self;
+        listener.address = address;
+        listener
     }
 
     /// Adds a link, which is given after the others.
@@ -204,6 +243,13 @@ impl<I: Source + Drop, O: Sink + Drop> SteadyLinks<I, O> {
     {
         self.has_ended
     }
+
+    /// Its path. The links left are dropped.
+    pub fn into_address(self) -> String
+        ensures { string_bytes result ≡ self.address }
+    {
+        self.address
+    }
 }
 
 impl<I: Source + Drop + Send + 'static, O: Sink + Drop + Send + 'static> Listener
@@ -211,6 +257,8 @@ impl<I: Source + Drop + Send + 'static, O: Sink + Drop + Send + 'static> Listene
     type In = I;
 
     type Out = O;
+
+    ghost address = { λ l. l.address };
 
     ghost coming = { λ l. Some (map (report_of I.left I.is_steady O.written O.is_steady) l.links) };
 

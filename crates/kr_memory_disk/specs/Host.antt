@@ -31,7 +31,7 @@ IsUnused given has_ended door = (given door ≡ 0) × IsFalse (has_ended door)
 
 -- no door was taken back yet
 abbrev pub none_shut : ShutDoors
-none_shut = record { count = 0; given = 0; has_ended = false }
+none_shut = record { count = 0; address = []; given = 0; has_ended = false }
 
 -- what the names of the folder at a path stand for, which it reports only for its one folder
 abbrev pub host_tells : {Door : Type 0} → HostState Door → List ℕ → Option (List ℕ → Image)

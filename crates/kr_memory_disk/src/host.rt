@@ -1,4 +1,4 @@
-ghost use Rattle.std.specs.Prelude.{◌≡◌, [], Some, None, true, false, cond, nat_eq};
+ghost use Rattle.std.specs.Prelude.{◌≡◌, [], string_bytes, Some, None, true, false, cond, nat_eq};
 ghost use Rattle.std.specs.Cmp.Lexicographic.{pointwise};
 ghost use Rattle.std.proofs.Common.{rules};
 ghost use Rattle.kr_outside.specs.Host.{TakesBack};
@@ -23,33 +23,42 @@ use std::mem;
 #[derive(Drop)]
 struct Shut {
     count: u64,
+    address: String,
     given: u64,
     has_ended: bool,
 }
 
 impl Model for Shut {
+    ghost use Rattle.std.specs.Prelude.{string_bytes};
     ghost use Rattle.kr_outside.specs.Host.{ShutDoors};
 
     ghost Value = { ShutDoors };
 
-    ghost view = { λ s. record { count = s.count; given = s.given; has_ended = s.has_ended } };
+    ghost view = { λ s. record {
+      count = s.count;
+      address = string_bytes s.address;
+      given = s.given;
+      has_ended = s.has_ended;
+    } };
 }
 
 impl Shut {
-    fn none() -> Shut
+    fn none(alloc: Global) -> Shut
         ensures { result ≡ none_shut }
     {
         Shut {
             count: 0,
+            address: String::new(alloc),
             given: 0,
             has_ended: false,
         }
     }
 
-    fn take_back(&mut self, given: u64, has_ended: bool)
-        ensures { TakesBack self.old given has_ended self.new }
+    fn take_back(&mut self, address: String, given: u64, has_ended: bool)
+        ensures { TakesBack self.old (string_bytes address) given has_ended self.new }
     {
         self.count = self.count.saturating_add(1);
+        self.address = address;
         self.given = given;
         self.has_ended = has_ended;
     }
@@ -121,7 +130,7 @@ impl<I: Source + Drop, O: Sink + Drop> MemoryHost<I, O> {
             clock,
             calls: CallPlan::new(failing),
             given: 0,
-            shut: Shut::none(),
+            shut: Shut::none(alloc),
         }
     }
 
@@ -183,12 +192,16 @@ impl<I: Source + Drop + Send + 'static, O: Sink + Drop + Send + 'static> Host fo
         if self.calls.call().is_err() {
             return Err(OutsideRefused::Failed);
         }
+        let Ok(address) = String::from_str(self.alloc, path) else {
+            return Err(OutsideRefused::OutOfMemory);
+        };
         let (_, door) = self.door.take().unwrap();
-        Ok(door)
+        Ok(door.at(address))
     }
 
     fn shut(&mut self, door: ListedLinks<I, O>) {
-        self.shut.take_back(door.given(), door.has_ended());
+        let (given, has_ended) = (door.given(), door.has_ended());
+        self.shut.take_back(door.into_address(), given, has_ended);
     }
 
     fn clock(&mut self) -> ListedClock {
@@ -235,7 +248,7 @@ impl<I: Source + Drop, O: Sink + Drop> SteadyHost<I, O> {
         ensures { result ≡ record {
           files = files;
           room = room;
-          door = record { links = []; given = 0; has_ended = false };
+          door = record { address = []; links = []; given = 0; has_ended = false };
           clock = clock;
           given = 0;
           shut_doors = none_shut;
@@ -245,10 +258,10 @@ impl<I: Source + Drop, O: Sink + Drop> SteadyHost<I, O> {
             alloc,
             files,
             room,
-            door: SteadyLinks::new(Vec::new(alloc)),
+            door: SteadyLinks::new(alloc, Vec::new(alloc)),
             clock,
             given: 0,
-            shut: Shut::none(),
+            shut: Shut::none(alloc),
         }
     }
 
@@ -298,13 +311,16 @@ impl<I: Source + Drop + Send + 'static, O: Sink + Drop + Send + 'static> Host fo
     }
 
     fn listen(&mut self, path: &str) -> Result<SteadyLinks<I, O>, OutsideRefused> {
-        let _ = path;
-        let next = SteadyLinks::new(Vec::new(self.alloc));
-        Ok(mem::replace(&mut self.door, next))
+        let Ok(address) = String::from_str(self.alloc, path) else {
+            return Err(OutsideRefused::OutOfMemory);
+        };
+        let next = SteadyLinks::new(self.alloc, Vec::new(self.alloc));
+        Ok(mem::replace(&mut self.door, next).at(address))
     }
 
     fn shut(&mut self, door: SteadyLinks<I, O>) {
-        self.shut.take_back(door.given(), door.has_ended());
+        let (given, has_ended) = (door.given(), door.has_ended());
+        self.shut.take_back(door.into_address(), given, has_ended);
     }
 
     fn clock(&mut self) -> ListedClock {

@@ -20,15 +20,17 @@ CountsGiven old new (Err refused) = new ≡ old
 pub record ShutDoors : Type 0 where
   -- how many they are, a count that stays at its last number
   pub count : ℕ
+  -- the path at which others connected to the last of them
+  pub address : List ℕ
   -- how many links the last of them had given
   pub given : ℕ
   -- whether the last of them had ended
   pub has_ended : Bool
 
--- a door that had given so many links, and had ended or not, was taken back
-abbrev pub TakesBack : ShutDoors → ℕ → Bool → ShutDoors → Type 0
-TakesBack old given has_ended new =
-    new ≡ record { count = min (old.count + 1) last_count; given = given; has_ended = has_ended }
+-- a door at this path that had given so many links, and had ended or not, was taken back
+abbrev pub TakesBack : ShutDoors → List ℕ → ℕ → Bool → ShutDoors → Type 0
+TakesBack old address given has_ended new =
+    new ≡ record { count = min (old.count + 1) last_count; address = address; given = given; has_ended = has_ended }
 
 -- what the folders at all paths stand for is reported as before
 abbrev pub TellsAsBefore : {H : Type 0} → (H → List ℕ → Option (List ℕ → Image)) → H → H → Type 0

@@ -65,6 +65,7 @@ pub trait Host {
     /// Refused with `Failed` only if the count of faults rose, and with `OutOfMemory` if no
     /// memory was left.
     fn listen(&mut self, path: &str) -> Result<Self::Door, OutsideRefused>
+        ensures address { IfOk result (λ door. Self.Door.address door ≡ path.now) }
         ensures none_given { IfOk result (λ door. Self.Door.given door ≡ 0) }
         ensures not_ended { IfOk result (λ door. IsFalse (Self.Door.has_ended door)) }
         ensures steady_door { IfOk result (λ door.
@@ -79,10 +80,11 @@ pub trait Host {
         ensures steady { KeepsSteady (is_steady self.old) (is_steady self.new)
             (faults self.old) (faults self.new) };
 
-    /// Takes a door back: nobody connects at it any more. It is counted, with the number of links
-    /// that it gave, and whether it had ended. It can't be refused; the host may count a fault.
+    /// Takes a door back: nobody connects at it any more. It is counted, with the path at which
+    /// others connected, the number of links that it gave, and whether it had ended. It can't be
+    /// refused; the host may count a fault.
     fn shut(&mut self, door: Self::Door)
-        ensures shut_doors { TakesBack (shut_doors self.old)
+        ensures shut_doors { TakesBack (shut_doors self.old) (Self.Door.address door)
             (Self.Door.given door) (Self.Door.has_ended door) (shut_doors self.new) }
         ensures told { TellsAsBefore told self.old self.new }
         ensures coming { coming self.new ≡ coming self.old }

@@ -22,6 +22,9 @@ pub trait Listener: Drop {
     /// The type of the outputs. Another thread may write one.
     type Out: Sink + Drop + Send + 'static;
 
+    /// The path at which others connect to it. No call changes it.
+    ghost address: { Self → List ℕ };
+
     /// The links that are still to be given, in order, if the listener reports them.
     ghost coming: { Self → Option (List LinkReport) };
 
@@ -57,6 +60,7 @@ pub trait Listener: Drop {
             IsNewEnd (Self.Out.is_closed link.output) (Self.Out.faults link.output))) }
         ensures given { CountsLink (given self.old) (given self.new) result }
         ensures ended { NotesEnd (has_ended self.old) (has_ended self.new) result }
+        ensures address { address self.new ≡ address self.old }
 
         ensures unchanged { OnErr result (coming self.new ≡ coming self.old) }
         ensures cause { HasCause (faults self.old) (faults self.new) result }

@@ -1,5 +1,5 @@
 // A Unix socket at which others connect.
-ghost use Rattle.std.specs.Prelude.{◌≡◌, None, IfOk, false};
+ghost use Rattle.std.specs.Prelude.{◌≡◌, None, IfOk, string_bytes, false};
 ghost use Rattle.std.proofs.Common.{rules};
 
 use crate::connection::Connection;
@@ -214,6 +214,7 @@ impl<R: Files<File = File> + Net + time::Clock + Eprint + AllocGlobal + Copy> Un
     ///
     /// An error if the path is another file's, or a socket's at which somebody listens.
     pub fn bind(rt: R, path: &str, ending: Option<Arc<Ending, Global>>) -> io::Result<UnixDoor<R>>
+        ensures address { IfOk result (λ door. string_bytes door.file.path ≡ path.now) }
         ensures given { IfOk result (λ door. door.given ≡ 0) }
         ensures ended { IfOk result (λ door. door.has_ended ≡ false) }
     {
@@ -236,11 +237,13 @@ impl<R: Files<File = File> + Net + time::Clock + Eprint + AllocGlobal + Copy> Un
         })
     }
 
-    /// Nobody connects any more, and the socket's file is removed, unless another one has taken its place.
-    ///
-    /// An error if the file can't be removed.
-    pub fn close(self) -> io::Result<()> {
-        self.file.remove(&self.hall.rt)
+    /// Nobody connects any more, and the socket's file is removed, unless another one has taken its place. Returns the
+    /// path, and an error if the file can't be removed.
+    pub fn close(self) -> (String, io::Result<()>)
+        ensures { result.0 ≡ self.file.path }
+    {
+        let removed = self.file.remove(&self.hall.rt);
+        (self.file.into_path(), removed)
     }
 }
 
@@ -277,6 +280,8 @@ impl<R: Files<File = File> + Net + time::Clock + Eprint + AllocGlobal + Copy> Li
     type In = SocketSource;
 
     type Out = SocketSink;
+
+    ghost address = { λ d. string_bytes d.file.path };
 
     ghost coming = { λ _. None };
 

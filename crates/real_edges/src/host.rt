@@ -1,4 +1,4 @@
-ghost use Rattle.std.specs.Prelude.{◌≡◌, None, false, true};
+ghost use Rattle.std.specs.Prelude.{◌≡◌, None, string_bytes, false, true};
 ghost use Rattle.std.proofs.Common.{rules};
 
 use crate::clock::SystemClock;
@@ -23,6 +23,7 @@ pub struct RealHost<R: Files<File = File> + Net + time::Clock + Eprint + AllocGl
     faults: u64,
     given: u64,
     shut: u64,
+    last_address: String,
     last_given: u64,
     last_ended: bool,
     ending: Option<Arc<Ending, Global>>,
@@ -42,6 +43,7 @@ impl<R: Files<File = File> + Net + time::Clock + Eprint + AllocGlobal + Copy> Re
             faults: 0,
             given: 0,
             shut: 0,
+            last_address: String::new(rt.alloc()),
             last_given: 0,
             last_ended: false,
             ending: None,
@@ -114,6 +116,7 @@ impl<R: Files<File = File> + Net + time::Clock + Eprint + AllocGlobal + Copy> Ho
 
     ghost shut_doors = { λ h. record {
       count = h.shut;
+      address = string_bytes h.last_address;
       given = h.last_given;
       has_ended = h.last_ended;
     } };
@@ -162,7 +165,9 @@ impl<R: Files<File = File> + Net + time::Clock + Eprint + AllocGlobal + Copy> Ho
         self.shut = self.shut.saturating_add(1);
         self.last_given = door.given();
         self.last_ended = door.has_ended();
-        if door.close().is_err() {
+        let (address, removed) = door.close();
+        self.last_address = address;
+        if removed.is_err() {
             count(&mut self.faults);
         }
     }

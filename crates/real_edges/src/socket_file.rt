@@ -1,4 +1,6 @@
 // The file of a Unix socket: how it is made, and how it is taken away.
+ghost use Rattle.std.specs.Prelude.{◌≡◌, IfOk, string_bytes};
+
 use crate::opened::path_of;
 use std::fs::{self, DirBuilder, File, Files, Permissions, TryLockError};
 use std::io::{self, ErrorKind};
@@ -20,7 +22,7 @@ impl SocketFile {
     /// Removes the file. If another file is at its path by now, or none, that stays so.
     ///
     /// An error if the file can't be removed.
-    pub fn remove<R: Files>(self, rt: &R) -> io::Result<()> {
+    pub fn remove<R: Files>(&self, rt: &R) -> io::Result<()> {
         match fs::symlink_metadata(rt, self.path.as_str()) {
             Ok(found) => {
                 if found.dev() == self.device && found.ino() == self.number {
@@ -32,6 +34,13 @@ impl SocketFile {
             Err(_) => Ok(()),
         }
     }
+
+    /// The path at which it was made.
+    pub fn into_path(self) -> String
+        ensures { result ≡ self.path }
+    {
+        self.path
+    }
 }
 
 /// A socket that listens at the path, and its file, to which its owner alone may connect (mode 0600) from the moment
@@ -41,7 +50,9 @@ impl SocketFile {
 pub fn bind<R: Files<File = File> + Net + time::Clock + AllocGlobal>(
     rt: &R,
     path: &str,
-) -> io::Result<(UnixListener, SocketFile)> {
+) -> io::Result<(UnixListener, SocketFile)>
+    ensures { IfOk result (λ bound. string_bytes bound.1.path ≡ path.now) }
+{
     let _ = SocketAddr::from_pathname(path)?;
     let _turn = turn_at(rt, parent_of(path))?;
     is_free(rt, path)?;
@@ -138,7 +149,9 @@ fn bind_in<R: Files<File = File> + Net + AllocGlobal>(
     rt: &R,
     fresh: &str,
     path: &str,
-) -> io::Result<(UnixListener, SocketFile)> {
+) -> io::Result<(UnixListener, SocketFile)>
+    ensures { IfOk result (λ bound. string_bytes bound.1.path ≡ path.now) }
+{
     let folder = fs::open(rt, fresh)?;
     let inside = path_of(rt, &folder, fresh)?;
     let socket = socket_in(rt, inside.as_str())?;
@@ -153,7 +166,9 @@ fn listen_at<R: Files + Net + AllocGlobal>(
     rt: &R,
     socket: &str,
     path: &str,
-) -> io::Result<(UnixListener, SocketFile)> {
+) -> io::Result<(UnixListener, SocketFile)>
+    ensures { IfOk result (λ bound. string_bytes bound.1.path ≡ path.now) }
+{
     let name = String::from_str(rt.alloc(), path)?;
     let listener = UnixListener::bind(rt, socket)?;
     fs::set_permissions(rt, socket, Permissions::from_mode(0o600))?;
