@@ -165,6 +165,7 @@ where
         })
         (L.faults listener.old) (L.faults listener.new) (L.has_ended listener.new) result }
     ensures hub { IsSameHub U.uid U.guid U.seed U.home hub.old hub.new }
+    ensures address { L.address listener.new ≡ L.address listener.old }
     ensures steady { KeepsSteady (L.is_steady listener.old) (L.is_steady listener.new)
         (L.faults listener.old) (L.faults listener.new) }
 {
@@ -222,6 +223,7 @@ where
         })
         (L.faults listener.old) (L.faults listener.new) (L.has_ended listener.new) result }
     ensures hub { IsSameHub U.uid U.guid U.seed U.home hub.old hub.new }
+    ensures address { L.address listener.new ≡ L.address listener.old }
     ensures steady { KeepsSteady (L.is_steady listener.old) (L.is_steady listener.new)
         (L.faults listener.old) (L.faults listener.new) }
     ensures done { done.new.items ≡ done.old.items }
@@ -310,6 +312,7 @@ where
         (L.faults listener.old) (L.faults listener.new) (L.has_ended listener.new)
         done.old.items done.new.items result }
     ensures hub { IsSameHub U.uid U.guid U.seed U.home hub.old hub.new }
+    ensures address { L.address listener.new ≡ L.address listener.old }
     ensures steady { KeepsSteady (L.is_steady listener.old) (L.is_steady listener.new)
         (L.faults listener.old) (L.faults listener.new) }
 {

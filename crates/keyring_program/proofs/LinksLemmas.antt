@@ -46,16 +46,16 @@ module _ {R F S T I O : Type 0} (left : I → Option (List ℕ)) (in_faults : I 
       (record { standing = record { view = g.pass.view; unjoined = g.unjoined; started = jobs.started; unstarted = jobs.unstarted }; listening = record { coming = coming; given = g.given } })
       unjoined unstarted (record { coming = coming_after; given = given_after }) was now ended how service
 
-  pub serves-door : (uid then_uid : ℕ) (number seed then_seed : List ℕ) (pass : Seen) (was_unjoined was_given : ℕ) (steady : Bool) (contents : Contents) (most : Option ℕ) (jobs_old jobs_new : Spawning (Job (SharedDesk R F S) (SharedDesk R F S) T I O))
+  pub serves-door : (uid then_uid : ℕ) (number seed then_seed path : List ℕ) (pass : Seen) (was_unjoined was_given : ℕ) (steady : Bool) (contents : Contents) (most : Option ℕ) (jobs_old jobs_new : Spawning (Job (SharedDesk R F S) (SharedDesk R F S) T I O))
       (coming coming_after : Option (List LinkReport)) (unjoined given was now : ℕ) (has_ended : Bool) (how : LoopEnd) (service : History) (shut_old shut_new : ShutDoors) (status : Status)
       → AreSoundContents contents
       → links.ServesLinks left in_faults in_steady in_closed written out_faults out_steady out_closed then_uid number then_seed most pass
       (record { standing = record { view = pass.view; unjoined = was_unjoined; started = jobs_old.started; unstarted = jobs_old.unstarted }; listening = record { coming = coming; given = was_given } })
       unjoined jobs_new.unstarted (record { coming = coming_after; given = given }) was now has_ended how service
       → then_uid ≡ uid → number ≡ guid seed → then_seed ≡ seed → pass ≡ opened pass.table steady (first_window (opened_state contents)) → was_unjoined ≡ 0 → was_given ≡ 0
-      → TakesBack shut_old given has_ended shut_new → status ≡ status_of_loop how
-      → ServesDoor left in_faults in_steady in_closed written out_faults out_steady out_closed uid seed most steady contents shut_old shut_new jobs_old jobs_new status
-  serves-door uid then_uid number seed then_seed pass was_unjoined was_given steady contents most jobs_old jobs_new coming coming_after unjoined given was now has_ended how service shut_old
+      → TakesBack shut_old path given has_ended shut_new → status ≡ status_of_loop how
+      → ServesDoor left in_faults in_steady in_closed written out_faults out_steady out_closed uid seed path most steady contents shut_old shut_new jobs_old jobs_new status
+  serves-door uid then_uid number seed then_seed path pass was_unjoined was_given steady contents most jobs_old jobs_new coming coming_after unjoined given was now has_ended how service shut_old
       shut_new status sound all same_uid same_number same_seed first none_unjoined none_given back status_is =
       let before : Given = record { uid = then_uid; number = number; seed = then_seed; pass = pass; unjoined = was_unjoined; given = was_given } in
       let at : Given = record { uid = uid; number = guid seed; seed = seed; pass = opened pass.table steady (first_window (opened_state contents)); unjoined = 0; given = 0 } in

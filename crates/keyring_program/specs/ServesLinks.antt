@@ -26,15 +26,15 @@ pub record IsUnserved {J : Type 0} (status : Status) (shut_old shut_new : ShutDo
   pub jobs : jobs_new ≡ jobs_old
 
 -- The run of a daemon for this user, under this seed, over a service that starts with these collections and aliases, which are sound, and whose
--- disk is steady or not. The door gave links, as the host reports; what became of each, and what each connection read, recorded and wrote, is
+-- disk is steady or not. The door at this path gave links, as the host reports; what became of each, and what each connection read, recorded and wrote, is
 -- `links`. All that was recorded is one history, which is legal from the service's start, and led to its state. The status is that of the end
 -- of the loop over the links.
-pub record ServesDoor {R F S T I O : Type 0} (left : I → Option (List ℕ)) (in_faults : I → ℕ) (in_steady in_closed : I → Bool) (written : O → Option (List ℕ)) (out_faults : O → ℕ) (out_steady out_closed : O → Bool) (uid : ℕ) (seed : List ℕ) (most : Option ℕ) (steady : Bool) (contents : Contents) (shut_old shut_new : ShutDoors) (jobs_old jobs_new : Spawning (Job (SharedDesk R F S) (SharedDesk R F S) T I O)) (status : Status) : Type 0 where
+pub record ServesDoor {R F S T I O : Type 0} (left : I → Option (List ℕ)) (in_faults : I → ℕ) (in_steady in_closed : I → Bool) (written : O → Option (List ℕ)) (out_faults : O → ℕ) (out_steady out_closed : O → Bool) (uid : ℕ) (seed path : List ℕ) (most : Option ℕ) (steady : Bool) (contents : Contents) (shut_old shut_new : ShutDoors) (jobs_old jobs_new : Spawning (Job (SharedDesk R F S) (SharedDesk R F S) T I O)) (status : Status) : Type 0 where
   pub sound : AreSoundContents contents
   -- the door: how many links it gave, and whether it has ended
   pub given : ℕ
   pub has_ended : Bool
-  pub back : TakesBack shut_old given has_ended shut_new
+  pub back : TakesBack shut_old path given has_ended shut_new
   -- the links that it had to give before and after, if it reports them, and its counts of faults
   pub coming : Option (List LinkReport)
   pub coming_after : Option (List LinkReport)

@@ -125,7 +125,7 @@ where
         (H.faults host.old) (H.faults host.new) }
 
     // `serve` leaves the standard streams alone, and ends in one of four ways: it is done only if the host took
-    // back a door that had ended, or had given as many links as were to be accepted.
+    // back a door at SOCKET that had ended, or had given as many links as were to be accepted.
     ensures serve_status { (until_eof : Bool) (folder socket : List ℕ) (uid : ℕ)
         → (connections : Option ℕ)
         → IsCommandLine (serve_line until_eof folder socket uid connections) words.now
@@ -134,7 +134,7 @@ where
         → (connections : Option ℕ)
         → IsCommandLine (serve_line until_eof folder socket uid connections) words.now
         → result ≡ Status.Done
-        → HasServed connections (H.shut_doors host.old) (H.shut_doors host.new) }
+        → HasServed socket connections (H.shut_doors host.old) (H.shut_doors host.new) }
     ensures serve_opened { (until_eof : Bool) (folder socket : List ℕ) (uid : ℕ)
         → (connections : Option ℕ) (images : List ℕ → Image)
         → IsCommandLine (serve_line until_eof folder socket uid connections) words.now
@@ -156,7 +156,7 @@ where
         → H.told host.old folder ≡ Some images → HasOpened H.Dir.Cell images contents)
         × ServesDoor H.Door.In.left H.Door.In.faults H.Door.In.is_steady H.Door.In.is_closed
         H.Door.Out.written H.Door.Out.faults H.Door.Out.is_steady H.Door.Out.is_closed
-        uid seed connections (H.is_steady host.old) contents
+        uid seed socket connections (H.is_steady host.old) contents
         (H.shut_doors host.old) (H.shut_doors host.new) spawner.old spawner.new result) }
 
     // `stdio` opens no door, and the host has no fault once the folder is open.

@@ -72,10 +72,10 @@ where
     ensures status { IsServeStatus result }
     ensures idle { spawner.new.started ≡ [] }
 
-    // It is done only if the host took back one door more, which had ended, or had given N links. Otherwise the
-    // host took back one door at most.
+    // It is done only if the host took back one door more, at SOCKET, which had ended, or had given N links.
+    // Otherwise the host took back one door at most.
     ensures done { result ≡ Status.Done
-        → HasServed connections (H.shut_doors host.old) (H.shut_doors host.new) }
+        → HasServed socket.now connections (H.shut_doors host.old) (H.shut_doors host.new) }
     ensures one_door { TakesBackOneAtMost (H.shut_doors host.old) (H.shut_doors host.new) }
 
     // The folder and the door are at fault only if the host's count rose, or if what the host opened may fail.
@@ -104,7 +104,7 @@ where
         → H.told host.old folder.now ≡ Some images → HasOpened H.Dir.Cell images contents)
         × ServesDoor H.Door.In.left H.Door.In.faults H.Door.In.is_steady H.Door.In.is_closed
         H.Door.Out.written H.Door.Out.faults H.Door.Out.is_steady H.Door.Out.is_closed
-        uid seed connections (H.is_steady host.old) contents
+        uid seed socket.now connections (H.is_steady host.old) contents
         (H.shut_doors host.old) (H.shut_doors host.new) spawner.old spawner.new result) }
     ensures host_later { H.faults host.old ≤ H.faults host.new }
     ensures host_honest { H.is_honest host.new ≡ H.is_honest host.old }

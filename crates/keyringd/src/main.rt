@@ -149,7 +149,7 @@ where
         → (connections : Option ℕ)
         → IsCommandLine (serve_line until_eof folder socket uid connections) words.now
         → result ≡ Status.Done
-        → HasServed connections (H.shut_doors host.old) (H.shut_doors host.new) }
+        → HasServed socket connections (H.shut_doors host.old) (H.shut_doors host.new) }
     ensures serve_complete { (until_eof : Bool) (folder socket : List ℕ) (uid : ℕ)
         → (connections : Option ℕ)
         → IsCommandLine (serve_line until_eof folder socket uid connections) words.now

@@ -90,6 +90,7 @@ where
     ensures why { HasLoopCause result.end most (L.given listener.new) (L.has_ended listener.new)
         (L.faults listener.old) (L.faults listener.new) }
     ensures idle { spawner.new.started ≡ [] }
+    ensures address { L.address listener.new ≡ L.address listener.old }
     ensures steady { KeepsSteady (L.is_steady listener.old) (L.is_steady listener.new)
         (L.faults listener.old) (L.faults listener.new) }
 

@@ -78,7 +78,7 @@ fn given_by_the_plan(alloc: Global, failing: &str) -> Result<Vec<u8>, Fail> {
 }
 
 fn given_steadily(alloc: Global) -> Result<Vec<u8>, Fail> {
-    let mut listener = SteadyLinks::new(Vec::new(alloc));
+    let mut listener = SteadyLinks::new(alloc, Vec::new(alloc));
     listener.push(input_of(alloc, b"a")?, output_of(alloc))?;
     listener.push(input_of(alloc, b"b")?, output_of(alloc))?;
     links_of(alloc, &mut listener)

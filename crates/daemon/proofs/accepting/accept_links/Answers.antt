@@ -21,4 +21,5 @@ loop-preserved g c =
       record { same = step.steady.same ∙ before.3.same; still = λ steady. still },
       c.in-Ok.ensures.items ∙ before.4,
       room-kept _ _ _ _ _ c.in-Ok.ensures.ok (ap (λ n. n + 1) c.len.ensures) (one-at-most _ _ _ _ _ _ _ _ _ _ _ _ _ _ _ _ _ _ step.accepts.0.0 round),
+      step.address ∙ before.6,
     )

@@ -24,3 +24,4 @@ invariant-loop g l =
     × KeepsSteady (listener.is_steady l.initial.listener) (listener.is_steady l.listener) (listener.faults l.initial.listener) (listener.faults l.listener)
     × (l.done.items ≡ l.initial.done.items)
     × (vec_len l.done + length l.spawner.started ≤ vec_capacity l.done)
+    × (listener.address l.listener ≡ listener.address l.initial.listener)

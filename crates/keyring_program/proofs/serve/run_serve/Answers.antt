@@ -30,7 +30,7 @@ returns-clause-done g c done =
     record {
       given = g.H.Door.Listener.given c.serve_links-served.new.listener;
       has_ended = g.H.Door.Listener.has_ended c.serve_links-served.new.listener;
-      back = rw (sym (c.in-Ok-listen.ensures.shut_doors ∙ (c.clock-clock.ensures.shut_doors ∙ c.open_service.ensures.doors))) c.shut.ensures.shut_doors;
+      back = rw (sym (c.in-Ok-listen.ensures.shut_doors ∙ (c.clock-clock.ensures.shut_doors ∙ c.open_service.ensures.doors)), sym (c.serve_links-served.ensures.address ∙ c.in-Ok-listen.ensures.address)) c.shut.ensures.shut_doors;
       served = loop-done c.serve_links-served.result.end _ _ _ _ _ c.serve_links-served.ensures.why (sym c.of_loop.ensures ∙ done);
     }
 
@@ -81,13 +81,13 @@ returns-clause-served g c =
       contents_of start.state,
       λ images honest told. c.in-Ok.ensures.opened images honest told,
       serves-door source.left source.faults source.is_steady source.is_closed sink.written sink.faults sink.is_steady sink.is_closed
-          c.args.uid hub.uid hub.guid c.args.seed hub.seed hub.pass hub.refused (listener.given c.in-Ok-listen.door) (g.H.Host.is_steady c.args.host.now) (contents_of start.state) c.args.connections
+          c.args.uid hub.uid hub.guid c.args.seed hub.seed c.args.socket.now hub.pass hub.refused (listener.given c.in-Ok-listen.door) (g.H.Host.is_steady c.args.host.now) (contents_of start.state) c.args.connections
           c.args.spawner.now served.new.spawner (listener.coming c.in-Ok-listen.door) (listener.coming served.new.listener) served.result.refused (listener.given served.new.listener)
           (listener.faults c.in-Ok-listen.door) (listener.faults served.new.listener) (listener.has_ended served.new.listener) served.result.end served.result.service.history
           (g.H.Host.shut_doors c.args.host.now) (g.H.Host.shut_doors c.shut.new.self) _
           c.in-Ok.ensures.sound served.ensures.served made.uid made.guid made.seed
           (first-pass hub.pass _ start (g.H.Host.is_steady c.args.host.now) made.pass c.in-Ok.ensures.history c.in-Ok.ensures.starts c.in-Ok.ensures.steady_disk)
           made.refused c.in-Ok-listen.ensures.none_given
-          (rw (sym (c.in-Ok-listen.ensures.shut_doors ∙ (c.clock-clock.ensures.shut_doors ∙ c.open_service.ensures.doors))) c.shut.ensures.shut_doors)
+          (rw (sym (c.in-Ok-listen.ensures.shut_doors ∙ (c.clock-clock.ensures.shut_doors ∙ c.open_service.ensures.doors)), sym (served.ensures.address ∙ c.in-Ok-listen.ensures.address)) c.shut.ensures.shut_doors)
           c.of_loop.ensures,
     )
