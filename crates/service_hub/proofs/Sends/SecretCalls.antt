@@ -5,6 +5,10 @@ use Rattle.shared_service.specs.secret_calls.specs.contracts.call.Call as Call
 use Rattle.shared_service.specs.secret_calls.specs.contracts.call.Request as Request
 use Rattle.shared_service.specs.secret_calls.specs.contracts.out.Body as Body
 use Rattle.shared_service.specs.secret_calls.specs.contracts.out.Out as Out
+use Rattle.shared_service.specs.secret_calls.specs.contracts.property.Attribute as Attribute
+use Rattle.shared_service.specs.secret_calls.specs.contracts.property.Property as Property
+use Rattle.shared_service.specs.secret_calls.specs.contracts.property.PropertyValue as PropertyValue
+use Rattle.shared_service.specs.secret_calls.specs.contracts.property.ShownProperty as ShownProperty
 use Rattle.shared_service.specs.secret_calls.specs.contracts.secret.ItemSecret as ItemSecret
 use Rattle.shared_service.specs.secret_calls.specs.contracts.secret.ReturnedSecret as ReturnedSecret
 use Rattle.shared_service.specs.secret_calls.specs.contracts.secret.Secret as Secret
@@ -20,8 +24,15 @@ AliasName-send = search (Text-send, sendable) depth 30
 Secret-send : IsSend (Secret.the_field).row
 Secret-send = search (Bytes-send, Text-send, sendable) depth 40
 
+Property-send : IsSend Property.the_row
+Property-send = search sendable depth 40
+
+Property-field-send : IsSend (Property.the_field).row
+Property-field-send = search sendable depth 40
+
 Call-send : IsSend Call.the_row
-Call-send = search (Text-send, Bytes-send, Stem-send, Attributes-send, AliasName-send, ObjectName-send, ObjectName-field-send, Secret-send, Items-send, sendable) depth 40 fits 20000
+Call-send =
+    search (Text-send, Bytes-send, Stem-send, Attributes-send, AliasName-send, ObjectName-send, ObjectName-field-send, Secret-send, Property-send, Property-field-send, Items-send, sendable) depth 40 fits 20000
 
 pub Request-send : IsSend (Request.the_field).row
 Request-send = search (Call-send, sendable) depth 40
@@ -32,8 +43,17 @@ ReturnedSecret-send = search (Bytes-send, Text-send, sendable) depth 40
 ItemSecret-send : IsSend ItemSecret.the_row
 ItemSecret-send = search (Text-send, ReturnedSecret-send, sendable) depth 40
 
+Attribute-send : IsSend Attribute.the_row
+Attribute-send = search (Text-send, sendable) depth 40
+
+PropertyValue-send : IsSend (PropertyValue.the_field).row
+PropertyValue-send = search (Text-send, Attribute-send, Items-send, sendable) depth 40
+
+ShownProperty-send : IsSend ShownProperty.the_row
+ShownProperty-send = search (Property-field-send, PropertyValue-send, sendable) depth 40
+
 Body-send : IsSend (Body.the_field).row
-Body-send = search (Text-send, ReturnedSecret-send, ItemSecret-send, Items-send, sendable) depth 40 fits 20000
+Body-send = search (Text-send, ReturnedSecret-send, ItemSecret-send, PropertyValue-send, ShownProperty-send, Items-send, sendable) depth 40 fits 20000
 
 Completion-send : IsSend (Completion.the_field).row
 Completion-send = search (Text-send, Items-send, sendable) depth 40
