@@ -1,4 +1,4 @@
-ghost use Rattle.std.specs.Prelude.{◌≡◌, ℕ, ◌+◌, ◌<◌, ◌≤◌, ◌⊎◌, ◌++◌, Bool, List, Option, [], None, Some, length, take, vec_len, vec_capacity, IsErr, IsOk, IfOk, OnErr, IsTrue, IsFalse, true, false};
+ghost use Rattle.std.specs.Prelude.{◌≡◌, ℕ, ◌+◌, ◌<◌, ◌≤◌, ◌⊎◌, ◌++◌, Bool, List, Option, [], None, Some, length, take, vec_len, vec_capacity, IsErr, IsOk, IfOk, OnOk, OnErr, IsTrue, IsFalse, true, false};
 ghost use Rattle.std.specs.Io.{WritesAtMost};
 ghost use Rattle.std.specs.Io.KnownBytes.{WriteAppends};
 ghost use Rattle.kr_outside.specs.Faults.{HasCause, KeepsSteady};
@@ -84,6 +84,7 @@ impl Sink for MemorySink {
         ensures some { IfOk result (λ count. 0 < length piece.now → 0 < count) }
         ensures put { WriteAppends (Some self.old.kept) (Some self.new.kept) result piece.now }
         ensures cause { HasCause self.old.plan.faults self.new.plan.faults result }
+        ensures still { OnOk result (self.new.plan.faults ≡ self.old.plan.faults) }
         ensures steady { KeepsSteady false false self.old.plan.faults self.new.plan.faults }
         ensures is_open { IsFalse self.new.is_closed }
 
@@ -231,6 +232,7 @@ impl Sink for SteadySink {
         ensures some { IfOk result (λ count. 0 < length piece.now → 0 < count) }
         ensures put { WriteAppends None None result piece.now }
         ensures cause { HasCause 0 0 result }
+        ensures still { OnOk result (◌≡◌ {A = ℕ} 0 0) }
         ensures steady { KeepsSteady true true 0 0 }
         ensures is_open { IsFalse self.new.is_closed }
 

@@ -12,6 +12,7 @@ pub record WroteAllBut (old new : Option (List ℕ)) (before now : ℕ) (was is 
   pub whole : piece ≡ front ++ rest
   pub put : Appends old new front
   pub later : before ≤ now
+  pub still : now ≡ before
   pub steady : KeepsSteady was is before now
   pub is_open : IsFalse is_closed
 
@@ -22,6 +23,7 @@ WroteAllBut-none old count is is_closed piece is_open = record {
   whole = refl;
   put = Appends-nil old;
   later = omega arith;
+  still = refl;
   steady = KeepsSteady-none is count;
   is_open = is_open;
 }
@@ -32,13 +34,14 @@ drop_whole n rest = take_all (length rest - n) (drop n rest) (omega (arith, leng
 
 -- one more write took the first n bytes of the rest
 pub WroteAllBut-more : (old mid new : Option (List ℕ)) (x y z : ℕ) (a b c was_closed is_closed : Bool) (piece rest : List ℕ) (n : ℕ)
-    → WroteAllBut old mid x y a b was_closed piece rest → Appends mid new (take n rest) → y ≤ z → KeepsSteady b c y z → IsFalse is_closed
+    → WroteAllBut old mid x y a b was_closed piece rest → Appends mid new (take n rest) → y ≤ z → z ≡ y → KeepsSteady b c y z → IsFalse is_closed
     → WroteAllBut old new x z a c is_closed piece (take (length rest - n) (drop n rest))
-WroteAllBut-more old mid new x y z a b c was_closed is_closed piece rest n w put later steady is_open = record {
+WroteAllBut-more old mid new x y z a b c was_closed is_closed piece rest n w put later still steady is_open = record {
   front = w.front ++ take n rest;
   whole = rw (drop_whole n rest) (w.whole ∙ ap (λ l. w.front ++ l) (sym (take-append-drop n rest)) ∙ sym (append_assoc w.front (take n rest) (drop n rest)));
   put = Appends-trans old mid new w.front (take n rest) w.put put;
   later = omega (arith, w.later);
+  still = still ∙ w.still;
   steady = KeepsSteady-trans a b c x y z w.steady steady;
   is_open = is_open;
 }

@@ -23,13 +23,15 @@ pub trait Sink {
     /// Writes the first bytes of the piece, and returns how many: at least one, if the piece has
     /// any. A stream that takes none of them has failed.
     ///
-    /// Refused with `Failed` only if the count of faults rose; the bytes written are then as before.
+    /// Refused with `Failed` only if the count of faults rose, which it does at no other write; the
+    /// bytes written are then as before.
     fn write(&mut self, piece: &[u8]) -> Result<usize, Failed>
         requires is_open { IsFalse (is_closed self.old) }
         ensures within { WritesAtMost result piece.now }
         ensures some { IfOk result (λ count. 0 < length piece.now → 0 < count) }
         ensures put { WriteAppends (written self.old) (written self.new) result piece.now }
         ensures cause { HasCause (faults self.old) (faults self.new) result }
+        ensures still { OnOk result (faults self.new ≡ faults self.old) }
         ensures steady { KeepsSteady (is_steady self.old) (is_steady self.new)
             (faults self.old) (faults self.new) }
         ensures is_open { IsFalse (is_closed self.new) };
@@ -56,6 +58,7 @@ pub fn write_all<O: Sink>(output: &mut O, piece: &[u8]) -> Result<(), Failed>
     ensures front { OnErr result
         (AppendsFront (O.written output.old) (O.written output.new) piece.now) }
     ensures cause { HasCause (O.faults output.old) (O.faults output.new) result }
+    ensures still { OnOk result (O.faults output.new ≡ O.faults output.old) }
     ensures steady { KeepsSteady (O.is_steady output.old) (O.is_steady output.new)
         (O.faults output.old) (O.faults output.new) }
     ensures is_open { IsFalse (O.is_closed output.new) }

@@ -5,4 +5,4 @@ use Rattle.kr_outside.proofs.sink.write_all.Goals as goal
 pub loop-rest-preserved : goal.loop-rest-preserved
 loop-rest-preserved g c =
     WroteAllBut-more _ _ _ _ _ _ _ _ _ _ _ _ _ c.in_ok-count.count c.loop-rest.invariant
-    c.in_ok-count.ensures.put c.in_ok-count.ensures.cause.later c.in_ok-count.ensures.steady c.in_ok-count.ensures.is_open
+    c.in_ok-count.ensures.put c.in_ok-count.ensures.cause.later c.in_ok-count.ensures.still c.in_ok-count.ensures.steady c.in_ok-count.ensures.is_open
