@@ -22,7 +22,7 @@ use Rattle.service_desk.specs.service_events.proofs.AloneLemmas.{waiting_row}
 use Rattle.connection_worker.specs.Written.{given_by, spelled_behind}
 use Rattle.connection_worker.specs.Serving.{World, place_of, IsOwed, owed, Asks, Brings, HasArrived, HasBrought, HasGiven, Gives}
 use Rattle.connection_worker.specs.Answering.{AnswersCall}
-use Rattle.connection_worker.proofs.StreamLemmas.{Gave-none, Gave-trans, GaveFront-whole, GaveFront-more, GaveFront-behind}
+use Rattle.connection_worker.proofs.StreamLemmas.{Gave-later, Gave-none, Gave-trans, GaveFront-whole, GaveFront-more, GaveFront-behind}
 use Rattle.connection_worker.proofs.AnswerLemmas.{given-idle}
 use Rattle.connection_worker.proofs.HandshakeLemmas.{rose-later}
 use Rattle.connection_worker.proofs.SendingLemmas.{spelled_behind-append}
@@ -314,7 +314,7 @@ answers parts request work key old mid last first new serials next after from o 
         wrote = λ taken are.
             let begun = gives.2 taken are in
             rw (e, spelled_behind-append taken one two) (
-              rose-later from.faults o.faults to.faults begun.0.later then.1,
+              rose-later from.faults o.faults to.faults (Gave-later from o (spelled_behind taken one) begun.0) then.1,
               GaveFront-behind from o to (spelled_behind taken one) (spelled_behind (taken + length one) two) begun.0 (then.2 (taken + length one) begun.1),
             );
         stops = λ taken are.

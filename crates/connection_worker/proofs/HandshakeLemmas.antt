@@ -20,7 +20,7 @@ use Rattle.connection_worker.specs.declared.ending.End.TheVariants as end
 use Rattle.connection_worker.specs.Streams.{Input, Output, Took, IsStill, GaveFront}
 use Rattle.connection_worker.specs.Lines.{Answers}
 use Rattle.connection_worker.specs.Handshakes.{Both, most_bytes, IsRefusedFor, IsRefusedSo, EndsFor, HandshakeOutcome, ReadsMore, Reached, HandshakeOutcomeAfter}
-use Rattle.connection_worker.proofs.StreamLemmas.{Took-none, Took-trans, Gave-none, Gave-trans, GaveFront-whole, GaveFront-more, GaveFront-behind}
+use Rattle.connection_worker.proofs.StreamLemmas.{Took-none, Took-trans, Gave-later, Gave-none, Gave-trans, GaveFront-whole, GaveFront-more, GaveFront-behind}
 
 -- a count that rose in a later call
 pub rose-later : (a b c : ℕ) → a ≤ b → Rose b c → Rose a c
@@ -145,7 +145,7 @@ fails at next held left old input mid new so rose front =
     record {
       read = so.read;
       took = so.took;
-      ends = (rose-later old.output.faults mid.faults new.faults so.gave.later rose, rw all (GaveFront-behind old.output mid new (concat so.answers) (concat (run next left).answers) so.gave front), so.still);
+      ends = (rose-later old.output.faults mid.faults new.faults (Gave-later old.output mid (concat so.answers) so.gave) rose, rw all (GaveFront-behind old.output mid new (concat so.answers) (concat (run next left).answers) so.gave front), so.still);
     }
 
 -- nothing more was read

@@ -27,7 +27,7 @@ use Rattle.connection_worker.specs.Answering.{IsOne, Answered, Broke, AnswersCal
 use Rattle.connection_worker.proofs.HandshakeLemmas.{rose-later}
 use Rattle.connection_worker.proofs.RecordLemmas.{all-finished, finished-all, finished-more, recorded-none, recorded-more, turns-append, given_by-append}
 use Rattle.connection_worker.proofs.SendingLemmas.{spelled_behind-append}
-use Rattle.connection_worker.proofs.StreamLemmas.{Gave-none, Gave-trans, GaveFront-whole, GaveFront-behind}
+use Rattle.connection_worker.proofs.StreamLemmas.{Gave-later, Gave-none, Gave-trans, GaveFront-whole, GaveFront-behind}
 
 -- ---- requests that were answered one after the other
 
@@ -87,7 +87,7 @@ answered-more old mid new serials next behind from o to asked more p q =
 -- an early end after what was written
 pub ends-behind : (why : End) (count : ℕ) (from o to : Output) (x y : List ℕ) → Gave from o x → EndsEarly why count o to y → EndsEarly why count from to (x ++ y)
 ends-behind end.EventsSpent count from o to x y gave ends = (ends.0, Gave-trans from o to x y gave ends.1)
-ends-behind end.WriteFault count from o to x y gave ends = (rose-later from.faults o.faults to.faults gave.later ends.0, GaveFront-behind from o to x y gave ends.1)
+ends-behind end.WriteFault count from o to x y gave ends = (rose-later from.faults o.faults to.faults (Gave-later from o x gave) ends.0, GaveFront-behind from o to x y gave ends.1)
 ends-behind end.Memory count from o to x y gave ends = GaveFront-behind from o to x y gave ends
 ends-behind _ count from o to x y gave ends = absurd ends
 

@@ -29,7 +29,7 @@ use Rattle.connection_worker.specs.OneThread.{IsServed}
 use Rattle.connection_worker.proofs.HandshakeLemmas.{rose-later}
 use Rattle.connection_worker.proofs.RecordLemmas.{all-finished, finished-front, recorded-none, given_by-append, turns-faultless}
 use Rattle.connection_worker.proofs.ServingLemmas.{same, only-there}
-use Rattle.connection_worker.proofs.StreamLemmas.{Took-trans, Gave-trans, GaveFront-behind}
+use Rattle.connection_worker.proofs.StreamLemmas.{Took-trans, Gave-later, Gave-trans, GaveFront-behind}
 
 -- ---- the desk's last call
 
@@ -174,7 +174,7 @@ served-behind uid guid from mid to sink o out old served new framing how shakes 
       finished = serves.finished;
       moments = serves.recorded.moments;
       salts = serves.recorded.salts;
-      cause = rw (whole, sym count) (cause-after how all bytes serves.asked served.told.count from mid to sink o out refl shakes.took.later shakes.ends.4 shakes.ends.3.later serves.cause);
+      cause = rw (whole, sym count) (cause-after how all bytes serves.asked served.told.count from mid to sink o out refl shakes.took.later shakes.ends.4 (Gave-later sink o (concat run.answers) shakes.ends.3) serves.cause);
       wrote =
           rw (whole, single-text old serves.asked joined)
           (written-behind how sink o out (concat run.answers) (written_after old.told.conn 0 old.told.state (turns old.told.conn old.told.state serves.asked)) shakes.ends.3 serves.wrote);

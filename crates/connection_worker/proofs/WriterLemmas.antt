@@ -27,7 +27,7 @@ use Rattle.connection_worker.specs.Written.{spelled_behind}
 use Rattle.connection_worker.proofs.HandshakeLemmas.{rose-later}
 use Rattle.connection_worker.proofs.SendingLemmas.{spelled_behind-append}
 use Rattle.connection_worker.proofs.SideLemmas.{own_in-append, own_in-others, saw-looks, saw-extends}
-use Rattle.connection_worker.proofs.StreamLemmas.{Gave-none, Gave-trans, GaveFront-behind, GaveFront-whole}
+use Rattle.connection_worker.proofs.StreamLemmas.{Gave-later, Gave-none, Gave-trans, GaveFront-behind, GaveFront-whole}
 use Rattle.connection_worker.proofs.TakenLemmas.{given-append}
 
 pub written-none : (w : Place) (o : Output) → WrittenSoFar o o w w 0
@@ -115,7 +115,7 @@ broke-off from o to old mid new serials behind outs why so takes sends =
       whole = so.wrote;
       front = f;
     } in
-    let ends = pass why seen (told_after old.told seen) so.behind so.wrote.later front stops sends in
+    let ends = pass why seen (told_after old.told seen) so.behind (Gave-later from o (spelled_behind 0 (given so.seen)) so.wrote) front stops sends in
     record {
       seen = seen;
       last = [];

@@ -45,10 +45,10 @@ IsStill old new = new.faults ≡ old.faults
 abbrev pub StaysAsOpen : Output → Output → Type 0
 StaysAsOpen old new = new.is_closed ≡ old.is_closed
 
--- these bytes were written; the sink was neither closed nor opened
+-- these bytes were written, and no write failed: the sink's count of faults didn't rise; the sink was neither closed nor opened
 pub record Gave (old new : Output) (bytes : List ℕ) : Type 0 where
   pub appended : Appends old.written new.written bytes
-  pub later : old.faults ≤ new.faults
+  pub still : new.faults ≡ old.faults
   pub steady : KeepsSteady old.is_steady new.is_steady old.faults new.faults
   pub closed : new.is_closed ≡ old.is_closed
 
