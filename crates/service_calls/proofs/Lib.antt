@@ -1,5 +1,5 @@
 pub mod AliasLemmas
+pub mod EffectLemmas
 pub mod LeadsLemmas
-pub mod LockLemmas
 pub mod PassLemmas
 pub mod SessionLemmas

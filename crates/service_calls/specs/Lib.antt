@@ -8,4 +8,5 @@ pub use Rattle.service_events
 pub use Rattle.service_events.specs.service_prompts
 pub use Rattle.service_events.specs.service_tables
 pub mod Done
+pub mod Effect
 pub mod Rows

@@ -18,15 +18,16 @@ const MOST_BODY: u64 = 8_388_608;
 /// The answer to a call: the values of a return, or the name of an error.
 pub type Answer = Result<Body, ErrorName>;
 
-/// Whether a body is small enough to be returned.
-pub fn is_small(body: &Body) -> bool
+// Whether a body is small enough to be returned.
+fn is_small(body: &Body) -> bool
     ensures { result ≡ is_small body.now }
 {
     body_size(body) <= MOST_BODY
 }
 
-// The answer of a call, or LimitsExceeded if the return is too large.
-fn bounded(answer: Answer) -> Answer
+/// The answer of a call, or LimitsExceeded if the return is too large. The size of a return is tested here
+/// alone.
+pub fn bounded(answer: Answer) -> Answer
     ensures { result ≡ bounded answer }
 {
     match answer {

@@ -1,16 +1,14 @@
 // The calls of the interface Collection.
-ghost use Rattle.std.specs.Prelude.{◌≡◌, Some, IfOk, map};
-ghost use Rattle.kr_base.specs.declared.ids.ConnId.{ConnId};
+ghost use Rattle.std.specs.Prelude.{◌≡◌, Some, IfOk};
 ghost use Rattle.service_events.specs.CollectionCalls.{search_collection};
-ghost use Rattle.service_events.specs.Plan.{Lock_collection};
 ghost use Rattle.service_calls.specs.Done.{reads};
-ghost use Rattle.service_calls.specs.Rows.{rows_of, disk_of};
+ghost use Rattle.service_calls.specs.Rows.{rows_of};
 ghost use Rattle.service_events.specs.service_tables.specs.Storing.{Brought};
-ghost use Rattle.service_events.specs.Run.{asked, performed, performed_all};
+ghost use Rattle.service_events.specs.Run.{asked};
 
 use crate::Tables;
 use crate::answer::Answer;
-use kr_base::{Attributes, ConnId, OutOfMemory, Stem};
+use kr_base::{Attributes, ConnId, OutOfMemory};
 use kr_items::Items;
 use kr_names::ObjectName;
 use kr_outside::Folder;
@@ -37,28 +35,5 @@ impl<F: Folder> Tables<F> {
         let ids = self.disk.found_in(self.alloc, stem, wanted)?;
         let paths = item_paths(self.alloc, stem, &ids)?;
         Ok(Ok(Body::Objects(Items::new(paths))))
-    }
-
-    // Locks a collection. It needs no memory.
-    fn lock_one(&mut self, conn: ConnId, stem: &Stem)
-        ensures rows { rows_of self.new
-            ≡ performed conn (Lock_collection stem.now) (rows_of self.old) }
-        ensures room { self.new.connections ≡ self.old.connections }
-        ensures disk { disk_of self.new ≡ disk_of self.old }
-    {
-        let _ = conn;
-        self.disk.collections.lock(stem);
-    }
-
-    /// Locks these collections. It needs no memory.
-    pub fn lock_all(&mut self, conn: ConnId, stems: &[Stem])
-        ensures rows { rows_of self.new
-            ≡ performed_all conn (map Lock_collection stems.now) (rows_of self.old) }
-        ensures room { self.new.connections ≡ self.old.connections }
-        ensures disk { disk_of self.new ≡ disk_of self.old }
-    {
-        for stem in stems {
-            self.lock_one(conn, stem);
-        }
     }
 }

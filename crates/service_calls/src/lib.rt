@@ -10,6 +10,7 @@ mod aliases;
 mod answer;
 mod collection;
 mod creating;
+mod effect;
 mod item;
 mod prompt;
 mod properties;

@@ -22,15 +22,14 @@ ghost use Rattle.service_events.specs.service_tables.specs.Storing.{Brought};
 ghost use Rattle.service_events.specs.service_tables.specs.declared.rows.ConnRow.{ConnRow};
 
 use crate::Tables;
-use crate::answer::is_small;
+use crate::effect::Effect;
 use crate::storing::{Done, refused, sending, unstored};
 use kr_base::{ConnId, OutOfMemory, PromptId, Stem};
 use kr_outside::Folder;
-use prompt_state::{Ask, PromptKind, PromptRefused, PromptRow, PromptState, Target, Targets};
+use prompt_state::{Ask, PromptKind, PromptRow, PromptState, Target, Targets};
 use service_events::secret_calls::{Body, ErrorName};
 use service_events::service_prompts::{ask_signal, completed_sent, completed_signal};
 use service_events::service_tables::{Delivery, Disk};
-use std::alloc::AllocError;
 
 // The first target of a prompt that is left. Shows that no two prompts have one number.
 fn first_open(prompts: &PromptState, prompt: PromptId) -> Option<&Target>
@@ -184,17 +183,10 @@ impl<F: Folder> Tables<F> {
         ensures unchanged { OnErr result ((rows_of self.new ≡ rows_of self.old)
             × (disk_of self.new ≡ disk_of self.old)) }
     {
-        if self.prompts.is_full(conn) {
+        if !fits {
             return Ok(refused(self.alloc, ErrorName::LimitsExceeded));
         }
-        if !fits || !is_small(&body) {
-            return Ok(refused(self.alloc, ErrorName::LimitsExceeded));
-        }
-        match self.prompts.begin(conn, kind) {
-            Ok(_) => Ok(unstored(self.alloc, Ok(body))),
-            Err(PromptRefused::OutOfMemory) => Err(AllocError),
-            Err(_) => Ok(refused(self.alloc, ErrorName::LimitsExceeded)),
-        }
+        self.perform_if_small(body, Effect::Begin(conn, kind))
     }
 
     // Whether there is such a prompt, on which Prompt hasn't been called yet.

@@ -7,7 +7,8 @@ ghost use Rattle.service_events.specs.Run.{asked};
 ghost use Rattle.service_events.specs.ServiceCalls.{is_plain, open_session, search_items, lock, get_secrets};
 
 use crate::Tables;
-use crate::answer::{Answer, is_small};
+use crate::answer::Answer;
+use crate::effect::Effect;
 use crate::storing::{Done, refused, unstored};
 use kr_base::{Attributes, ConnId, OutOfMemory, SessionId, Text};
 use kr_items::Items;
@@ -80,17 +81,14 @@ impl<F: Folder> Tables<F> {
         ensures unchanged { OnErr result ((rows_of self.new ≡ rows_of self.old)
             × (disk_of self.new ≡ disk_of self.old)) }
     {
+        let _ = conn;
         let stems = self.disk.collections_around(self.alloc, objects)?;
         let paths = self.disk.those_there(self.alloc, objects)?;
         let body = Body::ObjectsAndPrompt {
             objects: Items::new(paths),
             prompt: None,
         };
-        if !is_small(&body) {
-            return Ok(refused(self.alloc, ErrorName::LimitsExceeded));
-        }
-        self.lock_all(conn, &stems);
-        Ok(unstored(self.alloc, Ok(body)))
+        self.perform_if_small(body, Effect::Lock(stems))
     }
 
     /// Answers GetSecrets as its row does, whatever the size of the return.

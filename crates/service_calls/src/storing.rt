@@ -14,7 +14,8 @@ ghost use Rattle.service_events.specs.Run.{asked};
 ghost use Rattle.service_calls.specs.Done.{Leads, answer_by, body_of};
 
 use crate::Tables;
-use crate::answer::{Answer, is_small};
+use crate::answer::Answer;
+use crate::effect::Effect;
 use kr_base::{Attributes, ConnId, ItemId, OutOfMemory, SessionId, Stem, Text};
 use kr_items::Items;
 use kr_names::{ObjectName, path_of};
@@ -220,14 +221,7 @@ impl<F: Folder> Tables<F> {
             return Ok(refused(self.alloc, ErrorName::LimitsExceeded));
         };
         let body = body_of(self.alloc, returned, stem, answer)?;
-        if !is_small(&body) {
-            return Ok(refused(self.alloc, ErrorName::LimitsExceeded));
-        }
-        let stored = self.disk.store(stem, change, now)?;
-        match stored {
-            Some(fate) => Ok(ended(self.alloc, body, fate)),
-            None => Ok(refused(self.alloc, ErrorName::LimitsExceeded)),
-        }
+        self.perform_if_small(body, Effect::Store { stem, change, now })
     }
 
     // Stores an edit that brings a secret with this content type, for a session of the caller.
