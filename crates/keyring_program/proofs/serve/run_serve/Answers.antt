@@ -34,6 +34,12 @@ returns-clause-done g c done =
       served = loop-done c.serve_links-served.result.end _ _ _ _ _ c.serve_links-served.ensures.why (sym c.of_loop.ensures ∙ done);
     }
 
+pub returns-clause-one_door : goal.returns-clause-one_door
+returns-clause-one_door g c =
+    let listener = g.H.Door.Listener in
+    let door = c.serve_links-served.new.listener in
+    inr (listener.address door, listener.given door, listener.has_ended door, rw (sym (c.in-Ok-listen.ensures.shut_doors ∙ (c.clock-clock.ensures.shut_doors ∙ c.open_service.ensures.doors))) c.shut.ensures.shut_doors)
+
 pub returns-clause-folder_fault : goal.returns-clause-folder_fault
 returns-clause-folder_fault g c same = absurd (loop-folder c.serve_links-served.result.end (sym c.of_loop.ensures ∙ same))
 
