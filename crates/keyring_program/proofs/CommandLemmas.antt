@@ -36,19 +36,19 @@ one_check words folder other is_asked asks one two =
 -- the folder, the socket, the user and the number of links of `serve`
 pub one_serve : (words : List (List ℕ)) (given also : Bool) (folder other socket another : List ℕ) (uid user : ℕ) (most few : Option ℕ)
     → IsCommandLine (serve_line given folder socket uid most) words → IsCommandLine (serve_line also other another user few) words
-    → (folder ≡ other) × (most ≡ few) × (uid ≡ user)
+    → (folder ≡ other) × (most ≡ few) × (uid ≡ user) × (socket ≡ another)
 one_serve words true true folder other socket another uid user most few one two =
     let same : ServeUntilEof folder socket uid most ≡ ServeUntilEof other another user few = one_line (ServeUntilEof folder socket uid most) (ServeUntilEof other another user few) words one two in
-    (cc, cc, cc)
+    (cc, cc, cc, cc)
 one_serve words false false folder other socket another uid user most few one two =
     let same : Serve folder socket uid most ≡ Serve other another user few = one_line (Serve folder socket uid most) (Serve other another user few) words one two in
-    (cc, cc, cc)
+    (cc, cc, cc, cc)
 one_serve words true false folder other socket another uid user most few one two =
     let same : ServeUntilEof folder socket uid most ≡ Serve other another user few = one_line (ServeUntilEof folder socket uid most) (Serve other another user few) words one two in
-    (cc, cc, cc)
+    (cc, cc, cc, cc)
 one_serve words false true folder other socket another uid user most few one two =
     let same : Serve folder socket uid most ≡ ServeUntilEof other another user few = one_line (Serve folder socket uid most) (ServeUntilEof other another user few) words one two in
-    (cc, cc, cc)
+    (cc, cc, cc, cc)
 
 -- one command isn't another
 pub serve_or_stdio : (words : List (List ℕ)) (given : Bool) (folder other socket : List ℕ) (uid user : ℕ) (most : Option ℕ) → IsCommandLine (serve_line given folder socket uid most) words → IsCommandLine (Stdio other user) words → ⊥

@@ -161,7 +161,7 @@ returns-in-Serve-clause-stdio_status g c folder uid words =
 pub returns-in-Serve-clause-serve_done : goal.returns-in-Serve-clause-serve_done
 returns-in-Serve-clause-serve_done g c until_eof folder socket uid most words done =
     let same = one_serve c.args.words.now false until_eof c.in-Serve.folder folder c.in-Serve.socket socket c.in-Serve.uid uid c.in-Serve.connections most (rw c.in-Serve.is at (rw c.in-Ok-Some.field-0-is at c.in-Ok-Some.ensures.read)) words in
-    rw (sym same.1) (c.run_serve.ensures.done done)
+    rw (sym same.1, sym (c.as_str-in-Serve-2.ensures.value ∙ same.3)) (c.run_serve.ensures.done done)
 
 pub returns-in-Serve-clause-serve_opened : goal.returns-in-Serve-clause-serve_opened
 returns-in-Serve-clause-serve_opened g c until_eof folder socket uid most images words honest told had =
@@ -171,7 +171,7 @@ returns-in-Serve-clause-serve_opened g c until_eof folder socket uid most images
 pub returns-in-Serve-clause-serve_recorded : goal.returns-in-Serve-clause-serve_recorded
 returns-in-Serve-clause-serve_recorded g c until_eof folder socket uid most words =
     let same = one_serve c.args.words.now false until_eof c.in-Serve.folder folder c.in-Serve.socket socket c.in-Serve.uid uid c.in-Serve.connections most (rw c.in-Serve.is at (rw c.in-Ok-Some.field-0-is at c.in-Ok-Some.ensures.read)) words in
-    rw (sym same.1, sym same.2, sym (c.as_str-in-Serve.ensures.value ∙ same.0)) c.run_serve.ensures.served
+    rw (sym same.1, sym same.2, sym (c.as_str-in-Serve.ensures.value ∙ same.0), sym (c.as_str-in-Serve-2.ensures.value ∙ same.3)) c.run_serve.ensures.served
 
 pub returns-in-Serve-clause-untouched : goal.returns-in-Serve-clause-untouched
 returns-in-Serve-clause-untouched g c same = absurd (subst IsServeStatus same c.run_serve.ensures.status)
@@ -225,7 +225,7 @@ returns-in-ServeUntilEof-clause-stdio_status g c folder uid words =
 pub returns-in-ServeUntilEof-clause-serve_done : goal.returns-in-ServeUntilEof-clause-serve_done
 returns-in-ServeUntilEof-clause-serve_done g c until_eof folder socket uid most words done =
     let same = one_serve c.args.words.now true until_eof c.in-ServeUntilEof.folder folder c.in-ServeUntilEof.socket socket c.in-ServeUntilEof.uid uid c.in-ServeUntilEof.connections most (rw c.in-ServeUntilEof.is at (rw c.in-Ok-Some.field-0-is at c.in-Ok-Some.ensures.read)) words in
-    rw (sym same.1) (c.run_serve-in-ServeUntilEof.ensures.done done)
+    rw (sym same.1, sym (c.as_str-in-ServeUntilEof-2.ensures.value ∙ same.3)) (c.run_serve-in-ServeUntilEof.ensures.done done)
 
 pub returns-in-ServeUntilEof-clause-serve_opened : goal.returns-in-ServeUntilEof-clause-serve_opened
 returns-in-ServeUntilEof-clause-serve_opened g c until_eof folder socket uid most images words honest told had =
@@ -235,7 +235,7 @@ returns-in-ServeUntilEof-clause-serve_opened g c until_eof folder socket uid mos
 pub returns-in-ServeUntilEof-clause-serve_recorded : goal.returns-in-ServeUntilEof-clause-serve_recorded
 returns-in-ServeUntilEof-clause-serve_recorded g c until_eof folder socket uid most words =
     let same = one_serve c.args.words.now true until_eof c.in-ServeUntilEof.folder folder c.in-ServeUntilEof.socket socket c.in-ServeUntilEof.uid uid c.in-ServeUntilEof.connections most (rw c.in-ServeUntilEof.is at (rw c.in-Ok-Some.field-0-is at c.in-Ok-Some.ensures.read)) words in
-    rw (sym same.1, sym same.2, sym (c.as_str-in-ServeUntilEof.ensures.value ∙ same.0)) c.run_serve-in-ServeUntilEof.ensures.served
+    rw (sym same.1, sym same.2, sym (c.as_str-in-ServeUntilEof.ensures.value ∙ same.0), sym (c.as_str-in-ServeUntilEof-2.ensures.value ∙ same.3)) c.run_serve-in-ServeUntilEof.ensures.served
 
 pub returns-in-ServeUntilEof-clause-untouched : goal.returns-in-ServeUntilEof-clause-untouched
 returns-in-ServeUntilEof-clause-untouched g c same = absurd (subst IsServeStatus same c.run_serve-in-ServeUntilEof.ensures.status)
