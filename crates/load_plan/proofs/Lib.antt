@@ -1,4 +1,4 @@
-mod PartLemmas
-mod PlanLemmas
-mod SendingLemmas
+pub mod PartLemmas
+pub mod PlanLemmas
+pub mod SendingLemmas
 mod AnsweredLemmas

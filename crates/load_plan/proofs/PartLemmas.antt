@@ -27,16 +27,23 @@ digits_plain n fits = All-from_get_or IsPlain (decimal n) 0 (λ i lt. (let digit
 pub label_text : (n : ℕ) → n < 2 ^ 32 → IsText (codes "item " ++ decimal n)
 label_text n fits = IsText-plain (codes "item " ++ decimal n) (All-append IsPlain (codes "item ") (decimal n) (plain_literal (codes "item ") refl) (digits_plain n (omega (arith, fits))))
 
+-- such a literal is a text, and so are the digits of a number
+pub plain_text : (bytes : List ℕ) → list_all (λ byte. nat_lt 0 byte && nat_lt byte 128) bytes ≡ true → IsText bytes
+plain_text bytes test = IsText-plain bytes (plain_literal bytes test)
+
+pub number_text : (n : ℕ) → n < 2 ^ 64 → IsText (decimal n)
+number_text n fits = IsText-plain (decimal n) (digits_plain n fits)
+
 -- ---- attributes
 
 itself : (pairs attributes : List (List ℕ × AttrValue)) → IsInOrder pairs → Gathers pairs attributes → attributes ≡ pairs
 itself pairs attributes ordered is = is_gathered pairs attributes is ∙ sym (is_gathered pairs pairs (Gathers-itself pairs ordered))
 
-one_ordered : (a : AttrValue) → IsInOrder ((codes "group", a) ∷ [])
+pub one_ordered : (a : AttrValue) → IsInOrder ((codes "group", a) ∷ [])
 unfolding IsStrictlySortedBy
 one_ordered a = (tt, tt)
 
-two_ordered : (a b : AttrValue) → IsInOrder ((codes "group", a) ∷ (codes "number", b) ∷ [])
+pub two_ordered : (a b : AttrValue) → IsInOrder ((codes "group", a) ∷ (codes "number", b) ∷ [])
 unfolding IsStrictlySortedBy
 two_ordered a b = ((refl, tt), (tt, tt))
 

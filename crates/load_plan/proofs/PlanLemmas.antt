@@ -10,7 +10,7 @@ use Rattle.secret_calls.specs.declared.call.Call.{Call}
 use Rattle.client_core.specs.Askable.{IsAskable, is_text_value}
 use Rattle.load_plan.specs.Plan.{first, opening, create, search, read, plan, attributes_of}
 
-append-all : (P : Call → Type 0) (xs ys : List Call) → AllByRecursion P xs → AllByRecursion P ys → AllByRecursion P (xs ++ ys)
+pub append-all : (P : Call → Type 0) (xs ys : List Call) → AllByRecursion P xs → AllByRecursion P ys → AllByRecursion P (xs ++ ys)
 append-all P [] ys one two = two
 append-all P (x ∷ xs) ys one two = (one.0, append-all P xs ys one.1 two)
 

@@ -9,9 +9,9 @@ use Rattle.client_core.specs.Replies.{shape_of, reply_in}
 use Rattle.load_plan.specs.declared.counts.Counts.{Counts}
 use Rattle.load_plan.specs.Counts.{none, counted}
 
--- the most bytes of a message
+-- the most bytes of a message (D-Bus Specification, "Message Format"), so that no output of the service is too long
 abbrev pub most_bytes : ℕ
-most_bytes = 1048576
+most_bytes = 134217728
 
 -- what follows the first line, which answers the handshake
 abbrev pub behind_line : List ℕ → List ℕ

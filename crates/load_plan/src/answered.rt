@@ -12,8 +12,8 @@ use secret_calls::Call;
 use std::alloc::{AllocError, AllocGlobal, Global};
 use std::sync::Wait;
 
-// The most bytes of a message.
-const MOST_BYTES: u32 = 1_048_576;
+// The most bytes of a message (D-Bus Specification, "Message Format"), so that no output of the service is too long.
+const MOST_BYTES: u32 = 134_217_728;
 
 // What follows the first line, which answers the handshake.
 fn behind_line(written: &[u8]) -> &[u8]
