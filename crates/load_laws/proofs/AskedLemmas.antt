@@ -1,13 +1,12 @@
 -- The calls of a load can be asked, and their messages are small.
-use Rattle.std.proofs.Common.{◌≡◌, ◌≢◌, ℕ, zero, suc, ◌+◌, ◌*◌, ◌%◌, ◌^◌, ◌<◌, ◌≤◌, ◌&&◌, nat_lt, Bool, true, false, List, [], ◌∷◌, ◌++◌, length, Option, Some, None, codes, decimal, refl, sym, ap, ◌∙◌, subst, arith, length-append}
+use Rattle.std.proofs.Common.{◌≡◌, ◌≢◌, ℕ, zero, suc, ◌+◌, ◌*◌, ◌%◌, ◌^◌, ◌<◌, ◌≤◌, ◌&&◌, List, [], ◌∷◌, ◌++◌, length, Some, None, codes, decimal, refl, ◌∙◌, arith, length-append}
 use Rattle.std.specs.Int.{w32}
-use Rattle.std.specs.List.{All, AllByRecursion, list_all}
+use Rattle.std.specs.List.{All, AllByRecursion}
 use Rattle.std.proofs.lemmas.Fmt.{length-decimal-le}
 use Rattle.std.proofs.lemmas.List.Elements.{All-contains, All-from_recursion}
 use Rattle.kr_base.specs.declared.attributes.AttrValue.{AttrValue}
 use Rattle.kr_base.specs.declared.attributes.AttrValue.TheVariants as value
 use Rattle.kr_base.specs.Stem.{IsStem}
-use Rattle.kr_base.specs.Text.{IsText}
 use Rattle.kr_names.specs.Path.{agent, collections, path_text, prompts, service}
 use Rattle.kr_names.specs.Escape.{escaped}
 use Rattle.kr_names.specs.declared.object_name.ObjectName.TheVariants as name
@@ -22,17 +21,16 @@ use Rattle.dbus_marshal.specs.Spelling.{all_spelled, first_at, spelled}
 use Rattle.dbus_marshal.proofs.WritingLemmas.{zeros_long}
 use Rattle.dbus_framing.specs.Headers.{field_parts}
 use Rattle.dbus_sending.specs.Sent as sending
-use Rattle.dbus_sending.specs.Sent.{bare_header, rows_of}
 use Rattle.secret_calls.specs.declared.call.Call.{Call}
 use Rattle.secret_calls.specs.declared.call.Call.TheVariants as call
-use Rattle.secret_calls.proofs.LengthLemmas.{AtMost, AllAtMost, end-most, more-most, byte-most, word-most, long-most, text-most, path-most, signature-most, variant-most, struct-most, array-most}
+use Rattle.secret_calls.proofs.LengthLemmas.{AtMost, AllAtMost, end-most, more-most, byte-most, word-most, long-most, text-most, path-most, variant-most, struct-most, array-most}
 use Rattle.secret_calls.specs.Outs.{prompt_path}
 use Rattle.secret_calls.proofs.SizeLemmas.{fields-most, prompt-short}
-use Rattle.client_core.specs.Arguments.{arguments_of, attributes_value, attribute_values, given_secret, item_properties, session_text}
+use Rattle.client_core.specs.Arguments.{arguments_of, attributes_value, given_secret, item_properties, session_text}
 use Rattle.client_core.specs.Asked.{most_bytes, sent}
 use Rattle.client_core.specs.Asked as asking
 use Rattle.client_core.specs.Askable.{CanBeAsked}
-use Rattle.load_plan.specs.Plan.{attributes_of, create, first, given, opening, plan, read, search, the_name}
+use Rattle.load_plan.specs.Plan.{create, first, opening, plan, read, search, the_name}
 use Rattle.load_plan.specs.Words.{cells, group_of, secret_of}
 use Rattle.load_plan.proofs.PartLemmas.{label_text, number_text, one_ordered, plain_text, two_ordered}
 use Rattle.load_plan.proofs.PlanLemmas.{append-all}

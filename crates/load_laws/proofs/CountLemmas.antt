@@ -1,5 +1,5 @@
 -- What is counted over the replies to a load: one segment of its calls after the other.
-use Rattle.std.proofs.Common.{◌≡◌, ℕ, zero, suc, ◌+◌, ◌-◌, ◌^◌, ◌<◌, ◌≤◌, Bool, true, false, cond, min, List, [], ◌∷◌, ◌++◌, length, Option, Some, None, is_some, Result, Ok, Err, bytes_eq, codes, refl, sym, ap, ◌∙◌, subst, arith, length-append}
+use Rattle.std.proofs.Common.{◌≡◌, ℕ, zero, suc, ◌+◌, ◌-◌, ◌^◌, ◌<◌, ◌≤◌, Bool, true, false, cond, List, [], ◌∷◌, ◌++◌, length, Option, Some, None, is_some, Result, Ok, bytes_eq, codes, refl, sym, ap, ◌∙◌, subst, arith, length-append}
 use Rattle.std.proofs.lemmas.Slice.Eq.{bytes_eq-Decides}
 use Rattle.key_derivation.specs.Kdf.{key_of, vector_of}
 use Rattle.collection_table.specs.Rows.{Rows}
@@ -14,30 +14,28 @@ use Rattle.alias_table.specs.Table.{AliasRows}
 use Rattle.prompt_state.specs.Prompts.{no_prompts}
 use Rattle.prompt_state.specs.declared.row.Stage.TheVariants as stage
 use Rattle.service_tables.specs.State.{State}
-use Rattle.service_tables.specs.declared.rows.ConnRows.{ConnRows}
-use Rattle.service_tables.specs.declared.fate.Fate.{Fate}
 use Rattle.service_disk.specs.Making as making
 use Rattle.service_events.specs.declared.event.Derivation.{Derivation}
 use Rattle.service_events.specs.Derivation.{derived}
 use Rattle.service_events.specs.Fates.{AreFaultless}
-use Rattle.service_events.specs.Run.{AreFates, Ran, asked, run}
+use Rattle.service_events.specs.Run.{AreFates, Ran, asked}
 use Rattle.service_events.specs.Step.{Fits, brought_derived, brought_with, finished, row_of, served, terms_of, work_of}
 use Rattle.service_events.specs.Replay.{replay, Legal}
 use Rattle.service_events.specs.Single.{IsKeyFaultless, TimedKey, TimedRequest, arrival, asking, derivation, finishing, recorded_of, turn, work_for}
 use Rattle.connection_worker.specs.Replies.{replies_to}
 use Rattle.load_plan.specs.declared.counts.Counts.{Counts}
 use Rattle.load_plan.specs.Counts.{raised, returned}
-use Rattle.load_plan.specs.Plan.{create, read, search, the_name, the_prompt, the_session}
+use Rattle.load_plan.specs.Plan.{create, read, search, the_name, the_prompt}
 use Rattle.load_plan.specs.Words.{secret_of}
 use Rattle.load_laws.specs.Made.{made}
 use Rattle.load_laws.specs.Outputs.{Counted}
-use Rattle.load_laws.specs.Requests.{IsAsked, the_connection}
+use Rattle.load_laws.specs.Requests.{the_connection}
 use Rattle.load_laws.proofs.CreateLemmas.{HasItems, IsFront, answer-is, collection_of, made-items, tables_with}
 use Rattle.load_laws.proofs.CreateLemmas as creating
 use Rattle.load_laws.proofs.OpeningLemmas.{Leads, answers, creates, key-leaves, new_collection, new_plan, opening_tables, opens, prompted, prompts, ran_from, registered, registers, the_work, works}
 use Rattle.load_laws.proofs.ReadLemmas.{reads, secret}
-use Rattle.load_laws.proofs.SearchLemmas.{below, below-all, below-few, below-more, below-none, found-many, hits, matching, paths_of, searched}
-use Rattle.load_laws.proofs.TurnLemmas.{First, Runs, Tables, asked-tables, counted-on, derivation_of, fates-call, first-of, keyed-turn, legal-behind, quiet-turn, served-call, tables, with_tables, work-call}
+use Rattle.load_laws.proofs.SearchLemmas.{below, below-few, below-more, found-many, matching, paths_of, searched}
+use Rattle.load_laws.proofs.TurnLemmas.{Runs, Tables, asked-tables, counted-on, derivation_of, fates-call, first-of, keyed-turn, legal-behind, quiet-turn, served-call, tables, with_tables, work-call}
 
 -- ---- a call, from the tables of its state
 

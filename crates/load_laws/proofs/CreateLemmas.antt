@@ -1,29 +1,25 @@
 -- A call that makes an item of a load, once the collection has those before it.
-use Rattle.std.proofs.Common.{◌≡◌, ℕ, suc, ◌+◌, ◌*◌, ◌-◌, ◌^◌, ◌<◌, ◌≤◌, not, Bool, true, false, cond, nat_le, List, [], ◌∷◌, ◌++◌, length, map, max, min, Option, Some, None, Result, Ok, Err, codes, decimal, refl, sym, ap, ◌∙◌, subst, arith, length-append, le-leb}
+use Rattle.std.proofs.Common.{◌≡◌, ℕ, ◌+◌, ◌*◌, ◌-◌, ◌^◌, ◌<◌, ◌≤◌, not, Bool, true, false, cond, nat_le, List, [], ◌∷◌, ◌++◌, length, map, Option, Some, None, Ok, Err, codes, decimal, refl, sym, ap, ◌∙◌, subst, arith, length-append, le-leb}
 use Rattle.std.proofs.lemmas.Bool.Decides.{nat_tests}
-use Rattle.kr_base.specs.declared.ids.ItemId.{ItemId}
 use Rattle.kr_names.specs.declared.object_name.ObjectName.TheVariants as name
 use Rattle.kr_names.specs.Path.{path_text}
 use Rattle.replace_slot.specs.Cell.{Known}
 use Rattle.keyring_file.specs.Clear.{ClearPart}
 use Rattle.keyring_file.specs.ClearText.{most_iterations}
-use Rattle.keyring_file.specs.declared.clear.ClearItem.{ClearItem}
-use Rattle.keyring_seal.specs.Arranged.{Row, of_rows, row_number}
-use Rattle.keyring_seal.specs.Whole.{most_bytes, sealed}
+use Rattle.keyring_seal.specs.Arranged.{Row}
+use Rattle.keyring_seal.specs.Whole.{sealed}
 use Rattle.keyring_seal.specs.declared.content.Content.{Content}
-use Rattle.item_store.specs.declared.fault.ItemFault.{ItemFault}
-use Rattle.collection_store.specs.Changes.{as_content, content_changed, content_stored, made_new, minor_made, name_made, new_row, rows_made, store_rows}
+use Rattle.collection_store.specs.Changes.{as_content, content_changed, content_stored, made_new, minor_made, new_row, rows_made}
 use Rattle.collection_store.specs.Outcomes.{most_for}
-use Rattle.collection_store.specs.State.{Held, most_items}
-use Rattle.collection_store.specs.Storable.{sized, storable}
+use Rattle.collection_store.specs.State.{Held}
+use Rattle.collection_store.specs.Storable.{sized}
 use Rattle.collection_store.specs.declared.change.Change.{Change}
 use Rattle.collection_store.specs.declared.change.Change.TheVariants as change
 use Rattle.collection_store.specs.declared.change.Changed.{Changed}
 use Rattle.collection_store.specs.declared.change.Changed.TheVariants as changed
 use Rattle.collection_store.specs.declared.refused.ChangeRefused.{ChangeRefused}
 use Rattle.collection_store.specs.declared.refused.ChangeRefused.TheVariants as refused
-use Rattle.collection_table.specs.Rows.{CollectionRow, Rows, bytes_in, is_full, items_in, room_in}
-use Rattle.secret_calls.specs.declared.call.Call.{Call}
+use Rattle.collection_table.specs.Rows.{CollectionRow, Rows, is_full, items_in, room_in}
 use Rattle.secret_calls.specs.declared.out.Body.{Body}
 use Rattle.secret_calls.specs.declared.out.Body.TheVariants as body
 use Rattle.secret_calls.specs.declared.out.ErrorName.TheVariants as name-of-error
@@ -45,8 +41,8 @@ use Rattle.load_plan.specs.Plan.{attributes_of, create, the_name}
 use Rattle.load_plan.specs.Words.{secret_of}
 use Rattle.load_laws.specs.Requests.{the_connection}
 use Rattle.load_laws.proofs.FileLemmas.{rows-of, short-file}
-use Rattle.load_laws.proofs.OpeningLemmas.{Leads, one-stored, ran_from, the_sessions}
-use Rattle.load_laws.proofs.RowLemmas.{AreItems, IsItem, distinct, items-more, minor-plain, next-item, short-rows}
+use Rattle.load_laws.proofs.OpeningLemmas.{one-stored, ran_from, the_sessions}
+use Rattle.load_laws.proofs.RowLemmas.{AreItems, distinct, items-more, minor-plain, next-item, short-rows}
 use Rattle.load_laws.proofs.SizeLemmas.{item-path, object-fits}
 use Rattle.load_laws.proofs.TurnLemmas.{Tables, tables, with_tables}
 

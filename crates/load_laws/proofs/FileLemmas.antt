@@ -1,19 +1,15 @@
 -- How long the file of a collection with short items is.
-use Rattle.std.proofs.Common.{◌≡◌, ℕ, zero, suc, ◌+◌, ◌*◌, ◌%◌, ◌<◌, ◌≤◌, Bool, true, false, List, [], ◌∷◌, ◌++◌, length, map, nat_eq, refl, sym, ap, ◌∙◌, subst, arith, length-append}
+use Rattle.std.proofs.Common.{◌≡◌, ℕ, ◌+◌, ◌*◌, ◌%◌, ◌<◌, ◌≤◌, List, [], ◌∷◌, ◌++◌, length, map, nat_eq, refl, ap, ◌∙◌, arith, length-append}
 use Rattle.std.specs.List.{AllByRecursion, IsDistinct, flat_map, zip}
 use Rattle.keyring_text.specs.Fields.{number, string, time}
 use Rattle.keyring_file.specs.Canonical.{front_text, item_text, padding, zeros}
 use Rattle.keyring_file.specs.Clear.{ClearPart}
 use Rattle.keyring_file.specs.ClearText.{magic, version, most_iterations}
 use Rattle.keyring_seal.specs.Arranged.{Row, IsSealable, of_rows, row_number, rows}
-use Rattle.keyring_seal.specs.Room.{items_measure, measure, row_text}
+use Rattle.keyring_seal.specs.Room.{items_measure, row_text}
 use Rattle.keyring_seal.specs.Whole.{sealed}
-use Rattle.keyring_seal.specs.declared.content.Content.{Content}
 use Rattle.keyring_seal.proofs.RoomLemmas.{length_number, length_time}
 use Rattle.keyring_seal.proofs.SealLemmas.{length-sealed}
-
-pub trivial : (n : ℕ) → n ≡ n
-trivial n = refl
 
 -- what comes before the number of items
 long-front : (clear : ClearPart) → length clear.salt ≡ 8 → length (front_text clear) ≡ 76 + length clear.name

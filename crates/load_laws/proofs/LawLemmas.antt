@@ -1,9 +1,8 @@
 -- What the counts over the replies to a load are.
-use Rattle.std.proofs.Common.{◌≡◌, ℕ, ◌+◌, ◌*◌, ◌<◌, ◌≤◌, ◌==◌, Bool, true, false, cond, List, [], ◌∷◌, ◌++◌, filter, length, map, Option, Some, None, refl, sym, ap, ◌∙◌, subst, arith, length-append}
-use Rattle.std.specs.List.{AllByRecursion}
+use Rattle.std.proofs.Common.{◌≡◌, ℕ, ◌+◌, ◌*◌, ◌<◌, ◌≤◌, ◌==◌, Bool, true, false, cond, List, [], ◌∷◌, ◌++◌, filter, length, Option, Some, None, refl, sym, ap, ◌∙◌, subst, arith, length-append}
 use Rattle.kr_base.specs.declared.ids.ConnId.{ConnId}
-use Rattle.dbus_framing.specs.Messages.{Parts, IsMessage}
-use Rattle.dbus_framing.specs.Streams.{AreMessages, Cut, is_kept, joined}
+use Rattle.dbus_framing.specs.Messages.{Parts}
+use Rattle.dbus_framing.specs.Streams.{AreMessages, is_kept, joined}
 use Rattle.dbus_framing.proofs.Cuts.{one_stream}
 use Rattle.secret_calls.specs.declared.call.Request.{Request}
 use Rattle.secret_calls.specs.declared.out.Out.{Out}

@@ -1,18 +1,16 @@
 -- The first five calls of a load: the collection is made and is unlocked, and the session is opened.
-use Rattle.std.proofs.Common.{◌≡◌, ℕ, ◌+◌, ◌<◌, ◌≤◌, ◌&&◌, ◌==◌, Bool, true, false, cond, nat_le, List, [], ◌∷◌, ◌++◌, length, Option, Some, None, is_some, Result, Ok, Err, codes, refl, sym, ap, ◌∙◌, subst, arith, le-leb, min}
+use Rattle.std.proofs.Common.{◌≡◌, ℕ, ◌+◌, ◌<◌, ◌≤◌, ◌&&◌, ◌==◌, Bool, true, cond, List, [], ◌∷◌, ◌++◌, length, Option, Some, None, Ok, codes, refl, sym, ap, ◌∙◌, subst, arith}
 use Rattle.key_derivation.specs.Kdf.{key_of, vector_of}
 use Rattle.kr_base.specs.Attributes.{is_name}
 use Rattle.secret_calls.specs.declared.call.Call.{Call}
 use Rattle.secret_calls.specs.declared.call.Call.TheVariants as call
-use Rattle.secret_calls.specs.declared.call.CallFault.{CallFault}
 use Rattle.secret_calls.specs.declared.out.Body.{Body}
 use Rattle.secret_calls.specs.declared.out.Body.TheVariants as body
 use Rattle.secret_calls.specs.declared.out.ErrorName.TheVariants as name
 use Rattle.secret_calls.specs.declared.work.Work.{Work}
 use Rattle.secret_calls.proofs.SizeLemmas.{prompt-short}
 use Rattle.alias_table.specs.Table.{AliasRows}
-use Rattle.keyring_seal.specs.Whole.{most_bytes}
-use Rattle.collection_table.specs.Rows.{Rows, CollectionRow, room_in, stored}
+use Rattle.collection_table.specs.Rows.{Rows, CollectionRow, stored}
 use Rattle.prompt_state.specs.Prompts.{no_prompts}
 use Rattle.prompt_state.specs.declared.row.Prompts.{Prompts}
 use Rattle.prompt_state.specs.declared.row.PromptKind.{PromptKind}
@@ -28,7 +26,6 @@ use Rattle.service_tables.specs.declared.fate.Fate.{Fate}
 use Rattle.service_tables.specs.declared.fate.Fate.TheVariants as fate
 use Rattle.service_tables.specs.declared.fate.StoreFate.{StoreFate}
 use Rattle.service_tables.specs.declared.fate.StoreFate.TheVariants as ended
-use Rattle.service_tables.specs.declared.fate.ReadFate.{ReadFate}
 use Rattle.service_disk.specs.Making as making
 use Rattle.service_disk.proofs.MakingLemmas.{room-tested}
 use Rattle.service_disk.proofs.TakingLemmas.{itself}

@@ -1,9 +1,9 @@
 -- A call that reads an item of a load, once all are made.
-use Rattle.std.proofs.Common.{◌≡◌, ℕ, ◌+◌, ◌<◌, ◌≤◌, Bool, true, false, cond, nat_eq, List, [], ◌∷◌, length, map, find, Option, Some, None, option_map, option_and_then, Result, Ok, Err, codes, refl, sym, ap, ◌∙◌, arith}
+use Rattle.std.proofs.Common.{◌≡◌, ℕ, ◌+◌, ◌<◌, ◌≤◌, Bool, true, cond, List, [], ◌∷◌, length, Option, option_map, option_and_then, Ok, codes, ap, ◌∙◌, arith}
 use Rattle.keyring_file.specs.Clear.{ClearPart}
 use Rattle.keyring_file.specs.declared.area.FullItem.{FullItem}
 use Rattle.keyring_file.specs.declared.clear.ClearItem.{ClearItem}
-use Rattle.keyring_seal.specs.Arranged.{Row, row_number}
+use Rattle.keyring_seal.specs.Arranged.{Row}
 use Rattle.secret_calls.specs.declared.call.Call.TheVariants as call
 use Rattle.secret_calls.specs.declared.out.Body.{Body}
 use Rattle.secret_calls.specs.declared.out.Body.TheVariants as body
@@ -15,7 +15,7 @@ use Rattle.prompt_state.specs.declared.row.Prompts.{Prompts}
 use Rattle.service_tables.specs.State.{State}
 use Rattle.service_tables.specs.declared.rows.ConnRows.{ConnRows}
 use Rattle.service_tables.specs.declared.fate.Fate.{Fate}
-use Rattle.service_events.specs.Plan.{Ends, Gift, Gives, Plan, Secret_of, refused}
+use Rattle.service_events.specs.Plan.{Ends, Gift, Gives, Secret_of, refused}
 use Rattle.service_events.specs.Run.{Ran, filled, fits, run, secret_returned}
 use Rattle.service_events.specs.Step.{brought_with}
 use Rattle.load_plan.specs.Plan.{read, the_name, the_session}

@@ -1,18 +1,18 @@
 -- The items of a load as its collection keeps them.
-use Rattle.std.proofs.Common.{◌≡◌, ◌≢◌, ℕ, zero, suc, ◌+◌, ◌*◌, ◌^◌, ◌<◌, ◌≤◌, ◌&&◌, ◌||◌, ◌==◌, not, Bool, true, false, cond, nat_eq, nat_le, nat_lt, List, [], ◌∷◌, ◌++◌, length, map, filter, Option, Some, None, Result, Ok, Err, codes, decimal, refl, sym, ap, ◌∙◌, subst, arith, length-append, le-leb}
-use Rattle.std.specs.List.{AllByRecursion, IsDistinct, find, list_all, list_any, flat_map}
+use Rattle.std.proofs.Common.{◌≡◌, ◌≢◌, ℕ, suc, ◌+◌, ◌*◌, ◌^◌, ◌<◌, ◌≤◌, ◌&&◌, ◌||◌, ◌==◌, Bool, true, false, cond, nat_eq, List, [], ◌∷◌, ◌++◌, length, map, Some, None, codes, decimal, refl, sym, ap, ◌∙◌, subst, arith, length-append}
+use Rattle.std.specs.List.{AllByRecursion, IsDistinct, find, list_all, list_any}
 use Rattle.std.proofs.lemmas.Bool.Decides.{nat_tests}
 use Rattle.kr_base.specs.declared.attributes.AttrValue.{AttrValue}
 use Rattle.kr_base.specs.declared.attributes.AttrValue.TheVariants as value
 use Rattle.kr_base.specs.Attributes.{is_name}
 use Rattle.attribute_hash.specs.Hash.{hashes, text_hash}
 use Rattle.keyring_text.specs.Fields.{number, string, time}
-use Rattle.keyring_file.specs.Canonical.{attribute_text, clear_item_text, content_text, hashed_text, item_text, list_text, pair_text, value_text, zeros}
+use Rattle.keyring_file.specs.Canonical.{attribute_text, item_text, list_text, pair_text, zeros}
 use Rattle.keyring_file.specs.Clear.{plain_content}
 use Rattle.keyring_file.specs.declared.clear.ClearItem.{ClearItem}
 use Rattle.keyring_seal.specs.Arranged.{Row, row_number}
 use Rattle.keyring_seal.specs.Room.{row_text}
-use Rattle.keyring_seal.proofs.RoomLemmas.{length_list_text, length_number, length_text_hash, length_time, sizes}
+use Rattle.keyring_seal.proofs.RoomLemmas.{length_list_text, length_number, length_text_hash, length_time}
 use Rattle.item_store.specs.Rows.{last_id, next_id}
 use Rattle.collection_store.specs.Changes.{minor_made, new_row, store_rows}
 use Rattle.load_plan.specs.Plan.{attributes_of}

@@ -1,11 +1,10 @@
 -- A search of a load, once all items are made.
-use Rattle.std.proofs.Common.{◌≡◌, ℕ, zero, suc, ◌+◌, ◌*◌, ◌%◌, ◌^◌, ◌<◌, ◌≤◌, ◌&&◌, ◌||◌, Bool, true, false, cond, nat_eq, nat_lt, List, [], ◌∷◌, ◌++◌, length, map, filter, Option, Some, None, Result, Ok, Err, codes, decimal, refl, sym, ap, ◌∙◌, subst, arith, length-append}
+use Rattle.std.proofs.Common.{◌≡◌, ℕ, zero, suc, ◌+◌, ◌*◌, ◌%◌, ◌^◌, ◌<◌, ◌≤◌, ◌&&◌, ◌||◌, Bool, true, false, cond, nat_eq, nat_lt, List, [], ◌∷◌, ◌++◌, length, map, filter, Option, Ok, codes, decimal, refl, sym, ap, ◌∙◌, arith}
 use Rattle.std.specs.List.{AllByRecursion}
 use Rattle.std.proofs.lemmas.Bool.Decides.{nat_tests}
 use Rattle.std.proofs.lemmas.Fmt.{decimal_injective}
 use Rattle.kr_base.specs.declared.attributes.AttrValue.{AttrValue}
 use Rattle.kr_base.specs.declared.attributes.AttrValue.TheVariants as value
-use Rattle.kr_base.specs.declared.ids.ItemId.{ItemId}
 use Rattle.kr_base.specs.Attributes.{is_name}
 use Rattle.attribute_match.specs.Match.{matches}
 use Rattle.keyring_file.specs.Clear.{ClearPart}
@@ -16,7 +15,6 @@ use Rattle.alias_table.specs.Table.{AliasRows}
 use Rattle.prompt_state.specs.declared.row.Prompts.{Prompts}
 use Rattle.service_disk.proofs.TakingLemmas.{itself, names-apart}
 use Rattle.service_tables.specs.Objects.{item_paths}
-use Rattle.service_tables.specs.State.{State}
 use Rattle.service_tables.specs.declared.rows.ConnRows.{ConnRows}
 use Rattle.service_tables.specs.declared.fate.Fate.{Fate}
 use Rattle.service_events.specs.PublicBody as public

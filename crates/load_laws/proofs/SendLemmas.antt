@@ -1,13 +1,13 @@
 -- What the client of a load sends, as the service reads it.
-use Rattle.std.proofs.Common.{◌≡◌, ◌≢◌, ℕ, zero, suc, ◌+◌, ◌*◌, ◌/◌, ◌%◌, ◌^◌, ◌<◌, ◌≤◌, ◌==◌, get_or, Bool, true, false, cond, List, [], ◌∷◌, ◌++◌, filter, length, Result, Ok, codes, refl, sym, ap, ◌∙◌, subst, arith, length-append, append_assoc, append-nil}
-use Rattle.std.specs.List.{All, AllByRecursion, concat}
+use Rattle.std.proofs.Common.{◌≡◌, ◌≢◌, ℕ, zero, suc, ◌+◌, ◌*◌, ◌/◌, ◌%◌, ◌^◌, ◌<◌, ◌≤◌, ◌==◌, get_or, Bool, true, false, cond, List, [], ◌∷◌, ◌++◌, length, Ok, codes, refl, sym, ap, ◌∙◌, arith, length-append, append_assoc, append-nil}
+use Rattle.std.specs.List.{AllByRecursion, concat}
 use Rattle.hex.specs.Hex.{encode_lower, encode_with, lower_digits}
 use Rattle.dbus_auth.specs.Answers.{ok_line}
-use Rattle.dbus_auth.specs.Handshake.{Run, handshake, opened}
+use Rattle.dbus_auth.specs.Handshake.{handshake, opened}
 use Rattle.dbus_auth.proofs.HandshakeLemmas.{handshake-append}
 use Rattle.dbus_auth_client.specs.Openings.{auth_line, begin_line}
 use Rattle.dbus_auth_client.proofs.ServerLemmas.{begun}
-use Rattle.dbus_framing.specs.Messages.{IsMessage, Parts}
+use Rattle.dbus_framing.specs.Messages.{IsMessage}
 use Rattle.dbus_framing.specs.Streams.{Stream}
 use Rattle.dbus_framing.proofs.Cuts.{cut_none, cut_one, few_begin, stream_then}
 use Rattle.secret_calls.specs.declared.call.Call.{Call}

@@ -1,17 +1,15 @@
 -- How many bytes the returns of a load have.
-use Rattle.std.proofs.Common.{◌≡◌, ℕ, ◌+◌, ◌*◌, ◌^◌, ◌<◌, ◌≤◌, true, nat_le, List, [], ◌∷◌, ◌++◌, length, Option, Some, None, Ok, codes, decimal, refl, sym, ap, ◌∙◌, arith, length-append, le-leb}
+use Rattle.std.proofs.Common.{◌≡◌, ℕ, ◌+◌, ◌*◌, ◌^◌, ◌<◌, ◌≤◌, true, List, [], ◌∷◌, ◌++◌, length, Option, Ok, codes, decimal, refl, ◌∙◌, arith, length-append, le-leb}
 use Rattle.std.specs.Int.{w32}
 use Rattle.std.specs.List.{AllByRecursion}
 use Rattle.std.proofs.lemmas.Fmt.{length-decimal-le}
 use Rattle.kr_base.specs.declared.ids.ItemId.{ItemId}
 use Rattle.kr_base.specs.declared.ids.PromptId.{PromptId}
-use Rattle.kr_base.specs.declared.ids.SessionId.{SessionId}
 use Rattle.kr_names.specs.declared.object_name.ObjectName.TheVariants as name
 use Rattle.kr_names.specs.Path.{collections, path_text}
 use Rattle.kr_names.specs.Escape.{escaped}
-use Rattle.dbus_types.specs.declared.complete_type.BasicType.TheVariants as basics
 use Rattle.dbus_types.specs.declared.endian.Endian.TheVariants.{Little}
-use Rattle.dbus_types.specs.Values.{Val, Vals}
+use Rattle.dbus_types.specs.Values.{Val}
 use Rattle.dbus_marshal.specs.Wire.{padding, behind, start_of, zeros, number_bytes}
 use Rattle.dbus_marshal.specs.Spelling.{all_spelled, first_at}
 use Rattle.dbus_marshal.proofs.WritingLemmas.{zeros_long}

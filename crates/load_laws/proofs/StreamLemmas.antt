@@ -1,5 +1,5 @@
 -- What the service writes for a load, as a client reads it.
-use Rattle.std.proofs.Common.{◌≡◌, ◌≢◌, ℕ, ◌+◌, ◌%◌, ◌<◌, ◌≤◌, Bool, true, false, cond, List, [], ◌∷◌, ◌++◌, filter, length, Option, Some, None, Result, Ok, Err, refl, sym, ap, ◌∙◌, subst, arith}
+use Rattle.std.proofs.Common.{◌≡◌, ◌≢◌, ℕ, ◌+◌, ◌%◌, ◌<◌, ◌≤◌, Bool, true, false, cond, List, [], ◌∷◌, ◌++◌, filter, Option, Some, None, Ok, refl, sym, ap, ◌∙◌, subst, arith}
 use Rattle.std.specs.List.{AllByRecursion}
 use Rattle.kr_base.specs.declared.ids.ConnId.{ConnId}
 use Rattle.dbus_framing.specs.Messages.{IsMessage, Parts}
@@ -12,7 +12,6 @@ use Rattle.secret_calls.specs.declared.out.Out.TheVariants as out
 use Rattle.secret_calls.specs.declared.serial.Serial.{Serial}
 use Rattle.secret_calls.specs.declared.work.Work.{Work}
 use Rattle.secret_calls.specs.Outs.{AreTyped, HasSpelling, most_waiting, spelled}
-use Rattle.secret_calls.specs.Serials.{last_serial}
 use Rattle.secret_calls.proofs.SizeLemmas.{any_serial}
 use Rattle.call_wire.specs.Said.{IsSendable, said}
 use Rattle.client_core.specs.declared.reply.Reply.TheVariants as reply
@@ -30,7 +29,7 @@ use Rattle.connection_worker.specs.Replies.{is_reply, key_outputs, outputs_of, o
 use Rattle.connection_worker.specs.Written.{serial_behind, spelled_behind}
 use Rattle.load_plan.specs.declared.counts.Counts.{Counts}
 use Rattle.load_plan.specs.Counts.{returned}
-use Rattle.load_plan.specs.Answered.{call_with, most_bytes, with_answer, with_message, with_messages, with_read}
+use Rattle.load_plan.specs.Answered.{most_bytes, with_answer, with_message, with_messages, with_read}
 use Rattle.load_laws.specs.Outputs.{Counted, said_behind}
 use Rattle.load_laws.proofs.TurnLemmas.{legal-behind, legal-front}
 

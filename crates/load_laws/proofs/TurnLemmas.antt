@@ -1,5 +1,5 @@
 -- One request of a load after the other: what its turn leaves of the tables, and what its reply counts.
-use Rattle.std.proofs.Common.{◌≡◌, ℕ, suc, Bool, true, false, cond, List, [], ◌∷◌, ◌++◌, Option, Some, None, Result, Ok, Err, refl, sym, ap, ◌∙◌, subst, append-nil}
+use Rattle.std.proofs.Common.{◌≡◌, ℕ, suc, Bool, true, false, cond, List, [], ◌∷◌, ◌++◌, Option, Some, None, Result, Ok, refl, sym, ap, ◌∙◌, subst, append-nil}
 use Rattle.kr_base.specs.declared.ids.ConnId.{ConnId}
 use Rattle.secret_calls.specs.declared.call.Call.{Call}
 use Rattle.secret_calls.specs.declared.call.CallFault.{CallFault}
@@ -20,7 +20,7 @@ use Rattle.service_events.specs.declared.event.Event.{Event}
 use Rattle.service_events.specs.declared.event.Event.TheVariants as event
 use Rattle.service_events.specs.Fates.{AreFaultless}
 use Rattle.service_events.specs.Run.{AreFates, AreFatesOf, Ran, asked, ran, run}
-use Rattle.service_events.specs.Step.{Fits, brought_by, brought_with, finished, message_of, plan_of, row_of, served, step, work_of}
+use Rattle.service_events.specs.Step.{Fits, brought_with, finished, message_of, plan_of, row_of, served, step, work_of}
 use Rattle.service_events.specs.Replay.{replay, Legal}
 use Rattle.service_events.specs.Single.{AllFaultless, AllFinished, IsFinished, IsKeyFaultless, TimedKey, TimedRequest, arrival, asking, derivation, finishing, is_owed, recorded_of, taking, turn, turns, work_for}
 use Rattle.service_events.proofs.ReplayLemmas.{replay-append}
