@@ -126,12 +126,39 @@ fn write_read(line: &mut Line, out: &Out, call: &Call, serial: Serial) {
     }
 }
 
+// Lends a value, and drops it here, where its type isn't known. Returns whether there is one.
+fn over<T: Drop, L: FnOnce(&T)>(value: Option<T>, act: L) -> bool
+    requires { L.IsAlwaysCallable act }
+{
+    match value {
+        Some(value) => {
+            act(&value);
+            true
+        }
+        None => false,
+    }
+}
+
+fn write_answer(line: &mut Line, out: &Out, call: &Call, serial: &str) {
+    match serial_in(serial) {
+        Some(serial) => write_read(line, out, call, serial),
+        None => line.add("no serial"),
+    }
+}
+
+fn write_answers(line: &mut Line, out: &Out, cells: &str) {
+    let call = call_named(line.alloc(), cell(cells, 2));
+    let there = over(call, |call| write_answer(line, out, call, cell(cells, 3)));
+    if !there {
+        line.add("no call");
+    }
+}
+
 /// Writes what an output is read as: its words, the serial that it answers, the method of the call, and that call's serial.
 pub fn write_reply(line: &mut Line, cells: &str) {
     let out = output_in(line.alloc(), cells);
-    let call = call_named(line.alloc(), cell(cells, 2));
-    match (out, call, serial_in(cell(cells, 3))) {
-        (Some(out), Some(call), Some(serial)) => write_read(line, &out, &call, serial),
-        _ => line.add("no output"),
+    let there = over(out, |out| write_answers(line, out, cells));
+    if !there {
+        line.add("no output");
     }
 }
