@@ -1,4 +1,4 @@
-ghost use Rattle.std.specs.Prelude.{◌≡◌, ◌≢◌, ◌<◌, ◌≤◌, [], IsTrue, IfOk, IfSome, OnOk, OnErr, IsErrOf, Err, None};
+ghost use Rattle.std.specs.Prelude.{◌≡◌, ◌≢◌, ◌<◌, ◌≤◌, ◌&&◌, [], false, IsTrue, IfOk, IfSome, OnOk, OnErr, IsErrOf, Err, None};
 ghost use Rattle.std.specs.List.{AllByRecursion};
 ghost use Rattle.service_machine.specs.service_tables.specs.Aliases.{rows_in};
 ghost use Rattle.replace_slot.specs.Cell.{Known};
@@ -10,7 +10,7 @@ ghost use Rattle.service_machine.specs.service_tables.specs.Opened.{IsOpened, co
 ghost use Rattle.service_machine.specs.service_tables.specs.Sound.{AreSoundContents};
 ghost use Rattle.service_machine.specs.service_tables.specs.Limits.{IsSpent, most_events};
 ghost use Rattle.service_machine.specs.service_events.specs.Fates.{is_steady};
-ghost use Rattle.service_machine.specs.Rows.{rows_of};
+ghost use Rattle.service_machine.specs.Rows.{no_contents, rows_of};
 ghost use Rattle.service_machine.specs.service_events.specs.Stored.{KeepsDisk, KeepsMaking};
 ghost use Rattle.service_history.specs.Inside.{IsReady};
 ghost use Rattle.service_machine.specs.service_events.specs.Incoming.{IsOfNone, IsConnect};
@@ -20,7 +20,7 @@ ghost use Rattle.service_history.specs.History.{opened_history, IsHistory, Store
 
 use crate::EventRefused;
 use crate::window::Window;
-use kr_base::{ConnId, Stem};
+use kr_base::{ConnId, OutOfMemory, Stem};
 use kr_outside::Folder;
 use service_machine::secret_calls::{Refused, Taken, Work};
 use service_machine::{
@@ -88,6 +88,31 @@ impl<F: Folder> Service<F> {
         ensures never { IsTrue (F.is_steady folder) → ¬ (IsErrOf result OpenRefused.Folder) }
     {
         let machine = Machine::open(alloc, folder)?;
+        let window = Window::first(alloc, &machine);
+        Ok(Service { machine, window })
+    }
+
+    /// The service as it starts with nothing, over a folder of which no slot was made yet, and which isn't
+    /// read (`Machine::with_nothing`): there is no collection, no used stem and no alias, and nothing has
+    /// happened.
+    pub fn with_nothing(
+        alloc: Global,
+        folder: F,
+        aliases: F::Cell,
+    ) -> Result<Service<F>, OutOfMemory>
+        requires fresh { F.made folder ≡ [] }
+        requires silent { F.is_honest folder ≡ false }
+        ensures opened { IfOk result (λ service. IsOpened service.history.state) }
+        ensures sound { IfOk result (λ service.
+            AreSoundContents (contents_of service.history.state)) }
+        ensures begins { IfOk result (λ service.
+            service.history ≡ opened_history service.history.state) }
+        ensures nothing { IfOk result (λ service.
+            contents_of service.history.state ≡ no_contents) }
+        ensures steady { IfOk result (λ service. is_steady F.is_steady F.Cell.is_steady service.disk
+            ≡ (F.is_steady folder && F.Cell.is_steady aliases)) }
+    {
+        let machine = Machine::with_nothing(alloc, folder, aliases)?;
         let window = Window::first(alloc, &machine);
         Ok(Service { machine, window })
     }

@@ -1,3 +1,4 @@
 pub mod RecordedLemmas
 pub mod RoomLemmas
 pub mod SteadyLemmas
+pub mod NothingLemmas

@@ -1,4 +1,4 @@
-ghost use Rattle.std.specs.Prelude.{◌≡◌, ◌≢◌, ℕ, List, ◌<◌, ◌^◌, ◌++◌, [], None, Ok, Err, true, false, IsTrue, IfOk, IfSome, OnOk, OnErr, IsErrOf, ◌+◌};
+ghost use Rattle.std.specs.Prelude.{◌≡◌, ◌≢◌, ℕ, List, ◌<◌, ◌^◌, ◌++◌, ◌&&◌, [], None, Ok, Err, true, false, IsTrue, IfOk, IfSome, OnOk, OnErr, IsErrOf, ◌+◌};
 ghost use Rattle.std.specs.List.{AllByRecursion};
 ghost use Rattle.service_answers.specs.collection_table.specs.Entries.{rows_of as collections_of};
 ghost use Rattle.service_answers.specs.service_tables.specs.Aliases.{rows_in};
@@ -10,6 +10,7 @@ ghost use Rattle.service_answers.specs.service_tables.specs.Disk.{IsLoaded, Fail
 ghost use Rattle.service_answers.specs.service_events.specs.Fates.{with_fates, AreFaultless, IsFaultless, is_steady};
 ghost use Rattle.service_answers.specs.service_events.specs.Incoming.{AreFreeFor, Records, IsDue, IsOfNone, IsConnect, IsSoundFor, TakesMemory};
 ghost use Rattle.service_answers.specs.service_tables.specs.Opened.{IsOpened, contents_of};
+ghost use Rattle.service_machine.specs.Rows.{no_contents};
 ghost use Rattle.service_answers.specs.service_events.specs.Run.{asked};
 ghost use Rattle.service_answers.specs.service_disk.specs.Making.{AreFree};
 ghost use Rattle.service_answers.specs.service_events.specs.declared.event.Event.TheVariants as Event;
@@ -20,6 +21,7 @@ ghost use Rattle.service_answers.specs.service_events.specs.Stored.{KeepsDisk, S
 ghost use Rattle.service_answers.specs.service_calls.specs.Done.{HasRoomToReply, Leads};
 
 use crate::{ApplyRefused, Arrival, Arrived, Boxed, Event, Fates, Incoming, Output, Recorded};
+use collection_table::CollectionTable;
 use keyring_text::known_bytes;
 use kr_base::{ConnId, OutOfMemory, Stem};
 use kr_items::Items;
@@ -28,13 +30,13 @@ use prompt_state::PromptState;
 use service_answers::secret_calls::{AliasName, Body, Call, CallFault, Out, Request, Serial, Work};
 use service_answers::service_calls::{Answer, Done, Tables, refused};
 use service_answers::service_tables::{
-    Connections, Delivery, DeskRow, Disk, OpenRefused, Rows, known_alias, known_attributes,
-    known_item, known_secret, known_text,
+    Connections, Delivery, DeskRow, Disk, KeptAliases, OpenRefused, Rows, known_alias,
+    known_attributes, known_item, known_secret, known_text,
 };
 use service_answers::{answer_prompt, password_in, work_of};
 use session_table::SessionTable;
 use std::alloc::Global;
-use stem_choice::{a_used_stem_is_in_the_list, adding_a_stem_uses_it_alone};
+use stem_choice::{UsedStems, a_used_stem_is_in_the_list, adding_a_stem_uses_it_alone};
 
 /// The service: its connections with what waits for each, its sessions and prompts, and its folder with its
 /// collections and aliases.
@@ -85,6 +87,45 @@ impl<F: Folder> Machine<F> {
                 sessions: SessionTable::new(alloc),
                 prompts: PromptState::new(alloc),
                 disk,
+            },
+        })
+    }
+
+    /// The service as it starts with nothing, over a folder of which no slot was made yet, and which isn't
+    /// read: there is no collection and no used stem, and the file of the aliases, whose slot is given, is
+    /// left alone, so that no alias can be set. The folder says nothing of its files that has to be kept, as
+    /// it isn't an honest one.
+    pub fn with_nothing(
+        alloc: Global,
+        folder: F,
+        aliases: F::Cell,
+    ) -> Result<Machine<F>, OutOfMemory>
+        requires fresh { F.made folder ≡ [] }
+        requires silent { F.is_honest folder ≡ false }
+        ensures opened { IfOk result (λ machine. IsOpened (rows_of machine)) }
+        ensures free { IfOk result (λ machine. AreFree F.is_honest F.images F.may_leave F.made
+            F.Cell.is_honest F.Cell.may_leave (disk_of machine)) }
+        ensures contents { IfOk result (λ machine.
+            AreSoundContents (contents_of (rows_of machine))) }
+        ensures nothing { IfOk result (λ machine. contents_of (rows_of machine) ≡ no_contents) }
+        ensures steady { IfOk result (λ machine. is_steady F.is_steady F.Cell.is_steady
+            (disk_of machine) ≡ (F.is_steady folder && F.Cell.is_steady aliases)) }
+    {
+        let collections = CollectionTable::loaded(alloc, Vec::new(alloc))?;
+        Ok(Machine {
+            tables: Tables {
+                alloc,
+                connections: Connections::new(alloc),
+                sessions: SessionTable::new(alloc),
+                prompts: PromptState::new(alloc),
+                disk: Disk {
+                    folder,
+                    collections,
+                    spare: Vec::new(alloc),
+                    used: UsedStems::new(alloc),
+                    left_alone: Vec::new(alloc),
+                    aliases: KeptAliases::LeftAlone(aliases),
+                },
             },
         })
     }
