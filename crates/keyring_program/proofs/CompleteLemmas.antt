@@ -1,6 +1,6 @@
 -- Over streams that didn't fail, a whole input is answered to its end.
 use Rattle.std.proofs.Common.{◌≡◌, ℕ, ◌+◌, ◌≤◌, ◌⊎◌, inl, inr, Bool, List, [], ◌∷◌, ◌++◌, length, Option, Some, refl, sym, ◌∙◌, ap, arith, subst, append-nil, length-append}
-use Rattle.kr_outside.specs.Faults.{StandsStill}
+use Rattle.kr_outside.specs.Faults.{Rose, StandsStill}
 use Rattle.dbus_auth.specs.declared.auth.AuthFault.{AuthFault}
 use Rattle.dbus_auth.specs.declared.auth.AuthFault.TheVariants as fault
 use Rattle.dbus_auth.specs.Conversation.{continued}
@@ -80,9 +80,12 @@ until-of contents asked = length-append (events_until contents asked) (event.Gon
 
 -- ---- the whole
 
-pub complete : (uid : ℕ) (seed bytes : List ℕ) (coming : Option (ℕ → ℕ)) (from to : Input) (sink behind : Output) (steady : Bool) (contents : Contents) (how : Status)
-    → Serves uid seed coming from to sink behind steady contents how → IsWholeInput uid seed bytes → from.left ≡ Some bytes → StandsStill from.faults to.faults → StandsStill sink.faults behind.faults → (how ≡ status.Done) ⊎ (how ≡ status.Memory)
-complete uid seed bytes coming from to sink behind steady contents how so whole told input output = subst (λ s. (s ≡ status.Done) ⊎ (s ≡ status.Memory)) (sym so.status_is) (by_cause so.how so.cause)
+-- if the input didn't fail, a whole input is answered to its end, unless memory ran out or the output failed
+pub answered : (uid : ℕ) (seed bytes : List ℕ) (coming : Option (ℕ → ℕ)) (from to : Input) (sink behind : Output) (steady : Bool) (contents : Contents) (how : Status)
+    → Serves uid seed coming from to sink behind steady contents how → IsWholeInput uid seed bytes → from.left ≡ Some bytes → StandsStill from.faults to.faults
+    → (how ≡ status.Done) ⊎ ((how ≡ status.Memory) ⊎ ((how ≡ status.WriteFault) × Rose sink.faults behind.faults))
+answered uid seed bytes coming from to sink behind steady contents how so whole told input =
+    subst (λ s. (s ≡ status.Done) ⊎ ((s ≡ status.Memory) ⊎ ((s ≡ status.WriteFault) × Rose sink.faults behind.faults))) (sym so.status_is) (by_cause so.how so.cause)
   where
     front : (left : List ℕ) × (bytes ≡ so.read ++ left) × (to.left ≡ Some left)
     front = front-of from.left to.left so.read bytes told so.took.consumed
@@ -105,18 +108,29 @@ complete uid seed bytes coming from to sink behind steady contents how so whole 
         let all = subst (λ l. FirstRequests most_bytes l (requests_of asked)) (sym (joined first.0 first.1)) (first-more first.0 left asked first.2) in
         omega (arith, whole.few contents asked all, until-of contents asked, many)
 
-    by_cause : (how : ending.End) → HasCause how (handshake_run uid seed so.read) so.asked (length (events_until contents so.asked)) from to sink behind → (status_of how ≡ status.Done) ⊎ (status_of how ≡ status.Memory)
+    by_cause : (how : ending.End) → HasCause how (handshake_run uid seed so.read) so.asked (length (events_until contents so.asked)) from to sink behind
+        → (status_of how ≡ status.Done) ⊎ ((status_of how ≡ status.Memory) ⊎ ((status_of how ≡ status.WriteFault) × Rose sink.faults behind.faults))
     by_cause end.Done cause = inl refl
     by_cause (end.Violation which) cause =
         let all : AllServed (handshake_run uid seed so.read) so.asked cause.0.0 = cause.0.1 in
         absurd (never-violated all.behind left cause.0.0 all.all.messages whole.messages to which front.2 all.all.stream cause.0.2 (stream all.behind all.opened))
     by_cause (end.AuthRefused why) cause = absurd (never-refused uid seed so.read left whole.behind to why front.2 is-open cause.0)
     by_cause end.ReadFault cause = absurd (still from.faults to.faults input cause.0)
-    by_cause end.WriteFault cause = absurd (still sink.faults behind.faults output cause.0)
+    by_cause end.WriteFault cause = inr (inr (refl, cause.0))
     by_cause end.EventsSpent cause = absurd (few so.asked cause.1 cause.0)
-    by_cause end.Memory cause = inr refl
+    by_cause end.Memory cause = inr (inl refl)
     by_cause end.OtherEnded cause = absurd cause
     by_cause end.Overrun cause = absurd cause
+
+-- if neither of them failed, unless memory ran out
+pub complete : (uid : ℕ) (seed bytes : List ℕ) (coming : Option (ℕ → ℕ)) (from to : Input) (sink behind : Output) (steady : Bool) (contents : Contents) (how : Status)
+    → Serves uid seed coming from to sink behind steady contents how → IsWholeInput uid seed bytes → from.left ≡ Some bytes → StandsStill from.faults to.faults → StandsStill sink.faults behind.faults → (how ≡ status.Done) ⊎ (how ≡ status.Memory)
+complete uid seed bytes coming from to sink behind steady contents how so whole told input output = pass (answered uid seed bytes coming from to sink behind steady contents how so whole told input)
+  where
+    pass : (how ≡ status.Done) ⊎ ((how ≡ status.Memory) ⊎ ((how ≡ status.WriteFault) × Rose sink.faults behind.faults)) → (how ≡ status.Done) ⊎ (how ≡ status.Memory)
+    pass (inl done) = inl done
+    pass (inr (inl memory)) = inr memory
+    pass (inr (inr failed)) = absurd (still sink.faults behind.faults output failed.1)
 
 -- each end has a status of a command that serves the standard streams
 end-status : (how : ending.End) → IsStdioStatus (status_of how)

@@ -1,53 +1,159 @@
 -- A run of `load`, from the conversation of its client.
-use Rattle.std.proofs.Common.{◌≡◌, ℕ, ◌⊎◌, inl, inr, Bool, true, List, [], Option, Some, length, refl, sym, ◌∙◌, ap, subst, arith}
-use Rattle.kr_outside.specs.Faults.{StandsStill}
-use Rattle.lone_desk.specs.service_tables.specs.Opened.{Contents}
+use Rattle.std.proofs.Common.{◌≡◌, ℕ, ◌+◌, ◌*◌, ◌^◌, ◌<◌, ◌≤◌, ◌⊎◌, inl, inr, Bool, true, List, [], ◌∷◌, ◌++◌, Option, Some, length, refl, sym, ◌∙◌, ap, subst, arith, append-nil, length-append}
+use Rattle.std.specs.List.{concat}
+use Rattle.std.specs.Io.KnownBytes.{Appends}
+use Rattle.kr_outside.specs.Faults.{Rose, StandsStill}
+use Rattle.dbus_auth.specs.Answers.{ok_line}
+use Rattle.dbus_auth.specs.Handshake.{Run, handshake, opened}
+use Rattle.dbus_framing.specs.Messages.{Parts}
+use Rattle.dbus_framing.specs.Streams.{Stream}
+use Rattle.dbus_framing.proofs.Cuts.{one_stream}
+use Rattle.client_core.specs.Asked as client
 use Rattle.lone_desk.specs.secret_calls.specs.declared.call.Call.{Call}
+use Rattle.lone_desk.specs.service_history.specs.service_machine.specs.Rows.{no_contents}
+use Rattle.lone_desk.specs.service_tables.specs.Opened.{Contents, opened_state}
+use Rattle.lone_desk.specs.service_tables.specs.Sound.{AreSoundContents}
+use Rattle.lone_desk.specs.service_tables.specs.State.{State}
+use Rattle.lone_desk.specs.service_events.specs.declared.event.Event.TheVariants as event
+use Rattle.lone_desk.specs.service_events.specs.Replay.{Legal}
+use Rattle.lone_desk.specs.service_events.specs.Single.{AllFaultless, AllFinished, TimedRequest, requests_of, turns}
+use Rattle.kr_base.specs.declared.ids.ConnId.{ConnId}
 use Rattle.service_hub.specs.connection_worker.specs.declared.ending.End as ending
 use Rattle.service_hub.specs.connection_worker.specs.declared.ending.End.TheVariants as end
+use Rattle.service_hub.specs.connection_worker.specs.Arrivals.{AreRequests, FirstRequests, calls_in}
+use Rattle.service_hub.specs.connection_worker.specs.Handshakes.{most_bytes}
+use Rattle.service_hub.specs.connection_worker.specs.Replies.{outputs_to}
 use Rattle.service_hub.specs.connection_worker.specs.Streams.{Input, Output}
-use Rattle.service_hub.specs.connection_worker.specs.Causes.{HasCause}
-use Rattle.service_hub.specs.connection_worker.proofs.WholeLemmas.{still}
+use Rattle.service_hub.specs.connection_worker.specs.Causes.{HasCause, HasFinished, HasWritten}
+use Rattle.service_hub.specs.connection_worker.specs.Written.{spelled_behind}
+use Rattle.service_hub.specs.connection_worker.proofs.WholeLemmas.{at-end, front-of}
 use Rattle.load_plan.specs.declared.counts.Counts.{Counts}
 use Rattle.load_plan.specs.Plan.{plan}
-use Rattle.load_plan.specs.Sending.{conversation}
-use Rattle.load_plan.specs.Answered.{CountsReplies}
+use Rattle.load_plan.specs.Sending.{conversation, sent_from}
+use Rattle.load_plan.specs.Answered.{CountsMessages, CountsReplies, behind_line}
 use Rattle.load_plan.specs.Lines.{summary}
-use Rattle.keyring_program.specs.Events.{events_until}
+use Rattle.load_laws.specs.Requests.{AreAsked, said_from}
+use Rattle.load_laws.specs.Outputs.{all_counted, started}
+use Rattle.load_laws.proofs.SendLemmas.{answer-over}
+use Rattle.load_laws.proofs.TurnLemmas.{legal-front}
+use Rattle.keyring_program.specs.Events.{events_of, events_until, joined, text_of, the_connection}
 use Rattle.keyring_program.specs.Serves.{Serves, handshake_run}
-use Rattle.keyring_program.specs.Loads.{the_user, HasTalked, StopsAt, Loads, LoadEnds}
-use Rattle.keyring_program.specs.Status.{IsLoadStatus, IsStopped, status_of}
+use Rattle.keyring_program.specs.ServerNumber.{first_words, guid}
+use Rattle.keyring_program.specs.WholeInput.{IsWholeInput}
+use Rattle.keyring_program.specs.Loads.{the_user, HasTalked, Loads, LoadEnds}
+use Rattle.keyring_program.specs.Status.{IsLoadStatus, status_of}
 use Rattle.keyring_program.specs.declared.status.Status.{Status}
 use Rattle.keyring_program.specs.declared.status.Status.TheVariants as status
+use Rattle.keyring_program.proofs.CompleteLemmas.{answered}
 
 -- a count that is 0 stands still
 pub zero-still : StandsStill 0 0
 zero-still = (refl, λ is. omega (arith, is))
 
+-- all that was written to an output into which nothing was written before
+told : (old new : Option (List ℕ)) (written text : List ℕ) → old ≡ Some [] → new ≡ Some written → Appends old new text → written ≡ text
+told old new written text start end appends = subst (λ o. Appends (Some []) o text) end (subst (λ o. Appends o new text) start appends)
+
+-- what follows the answer to the handshake
+over : (seed rest : List ℕ) → behind_line (concat (ok_line (guid seed) ∷ []) ++ rest) ≡ rest
+unfolding guid
+over seed rest = answer-over (first_words seed) rest
+
+-- ---- what the client sends is a whole input
+
+module _ (items number : ℕ) (few : items ≤ 1000)
+    (opens : (uid items seed : ℕ) (guid : List ℕ) → uid < 2 ^ 32 → handshake uid guid (conversation uid (plan items seed)) ≡ record { answers = ok_line guid ∷ []; end = opened (sent_from 1 (plan items seed)) })
+    (streams : (items seed : ℕ) → items ≤ 1000 → Stream client.most_bytes (sent_from 1 (plan items seed)) (said_from 1 (plan items seed)) []) where
+  -- the run of its handshake
+  load-run : (seed : List ℕ) → handshake_run the_user seed (conversation the_user (plan items number)) ≡ record { answers = ok_line (guid seed) ∷ []; end = opened (sent_from 1 (plan items number)) }
+  load-run seed = opens the_user items number (guid seed) (omega arith)
+
+  pub load-whole : (seed : List ℕ) → ((items seed : ℕ) → items ≤ 1000 → length (sent_from 1 (plan items seed)) < 2 ^ 31)
+      → ((most : ℕ) (bytes : List ℕ) (asked : List TimedRequest) → FirstRequests most bytes (requests_of asked) → length asked ≤ length bytes)
+      → ((conn : ConnId) (state : State) (asked : List TimedRequest) → length (turns conn state asked) ≤ 4 * length asked) → IsWholeInput the_user seed (conversation the_user (plan items number))
+  load-whole seed bytes requests events = record {
+    behind = sent_from 1 (plan items number);
+    messages = said_from 1 (plan items number);
+    opened = ap (λ (r : Run). r.end) (load-run seed);
+    stream = streams items number few;
+    few = λ contents asked first. omega (
+      arith,
+      bytes items number few,
+      requests most_bytes (sent_from 1 (plan items number)) asked first,
+      events the_connection (joined contents) asked,
+      length-append (events_until contents asked) (event.Gone the_connection ∷ []),
+    );
+  }
+
+  -- ---- what is counted
+
+  module _ (seed : List ℕ) (written : List ℕ) (counts : Counts) (talked : HasTalked seed (conversation the_user (plan items number)) written)
+      (counted : CountsReplies number (plan items number) written counts) where
+    abbrev so : Serves the_user seed talked.coming talked.from talked.to talked.sink talked.after true no_contents status.Done
+    so = talked.serves
+
+    abbrev calls : List ℕ
+    calls = sent_from 1 (plan items number)
+
+    -- the service read all of it, and recorded each call
+    abbrev IsAll : Type 0
+    IsAll = (so.read ≡ conversation the_user (plan items number)) × AreAsked 1 (plan items number) so.asked × AllFinished the_connection (joined no_contents) so.asked
+        × (written ≡ text_of no_contents (handshake_run the_user seed so.read) so.asked)
+
+    all-read : ((items seed : ℕ) (asked : List TimedRequest) → items ≤ 1000 → AreRequests (calls_in (said_from 1 (plan items seed))) (requests_of asked) → AreAsked 1 (plan items seed) asked) → IsAll
+    all-read asks = by_end so.how so.status_is so.cause so.finished so.wrote
+      where
+        front : (left : List ℕ) × (conversation the_user (plan items number) ≡ so.read ++ left) × (talked.to.left ≡ Some left)
+        front = front-of talked.from.left talked.to.left so.read (conversation the_user (plan items number)) talked.sends so.took.consumed
+
+        by_end : (how : ending.End) → status.Done ≡ status_of how → HasCause how (handshake_run the_user seed so.read) so.asked (length (events_until no_contents so.asked)) talked.from talked.to talked.sink talked.after
+            → HasFinished how the_connection (joined no_contents) so.asked [] → HasWritten how talked.sink talked.after (text_of no_contents (handshake_run the_user seed so.read) so.asked) → IsAll
+        by_end end.Done is cause finished wrote =
+            let none : front.0 ≡ [] = at-end talked.to.left front.0 front.2 cause.1 in
+            let read : so.read ≡ conversation the_user (plan items number) = sym (front.1 ∙ ap (λ (l : List ℕ). so.read ++ l) none ∙ append-nil so.read) in
+            let served = cause.0 in
+            let run : (handshake_run the_user seed so.read).end ≡ opened calls = ap (λ (l : List ℕ). (handshake_run the_user seed l).end) read ∙ ap (λ (r : Run). r.end) (load-run seed) in
+            let behind : served.behind ≡ calls = let e = sym served.opened ∙ run in cc in
+            let stream : Stream most_bytes calls served.all.messages [] = subst (λ (l : List ℕ). Stream most_bytes l served.all.messages []) behind served.all.stream in
+            let messages : served.all.messages ≡ said_from 1 (plan items number) = (one_stream most_bytes calls [] [] served.all.messages (said_from 1 (plan items number)) stream (streams items number few)).0 in
+            let are : AreRequests (calls_in (said_from 1 (plan items number))) (requests_of so.asked) = subst (λ (m : List Parts). AreRequests (calls_in m) (requests_of so.asked)) messages served.all.are in
+            (read, asks items number so.asked few are, finished, told talked.sink.written talked.after.written written (text_of no_contents (handshake_run the_user seed so.read) so.asked) talked.starts talked.wrote wrote.appended)
+        by_end (end.Violation which) is cause finished wrote = absurd cc
+        by_end (end.AuthRefused why) is cause finished wrote = absurd cc
+        by_end end.ReadFault is cause finished wrote = absurd cc
+        by_end end.WriteFault is cause finished wrote = absurd cc
+        by_end end.EventsSpent is cause finished wrote = absurd cc
+        by_end end.Memory is cause finished wrote = absurd cc
+        by_end end.OtherEnded is cause finished wrote = absurd cause
+        by_end end.Overrun is cause finished wrote = absurd cause
+
+    legal : Legal (joined no_contents) (turns the_connection (joined no_contents) so.asked)
+    legal = legal-front (joined no_contents) (turns the_connection (joined no_contents) so.asked) (event.Gone the_connection ∷ []) so.legal.1
+
+    pub counts-are : ((items seed : ℕ) (asked : List TimedRequest) → items ≤ 1000 → AreRequests (calls_in (said_from 1 (plan items seed))) (requests_of asked) → AreAsked 1 (plan items seed) asked)
+        → ((items seed : ℕ) (contents : Contents) (asked : List TimedRequest) (counts : Counts) → items ≤ 1000 → AreSoundContents contents → contents.collections ≡ [] → contents.used ≡ []
+        → AreAsked 1 (plan items seed) asked → Legal (started contents) (turns the_connection (started contents) asked) → AllFaultless asked → AllFinished the_connection (started contents) asked
+        → CountsMessages seed (plan items seed) (spelled_behind 0 (outputs_to the_connection (started contents) asked)) counts → counts ≡ all_counted items)
+        → ((contents : Contents) (run : Run) (asked : List TimedRequest) → AreSoundContents contents → Legal (opened_state contents) (events_of contents asked)
+        → text_of contents run asked ≡ concat run.answers ++ spelled_behind 0 (outputs_to the_connection (joined contents) asked))
+        → counts ≡ all_counted items
+    counts-are asks all texts =
+        let read = all-read asks in
+        let outs = spelled_behind 0 (outputs_to the_connection (joined no_contents) so.asked) in
+        let run : handshake_run the_user seed so.read ≡ record { answers = ok_line (guid seed) ∷ []; end = opened calls } = ap (handshake_run the_user seed) read.0 ∙ load-run seed in
+        let text : written ≡ concat (ok_line (guid seed) ∷ []) ++ outs =
+        read.3 ∙ texts no_contents (handshake_run the_user seed so.read) so.asked so.sound so.legal ∙ ap (λ (r : Run). concat r.answers ++ outs) run in
+        let behind : behind_line written ≡ outs = ap behind_line text ∙ over seed outs in
+        all items number no_contents so.asked counts few so.sound refl refl read.1 legal (so.faultless refl) read.2
+        (subst (λ (l : List ℕ). CountsMessages number (plan items number) l counts) behind counted)
+
 -- ---- the conversation
 
--- if the input didn't fail, it ends in one of six ways
-pub talk-status : (uid : ℕ) (seed : List ℕ) (coming : Option (ℕ → ℕ)) (from to : Input) (sink after : Output) (steady : Bool) (contents : Contents) (ended : Status)
-    → Serves uid seed coming from to sink after steady contents ended → StandsStill from.faults to.faults → IsLoadStatus ended
-talk-status uid seed coming from to sink after steady contents ended so input = subst IsLoadStatus (sym so.status_is) (by_cause so.how so.cause)
-  where
-    by_cause : (how : ending.End) → HasCause how (handshake_run uid seed so.read) so.asked (length (events_until contents so.asked)) from to sink after → IsLoadStatus (status_of how)
-    by_cause end.Done cause = tt
-    by_cause (end.Violation which) cause = tt
-    by_cause (end.AuthRefused why) cause = tt
-    by_cause end.ReadFault cause = absurd (still from.faults to.faults input cause.0)
-    by_cause end.WriteFault cause = tt
-    by_cause end.EventsSpent cause = tt
-    by_cause end.Memory cause = tt
-    by_cause end.OtherEnded cause = tt
-    by_cause end.Overrun cause = tt
-
 -- what was served was a conversation
-pub talked : (seed sent : List ℕ) (coming : Option (ℕ → ℕ)) (from to : Input) (sink after : Output) (steady : Bool) (contents : Contents) (written : List ℕ) (result ended : Status)
-    → Serves the_user seed coming from to sink after steady contents result → from.left ≡ Some sent → sink.written ≡ Some [] → after.written ≡ Some written → steady ≡ true → result ≡ ended
-    → HasTalked seed sent written ended
-talked seed sent coming from to sink after steady contents written result ended so sends starts wrote is_steady is = record {
-  contents = contents;
+pub talked : (seed sent : List ℕ) (coming : Option (ℕ → ℕ)) (from to : Input) (sink after : Output) (steady : Bool) (contents : Contents) (written : List ℕ) (result : Status)
+    → Serves the_user seed coming from to sink after steady contents result → from.left ≡ Some sent → sink.written ≡ Some [] → after.written ≡ Some written → steady ≡ true → contents ≡ no_contents → result ≡ status.Done
+    → HasTalked seed sent written
+talked seed sent coming from to sink after steady contents written result so sends starts wrote is_steady none is = record {
   coming = coming;
   from = from;
   to = to;
@@ -56,49 +162,38 @@ talked seed sent coming from to sink after steady contents written result ended 
   sends = sends;
   starts = starts;
   wrote = wrote;
-  serves = subst (λ s. Serves the_user seed coming from to sink after true contents s) is (subst (λ b. Serves the_user seed coming from to sink after b contents result) is_steady so);
+  serves = subst (λ s. Serves the_user seed coming from to sink after true no_contents s) is (subst (λ (c : Contents). Serves the_user seed coming from to sink after true c result) none (subst (λ b. Serves the_user seed coming from to sink after b contents result) is_steady so));
 }
+
+-- it ended, or memory ran out, or the output failed
+pub talk-status : (seed sent : List ℕ) (coming : Option (ℕ → ℕ)) (from to : Input) (sink after : Output) (steady : Bool) (contents : Contents) (ended : Status)
+    → Serves the_user seed coming from to sink after steady contents ended → IsWholeInput the_user seed sent → from.left ≡ Some sent → StandsStill from.faults to.faults → IsLoadStatus ended
+talk-status seed sent coming from to sink after steady contents ended so whole sends input = pass (answered the_user seed sent coming from to sink after steady contents ended so whole sends input)
+  where
+    pass : (ended ≡ status.Done) ⊎ ((ended ≡ status.Memory) ⊎ ((ended ≡ status.WriteFault) × Rose sink.faults after.faults)) → IsLoadStatus ended
+    pass (inl done) = subst IsLoadStatus (sym done) tt
+    pass (inr (inl memory)) = subst IsLoadStatus (sym memory) tt
+    pass (inr (inr failed)) = subst IsLoadStatus (sym failed.0) tt
 
 -- ---- the four lines
 
-pub loads : (items number : ℕ) (seed text sent written : List ℕ) (counts : Counts) (calls : List Call) → calls ≡ plan items number → sent ≡ conversation the_user calls
-    → HasTalked seed sent written status.Done → CountsReplies number calls written counts → text ≡ summary counts → Loads items number seed text
-loads items number seed text sent written counts calls are sends has counted is = record {
-  written = written;
-  counts = counts;
-  talked = subst (λ l. HasTalked seed l written status.Done) (sends ∙ ap (λ (cs : List Call). conversation the_user cs) are) has;
-  counted = subst (λ cs. CountsReplies number cs written counts) are counted;
-  text_is = is;
-}
+pub loads : (items number : ℕ) (seed text sent written : List ℕ) (counts : Counts) (asked : List Call) → asked ≡ plan items number → sent ≡ conversation the_user asked → HasTalked seed sent written
+    → CountsReplies number asked written counts
+    → (HasTalked seed (conversation the_user (plan items number)) written → CountsReplies number (plan items number) written counts → counts ≡ all_counted items) → text ≡ summary counts → Loads items number seed text
+loads items number seed text sent written counts asked are sends has counted all is =
+    let talk : HasTalked seed (conversation the_user (plan items number)) written = subst (λ l. HasTalked seed l written) (sends ∙ ap (λ (cs : List Call). conversation the_user cs) are) has in
+    let replies : CountsReplies number (plan items number) written counts = subst (λ cs. CountsReplies number cs written counts) are counted in
+    record {
+      written = written;
+      counts = counts;
+      talked = talk;
+      counted = replies;
+      all = all talk replies;
+      text_is = is;
+    }
 
 -- ---- the end
 
--- a run that stopped wrote nothing
-pub stopped : (items number : ℕ) (seed : List ℕ) (out : Output) (ended : Status) → StopsAt seed (conversation the_user (plan items number)) ended → LoadEnds items number seed out out ended
-stopped items number seed out status.Memory stops = (refl, stops)
-stopped items number seed out (status.Violation cause) stops = (refl, stops)
-stopped items number seed out (status.AuthRefused why) stops = (refl, stops)
-stopped items number seed out status.EventsSpent stops = (refl, stops)
-stopped items number seed out status.Done stops = absurd stops.may
-stopped items number seed out status.WriteFault stops = absurd stops.may
-stopped items number seed out status.Usage stops = absurd stops.may
-stopped items number seed out status.ReadFault stops = absurd stops.may
-stopped items number seed out status.FolderFault stops = absurd stops.may
-stopped items number seed out status.ListenFault stops = absurd stops.may
-stopped items number seed out status.Damaged stops = absurd stops.may
-stopped items number seed out status.PasswordTooLong stops = absurd stops.may
-
--- and ended in a way of `load`
-pub stopped-status : (ended : Status) → IsStopped ended → IsLoadStatus ended
-stopped-status status.Memory stops = tt
-stopped-status (status.Violation cause) stops = tt
-stopped-status (status.AuthRefused why) stops = tt
-stopped-status status.EventsSpent stops = tt
-stopped-status status.Done stops = tt
-stopped-status status.WriteFault stops = tt
-stopped-status status.Usage stops = absurd stops
-stopped-status status.ReadFault stops = absurd stops
-stopped-status status.FolderFault stops = absurd stops
-stopped-status status.ListenFault stops = absurd stops
-stopped-status status.Damaged stops = absurd stops
-stopped-status status.PasswordTooLong stops = absurd stops
+-- a run for which memory ran out wrote nothing
+pub stopped : (items number : ℕ) (seed : List ℕ) (out : Output) (ended : Status) → ended ≡ status.Memory → LoadEnds items number seed out out ended
+stopped items number seed out ended is = subst (LoadEnds items number seed out out) (sym is) (refl, refl)

@@ -48,23 +48,12 @@ IsServeStatus status.ListenFault = Unit {0}
 IsServeStatus status.Memory = Unit {0}
 IsServeStatus _ = ⊥
 
--- the connection of a client in memory may end early in this way
-abbrev pub IsStopped : Status → Type 0
-IsStopped status.Memory = Unit {0}
-IsStopped (status.Violation cause) = Unit {0}
-IsStopped (status.AuthRefused why) = Unit {0}
-IsStopped status.EventsSpent = Unit {0}
-IsStopped _ = ⊥
-
 -- a command that is there and serves a client in memory may end in this way
 abbrev pub IsLoadStatus : Status → Type 0
-IsLoadStatus status.Usage = ⊥
-IsLoadStatus status.ReadFault = ⊥
-IsLoadStatus status.FolderFault = ⊥
-IsLoadStatus status.ListenFault = ⊥
-IsLoadStatus status.Damaged = ⊥
-IsLoadStatus status.PasswordTooLong = ⊥
-IsLoadStatus _ = Unit {0}
+IsLoadStatus status.Done = Unit {0}
+IsLoadStatus status.WriteFault = Unit {0}
+IsLoadStatus status.Memory = Unit {0}
+IsLoadStatus _ = ⊥
 
 -- it may end in this way before the door is open
 abbrev pub IsUnservedStatus : Status → Type 0

@@ -1,20 +1,19 @@
 // The command `load`.
 ghost use Rattle.std.specs.Prelude.{◌≡◌, ◌≤◌, IfOk, IfErr, IsFalse};
 ghost use Rattle.service_hub.specs.connection_worker.specs.Streams.{output_of};
-ghost use Rattle.load_plan.specs.Plan.{plan};
-ghost use Rattle.load_plan.specs.Sending.{conversation};
-ghost use Rattle.keyring_program.specs.Loads.{the_user, HasTalked, StopsAt, Loads, LoadEnds};
+ghost use Rattle.keyring_program.specs.Loads.{the_user, HasTalked, Loads, LoadEnds};
 ghost use Rattle.keyring_program.specs.Status.{IsLoadStatus};
-ghost use Rattle.keyring_program.specs.declared.status.Status.TheVariants as status;
+ghost use Rattle.keyring_program.specs.WholeInput.{IsWholeInput};
 
 use crate::connection::serve_client;
-use crate::folder::open_service;
+use crate::laws::each_request_has_its_reply;
 use crate::status::Status;
-use kr_memory::{ListedClock, MemorySink, SteadySink, SteadySource};
-use kr_memory_disk::{Files, SteadyHost};
-use kr_outside::{Failed, Host, Sink, write_all};
+use kr_memory::{ListedClock, MemorySink, SteadySource};
+use kr_memory_disk::{Files, SteadyFolder, SteadySlot};
+use kr_outside::{Failed, Sink, write_all};
+use load_laws::{a_load_counts_all, a_load_has_few_events, a_load_is_read_whole};
 use load_plan::{conversation, count_replies, load_plan, summary};
-use lone_desk::service_machine::OpenRefused;
+use lone_desk::service_history::Service;
 use std::alloc::AllocGlobal;
 use std::sync::Wait;
 
@@ -24,44 +23,41 @@ const USER: u32 = 0;
 // The most bytes of a file that the folder keeps. The files of a load are never read again.
 const ROOM: usize = 1_048_576;
 
-// Serves a client that sends these bytes, as the only connection of a new service over a folder in memory, and
-// returns what was written to it.
+// Serves a client that sends these bytes, which are whole messages, as the only connection of a new service over a
+// folder in memory with nothing in it, and returns what was written to it.
 fn talk<R: AllocGlobal + Wait>(rt: &R, sent: Vec<u8>, seed: [u8; 32]) -> Result<MemorySink, Status>
-    ensures served { IfOk result (λ sink. HasTalked seed sent.items sink.kept status.Done) }
-    ensures stops { IfErr result (StopsAt seed sent.items) }
+    requires whole { IsWholeInput the_user seed sent.items }
+    ensures served { IfOk result (λ sink. HasTalked seed sent.items sink.kept) }
+    ensures memory { IfErr result (λ status. status ≡ Status.Memory) }
 {
     let alloc = rt.alloc();
-    let mut host: SteadyHost<SteadySource, SteadySink> = SteadyHost::new(
-        alloc,
-        Files::new(alloc),
-        ROOM,
-        ListedClock::new(Vec::new(alloc)),
-    );
-    let service = match open_service(alloc, &mut host, "load") {
-        Ok(service) => service,
-        Err(OpenRefused::Folder) => unreachable!(),
-        Err(OpenRefused::OutOfMemory) => return Err(Status::Memory),
+    let Ok(aliases) = SteadySlot::new(alloc, None, ROOM) else {
+        return Err(Status::Memory);
     };
-    let mut clock = host.clock();
+    let folder = SteadyFolder::new(alloc, Files::new(alloc), ROOM);
+    let Ok(service) = Service::with_nothing(alloc, folder, aliases) else {
+        return Err(Status::Memory);
+    };
+    let mut clock = ListedClock::new(Vec::new(alloc));
     let mut input = SteadySource::new(sent, Vec::new(alloc));
     let mut output = MemorySink::new(alloc, Vec::new(alloc), Vec::new(alloc));
     match serve_client(rt, USER, seed, &mut input, &mut output, &mut clock, service) {
         Status::Done => Ok(output),
         // The output takes memory, and fails only if there is none.
         Status::WriteFault | Status::Memory => Err(Status::Memory),
-        Status::Violation(cause) => Err(Status::Violation(cause)),
-        Status::AuthRefused(why) => Err(Status::AuthRefused(why)),
-        Status::EventsSpent => Err(Status::EventsSpent),
         Status::Usage
         | Status::ReadFault
         | Status::FolderFault
         | Status::ListenFault
         | Status::Damaged
-        | Status::PasswordTooLong => unreachable!(),
+        | Status::PasswordTooLong
+        | Status::EventsSpent => unreachable!(),
+        Status::Violation(_) => unreachable!(),
+        Status::AuthRefused(_) => unreachable!(),
     }
 }
 
-// The four lines, or why there are none.
+// The four lines, or that memory ran out.
 fn lines<R: AllocGlobal + Wait>(
     rt: &R,
     items: u32,
@@ -70,9 +66,14 @@ fn lines<R: AllocGlobal + Wait>(
 ) -> Result<Vec<u8>, Status>
     requires few { items ≤ 1000 }
     ensures lines { IfOk result (λ text. Loads items number seed text.items) }
-    ensures stops { IfErr result (StopsAt seed (conversation the_user (plan items number))) }
+    ensures memory { IfErr result (λ status. status ≡ Status.Memory) }
 {
     let alloc = rt.alloc();
+    // Laws of a load, on which the numbers rest.
+    a_load_is_read_whole();
+    a_load_has_few_events();
+    a_load_counts_all();
+    each_request_has_its_reply();
     let Ok(calls) = load_plan(alloc, items, number) else {
         return Err(Status::Memory);
     };

@@ -1,37 +1,35 @@
-use Rattle.std.proofs.Common.{◌≡◌, Some, inr, refl, ap}
-use Rattle.kr_memory.specs.Sink.{SinkState}
+use Rattle.std.proofs.Common.{◌≡◌, ◌⊎◌, inl, inr, Some, ap, subst}
 use Rattle.kr_memory.specs.Source.{SteadySourceState}
+use Rattle.keyring_program.specs.Status.{IsLoadStatus}
+use Rattle.keyring_program.specs.declared.status.Status.{Status}
 use Rattle.keyring_program.specs.declared.status.Status.TheVariants as status
-use Rattle.keyring_program.proofs.LoadLemmas.{talked}
+use Rattle.keyring_program.proofs.LoadLemmas.{talk-status, zero-still}
 use Rattle.keyring_program.proofs.load.talk.Goals as goal
 
--- the connection ended early
-pub returns-in-Violation-clause-stops : goal.returns-in-Violation-clause-stops
-returns-in-Violation-clause-stops g c = record {
-  may = tt;
-  why = inr (
-    c.serve_client.new.output.kept,
-    talked c.args.seed c.args.sent.items _ _ _ _ _ _ _ c.serve_client.new.output.kept c.serve_client.result (status.Violation c.in-Violation.cause) c.serve_client.ensures (ap (λ (s : SteadySourceState). Some s.left) c.new-input.ensures)
-        (ap (λ (s : SinkState). Some s.kept) c.new-output.ensures) refl c.in-Ok.ensures.steady_disk c.in-Violation.is,
-  );
-}
+-- the client's connection ends in none of these ways
+no-end : (s : Status) → IsLoadStatus s
+    → (s ≡ status.Usage) ⊎ ((s ≡ status.ReadFault) ⊎ ((s ≡ status.FolderFault) ⊎ ((s ≡ status.ListenFault) ⊎ ((s ≡ status.Damaged) ⊎ ((s ≡ status.PasswordTooLong) ⊎ (s ≡ status.EventsSpent)))))) → ⊥
+no-end s may (inl is) = subst IsLoadStatus is may
+no-end s may (inr (inl is)) = subst IsLoadStatus is may
+no-end s may (inr (inr (inl is))) = subst IsLoadStatus is may
+no-end s may (inr (inr (inr (inl is)))) = subst IsLoadStatus is may
+no-end s may (inr (inr (inr (inr (inl is))))) = subst IsLoadStatus is may
+no-end s may (inr (inr (inr (inr (inr (inl is)))))) = subst IsLoadStatus is may
+no-end s may (inr (inr (inr (inr (inr (inr is)))))) = subst IsLoadStatus is may
 
-pub returns-in-AuthRefused-clause-stops : goal.returns-in-AuthRefused-clause-stops
-returns-in-AuthRefused-clause-stops g c = record {
-  may = tt;
-  why = inr (
-    c.serve_client.new.output.kept,
-    talked c.args.seed c.args.sent.items _ _ _ _ _ _ _ c.serve_client.new.output.kept c.serve_client.result (status.AuthRefused c.in-AuthRefused.why) c.serve_client.ensures (ap (λ (s : SteadySourceState). Some s.left) c.new-input.ensures)
-        (ap (λ (s : SinkState). Some s.kept) c.new-output.ensures) refl c.in-Ok.ensures.steady_disk c.in-AuthRefused.is,
-  );
-}
+pub unreachable-requires : goal.unreachable-requires
+unreachable-requires g c =
+    no-end c.serve_client.result
+    (talk-status c.args.seed c.args.sent.items _ _ _ _ _ _ _ c.serve_client.result c.serve_client.ensures c.requires.whole (ap (λ (s : SteadySourceState). Some s.left) c.new-input.ensures) zero-still) c.in-Usage.is
 
-pub returns-in-EventsSpent-clause-stops : goal.returns-in-EventsSpent-clause-stops
-returns-in-EventsSpent-clause-stops g c = record {
-  may = tt;
-  why = inr (
-    c.serve_client.new.output.kept,
-    talked c.args.seed c.args.sent.items _ _ _ _ _ _ _ c.serve_client.new.output.kept c.serve_client.result status.EventsSpent c.serve_client.ensures (ap (λ (s : SteadySourceState). Some s.left) c.new-input.ensures)
-        (ap (λ (s : SinkState). Some s.kept) c.new-output.ensures) refl c.in-Ok.ensures.steady_disk c.in-EventsSpent.is,
-  );
-}
+-- the bytes break no rule
+pub unreachable-requires-in-Violation : goal.unreachable-requires-in-Violation
+unreachable-requires-in-Violation g c =
+    subst IsLoadStatus c.in-Violation.is
+    (talk-status c.args.seed c.args.sent.items _ _ _ _ _ _ _ c.serve_client.result c.serve_client.ensures c.requires.whole (ap (λ (s : SteadySourceState). Some s.left) c.new-input.ensures) zero-still)
+
+-- the handshake is open
+pub unreachable-requires-in-AuthRefused : goal.unreachable-requires-in-AuthRefused
+unreachable-requires-in-AuthRefused g c =
+    subst IsLoadStatus c.in-AuthRefused.is
+    (talk-status c.args.seed c.args.sent.items _ _ _ _ _ _ _ c.serve_client.result c.serve_client.ensures c.requires.whole (ap (λ (s : SteadySourceState). Some s.left) c.new-input.ensures) zero-still)

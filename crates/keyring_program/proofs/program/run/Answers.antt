@@ -66,7 +66,7 @@ pub returns-in-Err-clause-serve_recorded : goal.returns-in-Err-clause-serve_reco
 returns-in-Err-clause-serve_recorded g c until_eof folder socket uid most words = inl (record { unserved = tt; doors = refl; jobs = refl })
 
 pub returns-in-Err-clause-loaded : goal.returns-in-Err-clause-loaded
-returns-in-Err-clause-loaded g c items number words = (tt, refl, refl, (refl, record { may = tt; why = inl refl }))
+returns-in-Err-clause-loaded g c items number words = (tt, refl, refl, (refl, refl))
 
 -- the arguments are those of `stdio`
 pub returns-in-Stdio-clause-usage : goal.returns-in-Stdio-clause-usage
