@@ -8,7 +8,7 @@ use Rattle.dbus_auth.specs.Handshake.{Run, handshake, opened}
 use Rattle.dbus_framing.specs.Messages.{Parts}
 use Rattle.dbus_framing.specs.Streams.{Stream}
 use Rattle.dbus_framing.proofs.Cuts.{one_stream}
-use Rattle.client_core.specs.Asked as client
+use Rattle.load_laws.specs.client_core.specs.Asked as client
 use Rattle.lone_desk.specs.secret_calls.specs.declared.call.Call.{Call}
 use Rattle.lone_desk.specs.service_history.specs.service_machine.specs.Rows.{no_contents}
 use Rattle.lone_desk.specs.service_tables.specs.Opened.{Contents, opened_state}

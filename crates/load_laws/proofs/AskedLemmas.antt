@@ -21,11 +21,11 @@ use Rattle.dbus_marshal.specs.Spelling.{all_spelled, first_at, spelled}
 use Rattle.dbus_marshal.proofs.WritingLemmas.{zeros_long}
 use Rattle.dbus_framing.specs.Headers.{field_parts}
 use Rattle.dbus_sending.specs.Sent as sending
-use Rattle.secret_calls.specs.declared.call.Call.{Call}
-use Rattle.secret_calls.specs.declared.call.Call.TheVariants as call
-use Rattle.secret_calls.proofs.LengthLemmas.{AtMost, AllAtMost, end-most, more-most, byte-most, word-most, long-most, text-most, path-most, variant-most, struct-most, array-most}
-use Rattle.secret_calls.specs.Outs.{prompt_path}
-use Rattle.secret_calls.proofs.SizeLemmas.{fields-most, prompt-short}
+use Rattle.connection_worker.specs.service_events.specs.secret_calls.specs.declared.call.Call.{Call}
+use Rattle.connection_worker.specs.service_events.specs.secret_calls.specs.declared.call.Call.TheVariants as call
+use Rattle.connection_worker.specs.service_events.specs.secret_calls.proofs.LengthLemmas.{AtMost, AllAtMost, end-most, more-most, byte-most, word-most, long-most, text-most, path-most, variant-most, struct-most, array-most}
+use Rattle.connection_worker.specs.service_events.specs.secret_calls.specs.Outs.{prompt_path}
+use Rattle.connection_worker.specs.service_events.specs.secret_calls.proofs.SizeLemmas.{fields-most, prompt-short}
 use Rattle.client_core.specs.Arguments.{arguments_of, attributes_value, given_secret, item_properties, session_text}
 use Rattle.client_core.specs.Asked.{most_bytes, sent}
 use Rattle.client_core.specs.Asked as asking

@@ -2,26 +2,26 @@
 use Rattle.std.proofs.Common.{◌≡◌, ℕ, zero, suc, ◌+◌, ◌-◌, ◌^◌, ◌<◌, ◌≤◌, Bool, true, false, cond, List, [], ◌∷◌, ◌++◌, length, Option, Some, None, is_some, Result, Ok, bytes_eq, codes, refl, sym, ap, ◌∙◌, subst, arith, length-append}
 use Rattle.std.proofs.lemmas.Slice.Eq.{bytes_eq-Decides}
 use Rattle.key_derivation.specs.Kdf.{key_of, vector_of}
-use Rattle.collection_table.specs.Rows.{Rows}
-use Rattle.keyring_seal.specs.Arranged.{Row}
-use Rattle.secret_calls.specs.declared.call.Call.{Call}
-use Rattle.secret_calls.specs.declared.call.Call.TheVariants as call
-use Rattle.secret_calls.specs.declared.out.Body.{Body}
-use Rattle.secret_calls.specs.declared.out.Body.TheVariants as body
-use Rattle.secret_calls.specs.declared.out.ErrorName.{ErrorName}
-use Rattle.secret_calls.specs.declared.work.Work.{Work}
-use Rattle.alias_table.specs.Table.{AliasRows}
+use Rattle.connection_worker.specs.service_events.specs.collection_table.specs.Rows.{Rows}
+use Rattle.connection_worker.specs.service_events.specs.service_tables.specs.keyring_seal.specs.Arranged.{Row}
+use Rattle.connection_worker.specs.service_events.specs.secret_calls.specs.declared.call.Call.{Call}
+use Rattle.connection_worker.specs.service_events.specs.secret_calls.specs.declared.call.Call.TheVariants as call
+use Rattle.connection_worker.specs.service_events.specs.secret_calls.specs.declared.out.Body.{Body}
+use Rattle.connection_worker.specs.service_events.specs.secret_calls.specs.declared.out.Body.TheVariants as body
+use Rattle.connection_worker.specs.service_events.specs.secret_calls.specs.declared.out.ErrorName.{ErrorName}
+use Rattle.connection_worker.specs.service_events.specs.secret_calls.specs.declared.work.Work.{Work}
+use Rattle.connection_worker.specs.service_events.specs.alias_table.specs.Table.{AliasRows}
 use Rattle.prompt_state.specs.Prompts.{no_prompts}
 use Rattle.prompt_state.specs.declared.row.Stage.TheVariants as stage
-use Rattle.service_tables.specs.State.{State}
-use Rattle.service_disk.specs.Making as making
-use Rattle.service_events.specs.declared.event.Derivation.{Derivation}
-use Rattle.service_events.specs.Derivation.{derived}
-use Rattle.service_events.specs.Fates.{AreFaultless}
-use Rattle.service_events.specs.Run.{AreFates, Ran, asked}
-use Rattle.service_events.specs.Step.{Fits, brought_derived, brought_with, finished, row_of, served, terms_of, work_of}
-use Rattle.service_events.specs.Replay.{replay, Legal}
-use Rattle.service_events.specs.Single.{IsKeyFaultless, TimedKey, TimedRequest, arrival, asking, derivation, finishing, recorded_of, turn, work_for}
+use Rattle.connection_worker.specs.service_events.specs.service_tables.specs.State.{State}
+use Rattle.connection_worker.specs.service_events.specs.service_disk.specs.Making as making
+use Rattle.connection_worker.specs.service_events.specs.declared.event.Derivation.{Derivation}
+use Rattle.connection_worker.specs.service_events.specs.Derivation.{derived}
+use Rattle.connection_worker.specs.service_events.specs.Fates.{AreFaultless}
+use Rattle.connection_worker.specs.service_events.specs.Run.{AreFates, Ran, asked}
+use Rattle.connection_worker.specs.service_events.specs.Step.{Fits, brought_derived, brought_with, finished, row_of, served, terms_of, work_of}
+use Rattle.connection_worker.specs.service_events.specs.Replay.{replay, Legal}
+use Rattle.connection_worker.specs.service_events.specs.Single.{IsKeyFaultless, TimedKey, TimedRequest, arrival, asking, derivation, finishing, recorded_of, turn, work_for}
 use Rattle.connection_worker.specs.Replies.{replies_to}
 use Rattle.load_plan.specs.declared.counts.Counts.{Counts}
 use Rattle.load_plan.specs.Counts.{raised, returned}

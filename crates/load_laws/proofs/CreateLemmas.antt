@@ -6,37 +6,37 @@ use Rattle.kr_names.specs.Path.{path_text}
 use Rattle.replace_slot.specs.Cell.{Known}
 use Rattle.keyring_file.specs.Clear.{ClearPart}
 use Rattle.keyring_file.specs.ClearText.{most_iterations}
-use Rattle.keyring_seal.specs.Arranged.{Row}
-use Rattle.keyring_seal.specs.Whole.{sealed}
-use Rattle.keyring_seal.specs.declared.content.Content.{Content}
-use Rattle.collection_store.specs.Changes.{as_content, content_changed, content_stored, made_new, minor_made, new_row, rows_made}
-use Rattle.collection_store.specs.Outcomes.{most_for}
-use Rattle.collection_store.specs.State.{Held}
-use Rattle.collection_store.specs.Storable.{sized}
-use Rattle.collection_store.specs.declared.change.Change.{Change}
-use Rattle.collection_store.specs.declared.change.Change.TheVariants as change
-use Rattle.collection_store.specs.declared.change.Changed.{Changed}
-use Rattle.collection_store.specs.declared.change.Changed.TheVariants as changed
-use Rattle.collection_store.specs.declared.refused.ChangeRefused.{ChangeRefused}
-use Rattle.collection_store.specs.declared.refused.ChangeRefused.TheVariants as refused
-use Rattle.collection_table.specs.Rows.{CollectionRow, Rows, is_full, items_in, room_in}
-use Rattle.secret_calls.specs.declared.out.Body.{Body}
-use Rattle.secret_calls.specs.declared.out.Body.TheVariants as body
-use Rattle.secret_calls.specs.declared.out.ErrorName.TheVariants as name-of-error
-use Rattle.alias_table.specs.Table.{AliasRows}
+use Rattle.connection_worker.specs.service_events.specs.service_tables.specs.keyring_seal.specs.Arranged.{Row}
+use Rattle.connection_worker.specs.service_events.specs.service_tables.specs.keyring_seal.specs.Whole.{sealed}
+use Rattle.connection_worker.specs.service_events.specs.service_tables.specs.keyring_seal.specs.declared.content.Content.{Content}
+use Rattle.connection_worker.specs.service_events.specs.collection_store.specs.Changes.{as_content, content_changed, content_stored, made_new, minor_made, new_row, rows_made}
+use Rattle.connection_worker.specs.service_events.specs.collection_store.specs.Outcomes.{most_for}
+use Rattle.connection_worker.specs.service_events.specs.collection_store.specs.State.{Held}
+use Rattle.connection_worker.specs.service_events.specs.collection_store.specs.Storable.{sized}
+use Rattle.connection_worker.specs.service_events.specs.collection_store.specs.declared.change.Change.{Change}
+use Rattle.connection_worker.specs.service_events.specs.collection_store.specs.declared.change.Change.TheVariants as change
+use Rattle.connection_worker.specs.service_events.specs.collection_store.specs.declared.change.Changed.{Changed}
+use Rattle.connection_worker.specs.service_events.specs.collection_store.specs.declared.change.Changed.TheVariants as changed
+use Rattle.connection_worker.specs.service_events.specs.collection_store.specs.declared.refused.ChangeRefused.{ChangeRefused}
+use Rattle.connection_worker.specs.service_events.specs.collection_store.specs.declared.refused.ChangeRefused.TheVariants as refused
+use Rattle.connection_worker.specs.service_events.specs.collection_table.specs.Rows.{CollectionRow, Rows, is_full, items_in, room_in}
+use Rattle.connection_worker.specs.service_events.specs.secret_calls.specs.declared.out.Body.{Body}
+use Rattle.connection_worker.specs.service_events.specs.secret_calls.specs.declared.out.Body.TheVariants as body
+use Rattle.connection_worker.specs.service_events.specs.secret_calls.specs.declared.out.ErrorName.TheVariants as name-of-error
+use Rattle.connection_worker.specs.service_events.specs.alias_table.specs.Table.{AliasRows}
 use Rattle.prompt_state.specs.declared.row.Prompts.{Prompts}
-use Rattle.service_tables.specs.State.{State}
-use Rattle.service_tables.specs.Storing.{Add_item, Brought, Edit, placed, row_after, storable_edit}
-use Rattle.service_tables.specs.declared.rows.ConnRows.{ConnRows}
-use Rattle.service_tables.specs.declared.fate.Fate.{Fate}
-use Rattle.service_tables.specs.declared.fate.Fate.TheVariants as fate
-use Rattle.service_tables.specs.declared.fate.StoreFate.{StoreFate}
-use Rattle.service_tables.specs.declared.fate.StoreFate.TheVariants as ended
-use Rattle.service_events.specs.CollectionCalls.{by_fate, made, storing}
-use Rattle.service_events.specs.Fates.{AreFaultless}
-use Rattle.service_events.specs.Plan.{Plan, Asks, Store}
-use Rattle.service_events.specs.Run.{AreFates, AreNone, Ran, asked, by_store, by_test, demanded, failing, fits, run, sending}
-use Rattle.service_events.specs.Step.{brought_with, row_of}
+use Rattle.connection_worker.specs.service_events.specs.service_tables.specs.State.{State}
+use Rattle.connection_worker.specs.service_events.specs.service_tables.specs.Storing.{Add_item, Brought, Edit, placed, row_after, storable_edit}
+use Rattle.connection_worker.specs.service_events.specs.service_tables.specs.declared.rows.ConnRows.{ConnRows}
+use Rattle.connection_worker.specs.service_events.specs.service_tables.specs.declared.fate.Fate.{Fate}
+use Rattle.connection_worker.specs.service_events.specs.service_tables.specs.declared.fate.Fate.TheVariants as fate
+use Rattle.connection_worker.specs.service_events.specs.service_tables.specs.declared.fate.StoreFate.{StoreFate}
+use Rattle.connection_worker.specs.service_events.specs.service_tables.specs.declared.fate.StoreFate.TheVariants as ended
+use Rattle.connection_worker.specs.service_events.specs.CollectionCalls.{by_fate, made, storing}
+use Rattle.connection_worker.specs.service_events.specs.Fates.{AreFaultless}
+use Rattle.connection_worker.specs.service_events.specs.Plan.{Plan, Asks, Store}
+use Rattle.connection_worker.specs.service_events.specs.Run.{AreFates, AreNone, Ran, asked, by_store, by_test, demanded, failing, fits, run, sending}
+use Rattle.connection_worker.specs.service_events.specs.Step.{brought_with, row_of}
 use Rattle.load_plan.specs.Plan.{attributes_of, create, the_name}
 use Rattle.load_plan.specs.Words.{secret_of}
 use Rattle.load_laws.specs.Requests.{the_connection}

@@ -5,11 +5,11 @@ use Rattle.keyring_text.specs.Fields.{number, string, time}
 use Rattle.keyring_file.specs.Canonical.{front_text, item_text, padding, zeros}
 use Rattle.keyring_file.specs.Clear.{ClearPart}
 use Rattle.keyring_file.specs.ClearText.{magic, version, most_iterations}
-use Rattle.keyring_seal.specs.Arranged.{Row, IsSealable, of_rows, row_number, rows}
-use Rattle.keyring_seal.specs.Room.{items_measure, row_text}
-use Rattle.keyring_seal.specs.Whole.{sealed}
-use Rattle.keyring_seal.proofs.RoomLemmas.{length_number, length_time}
-use Rattle.keyring_seal.proofs.SealLemmas.{length-sealed}
+use Rattle.connection_worker.specs.service_events.specs.service_tables.specs.keyring_seal.specs.Arranged.{Row, IsSealable, of_rows, row_number, rows}
+use Rattle.connection_worker.specs.service_events.specs.service_tables.specs.keyring_seal.specs.Room.{items_measure, row_text}
+use Rattle.connection_worker.specs.service_events.specs.service_tables.specs.keyring_seal.specs.Whole.{sealed}
+use Rattle.connection_worker.specs.service_events.specs.service_tables.specs.keyring_seal.proofs.RoomLemmas.{length_number, length_time}
+use Rattle.connection_worker.specs.service_events.specs.service_tables.specs.keyring_seal.proofs.SealLemmas.{length-sealed}
 
 -- what comes before the number of items
 long-front : (clear : ClearPart) → length clear.salt ≡ 8 → length (front_text clear) ≡ 76 + length clear.name

@@ -4,18 +4,18 @@ use Rattle.kr_base.specs.declared.ids.ConnId.{ConnId}
 use Rattle.dbus_framing.specs.Messages.{Parts}
 use Rattle.dbus_framing.specs.Streams.{AreMessages, is_kept, joined}
 use Rattle.dbus_framing.proofs.Cuts.{one_stream}
-use Rattle.secret_calls.specs.declared.call.Request.{Request}
-use Rattle.secret_calls.specs.declared.out.Out.{Out}
-use Rattle.secret_calls.specs.declared.work.Work.{Work}
-use Rattle.service_tables.specs.Opened.{Contents, opened_state}
-use Rattle.service_tables.specs.Sound.{AreSoundContents, IsSound}
-use Rattle.service_tables.specs.State.{State}
-use Rattle.service_events.specs.declared.event.Event.{Event}
-use Rattle.service_events.specs.declared.event.Event.TheVariants as event
-use Rattle.service_events.specs.Replay.{replay, Legal}
-use Rattle.service_events.specs.Step.{step}
-use Rattle.service_events.specs.Single.{AllFaultless, AllFinished, TimedKey, TimedRequest, arrival, asking, derivation, finishing, is_owed, requests_of, taking, turn, turns, work_for}
-use Rattle.service_events.proofs.SoundLemmas.{sound_start, sound_step}
+use Rattle.connection_worker.specs.service_events.specs.secret_calls.specs.declared.call.Request.{Request}
+use Rattle.connection_worker.specs.service_events.specs.secret_calls.specs.declared.out.Out.{Out}
+use Rattle.connection_worker.specs.service_events.specs.secret_calls.specs.declared.work.Work.{Work}
+use Rattle.connection_worker.specs.service_events.specs.service_tables.specs.Opened.{Contents, opened_state}
+use Rattle.connection_worker.specs.service_events.specs.service_tables.specs.Sound.{AreSoundContents, IsSound}
+use Rattle.connection_worker.specs.service_events.specs.service_tables.specs.State.{State}
+use Rattle.connection_worker.specs.service_events.specs.declared.event.Event.{Event}
+use Rattle.connection_worker.specs.service_events.specs.declared.event.Event.TheVariants as event
+use Rattle.connection_worker.specs.service_events.specs.Replay.{replay, Legal}
+use Rattle.connection_worker.specs.service_events.specs.Step.{step}
+use Rattle.connection_worker.specs.service_events.specs.Single.{AllFaultless, AllFinished, TimedKey, TimedRequest, arrival, asking, derivation, finishing, is_owed, requests_of, taking, turn, turns, work_for}
+use Rattle.connection_worker.specs.service_events.proofs.SoundLemmas.{sound_start, sound_step}
 use Rattle.connection_worker.specs.Arrivals.{AreRequests, FirstRequests, calls_in}
 use Rattle.connection_worker.specs.Replies.{is_reply, outputs_to, replies_to}
 use Rattle.connection_worker.specs.Written.{spelled_behind}

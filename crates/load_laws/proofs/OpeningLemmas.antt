@@ -2,15 +2,15 @@
 use Rattle.std.proofs.Common.{◌≡◌, ℕ, ◌+◌, ◌<◌, ◌≤◌, ◌&&◌, ◌==◌, Bool, true, cond, List, [], ◌∷◌, ◌++◌, length, Option, Some, None, Ok, codes, refl, sym, ap, ◌∙◌, subst, arith}
 use Rattle.key_derivation.specs.Kdf.{key_of, vector_of}
 use Rattle.kr_base.specs.Attributes.{is_name}
-use Rattle.secret_calls.specs.declared.call.Call.{Call}
-use Rattle.secret_calls.specs.declared.call.Call.TheVariants as call
-use Rattle.secret_calls.specs.declared.out.Body.{Body}
-use Rattle.secret_calls.specs.declared.out.Body.TheVariants as body
-use Rattle.secret_calls.specs.declared.out.ErrorName.TheVariants as name
-use Rattle.secret_calls.specs.declared.work.Work.{Work}
-use Rattle.secret_calls.proofs.SizeLemmas.{prompt-short}
-use Rattle.alias_table.specs.Table.{AliasRows}
-use Rattle.collection_table.specs.Rows.{Rows, CollectionRow, stored}
+use Rattle.connection_worker.specs.service_events.specs.secret_calls.specs.declared.call.Call.{Call}
+use Rattle.connection_worker.specs.service_events.specs.secret_calls.specs.declared.call.Call.TheVariants as call
+use Rattle.connection_worker.specs.service_events.specs.secret_calls.specs.declared.out.Body.{Body}
+use Rattle.connection_worker.specs.service_events.specs.secret_calls.specs.declared.out.Body.TheVariants as body
+use Rattle.connection_worker.specs.service_events.specs.secret_calls.specs.declared.out.ErrorName.TheVariants as name
+use Rattle.connection_worker.specs.service_events.specs.secret_calls.specs.declared.work.Work.{Work}
+use Rattle.connection_worker.specs.service_events.specs.secret_calls.proofs.SizeLemmas.{prompt-short}
+use Rattle.connection_worker.specs.service_events.specs.alias_table.specs.Table.{AliasRows}
+use Rattle.connection_worker.specs.service_events.specs.collection_table.specs.Rows.{Rows, CollectionRow, stored}
 use Rattle.prompt_state.specs.Prompts.{no_prompts}
 use Rattle.prompt_state.specs.declared.row.Prompts.{Prompts}
 use Rattle.prompt_state.specs.declared.row.PromptKind.{PromptKind}
@@ -19,24 +19,24 @@ use Rattle.prompt_state.specs.declared.row.Stage.{Stage}
 use Rattle.prompt_state.specs.declared.row.Stage.TheVariants as stage
 use Rattle.session_table.specs.Sessions.{no_sessions}
 use Rattle.session_table.specs.declared.row.Sessions.{Sessions}
-use Rattle.service_tables.specs.State.{State}
-use Rattle.service_tables.specs.Storing.{Brought}
-use Rattle.service_tables.specs.declared.rows.ConnRows.{ConnRows}
-use Rattle.service_tables.specs.declared.fate.Fate.{Fate}
-use Rattle.service_tables.specs.declared.fate.Fate.TheVariants as fate
-use Rattle.service_tables.specs.declared.fate.StoreFate.{StoreFate}
-use Rattle.service_tables.specs.declared.fate.StoreFate.TheVariants as ended
-use Rattle.service_disk.specs.Making as making
-use Rattle.service_disk.proofs.MakingLemmas.{room-tested}
-use Rattle.service_disk.proofs.TakingLemmas.{itself}
+use Rattle.connection_worker.specs.service_events.specs.service_tables.specs.State.{State}
+use Rattle.connection_worker.specs.service_events.specs.service_tables.specs.Storing.{Brought}
+use Rattle.connection_worker.specs.service_events.specs.service_tables.specs.declared.rows.ConnRows.{ConnRows}
+use Rattle.connection_worker.specs.service_events.specs.service_tables.specs.declared.fate.Fate.{Fate}
+use Rattle.connection_worker.specs.service_events.specs.service_tables.specs.declared.fate.Fate.TheVariants as fate
+use Rattle.connection_worker.specs.service_events.specs.service_tables.specs.declared.fate.StoreFate.{StoreFate}
+use Rattle.connection_worker.specs.service_events.specs.service_tables.specs.declared.fate.StoreFate.TheVariants as ended
+use Rattle.connection_worker.specs.service_events.specs.service_disk.specs.Making as making
+use Rattle.connection_worker.specs.service_events.specs.service_disk.proofs.MakingLemmas.{room-tested}
+use Rattle.connection_worker.specs.service_events.specs.service_disk.proofs.TakingLemmas.{itself}
 use Rattle.stem_choice.specs.Choice.{chosen}
-use Rattle.service_events.specs.declared.event.Derivation.{Derivation}
-use Rattle.service_events.specs.Derivation.{can_make, derived, dismissing, making_ended, new_iterations}
-use Rattle.service_events.specs.PublicBody as public
-use Rattle.service_events.specs.Fates.{AreFaultless}
-use Rattle.service_events.specs.Plan.{Answer, Returns, Change, Become_agent, Begin_prompt, Derive_key, Go_on, Open_session, Plan, Ends, Asks, Make}
-use Rattle.service_events.specs.Run.{AreFates, AreNone, Ran, asked, by_store, by_test, demanded, failing, filled, fits, performed_all, run, sent_all}
-use Rattle.service_events.specs.Step.{brought_with, brought_derived, finished, row_of, terms_of, work_of}
+use Rattle.connection_worker.specs.service_events.specs.declared.event.Derivation.{Derivation}
+use Rattle.connection_worker.specs.service_events.specs.Derivation.{can_make, derived, dismissing, making_ended, new_iterations}
+use Rattle.connection_worker.specs.service_events.specs.PublicBody as public
+use Rattle.connection_worker.specs.service_events.specs.Fates.{AreFaultless}
+use Rattle.connection_worker.specs.service_events.specs.Plan.{Answer, Returns, Change, Become_agent, Begin_prompt, Derive_key, Go_on, Open_session, Plan, Ends, Asks, Make}
+use Rattle.connection_worker.specs.service_events.specs.Run.{AreFates, AreNone, Ran, asked, by_store, by_test, demanded, failing, filled, fits, performed_all, run, sent_all}
+use Rattle.connection_worker.specs.service_events.specs.Step.{brought_with, brought_derived, finished, row_of, terms_of, work_of}
 use Rattle.load_plan.specs.Plan.{the_name, the_prompt}
 use Rattle.load_laws.specs.Requests.{the_connection}
 use Rattle.load_laws.proofs.TurnLemmas.{Tables, tables, with_tables}

@@ -3,21 +3,21 @@ use Rattle.std.proofs.Common.{◌≡◌, ℕ, ◌+◌, ◌<◌, ◌≤◌, Bool,
 use Rattle.keyring_file.specs.Clear.{ClearPart}
 use Rattle.keyring_file.specs.declared.area.FullItem.{FullItem}
 use Rattle.keyring_file.specs.declared.clear.ClearItem.{ClearItem}
-use Rattle.keyring_seal.specs.Arranged.{Row}
-use Rattle.secret_calls.specs.declared.call.Call.TheVariants as call
-use Rattle.secret_calls.specs.declared.out.Body.{Body}
-use Rattle.secret_calls.specs.declared.out.Body.TheVariants as body
-use Rattle.secret_calls.specs.declared.out.ErrorName.{ErrorName}
-use Rattle.secret_calls.specs.declared.out.ErrorName.TheVariants as name
-use Rattle.secret_calls.specs.declared.secret.ReturnedSecret.{ReturnedSecret}
-use Rattle.alias_table.specs.Table.{AliasRows}
+use Rattle.connection_worker.specs.service_events.specs.service_tables.specs.keyring_seal.specs.Arranged.{Row}
+use Rattle.connection_worker.specs.service_events.specs.secret_calls.specs.declared.call.Call.TheVariants as call
+use Rattle.connection_worker.specs.service_events.specs.secret_calls.specs.declared.out.Body.{Body}
+use Rattle.connection_worker.specs.service_events.specs.secret_calls.specs.declared.out.Body.TheVariants as body
+use Rattle.connection_worker.specs.service_events.specs.secret_calls.specs.declared.out.ErrorName.{ErrorName}
+use Rattle.connection_worker.specs.service_events.specs.secret_calls.specs.declared.out.ErrorName.TheVariants as name
+use Rattle.connection_worker.specs.service_events.specs.secret_calls.specs.declared.secret.ReturnedSecret.{ReturnedSecret}
+use Rattle.connection_worker.specs.service_events.specs.alias_table.specs.Table.{AliasRows}
 use Rattle.prompt_state.specs.declared.row.Prompts.{Prompts}
-use Rattle.service_tables.specs.State.{State}
-use Rattle.service_tables.specs.declared.rows.ConnRows.{ConnRows}
-use Rattle.service_tables.specs.declared.fate.Fate.{Fate}
-use Rattle.service_events.specs.Plan.{Ends, Gift, Gives, Secret_of, refused}
-use Rattle.service_events.specs.Run.{Ran, filled, fits, run, secret_returned}
-use Rattle.service_events.specs.Step.{brought_with}
+use Rattle.connection_worker.specs.service_events.specs.service_tables.specs.State.{State}
+use Rattle.connection_worker.specs.service_events.specs.service_tables.specs.declared.rows.ConnRows.{ConnRows}
+use Rattle.connection_worker.specs.service_events.specs.service_tables.specs.declared.fate.Fate.{Fate}
+use Rattle.connection_worker.specs.service_events.specs.Plan.{Ends, Gift, Gives, Secret_of, refused}
+use Rattle.connection_worker.specs.service_events.specs.Run.{Ran, filled, fits, run, secret_returned}
+use Rattle.connection_worker.specs.service_events.specs.Step.{brought_with}
 use Rattle.load_plan.specs.Plan.{read, the_name, the_session}
 use Rattle.load_plan.specs.Words.{secret_of}
 use Rattle.load_laws.specs.Requests.{the_connection}

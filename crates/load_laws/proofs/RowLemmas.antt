@@ -10,11 +10,11 @@ use Rattle.keyring_text.specs.Fields.{number, string, time}
 use Rattle.keyring_file.specs.Canonical.{attribute_text, item_text, list_text, pair_text, zeros}
 use Rattle.keyring_file.specs.Clear.{plain_content}
 use Rattle.keyring_file.specs.declared.clear.ClearItem.{ClearItem}
-use Rattle.keyring_seal.specs.Arranged.{Row, row_number}
-use Rattle.keyring_seal.specs.Room.{row_text}
-use Rattle.keyring_seal.proofs.RoomLemmas.{length_list_text, length_number, length_text_hash, length_time}
-use Rattle.item_store.specs.Rows.{last_id, next_id}
-use Rattle.collection_store.specs.Changes.{minor_made, new_row, store_rows}
+use Rattle.connection_worker.specs.service_events.specs.service_tables.specs.keyring_seal.specs.Arranged.{Row, row_number}
+use Rattle.connection_worker.specs.service_events.specs.service_tables.specs.keyring_seal.specs.Room.{row_text}
+use Rattle.connection_worker.specs.service_events.specs.service_tables.specs.keyring_seal.proofs.RoomLemmas.{length_list_text, length_number, length_text_hash, length_time}
+use Rattle.connection_worker.specs.service_events.specs.item_store.specs.Rows.{last_id, next_id}
+use Rattle.connection_worker.specs.service_events.specs.collection_store.specs.Changes.{minor_made, new_row, store_rows}
 use Rattle.load_plan.specs.Plan.{attributes_of}
 use Rattle.load_plan.specs.Words.{cells, group_of, secret_of}
 use Rattle.load_laws.specs.Made.{made}

@@ -8,19 +8,19 @@ use Rattle.kr_base.specs.declared.attributes.AttrValue.TheVariants as value
 use Rattle.kr_base.specs.Attributes.{is_name}
 use Rattle.attribute_match.specs.Match.{matches}
 use Rattle.keyring_file.specs.Clear.{ClearPart}
-use Rattle.keyring_seal.specs.Arranged.{Row, row_number}
-use Rattle.secret_calls.specs.declared.out.Body.{Body}
-use Rattle.secret_calls.specs.declared.out.Body.TheVariants as body
-use Rattle.alias_table.specs.Table.{AliasRows}
+use Rattle.connection_worker.specs.service_events.specs.service_tables.specs.keyring_seal.specs.Arranged.{Row, row_number}
+use Rattle.connection_worker.specs.service_events.specs.secret_calls.specs.declared.out.Body.{Body}
+use Rattle.connection_worker.specs.service_events.specs.secret_calls.specs.declared.out.Body.TheVariants as body
+use Rattle.connection_worker.specs.service_events.specs.alias_table.specs.Table.{AliasRows}
 use Rattle.prompt_state.specs.declared.row.Prompts.{Prompts}
-use Rattle.service_disk.proofs.TakingLemmas.{itself, names-apart}
-use Rattle.service_tables.specs.Objects.{item_paths}
-use Rattle.service_tables.specs.declared.rows.ConnRows.{ConnRows}
-use Rattle.service_tables.specs.declared.fate.Fate.{Fate}
-use Rattle.service_events.specs.PublicBody as public
-use Rattle.service_events.specs.Plan.{Returns}
-use Rattle.service_events.specs.Run.{Ran}
-use Rattle.service_events.specs.Step.{brought_with}
+use Rattle.connection_worker.specs.service_events.specs.service_disk.proofs.TakingLemmas.{itself, names-apart}
+use Rattle.connection_worker.specs.service_events.specs.service_tables.specs.Objects.{item_paths}
+use Rattle.connection_worker.specs.service_events.specs.service_tables.specs.declared.rows.ConnRows.{ConnRows}
+use Rattle.connection_worker.specs.service_events.specs.service_tables.specs.declared.fate.Fate.{Fate}
+use Rattle.connection_worker.specs.service_events.specs.PublicBody as public
+use Rattle.connection_worker.specs.service_events.specs.Plan.{Returns}
+use Rattle.connection_worker.specs.service_events.specs.Run.{Ran}
+use Rattle.connection_worker.specs.service_events.specs.Step.{brought_with}
 use Rattle.load_plan.specs.Plan.{attributes_of, search, the_name}
 use Rattle.load_plan.specs.Words.{group_of}
 use Rattle.load_laws.proofs.CreateLemmas.{collection_of, tables_with}

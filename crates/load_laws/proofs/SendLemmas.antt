@@ -10,13 +10,13 @@ use Rattle.dbus_auth_client.proofs.ServerLemmas.{begun}
 use Rattle.dbus_framing.specs.Messages.{IsMessage}
 use Rattle.dbus_framing.specs.Streams.{Stream}
 use Rattle.dbus_framing.proofs.Cuts.{cut_none, cut_one, few_begin, stream_then}
-use Rattle.secret_calls.specs.declared.call.Call.{Call}
-use Rattle.secret_calls.specs.declared.call.Request.{Request}
-use Rattle.call_wire.specs.CallOf.{CallOf}
+use Rattle.connection_worker.specs.service_events.specs.secret_calls.specs.declared.call.Call.{Call}
+use Rattle.connection_worker.specs.service_events.specs.secret_calls.specs.declared.call.Request.{Request}
+use Rattle.connection_worker.specs.call_wire.specs.CallOf.{CallOf}
 use Rattle.client_core.specs.Asked.{most_bytes, said, spelled}
 use Rattle.client_core.specs.Askable.{CanBeAsked}
 use Rattle.dbus_sending.specs.Sent.{IsSerial}
-use Rattle.service_events.specs.Single.{TimedRequest, requests_of}
+use Rattle.connection_worker.specs.service_events.specs.Single.{TimedRequest, requests_of}
 use Rattle.connection_worker.specs.Arrivals.{AreRequests, calls_in}
 use Rattle.load_plan.specs.Answered.{behind_line}
 use Rattle.load_plan.specs.Plan.{plan}

@@ -13,13 +13,13 @@ use Rattle.dbus_types.specs.Values.{Val}
 use Rattle.dbus_marshal.specs.Wire.{padding, behind, start_of, zeros, number_bytes}
 use Rattle.dbus_marshal.specs.Spelling.{all_spelled, first_at}
 use Rattle.dbus_marshal.proofs.WritingLemmas.{zeros_long}
-use Rattle.secret_calls.specs.declared.out.Body.{Body}
-use Rattle.secret_calls.specs.declared.out.Body.TheVariants as body
-use Rattle.secret_calls.specs.declared.secret.ReturnedSecret.{ReturnedSecret}
-use Rattle.secret_calls.specs.Outs.{path_values, paths_value, prompt_text, session_path, spelled_body}
-use Rattle.secret_calls.proofs.LengthLemmas.{AllAtMost, AtMost, end-most, more-most, path-most, struct-most, text-most}
-use Rattle.secret_calls.proofs.SizeLemmas.{session-short}
-use Rattle.service_events.specs.Run.{fits}
+use Rattle.connection_worker.specs.service_events.specs.secret_calls.specs.declared.out.Body.{Body}
+use Rattle.connection_worker.specs.service_events.specs.secret_calls.specs.declared.out.Body.TheVariants as body
+use Rattle.connection_worker.specs.service_events.specs.secret_calls.specs.declared.secret.ReturnedSecret.{ReturnedSecret}
+use Rattle.connection_worker.specs.service_events.specs.secret_calls.specs.Outs.{path_values, paths_value, prompt_text, session_path, spelled_body}
+use Rattle.connection_worker.specs.service_events.specs.secret_calls.proofs.LengthLemmas.{AllAtMost, AtMost, end-most, more-most, path-most, struct-most, text-most}
+use Rattle.connection_worker.specs.service_events.specs.secret_calls.proofs.SizeLemmas.{session-short}
+use Rattle.connection_worker.specs.service_events.specs.Run.{fits}
 use Rattle.load_plan.specs.Plan.{the_name}
 
 -- a body within the limit

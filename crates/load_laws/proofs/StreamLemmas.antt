@@ -5,26 +5,26 @@ use Rattle.kr_base.specs.declared.ids.ConnId.{ConnId}
 use Rattle.dbus_framing.specs.Messages.{IsMessage, Parts}
 use Rattle.dbus_framing.specs.Streams.{Stream, is_kept}
 use Rattle.dbus_framing.proofs.Cuts.{cut_none, cut_one, few_begin, stream_then}
-use Rattle.secret_calls.specs.declared.call.Call.{Call}
-use Rattle.secret_calls.specs.declared.out.Body.{Body}
-use Rattle.secret_calls.specs.declared.out.Out.{Out}
-use Rattle.secret_calls.specs.declared.out.Out.TheVariants as out
-use Rattle.secret_calls.specs.declared.serial.Serial.{Serial}
-use Rattle.secret_calls.specs.declared.work.Work.{Work}
-use Rattle.secret_calls.specs.Outs.{AreTyped, HasSpelling, most_waiting, spelled}
-use Rattle.secret_calls.proofs.SizeLemmas.{any_serial}
-use Rattle.call_wire.specs.Said.{IsSendable, said}
+use Rattle.connection_worker.specs.service_events.specs.secret_calls.specs.declared.call.Call.{Call}
+use Rattle.connection_worker.specs.service_events.specs.secret_calls.specs.declared.out.Body.{Body}
+use Rattle.connection_worker.specs.service_events.specs.secret_calls.specs.declared.out.Out.{Out}
+use Rattle.connection_worker.specs.service_events.specs.secret_calls.specs.declared.out.Out.TheVariants as out
+use Rattle.connection_worker.specs.service_events.specs.secret_calls.specs.declared.serial.Serial.{Serial}
+use Rattle.connection_worker.specs.service_events.specs.secret_calls.specs.declared.work.Work.{Work}
+use Rattle.connection_worker.specs.service_events.specs.secret_calls.specs.Outs.{AreTyped, HasSpelling, most_waiting, spelled}
+use Rattle.connection_worker.specs.service_events.specs.secret_calls.proofs.SizeLemmas.{any_serial}
+use Rattle.connection_worker.specs.call_wire.specs.Said.{IsSendable, said}
 use Rattle.client_core.specs.declared.reply.Reply.TheVariants as reply
 use Rattle.client_core.specs.Replies.{HasNumbers, reply_in, shape_in, shape_of}
-use Rattle.service_tables.specs.Connections.{sent_to, size_of}
-use Rattle.service_tables.specs.Sent.{Sent, is_for}
-use Rattle.service_tables.specs.Sound.{CanWait, IsSound}
-use Rattle.service_tables.specs.State.{State}
-use Rattle.service_tables.proofs.EachLemmas.{each-append}
-use Rattle.service_events.specs.Replay.{replay, Legal}
-use Rattle.service_events.specs.Step.{puts_out}
-use Rattle.service_events.specs.Single.{TimedKey, TimedRequest, arrival, asking, derivation, finishing, turn, turns, work_for}
-use Rattle.service_events.proofs.SoundLemmas.{sound_replay, waits_step}
+use Rattle.connection_worker.specs.service_events.specs.service_tables.specs.Connections.{sent_to, size_of}
+use Rattle.connection_worker.specs.service_events.specs.service_tables.specs.Sent.{Sent, is_for}
+use Rattle.connection_worker.specs.service_events.specs.service_tables.specs.Sound.{CanWait, IsSound}
+use Rattle.connection_worker.specs.service_events.specs.service_tables.specs.State.{State}
+use Rattle.connection_worker.specs.service_events.specs.service_tables.proofs.EachLemmas.{each-append}
+use Rattle.connection_worker.specs.service_events.specs.Replay.{replay, Legal}
+use Rattle.connection_worker.specs.service_events.specs.Step.{puts_out}
+use Rattle.connection_worker.specs.service_events.specs.Single.{TimedKey, TimedRequest, arrival, asking, derivation, finishing, turn, turns, work_for}
+use Rattle.connection_worker.specs.service_events.proofs.SoundLemmas.{sound_replay, waits_step}
 use Rattle.connection_worker.specs.Replies.{is_reply, key_outputs, outputs_of, outputs_to}
 use Rattle.connection_worker.specs.Written.{serial_behind, spelled_behind}
 use Rattle.load_plan.specs.declared.counts.Counts.{Counts}

@@ -1,29 +1,29 @@
 -- One request of a load after the other: what its turn leaves of the tables, and what its reply counts.
 use Rattle.std.proofs.Common.{◌≡◌, ℕ, suc, Bool, true, false, cond, List, [], ◌∷◌, ◌++◌, Option, Some, None, Result, Ok, refl, sym, ap, ◌∙◌, subst, append-nil}
 use Rattle.kr_base.specs.declared.ids.ConnId.{ConnId}
-use Rattle.secret_calls.specs.declared.call.Call.{Call}
-use Rattle.secret_calls.specs.declared.call.CallFault.{CallFault}
-use Rattle.secret_calls.specs.declared.out.Body.{Body}
-use Rattle.secret_calls.specs.declared.out.ErrorName.{ErrorName}
-use Rattle.secret_calls.specs.declared.out.Out.{Out}
-use Rattle.secret_calls.specs.declared.out.Out.TheVariants as out
-use Rattle.secret_calls.specs.declared.work.Work.{Work}
+use Rattle.connection_worker.specs.service_events.specs.secret_calls.specs.declared.call.Call.{Call}
+use Rattle.connection_worker.specs.service_events.specs.secret_calls.specs.declared.call.CallFault.{CallFault}
+use Rattle.connection_worker.specs.service_events.specs.secret_calls.specs.declared.out.Body.{Body}
+use Rattle.connection_worker.specs.service_events.specs.secret_calls.specs.declared.out.ErrorName.{ErrorName}
+use Rattle.connection_worker.specs.service_events.specs.secret_calls.specs.declared.out.Out.{Out}
+use Rattle.connection_worker.specs.service_events.specs.secret_calls.specs.declared.out.Out.TheVariants as out
+use Rattle.connection_worker.specs.service_events.specs.secret_calls.specs.declared.work.Work.{Work}
 use Rattle.client_core.specs.Replies.{shape_in, shape_of, HasNumbers}
-use Rattle.alias_table.specs.Table.{AliasRows}
-use Rattle.collection_table.specs.Rows.{Rows}
+use Rattle.connection_worker.specs.service_events.specs.alias_table.specs.Table.{AliasRows}
+use Rattle.connection_worker.specs.service_events.specs.collection_table.specs.Rows.{Rows}
 use Rattle.prompt_state.specs.declared.row.Prompts.{Prompts}
 use Rattle.session_table.specs.declared.row.Sessions.{Sessions}
-use Rattle.service_tables.specs.State.{State}
-use Rattle.service_tables.specs.declared.rows.ConnRows.{ConnRows}
-use Rattle.service_events.specs.declared.event.Derivation.{Derivation}
-use Rattle.service_events.specs.declared.event.Event.{Event}
-use Rattle.service_events.specs.declared.event.Event.TheVariants as event
-use Rattle.service_events.specs.Fates.{AreFaultless}
-use Rattle.service_events.specs.Run.{AreFates, AreFatesOf, Ran, asked, ran, run}
-use Rattle.service_events.specs.Step.{Fits, brought_with, finished, message_of, plan_of, row_of, served, step, work_of}
-use Rattle.service_events.specs.Replay.{replay, Legal}
-use Rattle.service_events.specs.Single.{AllFaultless, AllFinished, IsFinished, IsKeyFaultless, TimedKey, TimedRequest, arrival, asking, derivation, finishing, is_owed, recorded_of, taking, turn, turns, work_for}
-use Rattle.service_events.proofs.ReplayLemmas.{replay-append}
+use Rattle.connection_worker.specs.service_events.specs.service_tables.specs.State.{State}
+use Rattle.connection_worker.specs.service_events.specs.service_tables.specs.declared.rows.ConnRows.{ConnRows}
+use Rattle.connection_worker.specs.service_events.specs.declared.event.Derivation.{Derivation}
+use Rattle.connection_worker.specs.service_events.specs.declared.event.Event.{Event}
+use Rattle.connection_worker.specs.service_events.specs.declared.event.Event.TheVariants as event
+use Rattle.connection_worker.specs.service_events.specs.Fates.{AreFaultless}
+use Rattle.connection_worker.specs.service_events.specs.Run.{AreFates, AreFatesOf, Ran, asked, ran, run}
+use Rattle.connection_worker.specs.service_events.specs.Step.{Fits, brought_with, finished, message_of, plan_of, row_of, served, step, work_of}
+use Rattle.connection_worker.specs.service_events.specs.Replay.{replay, Legal}
+use Rattle.connection_worker.specs.service_events.specs.Single.{AllFaultless, AllFinished, IsFinished, IsKeyFaultless, TimedKey, TimedRequest, arrival, asking, derivation, finishing, is_owed, recorded_of, taking, turn, turns, work_for}
+use Rattle.connection_worker.specs.service_events.proofs.ReplayLemmas.{replay-append}
 use Rattle.connection_worker.specs.Replies.{reply_to, replies_to}
 use Rattle.load_plan.specs.declared.counts.Counts.{Counts}
 use Rattle.load_plan.specs.Counts.{returned}

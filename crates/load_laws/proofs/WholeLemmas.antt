@@ -1,13 +1,13 @@
 -- What is counted over the replies to all calls of a load.
 use Rattle.std.proofs.Common.{◌≡◌, ℕ, zero, suc, ◌+◌, ◌<◌, ◌≤◌, List, [], ◌∷◌, ◌++◌, length, Some, slice_get, refl, sym, ap, ◌∙◌, subst, arith, length-append, append_assoc}
-use Rattle.keyring_seal.specs.Arranged.{Row}
-use Rattle.secret_calls.specs.declared.call.Call.{Call}
-use Rattle.secret_calls.specs.declared.call.Call.TheVariants as call
+use Rattle.connection_worker.specs.service_events.specs.service_tables.specs.keyring_seal.specs.Arranged.{Row}
+use Rattle.connection_worker.specs.service_events.specs.secret_calls.specs.declared.call.Call.{Call}
+use Rattle.connection_worker.specs.service_events.specs.secret_calls.specs.declared.call.Call.TheVariants as call
 use Rattle.prompt_state.specs.Prompts.{no_prompts}
-use Rattle.service_tables.specs.Opened.{Contents}
-use Rattle.service_tables.specs.State.{State}
-use Rattle.service_events.specs.Replay.{Legal}
-use Rattle.service_events.specs.Single.{AllFaultless, AllFinished, TimedRequest, turns}
+use Rattle.connection_worker.specs.service_events.specs.service_tables.specs.Opened.{Contents}
+use Rattle.connection_worker.specs.service_events.specs.service_tables.specs.State.{State}
+use Rattle.connection_worker.specs.service_events.specs.Replay.{Legal}
+use Rattle.connection_worker.specs.service_events.specs.Single.{AllFaultless, AllFinished, TimedRequest, turns}
 use Rattle.load_plan.specs.declared.counts.Counts.{Counts}
 use Rattle.load_plan.specs.Counts.{none}
 use Rattle.load_plan.specs.Answered.{call_with}

@@ -1,19 +1,19 @@
 -- What outputs say to a client, and what is counted over them.
 use Rattle.std.specs.Prelude.{◌≡◌, ℕ, ◌+◌, List, [], ◌∷◌, Some}
 use Rattle.dbus_framing.specs.Messages.{Parts}
-use Rattle.secret_calls.specs.declared.call.Call.{Call}
-use Rattle.secret_calls.specs.declared.out.Out.{Out}
-use Rattle.secret_calls.specs.declared.out.Out.TheVariants as out
-use Rattle.call_wire.specs.Said.{said}
+use Rattle.connection_worker.specs.service_events.specs.secret_calls.specs.declared.call.Call.{Call}
+use Rattle.connection_worker.specs.service_events.specs.secret_calls.specs.declared.out.Out.{Out}
+use Rattle.connection_worker.specs.service_events.specs.secret_calls.specs.declared.out.Out.TheVariants as out
+use Rattle.connection_worker.specs.call_wire.specs.Said.{said}
 use Rattle.client_core.specs.Replies.{shape_in, shape_of, HasNumbers}
 use Rattle.connection_worker.specs.Written.{serial_behind}
 use Rattle.load_plan.specs.declared.counts.Counts.{Counts}
 use Rattle.load_plan.specs.Counts.{returned}
 use Rattle.load_plan.specs.Answered.{call_with}
-use Rattle.service_tables.specs.Opened.{Contents, opened_state}
-use Rattle.service_tables.specs.State.{State}
-use Rattle.service_events.specs.Step.{step}
-use Rattle.service_events.specs.declared.event.Event.TheVariants as event
+use Rattle.connection_worker.specs.service_events.specs.service_tables.specs.Opened.{Contents, opened_state}
+use Rattle.connection_worker.specs.service_events.specs.service_tables.specs.State.{State}
+use Rattle.connection_worker.specs.service_events.specs.Step.{step}
+use Rattle.connection_worker.specs.service_events.specs.declared.event.Event.TheVariants as event
 use Rattle.load_laws.specs.Requests.{the_connection}
 
 -- what outputs say, after this many others

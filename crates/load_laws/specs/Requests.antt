@@ -1,8 +1,8 @@
 -- The requests that are the calls of a load.
 use Rattle.std.specs.Prelude.{◌≡◌, ℕ, suc, true, List, [], ◌∷◌, Some, Ok}
 use Rattle.kr_base.specs.declared.ids.ConnId.{ConnId}
-use Rattle.secret_calls.specs.declared.call.Call.{Call}
-use Rattle.service_events.specs.Single.{TimedRequest}
+use Rattle.connection_worker.specs.service_events.specs.secret_calls.specs.declared.call.Call.{Call}
+use Rattle.connection_worker.specs.service_events.specs.Single.{TimedRequest}
 use Rattle.dbus_framing.specs.Messages.{Parts}
 use Rattle.client_core.specs.Asked.{said}
 use Rattle.load_plan.specs.Answered.{call_with}

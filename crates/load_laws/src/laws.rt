@@ -6,11 +6,11 @@ ghost use Rattle.dbus_auth.specs.Answers.{ok_line};
 ghost use Rattle.dbus_auth.specs.Handshake.{handshake, opened};
 ghost use Rattle.dbus_framing.specs.Streams.{Stream};
 ghost use Rattle.client_core.specs.Asked.{most_bytes};
-ghost use Rattle.service_tables.specs.Opened.{Contents};
-ghost use Rattle.service_tables.specs.Sound.{AreSoundContents};
-ghost use Rattle.service_tables.specs.State.{State};
-ghost use Rattle.service_events.specs.Replay.{Legal};
-ghost use Rattle.service_events.specs.Single.{AllFaultless, AllFinished, TimedRequest, requests_of, turns};
+ghost use Rattle.connection_worker.specs.service_events.specs.service_tables.specs.Opened.{Contents};
+ghost use Rattle.connection_worker.specs.service_events.specs.service_tables.specs.Sound.{AreSoundContents};
+ghost use Rattle.connection_worker.specs.service_events.specs.service_tables.specs.State.{State};
+ghost use Rattle.connection_worker.specs.service_events.specs.Replay.{Legal};
+ghost use Rattle.connection_worker.specs.service_events.specs.Single.{AllFaultless, AllFinished, TimedRequest, requests_of, turns};
 ghost use Rattle.connection_worker.specs.Arrivals.{AreRequests, FirstRequests, calls_in};
 ghost use Rattle.connection_worker.specs.Replies.{outputs_to};
 ghost use Rattle.connection_worker.specs.Written.{spelled_behind};
@@ -21,8 +21,8 @@ ghost use Rattle.load_plan.specs.Sending.{conversation, sent_from};
 ghost use Rattle.load_laws.specs.Requests.{AreAsked, said_from, the_connection};
 ghost use Rattle.load_laws.specs.Outputs.{all_counted, started};
 
-use call_wire::what_is_sent_is_read_again;
 use client_core::{a_call_is_read_again, what_the_service_sends_is_read_again};
+use connection_worker::call_wire::what_is_sent_is_read_again;
 use connection_worker::each_request_has_one_reply;
 
 /// What the client of a load sends is read as its calls: its handshake is open and is answered with OK alone; behind it
