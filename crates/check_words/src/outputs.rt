@@ -16,11 +16,27 @@ pub fn write_path(line: &mut Line, path: &Text) {
     );
 }
 
-/// Writes a word, and paths after it.
+// How many paths there are, the first and the last.
+fn write_ends(line: &mut Line, paths: &[Text]) {
+    line.add(" ");
+    line.number(paths.len() as u64);
+    line.add(" paths");
+    if let [first, .., last] = paths {
+        write_path(line, first);
+        line.add(" to");
+        write_path(line, last);
+    }
+}
+
+/// Writes a word, and paths after it; of a hundred paths or more, their number, the first and the last.
 pub fn write_paths(line: &mut Line, word: &str, paths: &[Text]) {
     line.add(word);
-    for path in paths {
-        write_path(line, path);
+    if paths.len() < 100 {
+        for path in paths {
+            write_path(line, path);
+        }
+    } else {
+        write_ends(line, paths);
     }
 }
 

@@ -68,11 +68,32 @@ fn put_object(alloc: Global, objects: &mut Vec<ObjectName>, below: &str) -> Opti
     objects.push(object(alloc, below)?).ok()
 }
 
-/// The objects with these paths.
+// This many objects, whose paths begin with this one and end with the numbers from 1 on.
+fn put_numbered(
+    alloc: Global,
+    objects: &mut Vec<ObjectName>,
+    below: &str,
+    count: u64,
+) -> Option<()> {
+    for before in 0..count {
+        let path = numbered_name(alloc, below, before.saturating_add(1))?;
+        put_object(alloc, objects, path.as_str())?;
+    }
+    Some(())
+}
+
+fn put_objects(alloc: Global, objects: &mut Vec<ObjectName>, word: &str) -> Option<()> {
+    match word.split_once('*') {
+        Some((below, count)) => put_numbered(alloc, objects, below, number(count)?),
+        None => put_object(alloc, objects, word),
+    }
+}
+
+/// The objects with these paths; for PATH*COUNT this many of them, whose paths end with the numbers from 1 on.
 pub fn objects(alloc: Global, words: &str) -> Option<Items<ObjectName>> {
     let mut objects = Vec::new(alloc);
-    for below in words.split(' ') {
-        put_object(alloc, &mut objects, below)?;
+    for word in words.split(' ') {
+        put_objects(alloc, &mut objects, word)?;
     }
     Some(Items::new(objects))
 }
