@@ -6,6 +6,7 @@
 mod acts;
 mod clock;
 mod closing;
+mod many;
 mod opening;
 mod play;
 mod taken;

@@ -1,6 +1,7 @@
 // Images of files, and services over folders of them.
 ghost use Rattle.std.specs.Prelude.{◌≡◌, [], IfSome};
 
+use crate::many::many_items;
 use crate::play::{Service, put};
 use check_rows::{Line, cell};
 use check_words::{bytes_of, number, numbers, text};
@@ -16,12 +17,13 @@ pub struct Image {
     bytes: Vec<u8>,
 }
 
-// The bytes of an image, from hex or from lines that end with `~`.
-fn image_of(alloc: Global, form: &str, words: &str) -> Option<Vec<u8>> {
-    match form {
-        "hex" => hex::decode(alloc, words).ok(),
+// The bytes of an image: from hex, of many items that are alike, or from lines that end with `~`.
+fn image_of(alloc: Global, cells: &str) -> Option<Vec<u8>> {
+    match cell(cells, 1) {
+        "hex" => hex::decode(alloc, cell(cells, 2)).ok(),
+        "items" => many_items(alloc, cells),
         _ => {
-            let mut bytes = bytes_of(alloc, words)?;
+            let mut bytes = bytes_of(alloc, cell(cells, 2))?;
             end_lines(bytes.as_mut_slice());
             Some(bytes)
         }
@@ -38,13 +40,14 @@ fn end_lines(bytes: &mut [u8]) {
 
 fn add_image(alloc: Global, images: &mut Vec<Image>, cells: &str) -> Option<usize> {
     let name = text(alloc, cell(cells, 0))?;
-    let bytes = image_of(alloc, cell(cells, 1), cell(cells, 2))?;
+    let bytes = image_of(alloc, cells)?;
     let count = bytes.len();
     images.push(Image { name, bytes }).ok()?;
     Some(count)
 }
 
-/// Keeps the image of a file: its name, `hex` or `lines`, and its content. Writes its length in bytes.
+/// Keeps the image of a file: its name, `hex` or `lines` and its content, or `items` and what `many_items` makes of the cells
+/// after it. Writes its length in bytes.
 pub fn keep_image(images: &mut Vec<Image>, cells: &str, line: &mut Line) {
     match add_image(line.alloc(), images, cells) {
         Some(count) => line.number(count as u64),
