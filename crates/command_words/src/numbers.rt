@@ -21,7 +21,7 @@ pub fn long_number(text: &str) -> Option<u64>
     }
 }
 
-/// The same of 32 bits.
+/// The same for 32 bits.
 pub fn short_number(text: &str) -> Option<u32>
     ensures { MatchOption result (IsNoNumber 32 text.now) (λ number. IsNumber 32 number text.now) }
 {

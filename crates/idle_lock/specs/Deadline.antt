@@ -39,7 +39,7 @@ deadline_of timer times =
     (if has_flag after_unlocking timer then later timer.timeout times.unlocked else None)
     (if has_flag on_idle timer then later timer.timeout times.changed else None)
 
--- the same of a collection that may be closed, which has no times then
+-- the same for a collection that may be closed, which has no times then
 abbrev pub deadline_at : Timer → Option Times → Option ℕ
 deadline_at timer None = None
 deadline_at timer (Some times) = deadline_of timer times

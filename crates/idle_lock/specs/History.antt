@@ -1,4 +1,4 @@
--- The history of a plan: what it was told of the collections, each with its stem, the oldest first.
+-- The history of a plan: what was reported to it about the collections, each with its stem, the oldest first.
 use Rattle.std.specs.Prelude.{◌≡◌, ℕ, Bool, true, false, cond, not, nat_eq, Option, Some, None, List, [], ◌∷◌, map, filter, reverse, take_while}
 use Rattle.std.specs.Cmp.Lexicographic.{pointwise}
 use Rattle.idle_lock.specs.declared.deadline.Timer.{Timer}
@@ -6,7 +6,7 @@ use Rattle.idle_lock.specs.declared.history.Told.{Told}
 use Rattle.idle_lock.specs.declared.history.Told.TheVariants.{Opened, Changed, Closed}
 use Rattle.idle_lock.specs.declared.history.Times.{Times}
 
--- what a plan was told, with the collection's stem
+-- what was reported to a plan, with the collection's stem
 abbrev pub History : Type 0
 History = List (List ℕ × Told)
 

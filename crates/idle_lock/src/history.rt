@@ -1,10 +1,10 @@
-// What a plan is told of a collection, and the times that follow from it.
+// What is reported to a plan about a collection, and the times that follow from it.
 ghost use Rattle.std.specs.Prelude.{◌≡◌, List, ◌∷◌, ◌++◌, []};
 ghost use Rattle.idle_lock.specs.History.{from_opening, since_closed, times_from};
 ghost use Rattle.idle_lock.specs.declared.history.Told.{Told};
 
-/// What a plan is told of a collection. Moments are seconds since 1970. The history of a plan is the list of
-/// what it was told, each with the stem of its collection, the oldest first.
+/// What is reported to a plan about a collection. Moments are seconds since 1970. The history of a plan is the list of
+/// these reports, each with the stem of its collection, the oldest first.
 #[derive(Clone, Copy)]
 pub enum Told {
     /// It was unlocked at this moment.
@@ -23,7 +23,7 @@ pub struct Times {
     pub changed: u64,
 }
 
-/// The times of a collection of which one more thing was told; None if it isn't open. Unlocking a
+/// The times of a collection after one more report about it; None if it isn't open. Unlocking a
 /// collection that is open changes nothing.
 pub fn times_after(times: Option<Times>, told: Told) -> Option<Times>
     ensures { (tolds : List Told) → times ≡ times_from (from_opening (since_closed tolds))

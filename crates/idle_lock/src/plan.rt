@@ -9,9 +9,9 @@ use kr_base::{OutOfMemory, Stem};
 use std::alloc::Global;
 use std::marker::Model;
 
-/// The timers of collections, and since when each collection is open. It knows only what it is told; a
+/// The timers of collections, and since when each collection is open. It knows only what is reported to it; a
 /// stem without a timer is never open in it. A contract sees the timers and the times, which follow from
-/// the history of what the plan was told (`IsAfter`).
+/// the history of what was reported to the plan (`IsAfter`).
 #[derive(Drop)]
 pub struct Plan {
     timers: Vec<Timer>,
@@ -29,7 +29,7 @@ impl Model for Plan {
     ghost invariant = { λ p. length p.times.items ≡ length p.timers.items };
 }
 
-/// The times of a timer's collection after one more thing was told of a stem.
+/// The times of a timer's collection after one more report about a stem.
 fn times_told(timer: &Timer, times: &Option<Times>, stem: &Stem, told: Told) -> Option<Times>
     ensures { (history : History) → times.now ≡ times_in history timer.now.stem
         → result ≡ times_in (history ++ (stem.now, told) ∷ []) timer.now.stem }
@@ -41,7 +41,7 @@ fn times_told(timer: &Timer, times: &Option<Times>, stem: &Stem, told: Told) -> 
     }
 }
 
-/// The times of all timers' collections after one more thing was told of a stem.
+/// The times of all timers' collections after one more report about a stem.
 fn tell_all(timers: &[Timer], times: &mut [Option<Times>], stem: &Stem, told: Told)
     requires { length times.old ≡ length timers.now }
     ensures { (history : History)
