@@ -145,7 +145,7 @@ impl MemorySlot {
         self.calls.truncate(calls);
     }
 
-    /// The number of images of which a crash now leaves one: what the name stands for, and what
+    /// The number of images one of which a crash now leaves: what the name stands for, and what
     /// else it counts as having stood for since the folder was synced.
     ///
     /// Refused if no memory was left.

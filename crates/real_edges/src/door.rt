@@ -38,7 +38,7 @@ pub struct UnixDoor<R: Copy> {
     faults: u64,
 }
 
-// What is behind the door: the links that it gave and that are still there, the oldest first.
+// The links that the door gave and that are still open, the oldest first.
 #[derive(Drop)]
 struct Hall<R: Copy> {
     rt: R,

@@ -67,7 +67,7 @@ fn a_folder_that_is_moved_stays_one(rt: HostRuntime) -> Result<(), Fail> {
     Ok(())
 }
 
-// What the folder that stands in the way has in it, and where it is afterwards.
+// What is in the folder that was in the way, and where that folder is afterwards.
 const WAYS: &str = "\
 kept way/x.keyring.tm0/kept
 more way/x.keyring.tm1/more
@@ -97,7 +97,7 @@ fn a_folder_in_the_way_of_a_temporary_file_is_moved_aside(rt: HostRuntime) -> Re
     Ok(())
 }
 
-// Files in a folder, of which the first two are temporary files of ours.
+// Files in a folder; the first two are temporary files of ours.
 const FILES: &[&str] = &[
     "left/x.keyring.tmp",
     "left/aliases.tmp",
