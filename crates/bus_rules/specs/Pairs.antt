@@ -24,7 +24,7 @@ code_of Destination = 6
 code_of Eavesdrop = 7
 code_of (Argument number) = 8 + number
 
--- `path_namespace`: the path is the namespace, or goes on with `/` after it; every path is in `/`
+-- `path_namespace`: the path is the namespace, or continues with `/` after it; every path is in `/`
 abbrev pub is_within : List ℕ → List ℕ → Bool
 is_within namespace path =
     is_same namespace path
@@ -37,7 +37,7 @@ text_is value None = false
 text_is value (Some None) = false
 text_is value (Some (Some text)) = is_same value text.now
 
--- `argN`: the same of the value with this number
+-- `argN`: the same for the value with this number
 abbrev pub argument_is : ℕ → List ℕ → List (Option (Bor (List ℕ))) → Bool
 argument_is number value arguments = text_is value (slice_get arguments number)
 
@@ -50,7 +50,7 @@ abbrev pub is_kind_name : List ℕ → Bool
 is_kind_name value =
     is_same value (codes "signal") || is_same value (codes "method_call") || is_same value (codes "method_return") || is_same value (codes "error")
 
--- whether a key with this value holds of a signal of the service: it has no destination, and is of no other kind
+-- whether a key with this value is true of a signal of the service: it has no destination, and is of no other kind
 abbrev pub holds_at : Signal → Key → List ℕ → Bool
 holds_at signal MessageType value = is_same value (codes "signal")
 holds_at signal Sender value = is_service_name value
@@ -62,7 +62,7 @@ holds_at signal Destination value = false
 holds_at signal Eavesdrop value = true
 holds_at signal (Argument number) value = argument_is number value signal.arguments.now
 
--- whether a pair holds of the signal
+-- whether a pair is true of the signal
 abbrev pub holds : Signal → Pair → Bool
 holds signal pair = holds_at signal pair.key pair.value
 

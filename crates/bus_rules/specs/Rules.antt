@@ -7,7 +7,7 @@ use Rattle.bus_rules.specs.declared.pair.Key.TheVariants.{Path, PathNamespace}
 use Rattle.bus_rules.specs.declared.pair.Pair.{Pair}
 use Rattle.bus_rules.specs.declared.pair.Signal.{Signal}
 
--- Matches: each pair of the rule holds of the signal
+-- Matches: each pair of the rule is true of the signal
 abbrev pub matches : Signal → List Pair → Bool
 matches signal rule = list_all (holds signal) rule
 

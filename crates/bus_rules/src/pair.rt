@@ -1,4 +1,4 @@
-// A pair of a rule, and the signals of which it holds.
+// A pair of a rule, and the signals that it is true of.
 ghost use Rattle.std.specs.Prelude.{◌≡◌};
 ghost use Rattle.bus_rules.specs.Pairs.{argument_is, code_of, holds, is_admissible, is_kind_name, is_same, is_service_name, is_within};
 
@@ -108,7 +108,7 @@ fn is_service(value: &[u8]) -> bool
 }
 
 impl Pair {
-    /// Whether the pair holds of the signal.
+    /// Whether the pair is true of the signal.
     pub fn holds(&self, signal: &Signal) -> bool
         ensures { result ≡ holds signal.now self.now }
     {

@@ -79,7 +79,7 @@ fn some_is(pairs: &[Pair], pair: &Pair) -> bool
     pairs.iter().any(|other| are_same(pair, other))
 }
 
-/// Whether each pair holds of the signal.
+/// Whether each pair is true of the signal.
 fn all_hold(pairs: &[Pair], signal: &Signal) -> bool
     ensures { result ≡ matches signal.now pairs.now }
 {
@@ -123,7 +123,7 @@ impl MatchRule {
         self.pairs.as_slice()
     }
 
-    /// Whether the rule matches the signal: each pair holds of it.
+    /// Whether the rule matches the signal: each pair is true of it.
     pub fn matches(&self, signal: &Signal) -> bool
         ensures { result ≡ matches signal.now self.now }
     {

@@ -9,7 +9,9 @@ use dbus_types::Endian;
 /// What the first 16 bytes of a message say: the byte order of its numbers, and how many bytes it has.
 #[derive(Clone, Copy)]
 pub struct Head {
+    /// The byte order.
     pub endian: Endian,
+    /// The number of bytes of the whole message.
     pub size: usize,
 }
 

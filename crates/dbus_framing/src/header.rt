@@ -27,17 +27,26 @@ pub enum FieldKind {
     Unknown,
 }
 
-/// The header fields of a message.
+/// The header fields of a message. A field is None if the header has none.
 #[derive(Drop)]
 pub struct Header {
+    /// PATH: the object of a call or a signal.
     pub path: Option<Text>,
+    /// INTERFACE.
     pub interface: Option<Text>,
+    /// MEMBER: the method or the signal.
     pub member: Option<Text>,
+    /// ERROR_NAME.
     pub error_name: Option<Text>,
+    /// REPLY_SERIAL: the serial of the call that this message answers.
     pub reply_serial: Option<u32>,
+    /// DESTINATION.
     pub destination: Option<Text>,
+    /// SENDER.
     pub sender: Option<Text>,
+    /// SIGNATURE: the types of the body.
     pub signature: Option<Signature>,
+    /// UNIX_FDS: the number of file descriptors.
     pub unix_fds: Option<u32>,
 }
 

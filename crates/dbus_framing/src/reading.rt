@@ -108,9 +108,9 @@ fn are_zero(bytes: &[u8]) -> bool
     true
 }
 
-// The header fields of a message, if they and the padding after them are valid.
+/// The header fields of a message, if they and the padding after them are valid.
 #[tactic(auto, unfolding(crate::specs::Messages::fields_at))]
-fn fields_at(
+pub fn fields_at(
     alloc: Global,
     types: &FieldTypes,
     endian: Endian,
@@ -144,8 +144,11 @@ fn signature_or_none(alloc: Global, signature: Option<Signature>) -> Signature
     }
 }
 
-// The message whose header fields are these.
-fn bodied(
+/// The message whose header fields are these.
+///
+/// Refused with `BadBody` if its body isn't the spelling of the types that SIGNATURE lists, and with
+/// `OutOfMemory` if no memory was left.
+pub fn bodied(
     alloc: Global,
     endian: Endian,
     bytes: &[u8],

@@ -71,7 +71,7 @@ pub enum Value {
 pub struct TypedArray {
     /// The type of each element.
     pub element: CompleteType,
-    /// The elements, of which there may be none.
+    /// The elements, possibly none.
     pub values: Vec<Value>,
 }
 

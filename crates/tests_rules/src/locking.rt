@@ -6,7 +6,7 @@ use kr_base::Stem;
 use std::alloc::Global;
 use std::test::Fail;
 
-// A row has timers, each a stem, its flags and its timeout; what the plan is told; and what is due at the
+// A row has timers, each a stem, its flags and its timeout; what is reported to the plan; and what is due at the
 // last moment. A letter is a stem. `+a 100` unlocks it at 100, `*a 150` changes it, `-a 0` locks it.
 const ROWS: &str = "\
 a 2 60;+a 100;159 => none
