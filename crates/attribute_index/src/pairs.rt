@@ -159,7 +159,7 @@ fn put_sides(branch: &mut Branch, before: Option<Box<Branch>>, after: Option<Box
     branch.sides = joined_sides(key, before, after);
 }
 
-/// A branch with these sides in place of its own.
+/// The branch with its sides replaced by these.
 pub fn with_sides(
     branch: Box<Branch>,
     before: Option<Box<Branch>>,
@@ -177,7 +177,7 @@ pub fn with_sides(
     branch
 }
 
-/// A branch with these sides, of which the one before it is higher by two, and is rotated.
+/// A branch with these sides; the one before it is higher by two, and is rotated.
 #[inline(never)]
 fn lean_before(branch: Box<Branch>, before: Box<Branch>, after: Option<Box<Branch>>) -> Box<Branch>
     requires lean { height_in before.value ≡ height_in_side after + 2 }
@@ -203,7 +203,7 @@ fn lean_before(branch: Box<Branch>, before: Box<Branch>, after: Option<Box<Branc
     }
 }
 
-/// A branch with these sides, of which the one after it is higher by two, and is rotated.
+/// A branch with these sides; the one after it is higher by two, and is rotated.
 #[inline(never)]
 fn lean_after(branch: Box<Branch>, before: Option<Box<Branch>>, after: Box<Branch>) -> Box<Branch>
     requires lean { height_in after.value ≡ height_in_side before + 2 }
@@ -262,7 +262,7 @@ fn balanced(
     with_sides(branch, before, after)
 }
 
-/// These two sides, of which the height of the higher one is known, with the key of the pair between them.
+/// These two sides, whose greater height is known, with the key of the pair between them.
 #[inline(always)]
 fn both_sides(key: u32, under: u8, before: Box<Branch>, after: Box<Branch>) -> Sides
     requires alike { DifferByAtMost 1 (height_in before.value) (height_in after.value) }
@@ -280,7 +280,7 @@ fn both_sides(key: u32, under: u8, before: Box<Branch>, after: Box<Branch>) -> S
     Sides::Both(under + 1, key, before, after)
 }
 
-/// Puts two sides, of which the height of the higher one is known, in place of a branch's own.
+/// Replaces a branch's sides by two whose greater height is known.
 #[inline(always)]
 fn put_both(branch: &mut Branch, under: u8, before: Box<Branch>, after: Box<Branch>)
     requires alike { DifferByAtMost 1 (height_in before.value) (height_in after.value) }
@@ -294,7 +294,7 @@ fn put_both(branch: &mut Branch, under: u8, before: Box<Branch>, after: Box<Bran
     branch.sides = both_sides(key, under, before, after);
 }
 
-/// A branch with two sides, of which the height of the higher one is known, in place of its own.
+/// The branch with its sides replaced by two whose greater height is known.
 #[inline(always)]
 fn with_both(branch: Box<Branch>, under: u8, before: Box<Branch>, after: Box<Branch>) -> Box<Branch>
     requires alike { DifferByAtMost 1 (height_in before.value) (height_in after.value) }

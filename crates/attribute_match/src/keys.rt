@@ -1,4 +1,4 @@
-// Keys of texts, by which an index compares them first. They are no secret, and no clause rests on their being
+// Keys of texts, by which an index compares them first. They are not secret, and no clause rests on their being
 // different.
 
 ghost use Rattle.std.specs.Prelude.{◌≡◌};

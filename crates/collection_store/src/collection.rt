@@ -574,6 +574,16 @@ impl<S: Slot> Collection<S> {
         &self.told.clear().name
     }
 
+    /// The label of the newer image of a file in doubt, which is shown once that image is found.
+    pub fn newer_label(&self) -> Option<&Text>
+        ensures { option_copied result ≡ option_map (λ clear. clear.name) self.now.other }
+    {
+        match &self.newer {
+            Some(newer) => Some(&newer.clear().name),
+            None => None,
+        }
+    }
+
     /// When the collection was created, in seconds since 1970.
     pub fn created(&self) -> u64
         ensures { result ≡ self.now.clear.created }

@@ -10,7 +10,7 @@ use Rattle.hashed_index.specs.Keys.{key_of}
 abbrev pub entry_of : ℕ → HashedPair → Entry
 entry_of place pair = record { key = key_of pair.name pair.value; place = place }
 
--- the entries of all hashed attributes of the items, of which the first is at a place
+-- the entries of all hashed attributes of the items, the first of which is at a place
 abbrev pub entries_from : ℕ → List ClearItem → List Entry
 entries_from place [] = []
 entries_from place (item ∷ items) = map (entry_of place) item.hashed ++ entries_from (place + 1) items

@@ -119,7 +119,7 @@ pub record HasJustRows (given : List (ItemId × ℕ × FullItem)) (rows : Rows) 
 abbrev pub given_of : ItemId × Bor (List (List ℕ × AttrValue)) → ℕ × List (List ℕ × AttrValue)
 given_of item = (item.0.0, item.1.now)
 
--- the same of a row
+-- the same for a row
 abbrev pub given_row : ℕ × Row → ℕ × List (List ℕ × AttrValue)
 given_row row = (row.0, attributes_of row.1)
 

@@ -46,12 +46,12 @@ fn step_told<S: Slot>(
     joined(alloc, &[", ", answer.as_str(), " ", state, ids.as_str()])
 }
 
-// What the making of the collection came to, and its state.
+// What making the collection came to, and its state.
 fn begun(alloc: Global, made: &str, state: &str) -> Result<String, Fail> {
     joined(alloc, &[made, " ", state])
 }
 
-// What the steps came to, after the making of the collection.
+// What the steps came to, after the collection was made.
 fn steps_told<S: Slot>(
     alloc: Global,
     collection: &mut Collection<S>,
@@ -78,7 +78,7 @@ pub fn lived<S: Slot>(
     Ok((told?, slot))
 }
 
-/// What the steps of a row came to, the making of the collection first, and the slot after them.
+/// What the steps of a row came to, making the collection first, and the slot after them.
 pub fn story(alloc: Global, row: &str) -> Result<(String, MemorySlot), Fail> {
     let failing = numbers(alloc, cell(row, 1))?;
     let done = numbers(alloc, cell(row, 2))?;
@@ -90,7 +90,7 @@ pub fn story(alloc: Global, row: &str) -> Result<(String, MemorySlot), Fail> {
 }
 
 // The steps after a collection was made; the calls of the device that fail; those of them that the disk performs
-// nevertheless; and what each step came to. A change, and the making of the collection, has the calls put_temp,
+// nevertheless; and what each step came to. A change, and making the collection, has the calls put_temp,
 // sync_temp, rename and sync_folder, a delete remove and sync_folder, and a resolve sync_folder and read; they
 // are numbered from 0.
 const FAULTS: &str = "\

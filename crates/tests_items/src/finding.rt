@@ -72,7 +72,7 @@ fn is_first(rt: &(impl AllocGlobal + Abort), items: &ItemStore, words: &str) -> 
     Ok(())
 }
 
-// Moduli of which each item's attributes are the rests: of an item as it was added, of one that was changed,
+// Attributes are made as remainders by these moduli: those of an item as it was added, of one that was changed,
 // and of no item.
 const EQUALS: &str = "\
 a=3 b=7 c=11
