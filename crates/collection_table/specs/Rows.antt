@@ -120,7 +120,7 @@ stored content key vector = record {
   held = Some (record { key = key; vector = vector; rows = rows_of_content content });
 }
 
--- a collection of which it isn't known whether this content was stored: it is locked
+-- a collection, if it isn't known whether this content was stored: it is locked
 abbrev pub perhaps_stored : Content → List ℕ → List ℕ → CollectionRow → CollectionRow
 perhaps_stored content key vector row = record {
   file = Doubt (old_image row.file) (Some (sealed content key vector));
@@ -129,6 +129,6 @@ perhaps_stored content key vector row = record {
   held = None;
 }
 
--- a collection of which it isn't known whether its file was removed: it is locked
+-- a collection, if it isn't known whether its file was removed: it is locked
 abbrev pub perhaps_removed : CollectionRow → CollectionRow
 perhaps_removed row = record { file = Doubt (old_image row.file) None; clear = row.clear; other = None; held = None }

@@ -7,7 +7,7 @@ use Rattle.kr_base.specs.declared.ids.PromptId.{PromptId}
 use Rattle.prompt_state.specs.declared.row.Ask.{Ask}
 use Rattle.prompt_state.specs.declared.row.Ended.{Ended}
 use Rattle.prompt_state.specs.declared.row.PromptKind.{PromptKind}
-use Rattle.prompt_state.specs.declared.row.PromptKind.TheVariants.{Unlock, Create}
+use Rattle.prompt_state.specs.declared.row.PromptKind.TheVariants.{Unlock, Create, Change}
 use Rattle.prompt_state.specs.declared.row.PromptRow.{PromptRow}
 use Rattle.prompt_state.specs.declared.row.Prompts.{Prompts}
 use Rattle.prompt_state.specs.declared.row.Stage.{Stage}
@@ -147,6 +147,7 @@ answered prompt round prompts = if nat_eq round last_round then ended prompt pro
 abbrev pub kind_with : (TargetLists → TargetLists) → PromptKind → PromptKind
 kind_with change (Unlock targets) = Unlock (change targets)
 kind_with change (Create label alias salt) = Create label alias salt
+kind_with change (Change stem salt) = Change stem salt
 
 -- the prompts with the targets of this one changed
 abbrev pub targeted : PromptId → (TargetLists → TargetLists) → Prompts → Prompts
@@ -156,6 +157,7 @@ targeted prompt change prompts = changed prompt (λ row. record row { kind = kin
 abbrev pub first_of_kind : PromptKind → Option Target
 first_of_kind (Unlock targets) = first_left targets
 first_of_kind (Create label alias salt) = None
+first_of_kind (Change stem salt) = None
 
 -- the first target that is left, of a prompt
 abbrev pub first_of_row : Option PromptRow → Option Target

@@ -3,7 +3,7 @@ ghost use Rattle.std.specs.Option.{option_copied};
 ghost use Rattle.prompt_state.specs.Prompts.{first_of_kind, is_asked_in, is_deriving_in, is_made, round_of};
 
 use crate::{Target, Targets};
-use kr_base::{ConnId, OutOfMemory, PromptId, Text};
+use kr_base::{ConnId, OutOfMemory, PromptId, Stem, Text};
 use kr_items::Items;
 
 /// What a prompt is for.
@@ -20,6 +20,13 @@ pub enum PromptKind {
         /// The salt of its file.
         salt: [u8; 8],
     },
+    /// It changes the password of a collection.
+    Change {
+        /// The stem of the collection.
+        stem: Stem,
+        /// The salt that its file gets.
+        salt: [u8; 8],
+    },
 }
 
 impl PromptKind {
@@ -30,6 +37,7 @@ impl PromptKind {
         match self {
             PromptKind::Unlock(targets) => targets.first(),
             PromptKind::Create { .. } => None,
+            PromptKind::Change { .. } => None,
         }
     }
 
@@ -42,6 +50,10 @@ impl PromptKind {
             PromptKind::Create { label, alias, salt } => Ok(PromptKind::Create {
                 label: label.copy()?,
                 alias: alias.copy()?,
+                salt: *salt,
+            }),
+            PromptKind::Change { stem, salt } => Ok(PromptKind::Change {
+                stem: stem.copy()?,
                 salt: *salt,
             }),
         }

@@ -24,7 +24,7 @@ fn is_checked(name: &Text) -> bool
     name.as_bytes().ends_with(ENDING.as_bytes())
 }
 
-/// Keeps the names of which the check reads the files.
+/// Keeps the names whose files the check reads.
 fn keep_checked(names: &mut Vec<Text>)
     ensures { names.new.items ≡ filter is_checked names.old.items }
 {
@@ -41,7 +41,7 @@ fn in_order(alloc: Global, names: Vec<Text>) -> Result<Vec<Text>, OutOfMemory>
     Ok(sorted.into_iter().collect(alloc)?)
 }
 
-/// Those of these names of which the check reads the files, in byte order.
+/// Those of these names whose files the check reads, in byte order.
 fn checked_in_order(alloc: Global, names: Vec<Text>) -> Result<Vec<Text>, OutOfMemory>
     ensures sorted { IfOk result (λ sorted. IsStrictlySortedBy (slice_cmp nat_cmp) sorted.items) }
     ensures same { IfOk result (λ sorted. (name : List ℕ) → Contains sorted.items name
@@ -52,7 +52,7 @@ fn checked_in_order(alloc: Global, names: Vec<Text>) -> Result<Vec<Text>, OutOfM
     in_order(alloc, names)
 }
 
-/// Settles the folder, and returns the names of which the check reads the files, in byte order.
+/// Settles the folder, and returns the names whose files the check reads, in byte order.
 pub fn checked_names<F: Folder>(alloc: Global, folder: &mut F) -> Result<Vec<Text>, Stop>
     requires fresh { F.made folder.old ≡ [] }
     ensures sorted { IfOk result (λ names. IsStrictlySortedBy (slice_cmp nat_cmp) names.items) }

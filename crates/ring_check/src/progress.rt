@@ -1,4 +1,4 @@
-/// Somebody who is told how far a check of a folder has come. No contract sees what is told.
+/// Whoever is shown how far a check of a folder has come. No contract sees what is shown.
 pub trait Progress {
     /// So many files were looked at, of that many, and `waiting` of them aren't judged yet.
     fn looked(&mut self, waiting: usize, looked: usize, of: usize);
@@ -7,7 +7,7 @@ pub trait Progress {
     fn ended(&mut self, files: usize);
 }
 
-/// Nobody: nothing is told.
+/// Nobody: nothing is shown.
 #[derive(Clone, Copy, Drop)]
 pub struct Unwatched;
 

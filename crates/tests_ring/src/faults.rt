@@ -32,7 +32,7 @@ output 2|output|a.keyring: Magic;b.keyring: Magic;
 output 3|damaged|a.keyring: Magic;b.keyring: Magic;c.keyring: Magic;
 ";
 
-// The plan of a slot of which one call fails.
+// The plan of a slot one of whose calls fails.
 fn plan_of(alloc: Global, name: &str, call: &str) -> Result<SlotPlan, Fail> {
     Ok(SlotPlan {
         name: text_of(alloc, name.as_bytes())?,

@@ -68,7 +68,7 @@ fn with_iterations(alloc: Global, iterations: u32) -> Result<Vec<u8>, Fail> {
     Ok(changed)
 }
 
-/// The file with an item in its clear part, of which its area has nothing.
+/// The file with an item in its clear part that its area lacks.
 fn one_item(alloc: Global) -> Result<Vec<u8>, Fail> {
     let file = login(alloc)?;
     let split = file.len().saturating_sub(24);

@@ -100,7 +100,7 @@ fn three_thousand_files_have_the_lines_that_they_have_one_by_one(
     Ok(())
 }
 
-/// What is told of the progress of a check: `JUDGED/OF` after each file with which the number of judged files rose, and
+/// What is shown of the progress of a check: `JUDGED/OF` after each file with which the number of judged files rose, and
 /// `OF.` at the end.
 #[derive(Drop)]
 struct Notes {
@@ -132,7 +132,7 @@ impl Progress for Notes {
     }
 }
 
-// The most bytes of a batch, the files, and what is told of the progress.
+// The most bytes of a batch, the files, and what is shown of the progress.
 const BATCHES: &str = "\
 0|a.keyring=00 b.keyring=0000 c.keyring=00|1/3 2/3 3.
 2|a.keyring=00 b.keyring=0000 c.keyring=00|1/3 2/3 3.

@@ -80,6 +80,13 @@ const HISTORY: &str = "\
 1|dismiss|6||no prompt|gone
 2|answer|6|2|no prompt|gone
 1|begin|7|c|7|made 0 /c 0
+1|begin|8|change c|8|made 0 change c 0
+1|ask|8||ok|asked 1 change c 0
+1|sent|8||ask 2 8 1 0|asked 1 change c 0
+1|first|8||none|asked 1 change c 0
+2|answer|8|1|deriving|deriving 1 change c 0
+1|derived|8|1|yes|deriving 1 change c 0
+1|end|8||ended 1 8 change c|gone
 ";
 
 // The result of a call that only succeeds or is refused.

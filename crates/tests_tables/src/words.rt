@@ -41,7 +41,8 @@ pub fn target(alloc: Global, name: &str) -> Result<Target, Fail> {
     Ok(Target { given, stem })
 }
 
-/// A kind of prompt: `new` creates a collection, other words are the targets to unlock.
+/// A kind of prompt: `new` creates a collection, `change a` changes the password of one, and other words are
+/// the targets to unlock.
 pub fn kind(alloc: Global, words: &str) -> Result<PromptKind, Fail> {
     if words == "new" {
         let label = Text::from_str(alloc, "label")?.ok_or("a text")?;
@@ -51,6 +52,10 @@ pub fn kind(alloc: Global, words: &str) -> Result<PromptKind, Fail> {
             alias,
             salt: [7; 8],
         });
+    }
+    if let Some(name) = words.strip_prefix("change ") {
+        let stem = Stem::new(alloc, name)?.ok_or("a stem")?;
+        return Ok(PromptKind::Change { stem, salt: [7; 8] });
     }
     let mut list = Vec::new(alloc);
     for name in words.split(' ') {
@@ -79,6 +84,7 @@ fn targets_of(alloc: Global, kind: &PromptKind) -> Result<String, Fail> {
             Ok(text)
         }
         PromptKind::Create { .. } => spaced(alloc, &["new"]),
+        PromptKind::Change { stem, .. } => spaced(alloc, &["change", stem.as_str()]),
     }
 }
 
