@@ -8,7 +8,7 @@ use Rattle.dbus_types.specs.declared.complete_type.BasicType.{BasicType}
 use Rattle.dbus_types.specs.declared.complete_type.BasicType.TheVariants as basics
 use Rattle.dbus_types.specs.declared.object_path.ObjectPath.{ObjectPath as Path}
 use Rattle.dbus_types.specs.declared.value.DictEntry.{DictEntry as Entry}
-use Rattle.dbus_types.specs.declared.value.Value.{Value, Boolean, Uint64, String, ObjectPath, Bytes, Struct', Pair', DictEntry, DictEntry'}
+use Rattle.dbus_types.specs.declared.value.Value.{Value, Boolean, Uint32, Uint64, String, ObjectPath, Bytes, Struct', Pair', DictEntry, DictEntry'}
 use Rattle.dbus_types.specs.Types.{Ty}
 use Rattle.dbus_types.specs.Values.{Val, Vals}
 use Rattle.dbus_types.specs.Known.{is_variant}
@@ -16,7 +16,7 @@ use Rattle.dbus_types.specs.ValueViews.{value_as, value_of, each_as, bit_of, Fie
 use Rattle.dbus_framing.specs.Headers.{where_is, path_in, string_in, parts_in}
 use Rattle.call_arguments.specs.declared.values.ElementType.{ElementType}
 use Rattle.call_arguments.specs.declared.values.ElementType.TheVariants as element
-use Rattle.call_arguments.specs.Arguments.{truth_in, long_in, bytes_in, entry_in, type_of_element, is_string, is_path_type, is_text_type, is_text_pair, is_property, is_element, elements_in, all_in, property, value_named}
+use Rattle.call_arguments.specs.Arguments.{truth_in, long_in, word_in, bytes_in, entry_in, type_of_element, is_string, is_path_type, is_text_type, is_text_pair, is_property, is_element, elements_in, all_in, property, value_named}
 
 -- no other value in an array of paths is a path
 pub no_path_there : (value : Value) → ((path : Box Path Global) → value ≡ ObjectPath path → ⊥) → None ≡ path_in (value_as (Ty.basic basics.ObjectPath) value)
@@ -37,7 +37,7 @@ pub no_entry : (t : Ty) (value : Value) → ((entry : Box Entry Global) → valu
 no_entry t (DictEntry' place key held) other = absurd (other _ refl)
 no_entry t _ other = refl
 
--- no other value is a Boolean or a long number, none is a byte array, and none is a struct
+-- no other value is a Boolean, a long number or one of 32 bits, none is a byte array, and none is a struct
 pub no_truth : (value : Value) → ((truth : Bool) → value ≡ Boolean truth → ⊥) → None ≡ truth_in (value_of value)
 no_truth (Boolean truth) other = absurd (other truth refl)
 no_truth _ other = refl
@@ -49,6 +49,10 @@ truth_is false = refl
 pub no_long : (value : Value) → ((number : ℕ) → value ≡ Uint64 number → ⊥) → None ≡ long_in (value_of value)
 no_long (Uint64 number) other = absurd (other number refl)
 no_long _ other = refl
+
+pub no_word : (value : Value) → ((number : ℕ) → value ≡ Uint32 number → ⊥) → None ≡ word_in (value_of value)
+no_word (Uint32 number) other = absurd (other number refl)
+no_word _ other = refl
 
 pub no_bytes : (value : Value) → ((bytes : Box Octets Global) → value ≡ Bytes bytes → ⊥) → None ≡ bytes_in (value_of value)
 no_bytes (Bytes bytes) other = absurd (other bytes refl)
@@ -107,6 +111,7 @@ property_is _ e = absurd cc
 
 element_is : (wanted : ElementType) (t : Ty) → is_element wanted t ≡ true → t ≡ type_of_element wanted
 element_is element.Path t e = path_type_is t e
+element_is element.Text t e = text_type_is t e
 element_is element.TextPair t e = pair_is t e
 element_is element.Property t e = property_is t e
 
@@ -121,6 +126,7 @@ elements_other wanted t values e = ap (λ (b : Bool). where_is b (each_as t valu
 -- no wanted type is a variant
 pub no_variants : (wanted : ElementType) (values : Vals) → None ≡ elements_in wanted (Val.array Ty.variant values)
 no_variants element.Path values = refl
+no_variants element.Text values = refl
 no_variants element.TextPair values = refl
 no_variants element.Property values = refl
 

@@ -41,6 +41,11 @@ abbrev pub long_in : Val → Option ℕ
 long_in (Val.number basics.Uint64 number) = Some number
 long_in _ = None
 
+-- the number in a value of type `u`
+abbrev pub word_in : Val → Option ℕ
+word_in (Val.number basics.Uint32 number) = Some number
+word_in _ = None
+
 -- the bytes in a value of type `ay`
 abbrev pub bytes_in : Val → Option (List ℕ)
 bytes_in (Val.bytes bytes) = Some bytes
@@ -61,9 +66,15 @@ abbrev pub four_of : Vals → Option (Val × Val × Val × Val)
 four_of (Vals.more first (Vals.more second (Vals.more third (Vals.more fourth Vals.end)))) = Some (first, second, third, fourth)
 four_of _ = None
 
--- the type of elements of this kind: `o`, `{ss}` or `{sv}`
+-- the values, if there are exactly five
+abbrev pub five_of : Vals → Option (Val × Val × Val × Val × Val)
+five_of (Vals.more first (Vals.more second (Vals.more third (Vals.more fourth (Vals.more fifth Vals.end))))) = Some (first, second, third, fourth, fifth)
+five_of _ = None
+
+-- the type of elements of this kind: `o`, `s`, `{ss}` or `{sv}`
 abbrev pub type_of_element : ElementType → Ty
 type_of_element element.Path = Ty.basic basics.ObjectPath
+type_of_element element.Text = Ty.basic basics.String
 type_of_element element.TextPair = Ty.entry basics.String (Ty.basic basics.String)
 type_of_element element.Property = Ty.entry basics.String Ty.variant
 
@@ -95,6 +106,7 @@ is_property other = false
 -- whether a type is that of elements of this kind
 abbrev pub is_element : ElementType → Ty → Bool
 is_element element.Path t = is_path_type t
+is_element element.Text t = is_text_type t
 is_element element.TextPair t = is_text_pair t
 is_element element.Property t = is_property t
 

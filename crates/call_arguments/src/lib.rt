@@ -15,8 +15,8 @@ pub use meanings::{
     session_in, text_pair_in, wanted_alias_in,
 };
 pub use values::{
-    ElementType, bytes_in, elements_in, entry_in, four_in, long_in, one_in, parts_in, path_in,
-    three_in, truth_in,
+    ElementType, bytes_in, elements_in, entry_in, five_in, four_in, long_in, one_in, parts_in,
+    path_in, three_in, truth_in, word_in,
 };
 
 /// No memory was left for a call. It is the only refusal that may come at any time.

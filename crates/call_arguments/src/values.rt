@@ -6,7 +6,7 @@ ghost use Rattle.dbus_types.specs.Types.{Ty};
 ghost use Rattle.dbus_types.specs.Views.{type_of};
 ghost use Rattle.dbus_types.specs.ValueViews.{value_of, values_of, value_as, each_as};
 ghost use Rattle.dbus_framing.specs.Headers.{path_in, parts_in, one_of};
-ghost use Rattle.call_arguments.specs.Arguments.{truth_in, long_in, bytes_in, entry_in, three_of, four_of, type_of_element, is_string, is_path_type, is_text_type, is_text_pair, is_property, is_element, elements_in};
+ghost use Rattle.call_arguments.specs.Arguments.{truth_in, long_in, word_in, bytes_in, entry_in, three_of, four_of, five_of, type_of_element, is_string, is_path_type, is_text_type, is_text_pair, is_property, is_element, elements_in};
 
 use dbus_types::{BasicType, CompleteType, ObjectPath, Value, is_variant};
 use kr_base::Bytes;
@@ -16,6 +16,8 @@ use kr_base::Bytes;
 pub enum ElementType {
     /// `o`.
     Path,
+    /// `s`.
+    Text,
     /// `{ss}`.
     TextPair,
     /// `{sv}`.
@@ -53,6 +55,16 @@ pub fn long_in(value: &Value) -> Option<u64>
 {
     match value {
         Value::Uint64(number) => Some(*number),
+        _ => None,
+    }
+}
+
+/// The number in a value of type `u`.
+pub fn word_in(value: &Value) -> Option<u32>
+    ensures { result ≡ word_in (value_of value.now) }
+{
+    match value {
+        Value::Uint32(number) => Some(*number),
         _ => None,
     }
 }
@@ -134,6 +146,27 @@ pub fn four_in(values: &[Value]) -> Option<(&Value, &Value, &Value, &Value)>
     }
 }
 
+/// The values, if there are exactly five.
+pub fn five_in(values: &[Value]) -> Option<(&Value, &Value, &Value, &Value, &Value)>
+    ensures { option_map (λ five. (
+      value_of five.0.now,
+      value_of five.1.now,
+      value_of five.2.now,
+      value_of five.3.now,
+      value_of five.4.now,
+    )) result ≡ five_of (values_of values.now) }
+{
+    let (first, others) = values.split_first()?;
+    let (second, others) = others.split_first()?;
+    let (third, others) = others.split_first()?;
+    let (fourth, others) = others.split_first()?;
+    let (fifth, more) = others.split_first()?;
+    match more.split_first() {
+        Some(_) => None,
+        None => Some((first, second, third, fourth, fifth)),
+    }
+}
+
 fn is_string(basic: BasicType) -> bool
     ensures { result ≡ is_string basic }
 {
@@ -188,6 +221,7 @@ fn is_element(wanted: ElementType, complete_type: &CompleteType) -> bool
 {
     match wanted {
         ElementType::Path => is_path_type(complete_type),
+        ElementType::Text => is_text_type(complete_type),
         ElementType::TextPair => is_text_pair(complete_type),
         ElementType::Property => is_property(complete_type),
     }

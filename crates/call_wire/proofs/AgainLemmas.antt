@@ -1,6 +1,6 @@
 -- What is sent is read again as the same output.
-use Rattle.std.proofs.Common.{◌≡◌, ℕ, ◌^◌, ◌<◌, ◌≤◌, ◌==◌, not, Bool, true, false, IsTrue, List, [], ◌∷◌, Option, Some, None, IfSome, length, drop, codes, decimal, unwrap_or, refl, ap, ◌∙◌, sym, arith, length-append, if◌then◌else◌}
-use Rattle.std.specs.List.{All}
+use Rattle.std.proofs.Common.{◌≡◌, ℕ, ◌^◌, ◌<◌, ◌≤◌, ◌==◌, ◌&&◌, nat_lt, not, Bool, true, false, IsTrue, List, [], ◌∷◌, Option, Some, None, IfSome, length, drop, codes, decimal, unwrap_or, refl, ap, ◌∙◌, sym, arith, length-append, if◌then◌else◌}
+use Rattle.std.specs.List.{All, list_all}
 use Rattle.std.specs.Str.{bytes_eq}
 use Rattle.std.specs.Str.Parse.{digits_value}
 use Rattle.std.proofs.lemmas.Fmt.{decimal_is_IsNumeral, length-decimal-le}
@@ -16,7 +16,7 @@ use Rattle.dbus_marshal.specs.Limits.{array_limit}
 use Rattle.dbus_marshal.specs.Wire.{IsTextOf, number_bytes}
 use Rattle.dbus_marshal.specs.Spelling.{all_spelled, are_short}
 use Rattle.dbus_marshal.specs.Fitting.{Fits, HaveSpelling}
-use Rattle.dbus_framing.specs.Names.{is_interface_name}
+use Rattle.dbus_framing.specs.Names.{is_interface_name, is_member_name}
 use Rattle.dbus_framing.specs.Messages.{Parts, IsMessage}
 use Rattle.dbus_framing.specs.Headers.{has_needed}
 use Rattle.dbus_sending.specs.Sent.{HasHeader, CanBeSent, IsName, IsMember, IsSerial, bare_header, fields_of, fields_read}
@@ -27,6 +27,8 @@ use Rattle.secret_calls.specs.declared.out.ErrorName.{ErrorName}
 use Rattle.secret_calls.specs.declared.out.ErrorName.TheVariants as name
 use Rattle.secret_calls.specs.declared.out.Out.{Out}
 use Rattle.secret_calls.specs.declared.out.Out.TheVariants as out
+use Rattle.secret_calls.specs.declared.changed.ChangedObject.{ChangedObject}
+use Rattle.secret_calls.specs.declared.changed.ChangedObject.TheVariants as changed
 use Rattle.secret_calls.specs.declared.property.Attribute.{Attribute}
 use Rattle.secret_calls.specs.declared.property.Property.{Property}
 use Rattle.secret_calls.specs.declared.property.Property.TheVariants as property
@@ -44,10 +46,11 @@ use Rattle.secret_calls.specs.declared.signal.Signal.{Signal}
 use Rattle.secret_calls.specs.declared.signal.Signal.TheVariants as signal
 use Rattle.secret_calls.proofs.SerialLemmas.{one_serial}
 use Rattle.secret_calls.proofs.SizeLemmas.{prompt-short, fields-most}
-use Rattle.secret_calls.specs.Outs.{error_text, session_path, prompt_path, prompt_text, prompt_value, path_values, secret_value, secret_values, property_text, attribute_values, property_value, shown_values, values_of, kind_text, completion_value, signal_values, emitter, header_of, values_sent, sent, AreTyped, IsPrompt, IsSecret, AreSecrets, IsResult, IsSignal, IsTyped, HasSpelling, spelled}
+use Rattle.secret_calls.proofs.SignalLemmas.{changed-short}
+use Rattle.secret_calls.specs.Outs.{error_text, session_path, prompt_path, prompt_text, prompt_value, path_values, secret_value, secret_values, property_text, attribute_values, property_value, shown_values, name_values, values_of, kind_text, completion_value, service_path, changed_path, changed_interface, signal_values, emitter, signal_name, header_of, values_sent, sent, AreTyped, IsPrompt, IsSecret, AreSecrets, IsResult, IsEmitter, IsChanged, IsSignal, IsTyped, HasSpelling, spelled}
 use Rattle.call_wire.specs.Said.{said, IsSendable}
 use Rattle.call_wire.proofs.PlainLemmas.{plain_text, plain_literal, path_plain, path_is, prompt_plain, prompt_is}
-use Rattle.call_wire.proofs.FitLemmas.{Within, all_within, all_short, text_is, path_fits, paths_fit, fields_fit, secrets_fit, bit_fits, shown_fits, properties_fit}
+use Rattle.call_wire.proofs.FitLemmas.{Within, all_within, all_short, text_is, path_fits, paths_fit, fields_fit, secrets_fit, bit_fits, shown_fits, properties_fit, names_fit}
 
 -- ---- bodies
 
@@ -140,11 +143,21 @@ body_is (body.Properties properties) typed short =
 kind_fits : (depth : ℕ) (kind : AskKind) → Fits depth (Ty.basic basics.String) (Val.text basics.String (kind_text kind))
 kind_fits depth kind.Unlock = (refl, (plain_text (codes "unlock") (plain_literal (codes "unlock") refl), omega arith))
 kind_fits depth kind.Create = (refl, (plain_text (codes "create") (plain_literal (codes "create") refl), omega arith))
+kind_fits depth kind.Change = (refl, (plain_text (codes "change") (plain_literal (codes "change") refl), omega arith))
 
 -- what a prompt completes with, as a variant
 completion_fits : (result : Completion) → IsResult result → Within array_limit (completion_value result) → Fits 64 Ty.variant (Val.variant (completion_value result))
 completion_fits (completion.Objects objects) is few = (refl, (refl, paths_fit 62 objects is few, refl))
 completion_fits (completion.Object object) is few = (refl, path_fits 63 object is few)
+
+-- the interface that has properties
+interface_fits : (depth : ℕ) (object : ChangedObject) → Fits depth (Ty.basic basics.String) (Val.text basics.String (changed_interface object))
+interface_fits depth changed.Service =
+    (refl, (plain_text (codes "org.freedesktop.Secret.Service") (plain_literal (codes "org.freedesktop.Secret.Service") refl), omega arith))
+interface_fits depth (changed.Collection collection) =
+    (refl, (plain_text (codes "org.freedesktop.Secret.Collection") (plain_literal (codes "org.freedesktop.Secret.Collection") refl), omega arith))
+interface_fits depth (changed.Item item) =
+    (refl, (plain_text (codes "org.freedesktop.Secret.Item") (plain_literal (codes "org.freedesktop.Secret.Item") refl), omega arith))
 
 signal_is : (signal : Signal) → IsSignal signal → IsShort (signal_values signal) → AreBody (signal_values signal)
 signal_is (signal.Ask prompt round kind label wrong) typed short =
@@ -163,6 +176,22 @@ signal_is (signal.Completed prompt dismissed result) typed short =
       listed = refl;
       spelled = (bit_fits 64 dismissed, (completion_fits result typed.1 few.1.0, tt));
       arrays = all_short (signal_values (signal.Completed prompt dismissed result)) 0 short;
+    }
+signal_is (signal.CollectionCreated collection) typed short = body_is (body.Object collection) typed short
+signal_is (signal.CollectionDeleted collection) typed short = body_is (body.Object collection) typed short
+signal_is (signal.CollectionChanged collection) typed short = body_is (body.Object collection) typed short
+signal_is (signal.ItemCreated collection item) typed short = body_is (body.Object item) typed.1 short
+signal_is (signal.ItemDeleted collection item) typed short = body_is (body.Object item) typed.1 short
+signal_is (signal.ItemChanged collection item) typed short = body_is (body.Object item) typed.1 short
+signal_is (signal.PropertiesChanged object properties invalidated) typed short =
+    let few = all_within array_limit (signal_values (signal.PropertiesChanged object properties invalidated)) 0 short in
+    record {
+      listed = refl;
+      spelled = (
+        interface_fits 64 object,
+        ((refl, properties_fit properties typed.1 few.1.0, refl), ((refl, names_fit 63 invalidated, refl), tt)),
+      );
+      arrays = all_short (signal_values (signal.PropertiesChanged object properties invalidated)) 0 short;
     }
 
 -- the values of an output
@@ -342,7 +371,7 @@ body_again _ typed = refl
 one_body : (one other : Body) → AreTyped one → AreTyped other → values_of one ≡ values_of other → one ≡ other
 one_body one other fits fit same = sym (body_again one fits) ∙ ap body_in same ∙ body_again other fit
 
--- ---- the signal with this path and these values
+-- ---- the signal with this name, this path and these values
 
 abbrev number_in : Val → ℕ
 number_in (Val.number b number) = number
@@ -352,24 +381,62 @@ abbrev held_in : Val → Val
 held_in (Val.variant value) = value
 held_in value = value
 
--- the kind whose word begins with this letter
+-- the kind with this word: those of Create and Change differ in their second letter
 abbrev kind_in : List ℕ → AskKind
-kind_in [] = kind.Create
-kind_in (code ∷ codes) = if code == 117 then kind.Unlock else kind.Create
+kind_in (first ∷ second ∷ letters) = if first == 117 then kind.Unlock else (if second == 104 then kind.Change else kind.Create)
+kind_in word = kind.Create
 
 abbrev completion_in : Val → Completion
 completion_in (Val.array t elements) = completion.Objects (texts_in elements)
 completion_in value = completion.Object (text_in value)
 
-abbrev signal_in : List ℕ → Vals → Signal
-signal_in path (Vals.more prompt (Vals.more round (Vals.more kind (Vals.more label (Vals.more wrong values))))) =
+abbrev elements_of : Val → Vals
+elements_of (Val.array t elements) = elements
+elements_of value = Vals.end
+
+abbrev names_in : Vals → List Property
+names_in Vals.end = []
+names_in (Vals.more value values) = property_named (text_in value) ∷ names_in values
+
+-- the object with this interface and this path
+abbrev object_in : List ℕ → List ℕ → ChangedObject
+object_in interface path =
+    if bytes_eq interface (codes "org.freedesktop.Secret.Service") then changed.Service else
+    if bytes_eq interface (codes "org.freedesktop.Secret.Collection") then changed.Collection path else changed.Item path
+
+abbrev first_text : Vals → List ℕ
+first_text Vals.end = []
+first_text (Vals.more value values) = text_in value
+
+abbrev ask_in : Vals → Signal
+ask_in (Vals.more prompt (Vals.more round (Vals.more kind (Vals.more label (Vals.more wrong values))))) =
     signal.Ask (prompt_at (text_in prompt)) (number_in round) (kind_in (text_in kind)) (text_in label) (number_in wrong)
-signal_in path (Vals.more dismissed (Vals.more result values)) = signal.Completed (prompt_at path) (not (number_in dismissed == 0)) (completion_in (held_in result))
-signal_in path values = signal.Completed (prompt_at path) false (completion.Object [])
+ask_in values = signal.CollectionChanged []
+
+abbrev completed_in : List ℕ → Vals → Signal
+completed_in path (Vals.more dismissed (Vals.more result values)) = signal.Completed (prompt_at path) (not (number_in dismissed == 0)) (completion_in (held_in result))
+completed_in path values = signal.CollectionChanged []
+
+abbrev changed_in : List ℕ → Vals → Signal
+changed_in path (Vals.more interface (Vals.more properties (Vals.more names values))) =
+    signal.PropertiesChanged (object_in (text_in interface) path) (properties_in (elements_of properties)) (names_in (elements_of names))
+changed_in path values = signal.CollectionChanged []
+
+abbrev signal_in : List ℕ → List ℕ → Vals → Signal
+signal_in name path values =
+    if bytes_eq name (codes "Ask") then ask_in values else
+    if bytes_eq name (codes "Completed") then completed_in path values else
+    if bytes_eq name (codes "CollectionCreated") then signal.CollectionCreated (first_text values) else
+    if bytes_eq name (codes "CollectionDeleted") then signal.CollectionDeleted (first_text values) else
+    if bytes_eq name (codes "CollectionChanged") then signal.CollectionChanged (first_text values) else
+    if bytes_eq name (codes "ItemCreated") then signal.ItemCreated path (first_text values) else
+    if bytes_eq name (codes "ItemDeleted") then signal.ItemDeleted path (first_text values) else
+    if bytes_eq name (codes "ItemChanged") then signal.ItemChanged path (first_text values) else changed_in path values
 
 kind_again : (kind : AskKind) → kind_in (kind_text kind) ≡ kind
 kind_again kind.Unlock = refl
 kind_again kind.Create = refl
+kind_again kind.Change = refl
 
 completion_again : (result : Completion) → completion_in (completion_value result) ≡ result
 completion_again (completion.Objects objects) = ap completion.Objects (texts_again objects)
@@ -378,7 +445,17 @@ completion_again (completion.Object object) = refl
 at_again : (prompt : PromptId) → prompt.0 < 2 ^ 64 → prompt_at (prompt_path prompt.0) ≡ prompt
 at_again prompt fits = ap (λ (n : ℕ). record { 0 = n }) ((decimal_is_IsNumeral prompt.0 fits).1)
 
-signal_again : (signal : Signal) → IsSignal signal → signal_in (emitter signal) (signal_values signal) ≡ signal
+object_again : (object : ChangedObject) → object_in (changed_interface object) (changed_path object) ≡ object
+object_again changed.Service = refl
+object_again (changed.Collection collection) = refl
+object_again (changed.Item item) = refl
+
+names_again : (names : List Property) → names_in (name_values names) ≡ names
+names_again [] = refl
+names_again (one ∷ names) =
+    ap (λ (it : Property). it ∷ names_in (name_values names)) (property_again one) ∙ ap (λ (more : List Property). one ∷ more) (names_again names)
+
+signal_again : (signal : Signal) → IsSignal signal → signal_in (signal_name signal) (emitter signal) (signal_values signal) ≡ signal
 signal_again (signal.Ask prompt round kind label wrong) is =
     ap (λ p. signal.Ask p round (kind_in (kind_text kind)) label wrong) (at_again prompt is.0)
     ∙ ap (λ k. signal.Ask prompt round k label wrong) (kind_again kind)
@@ -386,10 +463,21 @@ signal_again (signal.Completed prompt dismissed result) is =
     ap (λ p. signal.Completed p (not (bit_of dismissed == 0)) (completion_in (completion_value result))) (at_again prompt is.0)
     ∙ ap (λ d. signal.Completed prompt d (completion_in (completion_value result))) (bit_again dismissed)
     ∙ ap (signal.Completed prompt dismissed) (completion_again result)
+signal_again (signal.CollectionCreated collection) is = refl
+signal_again (signal.CollectionDeleted collection) is = refl
+signal_again (signal.CollectionChanged collection) is = refl
+signal_again (signal.ItemCreated collection item) is = refl
+signal_again (signal.ItemDeleted collection item) is = refl
+signal_again (signal.ItemChanged collection item) is = refl
+signal_again (signal.PropertiesChanged object properties invalidated) is =
+    ap (λ o. signal.PropertiesChanged o (properties_in (shown_values properties)) (names_in (name_values invalidated))) (object_again object)
+    ∙ ap (λ them. signal.PropertiesChanged object them (names_in (name_values invalidated))) (properties_again properties)
+    ∙ ap (signal.PropertiesChanged object properties) (names_again invalidated)
 
-one_signal : (one other : Signal) → IsSignal one → IsSignal other → emitter one ≡ emitter other → signal_values one ≡ signal_values other → one ≡ other
-one_signal one other is are path values =
-    sym (signal_again one is) ∙ ap (λ p. signal_in p (signal_values one)) path ∙ ap (signal_in (emitter other)) values ∙ signal_again other are
+one_signal : (one other : Signal) → IsSignal one → IsSignal other → signal_name one ≡ signal_name other → emitter one ≡ emitter other → signal_values one ≡ signal_values other → one ≡ other
+one_signal one other is are name path values =
+    sym (signal_again one is) ∙ ap (λ n. signal_in n (emitter one) (signal_values one)) name ∙ ap (λ p. signal_in (signal_name other) p (signal_values one)) path
+    ∙ ap (signal_in (signal_name other) (emitter other)) values ∙ signal_again other are
 
 -- ---- names of errors
 
@@ -440,6 +528,17 @@ fields_short (out.Error to _) serial typed = omega arith
 fields_short (out.Signal (signal.Ask prompt round kind label wrong)) serial typed = omega arith
 fields_short (out.Signal (signal.Completed prompt dismissed result)) serial typed =
     omega (arith, prompt-short prompt typed.0, (fields-most (prompt_path prompt.0) (codes "org.freedesktop.Secret.Prompt") (codes "Completed") 98 (codes "v")).few 0)
+fields_short (out.Signal (signal.CollectionCreated collection)) serial typed = omega arith
+fields_short (out.Signal (signal.CollectionDeleted collection)) serial typed = omega arith
+fields_short (out.Signal (signal.CollectionChanged collection)) serial typed = omega arith
+fields_short (out.Signal (signal.ItemCreated collection item)) serial typed =
+    omega (arith, typed.0.short, (fields-most collection (codes "org.freedesktop.Secret.Collection") (codes "ItemCreated") 111 []).few 0)
+fields_short (out.Signal (signal.ItemDeleted collection item)) serial typed =
+    omega (arith, typed.0.short, (fields-most collection (codes "org.freedesktop.Secret.Collection") (codes "ItemDeleted") 111 []).few 0)
+fields_short (out.Signal (signal.ItemChanged collection item)) serial typed =
+    omega (arith, typed.0.short, (fields-most collection (codes "org.freedesktop.Secret.Collection") (codes "ItemChanged") 111 []).few 0)
+fields_short (out.Signal (signal.PropertiesChanged object properties invalidated)) serial typed =
+    omega (arith, changed-short object typed.0, (fields-most (changed_path object) (codes "org.freedesktop.DBus.Properties") (codes "PropertiesChanged") 115 (codes "a{sv}as")).few 0)
 
 -- the header of a reply of this type, with this error's name, if any
 has_header : (kind serial : ℕ) (to : Serial) (name : Option (List ℕ)) → 0 < kind → kind < 256 → IsSerial serial → IfSome name IsName
@@ -475,16 +574,64 @@ has_emitter serial path interface name numbered emitted formed named = record {
   sender = tt;
 }
 
+-- a path that emits a signal
+emitter_is : (path : List ℕ) → IsEmitter path → IsTextOf basics.ObjectPath path
+emitter_is path is = (path_fits 64 path is.formed (omega (arith, is.short))).1
+
+service_is : IsTextOf basics.ObjectPath service_path
+service_is = ((plain_text service_path (plain_literal service_path refl), omega arith), refl)
+
+object_is : (object : ChangedObject) → IsChanged object → IsTextOf basics.ObjectPath (changed_path object)
+object_is changed.Service is = service_is
+object_is (changed.Collection collection) is = emitter_is collection is
+object_is (changed.Item item) is = emitter_is item is
+
+-- the name of an interface, or that of a signal
+interface_is : (text : List ℕ) → list_all (λ byte. nat_lt 0 byte && nat_lt byte 128) text ≡ true → length text ≤ 255 → is_interface_name text ≡ true → IsName text
+interface_is text plain short formed = ((plain_text text (plain_literal text plain), omega (arith, short)), formed)
+
+member_is : (text : List ℕ) → list_all (λ byte. nat_lt 0 byte && nat_lt byte 128) text ≡ true → length text ≤ 255 → is_member_name text ≡ true → IsMember text
+member_is text plain short formed = ((plain_text text (plain_literal text plain), omega (arith, short)), formed)
+
+-- the header of a signal of the service, and of one of a collection
+of_service : (serial : ℕ) (name : List ℕ) → IsSerial serial → IsMember name
+    → HasHeader (record (bare_header 4 1 serial) { path = Some service_path; interface = Some (codes "org.freedesktop.Secret.Service"); member = Some name })
+of_service serial name numbered named =
+    let interface = codes "org.freedesktop.Secret.Service" in
+    has_emitter serial service_path interface name numbered service_is (interface_is interface refl (omega arith) refl) named
+
+of_collection : (serial : ℕ) (path name : List ℕ) → IsSerial serial → IsEmitter path → IsMember name
+    → HasHeader (record (bare_header 4 1 serial) { path = Some path; interface = Some (codes "org.freedesktop.Secret.Collection"); member = Some name })
+of_collection serial path name numbered is named =
+    let interface = codes "org.freedesktop.Secret.Collection" in
+    has_emitter serial path interface name numbered (emitter_is path is) (interface_is interface refl (omega arith) refl) named
+
 signal_header : (serial : ℕ) → IsSerial serial → (signal : Signal) → IsSignal signal → HasHeader (header_of (out.Signal signal) serial)
 signal_header serial numbered (signal.Ask prompt round kind label wrong) is =
     let path = codes "/org/freedesktop/secrets/agent" in
     let interface = codes "org.keyringd.Agent1" in
     has_emitter serial path interface (codes "Ask") numbered ((plain_text path (plain_literal path refl), omega arith), refl)
-    ((plain_text interface (plain_literal interface refl), omega arith), refl) ((plain_text (codes "Ask") (plain_literal (codes "Ask") refl), omega arith), refl)
+    (interface_is interface refl (omega arith) refl) (member_is (codes "Ask") refl (omega arith) refl)
 signal_header serial numbered (signal.Completed prompt dismissed result) is =
     let interface = codes "org.freedesktop.Secret.Prompt" in
     has_emitter serial (prompt_path prompt.0) interface (codes "Completed") numbered (prompt_fits 64 (Some prompt) is.0).1
-    ((plain_text interface (plain_literal interface refl), omega arith), refl) ((plain_text (codes "Completed") (plain_literal (codes "Completed") refl), omega arith), refl)
+    (interface_is interface refl (omega arith) refl) (member_is (codes "Completed") refl (omega arith) refl)
+signal_header serial numbered (signal.CollectionCreated collection) is =
+    of_service serial (codes "CollectionCreated") numbered (member_is (codes "CollectionCreated") refl (omega arith) refl)
+signal_header serial numbered (signal.CollectionDeleted collection) is =
+    of_service serial (codes "CollectionDeleted") numbered (member_is (codes "CollectionDeleted") refl (omega arith) refl)
+signal_header serial numbered (signal.CollectionChanged collection) is =
+    of_service serial (codes "CollectionChanged") numbered (member_is (codes "CollectionChanged") refl (omega arith) refl)
+signal_header serial numbered (signal.ItemCreated collection item) is =
+    of_collection serial collection (codes "ItemCreated") numbered is.0 (member_is (codes "ItemCreated") refl (omega arith) refl)
+signal_header serial numbered (signal.ItemDeleted collection item) is =
+    of_collection serial collection (codes "ItemDeleted") numbered is.0 (member_is (codes "ItemDeleted") refl (omega arith) refl)
+signal_header serial numbered (signal.ItemChanged collection item) is =
+    of_collection serial collection (codes "ItemChanged") numbered is.0 (member_is (codes "ItemChanged") refl (omega arith) refl)
+signal_header serial numbered (signal.PropertiesChanged object properties invalidated) is =
+    let interface = codes "org.freedesktop.DBus.Properties" in
+    has_emitter serial (changed_path object) interface (codes "PropertiesChanged") numbered (object_is object is.0)
+    (interface_is interface refl (omega arith) refl) (member_is (codes "PropertiesChanged") refl (omega arith) refl)
 
 header_is : (serial : ℕ) → IsSerial serial → (out : Out) → IsTyped out → HasHeader (header_of out serial)
 header_is serial numbered (out.Return to body) typed = has_header 2 serial to None (omega arith) (omega arith) numbered tt
@@ -527,7 +674,7 @@ one_out serial again (out.Error to name) (out.Signal signal) is are same = absur
 one_out serial again (out.Signal signal) (out.Return too body) is are same = absurd (omega (arith, ap (λ (p : Parts). p.kind) same))
 one_out serial again (out.Signal signal) (out.Error too name) is are same = absurd (omega (arith, ap (λ (p : Parts). p.kind) same))
 one_out serial again (out.Signal signal) (out.Signal other) is are same =
-    ap out.Signal (one_signal signal other is are (ap (λ (p : Parts). unwrap_or p.path []) same) (ap (λ (p : Parts). p.body) same))
+    ap out.Signal (one_signal signal other is are (ap (λ (p : Parts). unwrap_or p.member []) same) (ap (λ (p : Parts). unwrap_or p.path []) same) (ap (λ (p : Parts). p.body) same))
 
 numbered : (serial : ℕ) (out : Out) → (said out serial).serial ≡ serial
 numbered serial (out.Return to body) = refl

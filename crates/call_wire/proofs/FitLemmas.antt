@@ -30,7 +30,7 @@ use Rattle.secret_calls.specs.declared.property.PropertyValue.TheVariants as sho
 use Rattle.secret_calls.specs.declared.property.ShownProperty.{ShownProperty}
 use Rattle.secret_calls.specs.declared.secret.ReturnedSecret.{ReturnedSecret}
 use Rattle.secret_calls.specs.declared.secret.ItemSecret.{ItemSecret}
-use Rattle.secret_calls.specs.Outs.{session_path, path_values, secret_type, secret_values, property_text, property_value, attribute_values, shown_values, ArePaths, IsSecret, AreSecrets, AreAttributes, IsShown, AreShown}
+use Rattle.secret_calls.specs.Outs.{session_path, path_values, secret_type, secret_values, property_text, property_value, attribute_values, shown_values, name_values, ArePaths, IsSecret, AreSecrets, AreAttributes, IsShown, AreShown}
 use Rattle.call_wire.proofs.PlainLemmas.{false_unless, plain_literal, plain_text, path_plain, path_is}
 
 -- ---- lengths
@@ -232,3 +232,8 @@ pub properties_fit : (properties : List ShownProperty) → AreShown properties �
     → EachFits 63 (Ty.entry basics.String Ty.variant) (shown_values properties)
 properties_fit [] are few = tt
 properties_fit (one ∷ properties) are few = ((name_fits 62 one.property, shown_fits 58 one.value are.0 few.0.1), properties_fit properties are.1 few.1)
+
+-- the names of properties
+pub names_fit : (depth : ℕ) (names : List Property) → EachFits depth (Ty.basic basics.String) (name_values names)
+names_fit depth [] = tt
+names_fit depth (one ∷ names) = (name_fits depth one, names_fit depth names)

@@ -36,7 +36,7 @@ label_name = codes "org.freedesktop.Secret.Item.Label"
 abbrev pub attributes_name : List ℕ
 attributes_name = codes "org.freedesktop.Secret.Item.Attributes"
 
--- the attributes, of which there are none if the property is missing
+-- the attributes: none if the property is missing
 abbrev pub given_attributes_in : Option Val → Option (List (List ℕ × AttrValue))
 given_attributes_in None = Some []
 given_attributes_in (Some value) = attributes_in value

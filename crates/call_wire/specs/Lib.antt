@@ -1,6 +1,7 @@
 pub mod Peer
 pub mod Service
 pub mod Collection
+pub mod Keyring
 pub mod Item
 pub mod Session
 pub mod Prompt

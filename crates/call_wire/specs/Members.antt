@@ -1,5 +1,5 @@
 -- The members that are implemented, which objects have them, and how their arguments are read: D-Bus Specification, "Standard
--- Interfaces"; Secret Service API draft 0.2, the interfaces' methods; for the agent, docs/SERVICE.md, "Interfaces".
+-- Interfaces"; Secret Service API draft 0.2, the interfaces' methods; for Keyring1 and the agent, docs/SERVICE.md, "Interfaces".
 use Rattle.std.specs.Prelude.{ℕ, ◌&&◌, Bool, false, List, [], ◌∷◌, Option, Some, None, Result, Ok, codes}
 use Rattle.std.specs.List.{find}
 use Rattle.std.specs.Str.{bytes_eq}
@@ -17,6 +17,7 @@ use Rattle.call_wire.specs.Agent as agent
 use Rattle.call_wire.specs.Collection as collection
 use Rattle.call_wire.specs.Item as item
 use Rattle.call_wire.specs.Interfaces.{is_on, means}
+use Rattle.call_wire.specs.Keyring as keyring
 use Rattle.call_wire.specs.Prompt as prompt
 use Rattle.call_wire.specs.Properties as properties
 use Rattle.call_wire.specs.Service as service
@@ -48,6 +49,7 @@ members =
     record { interface = interface.Collection; name = codes "SearchItems"; arguments = codes "a{ss}"; method = method.SearchCollection } ∷
     record { interface = interface.Collection; name = codes "CreateItem"; arguments = codes "a{sv}(oayays)b"; method = method.CreateItem } ∷
     record { interface = interface.Collection; name = codes "Delete"; arguments = []; method = method.DeleteCollection } ∷
+    record { interface = interface.Keyring; name = codes "ChangePassword"; arguments = []; method = method.ChangePassword } ∷
     record { interface = interface.Item; name = codes "Delete"; arguments = []; method = method.DeleteItem } ∷
     record { interface = interface.Item; name = codes "GetSecret"; arguments = codes "o"; method = method.GetSecret } ∷
     record { interface = interface.Item; name = codes "SetSecret"; arguments = codes "(oayays)"; method = method.SetSecret } ∷
@@ -90,6 +92,7 @@ call_with method.SetAlias object values = service.set_alias values
 call_with method.SearchCollection object values = collection.search_items object values
 call_with method.CreateItem object values = collection.create_item object values
 call_with method.DeleteCollection object values = collection.delete object values
+call_with method.ChangePassword object values = keyring.change_password object values
 call_with method.DeleteItem object values = item.delete object values
 call_with method.GetSecret object values = item.get_secret object values
 call_with method.SetSecret object values = item.set_secret object values

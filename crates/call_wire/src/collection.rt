@@ -54,7 +54,7 @@ pub fn search_items(
     }
 }
 
-// The attributes, of which there are none if the property is missing.
+// The attributes: none if the property is missing.
 fn given_attributes_in(
     alloc: Global,
     attributes: Option<&Value>,

@@ -3,17 +3,19 @@ ghost use Rattle.std.specs.Prelude.{◌≡◌, Some};
 ghost use Rattle.std.specs.List.{filter, find};
 ghost use Rattle.call_wire.specs.Interfaces.{interface_name, interfaces, is_on, means, interface_named};
 
-use crate::{agent, collection, item, peer, prompt, properties, service, session};
+use crate::{agent, collection, item, keyring, peer, prompt, properties, service, session};
 use kr_base::Text;
 use kr_names::ObjectName;
 
-/// An interface of which a member is implemented.
+/// An interface with a member that is implemented.
 #[derive(Clone, Copy, PartialEq, Eq)]
 pub enum Interface {
     /// `org.freedesktop.Secret.Service`.
     Service,
     /// `org.freedesktop.Secret.Collection`.
     Collection,
+    /// `org.keyringd.Keyring1`.
+    Keyring,
     /// `org.freedesktop.Secret.Item`.
     Item,
     /// `org.freedesktop.Secret.Session`.
@@ -32,6 +34,7 @@ pub enum Interface {
 const INTERFACES: &[Interface] = &[
     Interface::Service,
     Interface::Collection,
+    Interface::Keyring,
     Interface::Item,
     Interface::Session,
     Interface::Prompt,
@@ -55,6 +58,7 @@ impl Interface {
         match self {
             Interface::Service => service::INTERFACE,
             Interface::Collection => collection::INTERFACE,
+            Interface::Keyring => keyring::INTERFACE,
             Interface::Item => item::INTERFACE,
             Interface::Session => session::INTERFACE,
             Interface::Prompt => prompt::INTERFACE,
@@ -72,6 +76,8 @@ impl Interface {
             (Interface::Service, Some(ObjectName::Service)) => true,
             (Interface::Collection, Some(ObjectName::Collection(_))) => true,
             (Interface::Collection, Some(ObjectName::Alias(_))) => true,
+            (Interface::Keyring, Some(ObjectName::Collection(_))) => true,
+            (Interface::Keyring, Some(ObjectName::Alias(_))) => true,
             (Interface::Item, Some(ObjectName::Item(_, _))) => true,
             (Interface::Session, Some(ObjectName::Session(_))) => true,
             (Interface::Prompt, Some(ObjectName::Prompt(_))) => true,

@@ -9,6 +9,7 @@ mod agent;
 mod collection;
 mod interfaces;
 mod item;
+mod keyring;
 mod laws;
 mod members;
 mod peer;

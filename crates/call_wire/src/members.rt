@@ -6,7 +6,7 @@ ghost use Rattle.dbus_types.specs.ValueViews.{values_of};
 ghost use Rattle.call_wire.specs.Members.{seen, members, says, is_called, member_in, call_with};
 
 use crate::interfaces::{Interface, is_meant};
-use crate::{OutOfMemory, agent, collection, item, prompt, properties, service, session};
+use crate::{OutOfMemory, agent, collection, item, keyring, prompt, properties, service, session};
 use dbus_types::Value;
 use kr_base::Text;
 use kr_names::ObjectName;
@@ -38,6 +38,8 @@ pub enum Method {
     CreateItem,
     /// `Collection.Delete`.
     DeleteCollection,
+    /// `Keyring1.ChangePassword`.
+    ChangePassword,
     /// `Item.Delete`.
     DeleteItem,
     /// `Item.GetSecret`.
@@ -148,6 +150,12 @@ const MEMBERS: &[Row] = &[
         name: "Delete",
         arguments: "",
         method: Method::DeleteCollection,
+    },
+    Row {
+        interface: Interface::Keyring,
+        name: "ChangePassword",
+        arguments: "",
+        method: Method::ChangePassword,
     },
     Row {
         interface: Interface::Item,
@@ -311,6 +319,7 @@ pub fn call_with(
         Method::SearchCollection => collection::search_items(alloc, object, values),
         Method::CreateItem => collection::create_item(alloc, object, values),
         Method::DeleteCollection => collection::delete(object, values),
+        Method::ChangePassword => keyring::change_password(object, values),
         Method::DeleteItem => item::delete(object, values),
         Method::GetSecret => item::get_secret(alloc, object, values),
         Method::SetSecret => item::set_secret(alloc, object, values),

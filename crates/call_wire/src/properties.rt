@@ -104,6 +104,7 @@ fn properties(interface: Interface) -> &'static [PropertyRow]
         Interface::Item => OF_AN_ITEM,
         Interface::Session => &[],
         Interface::Prompt => &[],
+        Interface::Keyring => &[],
         Interface::Agent => &[],
         Interface::Properties => &[],
         Interface::Peer => &[],

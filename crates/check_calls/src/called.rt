@@ -194,6 +194,9 @@ pub fn write_called(line: &mut Line, call: &Call) {
             line.add("DeleteCollection ");
             write_path(line, collection);
         }
+        Call::ChangePassword { collection } => {
+            write_object(line, "ChangePassword ", collection, "");
+        }
         Call::DeleteItem { stem, item } => write_item(line, "DeleteItem ", stem, *item),
         Call::GetSecret {
             stem,

@@ -76,6 +76,9 @@ fn call_named(alloc: Global, name: &str) -> Option<Call> {
         "Collection.SearchItems" => search_collection(alloc),
         "CreateCollection" => create_collection(alloc),
         "ReadAlias" => read_alias(alloc),
+        "ChangePassword" => Some(Call::ChangePassword {
+            collection: ObjectName::Nothing,
+        }),
         "GetSecret" => get_secret(alloc),
         "GetSecrets" => Some(Call::GetSecrets {
             items: Items::empty(alloc),

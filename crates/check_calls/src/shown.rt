@@ -85,6 +85,19 @@ pub fn properties_of(alloc: Global, words: &str) -> Option<Items<ShownProperty>>
     Some(Items::new(made))
 }
 
+fn put_name(made: &mut Vec<Property>, word: &str) -> Option<()> {
+    made.push(property_named(word)?).ok()
+}
+
+/// The properties with these names.
+pub fn names_of(alloc: Global, words: &str) -> Option<Items<Property>> {
+    let mut made = Vec::new(alloc);
+    for word in words.split_whitespace() {
+        put_name(&mut made, word)?;
+    }
+    Some(Items::new(made))
+}
+
 /// Writes the names of properties.
 pub fn write_properties(line: &mut Line, properties: &[Property]) {
     let mut between = " [";

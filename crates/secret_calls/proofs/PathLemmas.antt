@@ -1,11 +1,12 @@
--- The path of each name is an object path (D-Bus Specification, "Type System"), so a return can contain it.
-use Rattle.std.proofs.Common.{◌≡◌, ℕ, ◌/◌, ◌%◌, ◌^◌, ◌<◌, ◌≤◌, ◌==◌, Bool, true, false, IsTrue, List, [], ◌∷◌, ◌++◌, length, get_or, codes, decimal, refl, sym, ap, ◌∙◌, ⊎_elim, arith, length-append, append-nil}
+-- The path of each name is an object path (D-Bus Specification, "Type System"), so a return can contain it, and a short one, so it
+-- can emit a signal.
+use Rattle.std.proofs.Common.{◌≡◌, ℕ, ◌*◌, ◌/◌, ◌%◌, ◌^◌, ◌<◌, ◌≤◌, ◌==◌, Bool, true, false, IsTrue, List, [], ◌∷◌, ◌++◌, length, get_or, codes, decimal, refl, sym, subst, ap, ◌∙◌, ⊎_elim, arith, length-append, append-nil}
 use Rattle.std.specs.Char.{is_ascii_alphanumeric}
 use Rattle.std.specs.Fmt.{digit_glyph}
 use Rattle.std.specs.List.{All}
 use Rattle.std.proofs.lemmas.Bool.{cases_Bool}
 use Rattle.std.proofs.lemmas.Bool.Decides.{nat_tests}
-use Rattle.std.proofs.lemmas.Fmt.{decimal_is_IsNumeral, decimal_nonempty}
+use Rattle.std.proofs.lemmas.Fmt.{decimal_is_IsNumeral, decimal_nonempty, length-decimal-le}
 use Rattle.std.proofs.lemmas.Str.Parse.{digit_at}
 use Rattle.std.proofs.lemmas.List.Elements.{All-append, All-head, All-tail, All-from_get_or, All-from_recursion}
 use Rattle.kr_base.specs.Stem.{IsStem}
@@ -16,6 +17,7 @@ use Rattle.kr_names.specs.Path.{service, agent, collections, aliases, sessions, 
 use Rattle.kr_names.proofs.TextLemmas.{bytes_fit}
 use Rattle.kr_names.proofs.EscapeLemmas.{IsPathByte, escaped_spelled}
 use Rattle.dbus_types.specs.Paths.{is_element_code, are_elements, is_object_path}
+use Rattle.secret_calls.specs.Outs.{most_emitter, IsEmitter}
 
 -- no code of an element is a slash
 not_slash : (code : ℕ) → IsPathByte code → (code == 47) ≡ false
@@ -85,3 +87,45 @@ is_path (name.Prompt prompt) is = lettered 112 (decimal prompt.0) refl (number_c
 -- the path of a name is an object path
 pub named_path : (name : ObjectName) (path : List ℕ) → IsPathOf name path → IsTrue (is_object_path path)
 named_path name path is = ap is_object_path is.spelled ∙ is_path name is.named
+
+-- ---- lengths
+
+escape_few : (byte : ℕ) → length (escape byte) ≤ 3
+escape_few byte =
+    ⊎_elim
+    (λ plain. (let is : escape byte ≡ byte ∷ [] = rw plain refl in omega (arith, ap length is)))
+    (λ odd. (let is : escape byte ≡ 95 ∷ digit_glyph false (byte / 16) ∷ digit_glyph false (byte % 16) ∷ [] = rw odd refl in omega (arith, ap length is)))
+    (cases_Bool (is_ascii_alphanumeric byte))
+
+escaped_few : (stem : List ℕ) → length (escaped stem) ≤ 3 * length stem
+escaped_few [] = omega arith
+escaped_few (byte ∷ stem) = omega (arith, escape_few byte, escaped_few stem, length-append (escape byte) (escaped stem))
+
+digits_few : (n : ℕ) → n < 2 ^ 64 → length (decimal n) ≤ 20
+digits_few n fits = length-decimal-le 20 n (omega arith) (omega (arith, fits)) fits
+
+path_few : (name : ObjectName) → IsName name → length (path_text name) ≤ most_emitter
+unfolding service agent collections aliases sessions prompts
+path_few name.Nothing is = omega arith
+path_few name.Service is = omega arith
+path_few name.Agent is = omega arith
+path_few (name.Collection stem) is = omega (arith, is.fits, escaped_few stem, length-append collections (escaped stem))
+path_few (name.Item stem item) is =
+    omega (
+      arith,
+      is.0.fits,
+      escaped_few stem,
+      digits_few item.0 (omega (arith, is.1)),
+      length-append collections (escaped stem ++ 47 ∷ decimal item.0),
+      length-append (escaped stem) (47 ∷ decimal item.0),
+    )
+path_few (name.Alias alias) is = omega (arith, is.fits, length-append aliases alias)
+path_few (name.Session session) is = omega (arith, digits_few session.0 is.1, length-append sessions (decimal session.0))
+path_few (name.Prompt prompt) is = omega (arith, digits_few prompt.0 is.1, length-append prompts (decimal prompt.0))
+
+-- the path of a name is short enough for an object that emits signals
+pub named_emitter : (name : ObjectName) (path : List ℕ) → IsPathOf name path → IsEmitter path
+named_emitter name path is = record {
+  formed = named_path name path is;
+  short = subst (λ (p : List ℕ). length p ≤ most_emitter) (sym is.spelled) (path_few name is.named);
+}

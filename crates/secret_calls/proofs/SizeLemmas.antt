@@ -93,11 +93,11 @@ fields-most path interface name code codes =
     record { few = λ place. omega (arith, sum.few place) }
 
 -- what comes before the body of a signal
-abbrev signal-head : Signal → ℕ → List ℕ
+abbrev pub signal-head : Signal → ℕ → List ℕ
 signal-head signal serial = padded 8 (all_spelled Little (sending.header_of (sent (out.Signal signal) serial)) 0)
 
 -- a header has at most 32 bytes beside its fields
-header-most : {most : ℕ} (message : sending.Sent) → AllAtMost most (sending.fields_of message) → (place : ℕ) → length (all_spelled Little (sending.header_of message) place) ≤ most + 32
+pub header-most : {most : ℕ} (message : sending.Sent) → AllAtMost most (sending.fields_of message) → (place : ℕ) → length (all_spelled Little (sending.header_of message) place) ≤ most + 32
 header-most message fields place =
     let sum = more-most (byte-most 108) (more-most (byte-most message.header.kind) (more-most (byte-most message.header.flags) (more-most (byte-most 1)
     (more-most (word-most (length (all_spelled Little message.body 0))) (more-most (word-most message.header.serial) (more-most (array-most {ts = field_parts} fields) end-most)))))) in
@@ -113,6 +113,7 @@ ask-head prompt round kind label wrong serial =
 kind-short : (kind : AskKind) → length (kind_text kind) ≤ 6
 kind-short kind.Unlock = omega arith
 kind-short kind.Create = omega arith
+kind-short kind.Change = omega arith
 
 -- the values of Ask are a little longer than the label
 ask-values : (prompt : PromptId) (round : ℕ) (kind : AskKind) (label : List ℕ) (wrong : ℕ) → prompt.0 < 2 ^ 64

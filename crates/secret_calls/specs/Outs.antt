@@ -3,6 +3,8 @@
 use Rattle.std.specs.Prelude.{ℕ, ◌^◌, ◌<◌, ◌≤◌, nat_le, IsTrue, List, [], ◌∷◌, ◌++◌, length, Option, Some, None, IfSome, codes, decimal, if◌then◌else◌}
 use Rattle.kr_base.specs.declared.ids.PromptId.{PromptId}
 use Rattle.kr_base.specs.Text.{IsText}
+use Rattle.secret_calls.specs.declared.changed.ChangedObject.{ChangedObject}
+use Rattle.secret_calls.specs.declared.changed.ChangedObject.TheVariants as changed
 use Rattle.secret_calls.specs.declared.property.Attribute.{Attribute}
 use Rattle.secret_calls.specs.declared.property.Property.{Property}
 use Rattle.secret_calls.specs.declared.property.Property.TheVariants as property
@@ -143,6 +145,15 @@ shown_values (one ∷ properties) = Vals.more (shown_value one) (shown_values pr
 abbrev pub properties_value : List ShownProperty → Val
 properties_value properties = Val.array (Ty.entry basics.String Ty.variant) (shown_values properties)
 
+-- the names of properties, as the elements of an array
+abbrev pub name_values : List Property → Vals
+name_values [] = Vals.end
+name_values (one ∷ properties) = Vals.more (Val.text basics.String (property_text one)) (name_values properties)
+
+-- an array of the names of properties
+abbrev pub names_value : List Property → Val
+names_value properties = Val.array (Ty.basic basics.String) (name_values properties)
+
 -- A body's values. OpenSession returns the output of `plain`, which is the empty text, and the session's path. The others are the
 -- values that their methods return.
 abbrev pub values_of : Body → Vals
@@ -169,6 +180,7 @@ spelled_body body = all_spelled Little (values_of body) 0
 abbrev pub kind_text : AskKind → List ℕ
 kind_text kind.Unlock = codes "unlock"
 kind_text kind.Create = codes "create"
+kind_text kind.Change = codes "change"
 
 -- the most bytes of a label in Ask
 abbrev pub most_label : ℕ
@@ -178,34 +190,82 @@ most_label = 1024
 abbrev pub shown_label : List ℕ → List ℕ
 shown_label label = if nat_le (length label) most_label then label else []
 
--- what a prompt completes with: the objects that it unlocked, or the collection that it created
+-- what a prompt completes with: the objects that it unlocked, or the collection that it created or whose password it changed
 abbrev pub completion_value : Completion → Val
 completion_value (completion.Objects objects) = paths_value objects
 completion_value (completion.Object object) = Val.text basics.ObjectPath object
 
+-- the path of the service (Secret Service API, "The Secret Service")
+abbrev pub service_path : List ℕ
+service_path = codes "/org/freedesktop/secrets"
+
+-- the path of an object whose properties changed
+abbrev pub changed_path : ChangedObject → List ℕ
+changed_path changed.Service = service_path
+changed_path (changed.Collection collection) = collection
+changed_path (changed.Item item) = item
+
+-- the interface that has the properties
+abbrev pub changed_interface : ChangedObject → List ℕ
+changed_interface changed.Service = codes "org.freedesktop.Secret.Service"
+changed_interface (changed.Collection collection) = codes "org.freedesktop.Secret.Collection"
+changed_interface (changed.Item item) = codes "org.freedesktop.Secret.Item"
+
 -- A signal's values. Ask has the prompt, the round, what the password is for, the label, and how many answers were wrong.
--- Completed has whether the prompt was dismissed, and what it completes with.
+-- Completed has whether the prompt was dismissed, and what it completes with. The signals of a collection or an item have its path.
+-- PropertiesChanged (D-Bus Specification, "Standard Interfaces") has the interface, the properties with their new values, and the
+-- names of those whose values it doesn't contain.
 abbrev pub signal_values : Signal → Vals
 signal_values (signal.Ask prompt round kind label wrong) =
     Vals.more (Val.text basics.ObjectPath (prompt_path prompt.0)) (Vals.more (Val.number basics.Uint64 round) (Vals.more (Val.text basics.String (kind_text kind))
     (Vals.more (Val.text basics.String label) (Vals.more (Val.number basics.Uint32 wrong) Vals.end))))
 signal_values (signal.Completed prompt dismissed completion) =
     Vals.more (Val.number basics.Boolean (bit_of dismissed)) (Vals.more (Val.variant (completion_value completion)) Vals.end)
+signal_values (signal.CollectionCreated collection) = Vals.more (Val.text basics.ObjectPath collection) Vals.end
+signal_values (signal.CollectionDeleted collection) = Vals.more (Val.text basics.ObjectPath collection) Vals.end
+signal_values (signal.CollectionChanged collection) = Vals.more (Val.text basics.ObjectPath collection) Vals.end
+signal_values (signal.ItemCreated collection item) = Vals.more (Val.text basics.ObjectPath item) Vals.end
+signal_values (signal.ItemDeleted collection item) = Vals.more (Val.text basics.ObjectPath item) Vals.end
+signal_values (signal.ItemChanged collection item) = Vals.more (Val.text basics.ObjectPath item) Vals.end
+signal_values (signal.PropertiesChanged object changed invalidated) =
+    Vals.more (Val.text basics.String (changed_interface object)) (Vals.more (properties_value changed) (Vals.more (names_value invalidated) Vals.end))
 
--- the object that emits a signal: the agent's, or the prompt
+-- The object that emits a signal: the agent's, the prompt, the service for its collections, a collection for its items, or the
+-- object whose properties changed.
 abbrev pub emitter : Signal → List ℕ
 emitter (signal.Ask prompt round kind label wrong) = codes "/org/freedesktop/secrets/agent"
 emitter (signal.Completed prompt dismissed completion) = prompt_path prompt.0
+emitter (signal.CollectionCreated collection) = service_path
+emitter (signal.CollectionDeleted collection) = service_path
+emitter (signal.CollectionChanged collection) = service_path
+emitter (signal.ItemCreated collection item) = collection
+emitter (signal.ItemDeleted collection item) = collection
+emitter (signal.ItemChanged collection item) = collection
+emitter (signal.PropertiesChanged object changed invalidated) = changed_path object
 
 -- its interface
 abbrev pub interface_of : Signal → List ℕ
 interface_of (signal.Ask prompt round kind label wrong) = codes "org.keyringd.Agent1"
 interface_of (signal.Completed prompt dismissed completion) = codes "org.freedesktop.Secret.Prompt"
+interface_of (signal.CollectionCreated collection) = codes "org.freedesktop.Secret.Service"
+interface_of (signal.CollectionDeleted collection) = codes "org.freedesktop.Secret.Service"
+interface_of (signal.CollectionChanged collection) = codes "org.freedesktop.Secret.Service"
+interface_of (signal.ItemCreated collection item) = codes "org.freedesktop.Secret.Collection"
+interface_of (signal.ItemDeleted collection item) = codes "org.freedesktop.Secret.Collection"
+interface_of (signal.ItemChanged collection item) = codes "org.freedesktop.Secret.Collection"
+interface_of (signal.PropertiesChanged object changed invalidated) = codes "org.freedesktop.DBus.Properties"
 
 -- its name
 abbrev pub signal_name : Signal → List ℕ
 signal_name (signal.Ask prompt round kind label wrong) = codes "Ask"
 signal_name (signal.Completed prompt dismissed completion) = codes "Completed"
+signal_name (signal.CollectionCreated collection) = codes "CollectionCreated"
+signal_name (signal.CollectionDeleted collection) = codes "CollectionDeleted"
+signal_name (signal.CollectionChanged collection) = codes "CollectionChanged"
+signal_name (signal.ItemCreated collection item) = codes "ItemCreated"
+signal_name (signal.ItemDeleted collection item) = codes "ItemDeleted"
+signal_name (signal.ItemChanged collection item) = codes "ItemChanged"
+signal_name (signal.PropertiesChanged object changed invalidated) = codes "PropertiesChanged"
 
 -- ---- messages
 
@@ -291,11 +351,34 @@ abbrev pub IsResult : Completion → Type 0
 IsResult (completion.Objects objects) = ArePaths objects
 IsResult (completion.Object object) = IsTrue (is_object_path object)
 
+-- the most bytes that the path of a collection or an item that emits a signal may have
+abbrev pub most_emitter : ℕ
+most_emitter = 1024
+
+-- the path of an object that emits a signal: an object path that isn't longer
+pub record IsEmitter (path : List ℕ) : Type 0 where
+  pub formed : IsTrue (is_object_path path)
+  pub short : length path ≤ most_emitter
+
+-- the path of the object whose properties changed is
+abbrev pub IsChanged : ChangedObject → Type 0
+IsChanged changed.Service = Unit {0}
+IsChanged (changed.Collection collection) = IsEmitter collection
+IsChanged (changed.Item item) = IsEmitter item
+
 -- A signal's values have their types: the prompt and the round are numbers of 64 bits, the count is one of 32, the label is a
--- text, and the result is object paths.
+-- text, the result is object paths, and so are collections and items, of which those that emit a signal have short paths; and the
+-- values of properties have the types of these.
 abbrev pub IsSignal : Signal → Type 0
 IsSignal (signal.Ask prompt round kind label wrong) = (prompt.0 < 2 ^ 64) × (round < 2 ^ 64) × IsText label × (wrong < 2 ^ 32)
 IsSignal (signal.Completed prompt dismissed completion) = (prompt.0 < 2 ^ 64) × IsResult completion
+IsSignal (signal.CollectionCreated collection) = IsTrue (is_object_path collection)
+IsSignal (signal.CollectionDeleted collection) = IsTrue (is_object_path collection)
+IsSignal (signal.CollectionChanged collection) = IsTrue (is_object_path collection)
+IsSignal (signal.ItemCreated collection item) = IsEmitter collection × IsTrue (is_object_path item)
+IsSignal (signal.ItemDeleted collection item) = IsEmitter collection × IsTrue (is_object_path item)
+IsSignal (signal.ItemChanged collection item) = IsEmitter collection × IsTrue (is_object_path item)
+IsSignal (signal.PropertiesChanged object changed invalidated) = IsChanged object × AreShown changed
 
 -- the values of an output have their types
 abbrev pub IsTyped : Out → Type 0

@@ -93,6 +93,11 @@ pub enum Call {
         /// The collection, or an alias that names it.
         collection: ObjectName,
     },
+    /// `Keyring1.ChangePassword`.
+    ChangePassword {
+        /// The collection, or an alias that names it.
+        collection: ObjectName,
+    },
     /// `Item.Delete`.
     DeleteItem {
         /// The stem of the item's collection.

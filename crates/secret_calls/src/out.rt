@@ -12,7 +12,7 @@ use crate::returns::{
     put_secrets, put_session,
 };
 use crate::secret::{ItemSecret, ReturnedSecret};
-use crate::signal::Signal;
+use crate::shared::SharedSignal;
 use dbus_marshal::{Put, PutValues};
 use dbus_sending::{Header, put_message};
 use kr_base::{OutOfMemory, PromptId, SessionId, Text};
@@ -114,7 +114,8 @@ pub enum Body {
         /// The prompt.
         prompt: Option<PromptId>,
     },
-    /// Of ReadAlias, `o`: the collection. Of Collection.Delete and Item.Delete: the prompt.
+    /// Of ReadAlias, `o`: the collection. Of Collection.Delete, Item.Delete and ChangePassword: the
+    /// prompt.
     Object(Text),
     /// Of GetSecret, `(oayays)`.
     Secret(ReturnedSecret),
@@ -283,11 +284,11 @@ pub enum Out {
         name: ErrorName,
     },
     /// A signal.
-    Signal(Signal),
+    Signal(SharedSignal),
 }
 
 impl Out {
-    /// A copy of the output.
+    /// A copy of the output. One of a signal shares the signal, and takes no memory.
     pub fn copy(&self, alloc: Global) -> Result<Out, OutOfMemory>
         ensures { IfOk result (λ copied. copied ≡ self.now) }
     {
@@ -301,7 +302,7 @@ impl Out {
                 name: *name,
             }),
             Out::Signal(signal) => {
-                let signal = signal.copy(alloc)?;
+                let signal = signal.share()?;
                 Ok(Out::Signal(signal))
             }
         }
@@ -322,7 +323,7 @@ impl Out {
                 let header = error_header(*to, *name, serial);
                 put_message(out, &header, "", &Body::Empty)
             }
-            Out::Signal(signal) => signal.put(serial, out),
+            Out::Signal(signal) => signal.signal().put(serial, out),
         }
     }
 }

@@ -1,5 +1,5 @@
 // The signals of the service (docs/SERVICE.md, "Signals").
-ghost use Rattle.std.specs.Prelude.{◌≡◌, ℕ, List, [], Some, IfOk, OnOk};
+ghost use Rattle.std.specs.Prelude.{◌≡◌, ℕ, List, [], Some, OnOk};
 ghost use Rattle.dbus_types.specs.declared.complete_type.BasicType.TheVariants as basics;
 ghost use Rattle.dbus_types.specs.Types.{texts_of};
 ghost use Rattle.dbus_types.specs.ValueViews.{bit_of};
@@ -10,15 +10,17 @@ ghost use Rattle.dbus_sending.specs.Sent.{bare_header};
 ghost use Rattle.secret_calls.specs.declared.out.Out.TheVariants as outs;
 ghost use Rattle.secret_calls.specs.Outs.{completion_value, signal_values, prompt_path, spelled};
 
-use crate::copies::copied_texts;
+use crate::changed::{
+    COLLECTION_INTERFACE, ChangedObject, SERVICE, SERVICE_INTERFACE, put_properties_changed,
+};
+use crate::property::{Property, ShownProperty};
 use crate::returns::{PROMPTS, put_paths, put_prompt_path, put_truth};
 use arrayvec::ArrayString;
 use dbus_marshal::{Put, PutValues, put_path, put_signature, put_text, put_u32, put_u64};
 use dbus_sending::{Header, put_message};
 use itoa::Buffer;
-use kr_base::{OutOfMemory, PromptId, Text};
+use kr_base::{PromptId, Text};
 use kr_items::Items;
-use std::alloc::Global;
 
 /// What a password is asked for.
 #[derive(Clone, Copy, Debug, PartialEq, Eq)]
@@ -27,6 +29,8 @@ pub enum AskKind {
     Unlock,
     /// To create a collection.
     Create,
+    /// To change the password of a collection.
+    Change,
 }
 
 impl AskKind {
@@ -39,6 +43,7 @@ impl AskKind {
         match self {
             AskKind::Unlock => "unlock",
             AskKind::Create => "create",
+            AskKind::Change => "change",
         }
     }
 }
@@ -48,29 +53,12 @@ impl AskKind {
 pub enum Completion {
     /// Of a prompt that unlocks, `ao`: the given objects that it unlocked.
     Objects(Items<Text>),
-    /// Of a prompt that creates a collection, `o`: the collection, or `/` if there is none.
+    /// Of a prompt that creates a collection or changes its password, `o`: the collection, or `/` if
+    /// the prompt was dismissed.
     Object(Text),
 }
 
-impl Completion {
-    /// A copy of what a prompt completes with.
-    pub fn copy(&self, alloc: Global) -> Result<Completion, OutOfMemory>
-        ensures { IfOk result (λ copied. copied ≡ self.now) }
-    {
-        match self {
-            Completion::Objects(objects) => {
-                let objects = copied_texts(alloc, objects.as_slice())?;
-                Ok(Completion::Objects(objects))
-            }
-            Completion::Object(object) => {
-                let object = object.copy()?;
-                Ok(Completion::Object(object))
-            }
-        }
-    }
-}
-
-/// A signal, which goes to one connection alone.
+/// A signal. Ask and Completed go to one connection alone, and the others to everyone.
 #[derive(PartialEq, Eq, Drop)]
 pub enum Signal {
     /// `Agent1.Ask`, `otssu`, to the agent: it is asked for a password.
@@ -94,6 +82,53 @@ pub enum Signal {
         dismissed: bool,
         /// What it completes with.
         completion: Completion,
+    },
+    /// `Service.CollectionCreated`, `o`, from the service: there is a new collection.
+    CollectionCreated {
+        /// The path of the collection.
+        collection: Text,
+    },
+    /// `Service.CollectionDeleted`, `o`, from the service: the collection is gone.
+    CollectionDeleted {
+        /// The path of the collection.
+        collection: Text,
+    },
+    /// `Service.CollectionChanged`, `o`, from the service: the collection was locked, unlocked or
+    /// named anew.
+    CollectionChanged {
+        /// The path of the collection.
+        collection: Text,
+    },
+    /// `Collection.ItemCreated`, `o`, from the collection: it has a new item.
+    ItemCreated {
+        /// The path of the collection, which emits the signal.
+        collection: Text,
+        /// The path of the item.
+        item: Text,
+    },
+    /// `Collection.ItemDeleted`, `o`, from the collection: the item is gone.
+    ItemDeleted {
+        /// The path of the collection, which emits the signal.
+        collection: Text,
+        /// The path of the item.
+        item: Text,
+    },
+    /// `Collection.ItemChanged`, `o`, from the collection: the item's secret, label or attributes
+    /// changed.
+    ItemChanged {
+        /// The path of the collection, which emits the signal.
+        collection: Text,
+        /// The path of the item.
+        item: Text,
+    },
+    /// `Properties.PropertiesChanged`, `sa{sv}as`, from the object: its properties changed.
+    PropertiesChanged {
+        /// The object, which emits the signal.
+        object: ChangedObject,
+        /// Properties with their new values.
+        changed: Items<ShownProperty>,
+        /// The names of properties whose new values the signal doesn't contain.
+        invalidated: Items<Property>,
     },
 }
 
@@ -167,6 +202,17 @@ impl PutValues for Signal {
                 dismissed,
                 completion,
             } => put_completed(out, *dismissed, completion),
+            Signal::CollectionCreated { collection } => put_path(out, collection.as_bytes()),
+            Signal::CollectionDeleted { collection } => put_path(out, collection.as_bytes()),
+            Signal::CollectionChanged { collection } => put_path(out, collection.as_bytes()),
+            Signal::ItemCreated { item, .. } => put_path(out, item.as_bytes()),
+            Signal::ItemDeleted { item, .. } => put_path(out, item.as_bytes()),
+            Signal::ItemChanged { item, .. } => put_path(out, item.as_bytes()),
+            Signal::PropertiesChanged {
+                object,
+                changed,
+                invalidated,
+            } => put_properties_changed(out, object, changed.as_slice(), invalidated.as_slice()),
         }
     }
 }
@@ -183,6 +229,9 @@ const AGENT_INTERFACE: &str = "org.keyringd.Agent1";
 
 /// The interface of the prompt that emits Completed.
 const PROMPT_INTERFACE: &str = "org.freedesktop.Secret.Prompt";
+
+/// The interface of the signal PropertiesChanged.
+const PROPERTIES_INTERFACE: &str = "org.freedesktop.DBus.Properties";
 
 // The path of a prompt: the prefix has 33 bytes, and a number of 64 bits has 20 digits at most.
 fn path_of_prompt(prompt: PromptId) -> ArrayString<53>
@@ -212,41 +261,7 @@ fn header<'a>(emitter: &'a str, interface: &'a str, name: &'a str, serial: u32) 
 }
 
 impl Signal {
-    /// A copy of the signal.
-    pub fn copy(&self, alloc: Global) -> Result<Signal, OutOfMemory>
-        ensures { IfOk result (λ copied. copied ≡ self.now) }
-    {
-        match self {
-            Signal::Ask {
-                prompt,
-                round,
-                kind,
-                label,
-                wrong,
-            } => {
-                let label = label.copy()?;
-                Ok(Signal::Ask {
-                    prompt: *prompt,
-                    round: *round,
-                    kind: *kind,
-                    label,
-                    wrong: *wrong,
-                })
-            }
-            Signal::Completed {
-                prompt,
-                dismissed,
-                completion,
-            } => {
-                let completion = completion.copy(alloc)?;
-                Ok(Signal::Completed {
-                    prompt: *prompt,
-                    dismissed: *dismissed,
-                    completion,
-                })
-            }
-        }
-    }
+    ghost use Rattle.secret_calls.specs.Outs.{emitter, interface_of, signal_name};
 
     // The signature of the values.
     fn signature(&self) -> &'static str
@@ -255,7 +270,58 @@ impl Signal {
         match self {
             Signal::Ask { .. } => "otssu",
             Signal::Completed { .. } => "bv",
+            Signal::CollectionCreated { .. } => "o",
+            Signal::CollectionDeleted { .. } => "o",
+            Signal::CollectionChanged { .. } => "o",
+            Signal::ItemCreated { .. } => "o",
+            Signal::ItemDeleted { .. } => "o",
+            Signal::ItemChanged { .. } => "o",
+            Signal::PropertiesChanged { .. } => "sa{sv}as",
         }
+    }
+
+    /// The interface of the signal.
+    pub fn interface(&self) -> &'static str
+        ensures { result.now ≡ interface_of self.now }
+    {
+        match self {
+            Signal::Ask { .. } => AGENT_INTERFACE,
+            Signal::Completed { .. } => PROMPT_INTERFACE,
+            Signal::CollectionCreated { .. } => SERVICE_INTERFACE,
+            Signal::CollectionDeleted { .. } => SERVICE_INTERFACE,
+            Signal::CollectionChanged { .. } => SERVICE_INTERFACE,
+            Signal::ItemCreated { .. } => COLLECTION_INTERFACE,
+            Signal::ItemDeleted { .. } => COLLECTION_INTERFACE,
+            Signal::ItemChanged { .. } => COLLECTION_INTERFACE,
+            Signal::PropertiesChanged { .. } => PROPERTIES_INTERFACE,
+        }
+    }
+
+    /// The name of the signal.
+    pub fn name(&self) -> &'static str
+        ensures { result.now ≡ signal_name self.now }
+    {
+        match self {
+            Signal::Ask { .. } => "Ask",
+            Signal::Completed { .. } => "Completed",
+            Signal::CollectionCreated { .. } => "CollectionCreated",
+            Signal::CollectionDeleted { .. } => "CollectionDeleted",
+            Signal::CollectionChanged { .. } => "CollectionChanged",
+            Signal::ItemCreated { .. } => "ItemCreated",
+            Signal::ItemDeleted { .. } => "ItemDeleted",
+            Signal::ItemChanged { .. } => "ItemChanged",
+            Signal::PropertiesChanged { .. } => "PropertiesChanged",
+        }
+    }
+
+    // Writes the signal's message, given the path of the object that emits it.
+    fn put_from<P: Put>(&self, path: &str, serial: u32, out: &mut P) -> Result<(), P::Refused>
+        requires { path.now ≡ emitter self.now }
+        ensures { P.stands out.old []
+            → OnOk result (P.stands out.new (spelled (outs.Signal self.now) serial)) }
+    {
+        let header = header(path, self.interface(), self.name(), serial);
+        put_message(out, &header, self.signature(), self)
     }
 
     /// Writes the signal's message with this serial to a writer that is still empty.
@@ -264,15 +330,24 @@ impl Signal {
             → OnOk result (P.stands out.new (spelled (outs.Signal self.now) serial)) }
     {
         match self {
-            Signal::Ask { .. } => {
-                let header = header(AGENT, AGENT_INTERFACE, "Ask", serial);
-                put_message(out, &header, self.signature(), self)
-            }
+            Signal::Ask { .. } => self.put_from(AGENT, serial, out),
             Signal::Completed { prompt, .. } => {
                 let path = path_of_prompt(*prompt);
-                let header = header(path.as_str(), PROMPT_INTERFACE, "Completed", serial);
-                put_message(out, &header, self.signature(), self)
+                self.put_from(path.as_str(), serial, out)
             }
+            Signal::CollectionCreated { .. } => self.put_from(SERVICE, serial, out),
+            Signal::CollectionDeleted { .. } => self.put_from(SERVICE, serial, out),
+            Signal::CollectionChanged { .. } => self.put_from(SERVICE, serial, out),
+            Signal::ItemCreated { collection, .. } => {
+                self.put_from(collection.as_str(), serial, out)
+            }
+            Signal::ItemDeleted { collection, .. } => {
+                self.put_from(collection.as_str(), serial, out)
+            }
+            Signal::ItemChanged { collection, .. } => {
+                self.put_from(collection.as_str(), serial, out)
+            }
+            Signal::PropertiesChanged { object, .. } => self.put_from(object.path(), serial, out),
         }
     }
 }

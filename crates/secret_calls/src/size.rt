@@ -13,9 +13,8 @@ pub fn body_size(body: &Body) -> u64
     size_of_values(body)
 }
 
-/// The length of the output's spelling as a message (D-Bus Specification, "Message Format"), whatever
-/// serial it is sent with, or 18,446,744,073,709,551,615 if it is longer. It takes no memory.
-pub fn size_of_out(out: &Out) -> u64
+// The length of the output's spelling, counted.
+fn counted(out: &Out) -> u64
     ensures { (serial : ℕ) → result ≡ min 18446744073709551615 (length (spelled out.now serial)) }
 {
     let mut counter = Counter::new();
@@ -24,4 +23,16 @@ pub fn size_of_out(out: &Out) -> u64
         Err(never) => match never {},
     }
     counter.size()
+}
+
+/// The length of the output's spelling as a message (D-Bus Specification, "Message Format"), whatever
+/// serial it is sent with, or 18,446,744,073,709,551,615 if it is longer. It takes no memory, and one
+/// step for a signal.
+pub fn size_of_out(out: &Out) -> u64
+    ensures { (serial : ℕ) → result ≡ min 18446744073709551615 (length (spelled out.now serial)) }
+{
+    match out {
+        Out::Signal(signal) => signal.size(),
+        _ => counted(out),
+    }
 }

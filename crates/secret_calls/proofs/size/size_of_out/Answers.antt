@@ -1,9 +1,8 @@
--- The length is the same with every serial.
-use Rattle.std.proofs.Common.{ℕ, min, ap, ◌∙◌}
+use Rattle.std.proofs.Common.{◌≡◌, length, min, sym, subst}
+use Rattle.secret_calls.specs.declared.out.Out.{Out}
 use Rattle.secret_calls.specs.Outs.{spelled}
-use Rattle.secret_calls.proofs.SizeLemmas.{any_serial}
 use Rattle.secret_calls.proofs.size.size_of_out.Goals as goal
 
-pub returns : goal.returns
-returns c = λ serial.
-    c.size.ensures (spelled c.args.out.now 1) (c.in-Ok.ensures c.new-counter.ensures) ∙ ap (λ (n : ℕ). min 18446744073709551615 n) (any_serial c.args.out.now 1 serial)
+pub returns-in-Signal : goal.returns-in-Signal
+returns-in-Signal c = λ serial.
+    subst (λ (out : Out). c.size.result ≡ min 18446744073709551615 (length (spelled out serial))) (sym c.in-Signal.is) (c.size.ensures serial)

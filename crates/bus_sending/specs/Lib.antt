@@ -1,0 +1,4 @@
+pub mod ErrorTexts
+pub mod Addressed
+pub mod BusCalls
+pub mod Texts
