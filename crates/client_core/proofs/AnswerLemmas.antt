@@ -46,11 +46,11 @@ paths_among_again : (paths : List (List ℕ)) → all_in path_in (path_values pa
 paths_among_again [] = refl
 paths_among_again (path ∷ paths) = ap (λ o. option_map (λ more. path ∷ more) o) (paths_among_again paths)
 
-paths_again : (paths : List (List ℕ)) → paths_in (paths_value paths) ≡ Some paths
+pub paths_again : (paths : List (List ℕ)) → paths_in (paths_value paths) ≡ Some paths
 paths_again paths = paths_among_again paths
 
 module _ (naming : Naming) where
-  named_again : (name : ObjectName) → IsName name → name_of_path (path_text name) ≡ Some name
+  pub named_again : (name : ObjectName) → IsName name → name_of_path (path_text name) ≡ Some name
   named_again name is = naming (path_text name) name (record { named = is; spelled = refl })
 
   session_again : (session : SessionId) → 0 < session.0 → session.0 < 2 ^ 64 → session_named (session_path session.0) ≡ Some session
@@ -79,7 +79,7 @@ module _ (naming : Naming) where
 
   -- ---- properties
 
-  property_again : (it : Property) → property_named (property_text it) ≡ Some it
+  pub property_again : (it : Property) → property_named (property_text it) ≡ Some it
   property_again property.Collections = refl
   property_again _ = refl
 
@@ -87,7 +87,7 @@ module _ (naming : Naming) where
   attributes_again [] = refl
   attributes_again (one ∷ attributes) = ap (λ (o : Option (List Attribute)). option_map (λ more. one ∷ more) o) (attributes_again attributes)
 
-  bit_again : (truth : Bool) → truth_in (Val.number basics.Boolean (bit_of truth)) ≡ Some truth
+  pub bit_again : (truth : Bool) → truth_in (Val.number basics.Boolean (bit_of truth)) ≡ Some truth
   bit_again true = refl
   bit_again false = refl
 
@@ -105,7 +105,7 @@ module _ (naming : Naming) where
       ap (λ (o : Option Property). option_and_then (λ it. option_map (λ (value : PropertyValue). record { property = it; value = value }) (shown_in (property_value one.value))) o) (property_again one.property)
       ∙ ap (λ (o : Option PropertyValue). option_map (λ (value : PropertyValue). record { property = one.property; value = value }) o) (shown_again one.value)
 
-  properties_again : (properties : List ShownProperty) → all_in property_at (shown_values properties) ≡ Some properties
+  pub properties_again : (properties : List ShownProperty) → all_in property_at (shown_values properties) ≡ Some properties
   properties_again [] = refl
   properties_again (one ∷ properties) =
       ap (λ (o : Option ShownProperty). option_and_then (λ (it : ShownProperty). option_map (λ more. it ∷ more) (all_in property_at (shown_values properties))) o) (one_again one)

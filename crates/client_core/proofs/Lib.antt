@@ -5,3 +5,4 @@ mod ReadLemmas
 mod ReplyLemmas
 mod AnswerLemmas
 mod AskableLemmas
+mod SignalLemmas

@@ -153,6 +153,7 @@ module _ (naming : Naming) where
   method_of (call.SearchCollection collection wanted) = method.SearchCollection
   method_of (call.CreateItem collection label attributes secret replace) = method.CreateItem
   method_of (call.DeleteCollection collection) = method.DeleteCollection
+  method_of (call.ChangePassword collection) = method.ChangePassword
   method_of (call.DeleteItem stem item) = method.DeleteItem
   method_of (call.GetSecret stem item session) = method.GetSecret
   method_of (call.SetSecret stem item secret) = method.SetSecret
@@ -197,6 +198,9 @@ module _ (naming : Naming) where
   on_object serial (call.DeleteCollection (name.Collection stem)) has = refl
   on_object serial (call.DeleteCollection (name.Alias alias)) has = refl
   on_object serial (call.DeleteCollection _) has = absurd has
+  on_object serial (call.ChangePassword (name.Collection stem)) has = refl
+  on_object serial (call.ChangePassword (name.Alias alias)) has = refl
+  on_object serial (call.ChangePassword _) has = absurd has
   on_object serial (call.Get object property) has = get_on serial object property has
   on_object serial (call.GetAll object properties) has = all_on serial object properties has.0
   on_object serial (call.SetCollectionLabel (name.Collection stem) label) has = refl
@@ -300,6 +304,9 @@ module _ (naming : Naming) where
   by_method (call.DeleteCollection (name.Collection stem)) has = refl
   by_method (call.DeleteCollection (name.Alias alias)) has = refl
   by_method (call.DeleteCollection _) has = absurd has
+  by_method (call.ChangePassword (name.Collection stem)) has = refl
+  by_method (call.ChangePassword (name.Alias alias)) has = refl
+  by_method (call.ChangePassword _) has = absurd has
   by_method (call.GetSecret stem item session) has =
       ap (λ (o : Option (Option SessionId)). ok_or (option_map (λ it. call.GetSecret stem item it) o) fault.InvalidArgs) (session_again session has)
   by_method (call.SetSecret stem item secret) has =

@@ -93,6 +93,7 @@ IsAskable (call.SearchCollection collection wanted) = IsCollection collection ×
 IsAskable (call.CreateItem collection label attributes secret replace) =
     IsCollection collection × HasPath collection × AreTexts attributes × IsSession secret.session
 IsAskable (call.DeleteCollection collection) = IsCollection collection × HasPath collection
+IsAskable (call.ChangePassword collection) = IsCollection collection × HasPath collection
 IsAskable (call.GetSecret stem item session) = IsSession session
 IsAskable (call.SetSecret stem item secret) = IsSession secret.session
 IsAskable (call.Get object property) = HasPath object × IsTrue (has_property object property)
@@ -151,6 +152,7 @@ HasArguments (call.SearchCollection collection wanted) = IsCollection collection
 HasArguments (call.CreateItem collection label attributes secret replace) =
     IsCollection collection × IsText label × AreAttributes attributes × IsGiven secret
 HasArguments (call.DeleteCollection collection) = IsCollection collection
+HasArguments (call.ChangePassword collection) = IsCollection collection
 HasArguments (call.GetSecret stem item session) = IsSessionName session
 HasArguments (call.SetSecret stem item secret) = IsGiven secret
 HasArguments (call.Get object property) = IsTrue (has_property object property)

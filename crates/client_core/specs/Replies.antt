@@ -48,6 +48,7 @@ shape_of (call.ReadAlias name) = shape.Object
 shape_of (call.SearchCollection collection wanted) = shape.Objects
 shape_of (call.CreateItem collection label attributes secret replace) = shape.ObjectAndPrompt
 shape_of (call.DeleteCollection collection) = shape.Object
+shape_of (call.ChangePassword collection) = shape.Object
 shape_of (call.DeleteItem stem item) = shape.Object
 shape_of (call.GetSecret stem item session) = shape.Secret
 shape_of (call.Get object property) = shape.Property

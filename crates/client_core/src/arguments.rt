@@ -458,6 +458,7 @@ impl PutValues for Asking<'_> {
                 ..
             } => put_create_item(out, label, attributes, secret, *replace),
             Call::DeleteCollection { .. } => Ok(()),
+            Call::ChangePassword { .. } => Ok(()),
             Call::DeleteItem { .. } => Ok(()),
             Call::GetSecret { session, .. } => put_session(out, *session),
             Call::SetSecret { secret, .. } => put_secret(out, secret),
@@ -505,6 +506,7 @@ pub fn signature_of(call: &Call) -> &'static str
         Call::SearchCollection { .. } => "a{ss}",
         Call::CreateItem { .. } => "a{sv}(oayays)b",
         Call::DeleteCollection { .. } => "",
+        Call::ChangePassword { .. } => "",
         Call::DeleteItem { .. } => "",
         Call::GetSecret { .. } => "o",
         Call::SetSecret { .. } => "(oayays)",

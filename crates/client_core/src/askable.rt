@@ -218,6 +218,7 @@ pub fn can_be_asked(call: &Call) -> bool
         Call::DeleteCollection { collection } => {
             is_collection(collection) && collection.has_path()
         }
+        Call::ChangePassword { collection } => is_collection(collection) && collection.has_path(),
         Call::GetSecret { session, .. } => is_session(*session),
         Call::SetSecret { secret, .. } => is_session(secret.session),
         Call::Get { object, property } => object.has_path() && has_property(object, *property),

@@ -20,6 +20,8 @@ const SERVICE: &str = "org.freedesktop.Secret.Service";
 
 const COLLECTION: &str = "org.freedesktop.Secret.Collection";
 
+const KEYRING: &str = "org.keyringd.Keyring1";
+
 const ITEM: &str = "org.freedesktop.Secret.Item";
 
 const SESSION: &str = "org.freedesktop.Secret.Session";
@@ -74,6 +76,7 @@ fn object_of(call: &Call) -> Result<ObjectName, OutOfMemory>
         Call::SearchCollection { collection, .. } => collection.copy(),
         Call::CreateItem { collection, .. } => collection.copy(),
         Call::DeleteCollection { collection } => collection.copy(),
+        Call::ChangePassword { collection } => collection.copy(),
         Call::DeleteItem { stem, item } => Ok(ObjectName::Item(stem.copy()?, *item)),
         Call::GetSecret { stem, item, .. } => Ok(ObjectName::Item(stem.copy()?, *item)),
         Call::SetSecret { stem, item, .. } => Ok(ObjectName::Item(stem.copy()?, *item)),
@@ -110,6 +113,7 @@ fn object_has_path(call: &Call)
         Call::SearchCollection { .. } => {}
         Call::CreateItem { .. } => {}
         Call::DeleteCollection { .. } => {}
+        Call::ChangePassword { .. } => {}
         Call::DeleteItem { .. } => {}
         Call::GetSecret { .. } => {}
         Call::SetSecret { .. } => {}
@@ -197,6 +201,7 @@ pub fn paths_among(alloc: Global, call: &Call) -> Result<Items<Text>, OutOfMemor
         Call::SearchCollection { .. } => Ok(Items::empty(alloc)),
         Call::CreateItem { .. } => Ok(Items::empty(alloc)),
         Call::DeleteCollection { .. } => Ok(Items::empty(alloc)),
+        Call::ChangePassword { .. } => Ok(Items::empty(alloc)),
         Call::DeleteItem { .. } => Ok(Items::empty(alloc)),
         Call::GetSecret { .. } => Ok(Items::empty(alloc)),
         Call::SetSecret { .. } => Ok(Items::empty(alloc)),
@@ -238,6 +243,7 @@ fn method_of(call: &Call) -> (&'static str, &'static str)
         Call::SearchCollection { .. } => (COLLECTION, "SearchItems"),
         Call::CreateItem { .. } => (COLLECTION, "CreateItem"),
         Call::DeleteCollection { .. } => (COLLECTION, "Delete"),
+        Call::ChangePassword { .. } => (KEYRING, "ChangePassword"),
         Call::DeleteItem { .. } => (ITEM, "Delete"),
         Call::GetSecret { .. } => (ITEM, "GetSecret"),
         Call::SetSecret { .. } => (ITEM, "SetSecret"),

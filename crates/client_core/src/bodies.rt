@@ -63,8 +63,8 @@ fn prompt_at(alloc: Global, value: &Value) -> Result<Option<Option<PromptId>>, O
     }
 }
 
-// A copy of the path, as a text.
-fn text_of(path: &ObjectPath) -> Result<Text, OutOfMemory>
+/// A copy of the path, as a text.
+pub fn text_of(path: &ObjectPath) -> Result<Text, OutOfMemory>
     ensures { IfOk result (λ text. text ≡ path.now) }
 {
     Ok(path.copy()?.into_text())

@@ -53,7 +53,7 @@ fn size_of(call: &Call, path: &Text, paths: &[Text], serial: u32) -> u64
     counter.size()
 }
 
-// The bytes of the call's message, of which there are this many.
+// The bytes of the call's message, this many.
 fn written(
     alloc: Global,
     call: &Call,

@@ -9,12 +9,14 @@ ghost use Rattle.secret_calls.specs.declared.out.Body.{Body};
 ghost use Rattle.secret_calls.specs.declared.out.ErrorName.{ErrorName};
 ghost use Rattle.secret_calls.specs.declared.out.Out.{Out};
 ghost use Rattle.secret_calls.specs.declared.serial.Serial.{Serial};
-ghost use Rattle.secret_calls.specs.Outs.{error_text, AreTyped};
+ghost use Rattle.secret_calls.specs.declared.signal.Signal.{Signal};
+ghost use Rattle.secret_calls.specs.Outs.{error_text, AreTyped, IsSignal};
 ghost use Rattle.call_wire.specs.Said as service;
 ghost use Rattle.client_core.specs.declared.reply.Reply.{Reply};
 ghost use Rattle.client_core.specs.declared.reply.ReplyFault.{ReplyFault};
 ghost use Rattle.client_core.specs.declared.reply.Shape.{Shape};
 ghost use Rattle.client_core.specs.Replies.{shape_in, shape_of, reply_in, HasNumbers};
+ghost use Rattle.client_core.specs.Signals.{signal_in, HasNumber};
 ghost use Rattle.client_core.specs.Askable.{CanBeAsked};
 ghost use Rattle.client_core.specs.Asked.{spelled, said, most_bytes};
 
@@ -60,6 +62,22 @@ pub fn what_the_service_sends_is_read_again()
         → reply_in (shape_of call) number parts ≡ Err ReplyFault.NotAReply }
     ensures no_serial { (call : Call) (number : ℕ) (parts : Parts) → parts.reply_serial ≡ None
         → reply_in (shape_of call) number parts ≡ Err ReplyFault.NotAReply }
+{
+    a_path_is_that_of_its_name();
+}
+
+/// A signal that the service sends is read by a client as what was sent, and isn't read as the answer to
+/// a call. An answer isn't read as a signal.
+pub fn a_signal_is_read_again()
+    ensures signal { (signal : Signal) (serial : ℕ) → IsSignal signal → HasNumber signal
+        → signal_in (service.said (Out.Signal signal) serial) ≡ Some signal }
+    ensures no_reply { (call : Call) (number : ℕ) (signal : Signal) (serial : ℕ)
+        → reply_in (shape_of call) number (service.said (Out.Signal signal) serial)
+        ≡ Err ReplyFault.NotAReply }
+    ensures returned { (to : Serial) (body : Body) (serial : ℕ)
+        → signal_in (service.said (Out.Return to body) serial) ≡ None }
+    ensures error { (to : Serial) (name : ErrorName) (serial : ℕ)
+        → signal_in (service.said (Out.Error to name) serial) ≡ None }
 {
     a_path_is_that_of_its_name();
 }

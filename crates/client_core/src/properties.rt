@@ -44,8 +44,8 @@ fn first_called(properties: &[Property], name: &Text) -> Option<Property>
     None
 }
 
-// The property of this name.
-fn property_named(name: &Text) -> Option<Property>
+/// The property of this name.
+pub fn property_named(name: &Text) -> Option<Property>
     ensures { result ≡ property_named name.now }
 {
     first_called(PROPERTIES, name)

@@ -83,6 +83,7 @@ pub fn shape_of(call: &Call) -> Shape
         Call::SearchCollection { .. } => Shape::Objects,
         Call::CreateItem { .. } => Shape::ObjectAndPrompt,
         Call::DeleteCollection { .. } => Shape::Object,
+        Call::ChangePassword { .. } => Shape::Object,
         Call::DeleteItem { .. } => Shape::Object,
         Call::GetSecret { .. } => Shape::Secret,
         Call::SetSecret { .. } => Shape::Empty,
