@@ -1,0 +1,6 @@
+pub mod LinkLemmas
+pub mod LineLemmas
+pub mod SecretLemmas
+pub mod GreetingLemmas
+pub mod TalkingLemmas
+pub mod RunningLemmas
