@@ -28,14 +28,14 @@ use Rattle.collection_store.specs.State.{Held}
 use Rattle.collection_table.specs.declared.matches.Matches.{Matches}
 use Rattle.collection_table.specs.Entries.{changed}
 use Rattle.collection_table.specs.Rows as collections
-use Rattle.collection_table.specs.Rows.{CollectionRow, Rows, content_of, has, has_item, item_of, locked, shows_item}
+use Rattle.collection_table.specs.Rows.{CollectionRow, Rows, content_of, has, has_item, is_open, item_of, locked, shows_item}
 use Rattle.collection_table.proofs.EntryLemmas.{changed_in_order}
 use Rattle.dbus_types.specs.Paths.{is_object_path}
-use Rattle.secret_calls.specs.declared.secret.ItemSecret.{ItemSecret}
-use Rattle.secret_calls.specs.declared.secret.ReturnedSecret.{ReturnedSecret}
-use Rattle.secret_calls.specs.Outs.{ArePaths, AreSecrets, IsSecret}
-use Rattle.secret_calls.proofs.PathLemmas.{named_path}
-use Rattle.secret_calls.proofs.SecretLemmas.{each_byte}
+use Rattle.signal_fanout.specs.secret_calls.specs.declared.secret.ItemSecret.{ItemSecret}
+use Rattle.signal_fanout.specs.secret_calls.specs.declared.secret.ReturnedSecret.{ReturnedSecret}
+use Rattle.signal_fanout.specs.secret_calls.specs.Outs.{ArePaths, AreSecrets, IsSecret}
+use Rattle.signal_fanout.specs.secret_calls.proofs.PathLemmas.{named_path}
+use Rattle.signal_fanout.specs.secret_calls.proofs.SecretLemmas.{each_byte}
 use Rattle.service_tables.specs.Aliases.{pairs_of}
 use Rattle.service_tables.specs.Objects.{alias_target, collection_named, is_listed, is_open_item, is_there, item_paths, locked_paths, once, paths_in, paths_of, stem_where, unlocked_paths, with_object}
 use Rattle.service_tables.specs.Opened.{Contents}
@@ -61,11 +61,22 @@ at-stem P stem value (e ∷ es) all is =
     ] in
     pass (is_name stem e.0) refl
 
-has-stem : (stem : List ℕ) (rows : Rows) → AllByRecursion IsSoundCollection rows → has stem rows ≡ true → IsStem stem
+-- the stem of a collection that is there is one
+pub has-stem : (stem : List ℕ) (rows : Rows) → AllByRecursion IsSoundCollection rows → has stem rows ≡ true → IsStem stem
 has-stem stem rows all there =
     let pass : (o : Option CollectionRow) → value_at stem rows ≡ o → IsStem stem =
     elim [
       | None ↦ λ is. let no : false ≡ true = rw is at there in cc
+      | Some row ↦ λ is. (at-stem IsSoundCollection stem row rows all is).stem
+    ] in
+    pass (value_at stem rows) refl
+
+-- the same of one that is unlocked
+pub open-stem : (stem : List ℕ) (rows : Rows) → AllByRecursion IsSoundCollection rows → is_open stem rows ≡ true → IsStem stem
+open-stem stem rows all unlocked =
+    let pass : (o : Option CollectionRow) → value_at stem rows ≡ o → IsStem stem =
+    elim [
+      | None ↦ λ is. let no : false ≡ true = rw is at unlocked in cc
       | Some row ↦ λ is. (at-stem IsSoundCollection stem row rows all is).stem
     ] in
     pass (value_at stem rows) refl

@@ -1,13 +1,9 @@
 -- What is true of each element of a list.
-use Rattle.std.proofs.Common.{◌≡◌, ℕ, ◌+◌, ◌<◌, Bool, true, false, List, [], ◌∷◌, ◌++◌, filter, length, get_or, map, take, Some, refl}
+use Rattle.std.proofs.Common.{◌≡◌, Bool, true, false, List, [], ◌∷◌, filter, map, Some, refl}
 use Rattle.std.specs.List.{AllByRecursion, find}
 use Rattle.std.specs.Option.{option_map}
-use Rattle.std.proofs.lemmas.List.{take_more}
 use Rattle.std.proofs.lemmas.Option.{none-some}
-
-pub each-append : {X : Type 0} (P : X → Type 0) (xs ys : List X) → AllByRecursion P xs → AllByRecursion P ys → AllByRecursion P (xs ++ ys)
-each-append P [] ys first last = last
-each-append P (x ∷ xs) ys first last = (first.0, each-append P xs ys first.1 last)
+pub use Rattle.signal_fanout.proofs.EachLemmas.{each-append, each-weaker}
 
 pub each-filter : {X : Type 0} (P : X → Type 0) (p : X → Bool) (xs : List X) → AllByRecursion P xs → AllByRecursion P (filter p xs)
 each-filter P p [] all = tt
@@ -18,10 +14,6 @@ each-filter P p (x ∷ xs) all =
       | false ↦ λ is. rw is (each-filter P p xs all.1)
     ] in
     pass (p x) refl
-
-pub each-weaker : {X : Type 0} (P Q : X → Type 0) → ((x : X) → P x → Q x) → (xs : List X) → AllByRecursion P xs → AllByRecursion Q xs
-each-weaker P Q more [] all = tt
-each-weaker P Q more (x ∷ xs) all = (more x all.0, each-weaker P Q more xs all.1)
 
 -- the same of those that pass a test, where the test is used
 pub each-passing : {X : Type 0} (P Q : X → Type 0) (p : X → Bool) → ((x : X) → p x ≡ true → P x → Q x) → (xs : List X) → AllByRecursion P xs → AllByRecursion Q (filter p xs)
@@ -59,7 +51,3 @@ each-found f P p (x ∷ xs) y all is =
       | false ↦ λ here. each-found f P p xs y all.1 (rw here at is)
     ] in
     pass (p x) refl
-
--- those of a list's start, and the next one
-pub each-taken : {X : Type 0} (P : X → Type 0) (xs : List X) (i : ℕ) (x : X) → i < length xs → get_or xs i x ≡ x → AllByRecursion P (take i xs) → P x → AllByRecursion P (take (i + 1) xs)
-each-taken P xs i x within is all one = rw (take_more xs i x within, is) (each-append P (take i xs) (x ∷ []) all (one, tt))

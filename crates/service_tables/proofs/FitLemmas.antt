@@ -2,8 +2,8 @@
 use Rattle.std.proofs.Common.{◌≡◌, Bool, true, false, List, [], ◌∷◌, Some, None, IfSome, IsSomeAnd, refl}
 use Rattle.std.proofs.lemmas.Bool.{or_right}
 use Rattle.kr_base.specs.declared.ids.ConnId.{ConnId}
-use Rattle.service_tables.specs.declared.rows.ConnRow.{ConnRow}
-use Rattle.service_tables.specs.declared.rows.DeskRow.{DeskRow}
+use Rattle.signal_fanout.specs.declared.rows.ConnRow.{ConnRow}
+use Rattle.signal_fanout.specs.declared.rows.DeskRow.{DeskRow}
 use Rattle.service_tables.specs.Connections.{is_row, has, desk_of}
 
 -- a fact of the desk, if it is there, is one of the desk that is there

@@ -1,6 +1,8 @@
+pub use Rattle.signal_fanout.proofs.RoomLemmas
+pub use Rattle.signal_fanout.proofs.SpreadLemmas
 pub mod AliasLemmas
 pub mod CollectionLemmas
-pub mod DeskLemmas
+pub mod ConnectionLemmas
 pub mod DiskLemmas
 pub mod EachLemmas
 pub mod FitLemmas
@@ -9,10 +11,8 @@ pub mod KeptLemmas
 pub mod LoadedLemmas
 pub mod NotedLemmas
 pub mod ObjectLemmas
-pub mod RoomLemmas
 pub mod ShownLemmas
 pub mod SlotLemmas
-pub mod SpreadLemmas
 pub mod StemLemmas
 pub mod StoredLemmas
 pub mod TableLemmas

@@ -17,7 +17,7 @@ use Rattle.kr_names.proofs.TextLemmas.{IsPlain, IsText-plain}
 use Rattle.keyring_file.specs.Known.{IsKnownPair, IsKnownValue}
 use Rattle.keyring_file.specs.declared.area.FullItem.{FullItem}
 use Rattle.collection_table.specs.Rows.{CollectionRow, Rows, item_of}
-use Rattle.secret_calls.specs.Outs.{ArePaths, AreAttributes}
+use Rattle.signal_fanout.specs.secret_calls.specs.Outs.{ArePaths, AreAttributes}
 use Rattle.service_tables.specs.Objects.{collection_paths}
 use Rattle.service_tables.specs.Reading.{clear_times, full_times, item_attributes, item_label, item_times, no_times, shown_attribute, times_of}
 use Rattle.service_tables.specs.Sound.{AreSoundCollections, IsSoundCollection}
@@ -46,7 +46,7 @@ value-text : (v : AttrValue) → IsKnownValue v → IsText (text_of v)
 value-text (value.Text text) known = known
 value-text (value.Number n) known = decimal-text n known
 
-attributes-typed : (pairs : List (List ℕ × AttrValue)) → AllByRecursion IsKnownPair pairs → AreAttributes (map shown_attribute pairs)
+pub attributes-typed : (pairs : List (List ℕ × AttrValue)) → AllByRecursion IsKnownPair pairs → AreAttributes (map shown_attribute pairs)
 attributes-typed [] all = tt
 attributes-typed (pair ∷ pairs) all = (all.0.name, value-text pair.1 all.0.value, attributes-typed pairs all.1)
 

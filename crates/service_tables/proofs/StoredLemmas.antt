@@ -23,7 +23,7 @@ use Rattle.item_store.specs.declared.fault.ItemFault.TheVariants as item_fault
 use Rattle.collection_store.specs.Changes.{as_content, at_item, content_changed, content_stored, equal_id, has_row, made_added, made_new, name_made, new_row, replaced, rows_changed, rows_made, rows_without, store_rows, with_secret, within_most, with_label, with_attributes}
 use Rattle.collection_store.specs.Outcomes.{most_for}
 use Rattle.collection_store.specs.State.{Held}
-use Rattle.collection_store.specs.Storable.{sized, storable}
+use Rattle.collection_store.specs.Storable.{answer_of, sized, storable}
 use Rattle.collection_store.specs.declared.change.Changed.{Changed}
 use Rattle.collection_store.specs.declared.change.Changed.TheVariants as changes
 use Rattle.collection_store.specs.declared.refused.ChangeRefused.TheVariants as refused
@@ -33,7 +33,7 @@ use Rattle.collection_table.proofs.EntryLemmas.{changed_in_order, order_kept}
 use Rattle.service_tables.specs.declared.fate.StoreFate.{StoreFate}
 use Rattle.service_tables.specs.declared.fate.StoreFate.TheVariants as fate
 use Rattle.service_tables.specs.Sound.{AreAttributeTypes, AreItemTypes, AreSecretTypes, AreShown, AreSoundCollections, AreSoundItems, IsSoundCollection, IsSoundItem, IsTypedText}
-use Rattle.service_tables.specs.Storing.{AreEditTypes, Edit, Add_item, Set_secret, Remove_item, Set_label, Set_attributes, Set_name, change_of, has_place, item_in, placed, placed_answer, row_after, row_changed, rows_erased, rows_stored, storable_at}
+use Rattle.service_tables.specs.Storing.{AreEditTypes, Edit, Add_item, Set_secret, Remove_item, Set_label, Set_attributes, Set_name, answered_at, change_of, has_place, item_in, placed, placed_answer, row_after, row_changed, rows_erased, rows_stored, storable_at}
 use Rattle.service_tables.proofs.CollectionLemmas.{at-stem}
 use Rattle.service_tables.proofs.EachLemmas.{each-append, each-filter, each-mapped, each-weaker}
 use Rattle.service_tables.proofs.TypedLemmas.{pairs-known, text-known}
@@ -222,11 +222,11 @@ zip-rows [] = refl
 zip-rows (row ∷ these) = ap (λ more. row ∷ more) (zip-rows these)
 
 -- the label and the items of a content are sound
-record IsSoundContent (content : Content) : Type 0 where
-  shown : AreShown content.clear
-  held : AreSound (rows content)
+pub record IsSoundContent (content : Content) : Type 0 where
+  pub shown : AreShown content.clear
+  pub held : AreSound (rows content)
 
-stored-sound : (now : ℕ) (front : ClearPart) (these : List Row) → now < 2 ^ 64 → IsText front.name → front.created < 2 ^ 64 → AreSound these → IsSoundContent (content_stored now front these)
+pub stored-sound : (now : ℕ) (front : ClearPart) (these : List Row) → now < 2 ^ 64 → IsText front.name → front.created < 2 ^ 64 → AreSound these → IsSoundContent (content_stored now front these)
 stored-sound now front these small label made all = record {
   shown = record { label = label; created = made; modified = small; items = each-mapped (λ (row : Row). row.0) IsKnownClearItem these (each-weaker IsSoundItem _ (λ row sound. sound.clear) these all) };
   held = subst AreSound (sym (zip-rows these)) all;
@@ -341,6 +341,31 @@ module _ (now : ℕ) (small : now < 2 ^ 64) (edit : Edit) (value : List ℕ) (ty
               | Some held ↦ λ all got. sized-small these (most_for (room_in these) row.file) held (content_changed given now row.clear held.rows) answer (content-sound row held here.shown all) got
             ] in
             named-item stem (item_in answer) here.stem (inner row.held here.held has)
+      ] in
+      pass (value_at stem these) refl is
+
+  -- the same of an edit that can be made, whatever the length of its file is
+  made-small : (these : Rows) (made : Result (Content × Changed) ItemFault) (answer : Changed) → ContentSound made → placed these (answer_of made) ≡ Some answer → HasSmall answer
+  made-small these (Ok made) answer sound is = placed-small these made.1 answer sound.1 is
+  made-small these (Err fault) answer sound is = absurd (none-some answer is)
+
+  pub answered-named : (stem : List ℕ) (these : Rows) (answer : Changed) → AreSoundCollections these → answered_at stem (change_of value edit) now these ≡ Some answer
+      → IsStem stem × IfSome (item_in answer) (λ item. IsName (name.Item stem item))
+  answered-named stem these answer sound is =
+      let given = change_of value edit in
+      let in_row : CollectionRow → Option Changed =
+      λ row. option_and_then (λ (held : Held). placed these (answer_of (content_changed given now row.clear held.rows))) row.held in
+      let pass : (o : Option CollectionRow) → value_at stem these ≡ o → option_and_then in_row o ≡ Some answer → IsStem stem × IfSome (item_in answer) (λ item. IsName (name.Item stem item)) =
+      elim [
+        | None ↦ λ at has. absurd (none-some answer has)
+        | Some row ↦ λ at has.
+            let here = at-stem IsSoundCollection stem row these sound.each at in
+            let inner : (h : Option Held) → IfSome h AreSoundItems → option_and_then (λ (held : Held). placed these (answer_of (content_changed given now row.clear held.rows))) h ≡ Some answer → HasSmall answer =
+            elim [
+              | None ↦ λ all got. absurd (none-some answer got)
+              | Some held ↦ λ all got. made-small these (content_changed given now row.clear held.rows) answer (content-sound row held here.shown all) got
+            ] in
+            (here.stem, named-item stem (item_in answer) here.stem (inner row.held here.held has))
       ] in
       pass (value_at stem these) refl is
 

@@ -8,15 +8,15 @@ use Rattle.std.proofs.lemmas.List.Elements.{filter-append}
 use Rattle.std.proofs.lemmas.List.Sums.{sum_by-append}
 use Rattle.kr_base.specs.declared.ids.ConnId.{ConnId}
 use Rattle.session_table.specs.declared.row.SessionRow.{SessionRow}
-use Rattle.secret_calls.specs.declared.out.Out.{Out}
-use Rattle.secret_calls.specs.Outs.{HasSpelling, most_waiting}
+use Rattle.signal_fanout.specs.secret_calls.specs.declared.out.Out.{Out}
+use Rattle.signal_fanout.specs.secret_calls.specs.Outs.{HasSpelling, most_waiting}
 use Rattle.session_table.specs.declared.row.Sessions.{Sessions}
 use Rattle.session_table.specs.Sessions.{rows_of, opened, abandoned, most_sessions, last_session}
-use Rattle.service_tables.specs.declared.rows.ConnRow.{ConnRow}
+use Rattle.signal_fanout.specs.declared.rows.ConnRow.{ConnRow}
 use Rattle.service_tables.specs.declared.rows.ConnRows.{ConnRows}
 use Rattle.service_tables.specs.Connections.{new_row, joined, is_row, has, changed, without, size_of, size_waiting, with_out}
 use Rattle.service_tables.specs.Limits.{most_connections}
-use Rattle.service_tables.specs.Sound.{AreJoined, AreApart, WaitsWell, AreWaiting, AreOpened, AreOnce, AreFew, AreSoundConnections, AreSoundSessions}
+use Rattle.service_tables.specs.Sound.{AreJoined, AreApart, WaitsWell, AreWaiting, AreOpened, AreOnce, AreFew, AreSoundConnections, AreSoundSessions, IsSpelled}
 use Rattle.service_tables.proofs.EachLemmas.{each-append, each-filter, each-weaker, each-passing}
 
 -- what isn't true is false
@@ -150,14 +150,14 @@ keeps-with_out out row =
     elim [ true ↦ refl | false ↦ inner (nat_le (size_waiting row.waiting + size_of out) most_waiting) ] in
     outer row.overrun
 
--- one more output that has a spelling waits, if it is within the limit
-pub well-with_out : (out : Out) → HasSpelling out → (row : ConnRow) → WaitsWell row → WaitsWell (with_out out row)
+-- one more output waits, if it is within the limit, in which case it has a spelling
+pub well-with_out : (out : Out) → IsSpelled out → (row : ConnRow) → WaitsWell row → WaitsWell (with_out out row)
 well-with_out out spells row well =
     let more : ConnRow = record row { waiting = row.waiting ++ out ∷ [] } in
     let lost : ConnRow = record row { overrun = true } in
     let fits : nat_le (size_waiting row.waiting + size_of out) most_waiting ≡ true → WaitsWell more = λ is. record {
       within = omega (arith, leb-true (size_waiting row.waiting + size_of out) most_waiting is, sum_by-append size_of row.waiting (out ∷ []));
-      spelled = each-append HasSpelling row.waiting (out ∷ []) well.spelled (spells, tt);
+      spelled = each-append HasSpelling row.waiting (out ∷ []) well.spelled (spells (omega (arith, leb-true (size_waiting row.waiting + size_of out) most_waiting is)), tt);
     } in
     let over : WaitsWell lost = record { within = well.within; spelled = well.spelled } in
     let inner : (c : Bool) → nat_le (size_waiting row.waiting + size_of out) most_waiting ≡ c → WaitsWell (cond c more lost) =

@@ -47,7 +47,7 @@ abbrev pub is_doubt : File → Bool
 is_doubt (Known image) = false
 is_doubt (Doubt old new) = true
 
--- the same of the file of the aliases
+-- the same for the file of the aliases
 abbrev pub are_doubtful : Option AliasRows → Bool
 are_doubtful aliases = option_map_or (λ (rows : AliasRows). is_doubt rows.file) aliases false
 
@@ -104,6 +104,6 @@ abbrev pub IsPreparedIn : List ℕ → Option (List ℕ) → Rows → Change →
 IsPreparedIn name stem collections change None = ⊥
 IsPreparedIn name stem collections change (Some rows) = IsPrepared name stem (keys_of collections) rows change
 
--- the same of the aliases of a disk, with its collections
+-- the same for the aliases of a disk, with its collections
 abbrev pub IsPreparedFor : List ℕ → Option (List ℕ) → Contents → Change → Type 0
 IsPreparedFor name stem contents change = IsPreparedIn name stem contents.collections change contents.aliases

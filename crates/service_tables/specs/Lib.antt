@@ -4,7 +4,9 @@ pub use Rattle.collection_table
 pub use Rattle.folder_store
 pub use Rattle.item_store
 pub use Rattle.keyring_seal
-pub use Rattle.secret_calls
+pub use Rattle.signal_fanout.specs.secret_calls
+pub use Rattle.signal_fanout
+pub use Rattle.signal_fanout.specs.Sent
 pub mod Aliases
 pub mod Connections
 pub mod Desks
@@ -14,7 +16,6 @@ pub mod Objects
 pub mod Opened
 pub mod Questions
 pub mod Reading
-pub mod Sent
 pub mod Slots
 pub mod Sound
 pub mod State

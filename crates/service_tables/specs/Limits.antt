@@ -10,10 +10,6 @@ most_connections = 256
 abbrev pub last_connection : ℕ
 last_connection = 18446744073709551615
 
--- how many outputs a connection took is counted up to this number
-abbrev pub most_taken : ℕ
-most_taken = 18446744073709551615
-
 -- the most bytes that the body of a return may have on a call that changes nothing
 abbrev pub most_body : ℕ
 most_body = 8388608

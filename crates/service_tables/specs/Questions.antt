@@ -6,7 +6,7 @@ use Rattle.kr_base.specs.declared.ids.PromptId.{PromptId}
 use Rattle.collection_table.specs.declared.matches.Matches.{Matches}
 use Rattle.prompt_state.specs.declared.row.PromptRow.{PromptRow}
 use Rattle.prompt_state.specs.declared.table.PromptRefused.{PromptRefused}
-use Rattle.secret_calls.specs.declared.property.Attribute.{Attribute}
+use Rattle.signal_fanout.specs.secret_calls.specs.declared.property.Attribute.{Attribute}
 use Rattle.service_tables.specs.declared.times.Times.{Times}
 
 -- what may be asked of the collections, and which of them an alias stands for

@@ -18,9 +18,9 @@ use Rattle.collection_table.specs.Rows as collections
 use Rattle.collection_table.specs.Rows.{CollectionRow, Rows, content_of, found_in_all, has, has_item, is_open, item_of}
 use Rattle.prompt_state.specs.Prompts as prompting
 use Rattle.prompt_state.specs.declared.row.Prompts.{Prompts}
-use Rattle.secret_calls.specs.declared.property.Attribute.{Attribute}
-use Rattle.secret_calls.specs.declared.secret.ItemSecret.{ItemSecret}
-use Rattle.secret_calls.specs.declared.secret.ReturnedSecret.{ReturnedSecret}
+use Rattle.signal_fanout.specs.secret_calls.specs.declared.property.Attribute.{Attribute}
+use Rattle.signal_fanout.specs.secret_calls.specs.declared.secret.ItemSecret.{ItemSecret}
+use Rattle.signal_fanout.specs.secret_calls.specs.declared.secret.ReturnedSecret.{ReturnedSecret}
 use Rattle.service_tables.specs.Aliases.{pairs_of}
 use Rattle.service_tables.specs.Objects.{stem_where}
 use Rattle.service_tables.specs.Opened.{Contents}

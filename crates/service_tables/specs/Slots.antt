@@ -1,4 +1,4 @@
--- What a storing does to the slots of a disk, and what a crash leaves of the files meanwhile (docs/DECISIONS.md, "What a crash claim
+-- What storing a file does to the slots of a disk, and what a crash leaves of the files meanwhile (docs/DECISIONS.md, "What a crash claim
 -- rests on").
 use Rattle.std.specs.Prelude.{◌≡◌, ◌≢◌, ℕ, ◌⊎◌, Bool, ◌&&◌, IsTrue, false, List, Option, Some, None}
 use Rattle.std.specs.List.{list_all}
@@ -69,7 +69,7 @@ pub record StoresIn {S : Type 0} (is_honest is_steady : S → Bool) (faults : S 
   pub never : IsTrue (is_steady old) → IsFault fate → ⊥
   pub one : IsTrue (is_honest old) → fate ≢ Read read.Other
 
--- The same of a disk: the slot of this stem is used, and stays the slot of this stem; all else is as before.
+-- The same for a disk: the slot of this stem is used, and stays the slot of this stem; all else is as before.
 pub record StoresAt {F S : Type 0} (is_honest is_steady : S → Bool) (faults : S → ℕ) (moment : S → ℕ) (left_since : S → ℕ → Image → Type 0)
     (may_leave : S → Image → Type 0) (stem : List ℕ) (fate : Fate) (before after : Rows) (old new : DiskState F S) : Type 0 where
   pub was : S
@@ -81,7 +81,7 @@ pub record StoresAt {F S : Type 0} (is_honest is_steady : S → Bool) (faults : 
   pub all_steady : are_steady is_steady new ≡ are_steady is_steady old
   pub rest : new ≡ record old { slots = new.slots; spare = new.spare }
 
--- The same of the file of the aliases, which is stored or resolved: its slot is used, and all else is as before.
+-- The same for the file of the aliases, which is stored or resolved: its slot is used, and all else is as before.
 pub record StoresAliases {F S : Type 0} (is_honest is_steady : S → Bool) (faults : S → ℕ) (moment : S → ℕ) (left_since : S → ℕ → Image → Type 0)
     (may_leave : S → Image → Type 0) (fate : Fate) (before after : Option AliasRows) (old new : DiskState F S) : Type 0 where
   pub stores : StoresIn is_honest is_steady faults moment left_since may_leave fate (alias_file before) (alias_file after) old.aliases new.aliases

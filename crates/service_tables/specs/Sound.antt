@@ -25,11 +25,12 @@ use Rattle.replace_slot.specs.Cell.{IsKnown}
 use Rattle.prompt_state.specs.Prompts.{AreSound, is_made}
 use Rattle.prompt_state.specs.Targets.{TargetLists, first_left}
 use Rattle.prompt_state.specs.declared.row.PromptKind.{PromptKind}
-use Rattle.prompt_state.specs.declared.row.PromptKind.TheVariants.{Unlock, Create}
+use Rattle.prompt_state.specs.declared.row.PromptKind.TheVariants.{Unlock, Create, Change}
 use Rattle.prompt_state.specs.declared.row.PromptRow.{PromptRow}
 use Rattle.prompt_state.specs.declared.row.Prompts.{Prompts}
 use Rattle.prompt_state.specs.declared.targets.Target.{Target}
-use Rattle.secret_calls.specs.Outs.{HasSpelling, most_waiting}
+use Rattle.signal_fanout.specs.secret_calls.specs.declared.out.Out.{Out}
+use Rattle.signal_fanout.specs.secret_calls.specs.Outs.{HasSpelling, most_waiting}
 use Rattle.session_table.specs.declared.row.SessionRow.{SessionRow}
 use Rattle.session_table.specs.declared.row.Sessions.{Sessions}
 use Rattle.session_table.specs.Sessions.{rows_of, most_sessions, last_session}
@@ -37,9 +38,9 @@ use Rattle.stem_choice.specs.UsedStems.{AreInOrder, is_used}
 use Rattle.service_tables.specs.Aliases.{are_doubtful}
 use Rattle.service_tables.specs.Opened.{Contents}
 use Rattle.service_tables.specs.State.{State}
-use Rattle.service_tables.specs.declared.rows.ConnRow.{ConnRow}
+use Rattle.signal_fanout.specs.declared.rows.ConnRow.{ConnRow}
 use Rattle.service_tables.specs.declared.rows.ConnRows.{ConnRows}
-use Rattle.service_tables.specs.Sent.{Sent}
+use Rattle.service_tables.specs.Sent.{Everyone, One, Recipient, Sent}
 use Rattle.service_tables.specs.Connections.{has, size_of, size_waiting}
 use Rattle.service_tables.specs.Limits.{most_connections, most_weight}
 use Rattle.service_tables.specs.Targets.{weight}
@@ -54,9 +55,22 @@ AreApart [] = Unit {0}
 AreApart (row ∷ rows) = AllByRecursion (λ other. row.conn.0 < other.conn.0) rows × AreApart rows
 
 -- an output that can wait for a connection for which nothing waits: it has a spelling, which isn't too long
-pub record CanWait (sent : Sent) : Type 0 where
-  pub spelled : HasSpelling sent.out
-  pub small : size_of sent.out ≤ most_waiting
+pub record IsShort (out : Out) : Type 0 where
+  pub spelled : HasSpelling out
+  pub small : size_of out ≤ most_waiting
+
+-- an output that has a spelling, unless it is too long to wait
+abbrev pub IsSpelled : Out → Type 0
+IsSpelled out = size_of out ≤ most_waiting → HasSpelling out
+
+-- the same by the recipient: what goes to everyone may be too long to wait, since it may have a whole label or all attributes of an item
+abbrev pub CanWaitFor : Recipient → Out → Type 0
+CanWaitFor (One conn) out = IsShort out
+CanWaitFor Everyone out = IsSpelled out
+
+-- What is sent to one connection can wait for it while nothing else waits, and what is sent to everyone has a spelling if it can.
+abbrev pub CanWait : Sent → Type 0
+CanWait sent = CanWaitFor sent.to sent.out
 
 -- no more bytes wait than may, and each output that waits has a spelling
 pub record WaitsWell (row : ConnRow) : Type 0 where
@@ -103,7 +117,7 @@ pub record IsSoundItem (row : Row) : Type 0 where
   pub clear : IsKnownClearItem row.0
   pub full : IsKnownItem row.1
 
--- the same of all items that it holds
+-- the same for all items that it holds
 abbrev pub AreSoundItems : Held → Type 0
 AreSoundItems held = AllByRecursion IsSoundItem held.rows
 
@@ -163,15 +177,23 @@ pub record AreCreateTypes (name given bytes : List ℕ) : Type 0 where
   pub salt : length bytes ≡ 8
   pub each : IsBytes bytes
 
+-- a collection's password is changed with a salt that has its type
+pub record AreChangeTypes (name bytes : List ℕ) : Type 0 where
+  pub stem : IsStem name
+  pub salt : length bytes ≡ 8
+  pub each : IsBytes bytes
+
 -- what a prompt is for is sound
 abbrev pub IsSoundKind : PromptKind → Type 0
 IsSoundKind (Unlock targets) = AreSoundTargets targets
 IsSoundKind (Create label alias salt) = AreCreateTypes label alias salt
+IsSoundKind (Change stem salt) = AreChangeTypes stem salt
 
--- there is a target for which a prompt is asked, unless it creates a collection
+-- there is a target for which a prompt is asked, if it unlocks collections
 abbrev pub HasLeft : PromptKind → Type 0
 HasLeft (Unlock targets) = IsSome (first_left targets)
 HasLeft (Create label alias salt) = Unit {0}
+HasLeft (Change stem salt) = Unit {0}
 
 -- a sound prompt: once Prompt is called on it, there is something to ask for
 pub record IsSoundPrompt (row : PromptRow) : Type 0 where

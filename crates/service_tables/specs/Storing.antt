@@ -100,7 +100,7 @@ storable_at stem change now rows =
     (λ (row : CollectionRow). option_and_then (λ (held : Held). placed rows (storable change now (room_in rows) row.file row.clear held)) row.held)
     (value_at stem rows)
 
--- the same of an edit
+-- the same for an edit
 abbrev pub storable_edit : Brought → Rows → List ℕ → Edit → Option Changed
 storable_edit brought rows stem edit = storable_at stem (change_of brought.value edit) brought.now rows
 

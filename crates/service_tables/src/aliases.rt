@@ -203,8 +203,8 @@ impl<F: Folder> Disk<F> {
         Ok(stems)
     }
 
-    /// Reads the file of the aliases again, which is in doubt, and returns what was found, with the change as
-    /// it is prepared for that. None if the file couldn't be read: then the doubt stays. It takes no memory.
+    /// Reads the file of the aliases, which is in doubt, again, and returns what was found, with the change
+    /// prepared for it. None if the file couldn't be read: then the doubt stays. It takes no memory.
     pub fn resolve_aliases(&mut self, change: AliasChange) -> (ReadFate, Option<AliasChange>)
         requires doubt { are_doubtful (contents_in self.old).aliases ≡ true }
         requires prepared { IsForAliases change (contents_in self.old).aliases }

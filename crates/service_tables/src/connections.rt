@@ -1,18 +1,17 @@
-// The connections, by their numbers. Finding one takes steps by the logarithm of how many there are.
+// The connections that are there: each has a number that none had before, and an outbox.
 ghost use Rattle.std.specs.Prelude.{◌≡◌, ℕ, List, ◌+◌, ◌<◌, ◌≤◌, ◌⊎◌, [], ◌∷◌, ◌++◌, length, false, true, IfOk, OnOk, OnErr};
-ghost use Rattle.std.specs.List.{AllByRecursion};
-ghost use Rattle.secret_calls.specs.declared.out.Out.{Out};
+ghost use Rattle.signal_fanout.specs.secret_calls.specs.declared.out.Out.{Out};
+ghost use Rattle.signal_fanout.specs.secret_calls.specs.declared.out.Out.TheVariants as kinds;
+ghost use Rattle.signal_fanout.specs.declared.rows.Delivery.{Delivery};
 ghost use Rattle.service_tables.specs.Limits.{most_connections, last_connection};
-ghost use Rattle.service_tables.specs.Connections.{new_row, has, changed, without, with_out, left, emptied, waiting_for, desk_of, handed, AreDistinct, HasRoom, HasRoomFor, KeepRooms};
-ghost use Rattle.service_tables.specs.declared.rows.Delivery.{Delivery};
+ghost use Rattle.service_tables.specs.Connections.{new_row, has, changed, without, with_out, left, emptied, waiting_for, desk_of, for_each, handed, AreDistinct, HasRoom, HasRoomFor, KeepRooms};
 
-use crate::desk::Desk;
-use crate::{ConnRows, Delivery, DeskRow, desks};
+use crate::ConnRows;
 use kr_base::{ConnId, OutOfMemory};
 use kr_items::Items;
-use secret_calls::Out;
-use std::alloc::{AllocError, Global};
-use std::collections::BTreeMap;
+use signal_fanout::secret_calls::{Out, SharedSignal};
+use signal_fanout::{Delivery, DeskRow, Outboxes};
+use std::alloc::Global;
 use std::marker::Model;
 
 /// How many connections may be there at once.
@@ -23,7 +22,7 @@ const MOST_CONNECTIONS: usize = 256;
 #[derive(Drop)]
 pub struct Connections {
     alloc: Global,
-    desks: BTreeMap<u64, Desk>,
+    outboxes: Outboxes,
     next: u64,
 }
 
@@ -32,11 +31,12 @@ impl Model for Connections {
 
     ghost Value = { Table };
 
-    ghost use Rattle.service_tables.specs.Desks.{table_of, AreKept};
+    ghost use Rattle.service_tables.specs.Connections.{AreBelow};
+    ghost use Rattle.service_tables.specs.Desks.{table_of};
 
-    ghost view = { λ t. table_of t.desks.entries t.next };
+    ghost view = { λ t. table_of t.outboxes t.next };
 
-    ghost invariant = { λ t. AreKept t.next t.desks.entries };
+    ghost invariant = { λ t. AreBelow t.next t.outboxes.rows };
 }
 
 impl Connections {
@@ -46,7 +46,7 @@ impl Connections {
     {
         Connections {
             alloc,
-            desks: BTreeMap::new(alloc),
+            outboxes: Outboxes::new(alloc),
             next: 1,
         }
     }
@@ -58,7 +58,7 @@ impl Connections {
         ensures room { result ≡ false → (length self.now.rows < most_connections)
             × (self.now.next < last_connection) }
     {
-        self.desks.len() >= MOST_CONNECTIONS || self.next == u64::MAX
+        self.outboxes.len() >= MOST_CONNECTIONS || self.next == u64::MAX
     }
 
     /// Adds a connection, and gives it the next number.
@@ -70,31 +70,31 @@ impl Connections {
         ensures unchanged { OnErr result ((self.new.rows ≡ self.old.rows)
             × (self.new.next ≡ self.old.next)) }
     {
-        let number = self.next;
-        desks::add(&mut self.desks, number, Desk::new(self.alloc))?;
-        self.next = number + 1;
-        Ok(ConnId(number))
+        let conn = ConnId(self.next);
+        self.outboxes.add(conn)?;
+        self.next += 1;
+        Ok(conn)
     }
 
     /// Shows that no two connections have one number.
     pub fn are_distinct(&self)
         ensures { AreDistinct self.now.rows }
     {
-        desks::are_distinct(&self.desks);
+        self.outboxes.are_distinct();
     }
 
     /// Whether the connection is there.
     pub fn has(&self, conn: ConnId) -> bool
         ensures { result ≡ has conn self.now.rows }
     {
-        desks::has(&self.desks, conn.0)
+        self.outboxes.has(conn)
     }
 
     /// The connection's status, or None if it isn't there.
     pub fn desk(&self, conn: ConnId) -> Option<DeskRow>
         ensures { result ≡ desk_of conn self.now.rows }
     {
-        desks::told(&self.desks, conn.0)
+        self.outboxes.desk(conn)
     }
 
     /// Makes room for this many more outputs of the connection.
@@ -104,35 +104,31 @@ impl Connections {
         ensures unchanged { self.new.rows ≡ self.old.rows }
         ensures next { self.new.next ≡ self.old.next }
     {
-        desks::reserve(&mut self.desks, conn.0, more)
+        self.outboxes.reserve(conn, more)
     }
 
     /// Makes room for one more output of the caller, and for all of these deliveries.
     pub fn reserve_for(&mut self, caller: ConnId, outs: &[Delivery]) -> Result<(), OutOfMemory>
         ensures room { OnOk result ((reply : Out)
             → HasRoomFor (record { to = caller; out = reply } ∷ outs.now) self.new.rooms) }
-        ensures unchanged { self.new.rows ≡ self.old.rows }
-        ensures next { self.new.next ≡ self.old.next }
-    {
-        let Some(most) = outs.len().checked_add(1) else {
-            return Err(AllocError);
-        };
-        self.reserve(caller, most)?;
-        self.reserve_each(outs, most)
-    }
-
-    // Makes room for this many more outputs of each connection to which one of these goes.
-    fn reserve_each(&mut self, outs: &[Delivery], more: usize) -> Result<(), OutOfMemory>
-        ensures room { OnOk result (AllByRecursion
-            (λ sent. HasRoom more sent.to self.new.rooms) outs.now) }
         ensures kept { KeepRooms self.old.rooms self.new.rooms }
         ensures unchanged { self.new.rows ≡ self.old.rows }
         ensures next { self.new.next ≡ self.old.next }
     {
-        for sent in outs {
-            self.reserve(sent.to, more)?;
-        }
-        Ok(())
+        self.outboxes.reserve_for(caller, outs)
+    }
+
+    /// Appends a delivery of the signal to each connection. All of them have the same signal: none of
+    /// its texts is copied.
+    pub fn to_everyone(
+        &self,
+        signal: &SharedSignal,
+        deliveries: &mut Vec<Delivery>,
+    ) -> Result<(), OutOfMemory>
+        ensures { OnOk result (deliveries.new.items ≡ deliveries.old.items
+            ++ for_each (kinds.Signal signal.now) self.now.rows) }
+    {
+        self.outboxes.to_everyone(signal, deliveries)
     }
 
     /// Appends an output to those that wait for the connection. It takes no memory.
@@ -144,7 +140,7 @@ impl Connections {
             → HasRoomFor (record { to = conn; out = out } ∷ outs) self.old.rooms
             → HasRoomFor outs self.new.rooms }
     {
-        desks::put(&mut self.desks, conn.0, out);
+        self.outboxes.push(conn, out);
     }
 
     /// Makes each of these deliveries, in order. It takes no memory.
@@ -153,9 +149,7 @@ impl Connections {
         ensures rows { self.new.rows ≡ handed outs.items self.old.rows }
         ensures next { self.new.next ≡ self.old.next }
     {
-        for sent in outs {
-            self.push(sent.to, sent.out);
-        }
+        self.outboxes.deliver(outs);
     }
 
     /// Marks that the connection asks no more. It takes no memory.
@@ -163,7 +157,7 @@ impl Connections {
         ensures rows { self.new.rows ≡ changed conn left self.old.rows }
         ensures next { self.new.next ≡ self.old.next }
     {
-        desks::leave(&mut self.desks, conn.0);
+        self.outboxes.leave(conn);
     }
 
     /// Takes what waits for the connection. It takes no memory.
@@ -172,7 +166,10 @@ impl Connections {
         ensures rows { self.new.rows ≡ changed conn emptied self.old.rows }
         ensures next { self.new.next ≡ self.old.next }
     {
-        desks::take(self.alloc, &mut self.desks, conn.0)
+        match self.outboxes.take(conn) {
+            Some(outs) => Items::new(outs),
+            None => Items::empty(self.alloc),
+        }
     }
 
     /// Removes the connection, with all that waits for it. It takes no memory.
@@ -180,7 +177,7 @@ impl Connections {
         ensures rows { self.new.rows ≡ without conn self.old.rows }
         ensures next { self.new.next ≡ self.old.next }
     {
-        desks::remove(&mut self.desks, conn.0);
+        self.outboxes.gone(conn);
     }
 
     /// The connections as plain rows. One pass over them.
@@ -189,7 +186,7 @@ impl Connections {
             connections ≡ record { rows = self.now.rows; next = self.now.next }) }
     {
         Ok(ConnRows {
-            rows: Items::new(desks::rows(self.alloc, &self.desks)?),
+            rows: Items::new(self.outboxes.rows()?),
             next: self.next,
         })
     }

@@ -44,7 +44,7 @@ pub struct Disk<F: Folder> {
     /// The collections, each with the slot of its file.
     pub collections: CollectionTable<F::Cell>,
     /// The slots without a collection, the latest first, each with its stem: those of collections that were
-    /// removed or went, and of those that weren't made. A crash leaves no file of an honest one.
+    /// removed or are gone, or that couldn't be made. A crash leaves no file of an honest one.
     pub spare: Vec<(Stem, KeptSlot<F::Cell>)>,
     /// The stems that are used: those of all keyring files at the start, including those that were left
     /// alone, those that aliases stood for then, and those of all collections that were made since.

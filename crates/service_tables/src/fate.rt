@@ -1,4 +1,4 @@
-/// How one storing of a file, or one removal of it, ended.
+/// How storing a file once, or removing it, ended.
 #[derive(Clone, Copy, Debug, Drop, PartialEq, Eq)]
 pub enum StoreFate {
     /// The file was replaced, or removed.

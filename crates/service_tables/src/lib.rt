@@ -11,8 +11,6 @@
 
 mod aliases;
 mod connections;
-mod desk;
-mod desks;
 mod disk;
 mod fate;
 mod keeping;
@@ -38,6 +36,8 @@ pub use paths::{
     collection_path, collection_paths, is_new, item_path, item_paths, locked_paths, put_path,
     unlocked_paths,
 };
-pub use rows::{ConnRow, ConnRows, Delivery, DeskRow, Rows};
-pub use secret_calls;
+pub use reading::shown_attributes;
+pub use rows::{ConnRows, Rows};
+pub use signal_fanout;
+pub use signal_fanout::{ConnRow, Delivery, DeskRow, secret_calls};
 pub use times::Times;

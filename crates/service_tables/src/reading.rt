@@ -13,7 +13,7 @@ use kr_base::{AttrValue, Attributes, ItemId, OutOfMemory, SessionId, Stem, Text}
 use kr_items::Items;
 use kr_names::ObjectName;
 use kr_outside::Folder;
-use secret_calls::{Attribute, ItemSecret, ReturnedSecret, no_label};
+use signal_fanout::secret_calls::{Attribute, ItemSecret, ReturnedSecret, no_label};
 use std::alloc::Global;
 
 // No times.
@@ -47,8 +47,8 @@ fn text_of(alloc: Global, value: &AttrValue) -> Result<Text, OutOfMemory>
     }
 }
 
-// The attributes as they are shown.
-fn shown_attributes(
+/// The attributes as they are shown: a number is shown in decimal.
+pub fn shown_attributes(
     alloc: Global,
     pairs: &[(Text, AttrValue)],
 ) -> Result<Vec<Attribute>, OutOfMemory>

@@ -1,23 +1,7 @@
-use kr_base::ConnId;
 use kr_items::Items;
 use prompt_state::Prompts;
-use secret_calls::Out;
 use session_table::Sessions;
-
-/// A connection.
-#[derive(Drop)]
-pub struct ConnRow {
-    /// Its number.
-    pub conn: ConnId,
-    /// The outputs that wait for it, in order.
-    pub waiting: Items<Out>,
-    /// Whether an output was lost because too much was waiting.
-    pub overrun: bool,
-    /// Whether it has left: it makes no more requests, and takes what waits.
-    pub leaving: bool,
-    /// How many outputs it has taken.
-    pub taken: u64,
-}
+use signal_fanout::ConnRow;
 
 /// The connections that are there, and the number that the next one gets.
 #[derive(Drop)]
@@ -26,26 +10,6 @@ pub struct ConnRows {
     pub rows: Items<ConnRow>,
     /// The number that the next connection gets.
     pub next: u64,
-}
-
-/// The status of a connection.
-#[derive(Clone, Copy, PartialEq, Eq)]
-pub struct DeskRow {
-    /// Whether something waits for it.
-    pub waits: bool,
-    /// Whether an output was lost.
-    pub overrun: bool,
-    /// Whether it has left.
-    pub leaving: bool,
-}
-
-/// The delivery of an output to a connection.
-#[derive(Drop)]
-pub struct Delivery {
-    /// The connection.
-    pub to: ConnId,
-    /// The output.
-    pub out: Out,
 }
 
 /// The connections, the sessions and the prompts of the service at a moment, with no trace of how they are kept.

@@ -86,8 +86,9 @@ impl<F: Folder> Disk<F> {
         }
     }
 
-    /// What a change of the collection of a stem would do, whatever the length of its file is. None if there is no such collection or it is locked, if the change can't be
-    /// made, and if it makes an item too many. It takes no memory.
+    /// What a change of the collection of a stem would do, whatever the length of its file is. None if there
+    /// is no such collection or it is locked, if the change can't be made, and if it makes an item too many. It
+    /// takes no memory.
     pub fn answer_to(&self, stem: &Stem, change: &Change) -> Option<Changed>
         ensures { (now : ℕ) → result
             ≡ answered_at stem.now change.now now (contents_in self.now).collections }

@@ -1,8 +1,7 @@
-use Rattle.service_tables.proofs.DeskLemmas.{kept_after}
+use Rattle.std.proofs.Common.{refl}
+use Rattle.service_tables.specs.Connections.{left}
+use Rattle.service_tables.proofs.ConnectionLemmas.{below-changed}
 use Rattle.service_tables.proofs.connections.Connections.leave.Goals as goal
 
 pub invariant_of-self : goal.invariant_of-self
-invariant_of-self c = kept_after c.self.inside.next c.args.conn.0 _ c.self.inside.desks.entries c.leave.new.desks.entries c.self.invariant c.leave.ensures
-
-pub returns-clause-rows : goal.returns-clause-rows
-returns-clause-rows c = rw (← c.self.view_is) c.leave.ensures.rows
+invariant_of-self c = rw c.leave.ensures.rows (below-changed c.self.inside.next c.args.conn left c.self.inside.outboxes.rows (λ row. refl) c.self.invariant)

@@ -1,16 +1,10 @@
-use Rattle.service_tables.proofs.DeskLemmas.{kept_after}
-use Rattle.service_tables.proofs.RoomLemmas.{spent-for}
+use Rattle.signal_fanout.proofs.SpreadLemmas.{with-conn}
+use Rattle.service_tables.specs.Connections.{with_out}
+use Rattle.service_tables.proofs.ConnectionLemmas.{below-changed}
 use Rattle.service_tables.proofs.connections.Connections.push.Goals as goal
 
 pub invariant_of-self : goal.invariant_of-self
-invariant_of-self c = kept_after c.self.inside.next c.args.conn.0 _ c.self.inside.desks.entries c.put.new.desks.entries c.self.invariant c.put.ensures.changes
+invariant_of-self c = rw c.push.ensures.rows (below-changed c.self.inside.next c.args.conn (with_out c.args.out) c.self.inside.outboxes.rows (with-conn c.args.out) c.self.invariant)
 
-pub returns-clause-rows : goal.returns-clause-rows
-returns-clause-rows c = rw (← c.self.view_is) c.put.ensures.changes.rows
-
--- room for one output is spent
 pub returns-clause-room : goal.returns-clause-room
-returns-clause-room c = λ outs room. spent-for (record { to = c.args.conn; out = c.args.out }) outs _ _ c.put.ensures.spent (rw (← c.self.view_is) at room)
-
-pub put-requires-clause-room : goal.put-requires-clause-room
-put-requires-clause-room c = rw (← c.self.view_is) at c.requires
+returns-clause-room c = λ outs room. c.push.ensures.room outs (rw (← c.self.view_is) at room)

@@ -1,12 +1,7 @@
-use Rattle.std.proofs.Common.{◌∙◌}
-use Rattle.service_tables.proofs.DeskLemmas.{kept_after, changed-same}
 use Rattle.service_tables.proofs.connections.Connections.reserve.Goals as goal
 
 pub invariant_of-self : goal.invariant_of-self
-invariant_of-self c = kept_after c.self.inside.next c.args.conn.0 _ c.self.inside.desks.entries c.reserve.new.desks.entries c.self.invariant c.reserve.ensures.changes
-
-pub returns-clause-unchanged : goal.returns-clause-unchanged
-returns-clause-unchanged c = rw (← c.self.view_is) (c.reserve.ensures.changes.rows ∙ changed-same c.args.conn.0 _)
+invariant_of-self c = rw c.reserve.ensures.unchanged c.self.invariant
 
 pub returns-clause-kept : goal.returns-clause-kept
 returns-clause-kept c = λ count conn room. c.reserve.ensures.kept count conn (rw (← c.self.view_is) at room)
