@@ -4,6 +4,7 @@ pub mod InsertedLemmas
 pub mod MadeLemmas
 pub mod MakingLemmas
 pub mod OpeningLemmas
+pub mod RekeyingLemmas
 pub mod ResolvingLemmas
 pub mod TakingLemmas
 pub mod UnusedLemmas

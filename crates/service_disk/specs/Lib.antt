@@ -1,4 +1,5 @@
 pub mod Resolving
 pub mod Opening
+pub mod Rekeying
 pub mod Making
 pub mod Taking

@@ -38,7 +38,7 @@ file_of plan = sealed (content_of plan) (key_of plan.key) (vector_of plan.key)
 abbrev pub has_room : Plan → Rows → Bool
 has_room plan rows = nat_le (length (file_of plan)) (most_for (room_in rows) (Known None))
 
--- a collection of which it isn't known whether its first file was stored: it is locked
+-- a collection, if it isn't known whether its first file was stored: it is locked
 abbrev pub perhaps_made : Plan → CollectionRow
 perhaps_made plan = record {
   file = Doubt None (Some (file_of plan));
@@ -90,7 +90,7 @@ AreFree folder_honest images folder_leaves made is_honest may_leave disk =
 abbrev pub is_steady_with : {F S : Type 0} → (F → Bool) → (S → Bool) → DiskState F S → Bool
 is_steady_with folder_steady is_steady disk = folder_steady disk.folder && are_steady is_steady disk
 
--- A slot was just made for the file of this stem, of which the disk had none: it is the first one of its name.
+-- A slot was just made for the file of this stem, for which the disk had none: it is the first one of its name.
 pub record MakesSlot {F S : Type 0} (folder_honest folder_steady : F → Bool) (made : F → List (List ℕ)) (is_honest is_steady : S → Bool)
     (faults : S → ℕ) (left_since : S → ℕ → Image → Type 0) (stem : List ℕ) (slot : S) (old new : DiskState F S) : Type 0 where
   pub none : slot_at stem old ≡ None

@@ -37,11 +37,11 @@ opening_file key clear (Known None) = ends.Unfit
 opening_file key clear (Known (Some bytes)) = if is_fit key clear then opening_by (opened bytes (key_of key) (vector_of key)) else ends.Unfit
 opening_file key clear (Doubt old new) = ends.Unfit
 
--- the same of a collection
+-- the same for a collection
 abbrev pub opening_in : Inputs → CollectionRow → Opening
 opening_in key row = if is_unlocked row then ends.Settled else opening_file key row.clear row.file
 
--- the same of the collection of a stem
+-- the same for the collection of a stem
 abbrev pub opening_of : Inputs → List ℕ → Rows → Opening
 opening_of key stem rows = option_map_or (opening_in key) (value_at stem rows) ends.Settled
 

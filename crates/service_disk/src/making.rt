@@ -21,7 +21,7 @@ use std::alloc::{AllocError, Global};
 /// The bytes of the file of a collection without items, beside its label.
 const EMPTY_FILE: usize = 100;
 
-// Whether a file of so many bytes besides those of one without a label keeps within the limit of one file, and
+// Whether a file with so many bytes more than one without a label keeps within the limit of one file, and
 // within the room that is left in all files.
 fn is_within(bytes: usize, room: u64) -> bool
     ensures { result ≡ nat_le (100 + bytes) (min most_bytes room) }

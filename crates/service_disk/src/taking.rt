@@ -112,7 +112,7 @@ pub fn keep<F: Folder>(disk: &mut Disk<F>, stem: Stem, cell: FileCell<F::Cell>)
     disk.spare.insert(0, (stem, kept)).unwrap();
 }
 
-/// The same once its stem is used, of which a copy is given. It takes no memory.
+/// The same once its stem, which is given with a copy, is used. It takes no memory.
 pub fn keep_used<F: Folder>(disk: &mut Disk<F>, stem: Stem, copy: Stem, cell: FileCell<F::Cell>)
     requires spare { vec_len disk.old.spare < vec_capacity disk.old.spare }
     requires gone { cell.file ≡ Known None }
@@ -134,7 +134,7 @@ pub fn keep_used<F: Folder>(disk: &mut Disk<F>, stem: Stem, copy: Stem, cell: Fi
     keep(disk, stem, cell);
 }
 
-/// Puts a new collection among the others. Its stem, of which a copy is given, is used from then on. It takes no
+/// Puts a new collection among the others. Its stem, which is given with a copy, is used from then on. It takes no
 /// memory.
 pub fn list<F: Folder>(disk: &mut Disk<F>, stem: Stem, copy: Stem, collection: Collection<F::Cell>)
     requires none { has stem (contents_in disk.old).collections ≡ false }

@@ -1,3 +1,4 @@
+pub mod AnnouncingLemmas
 pub mod PromptLemmas
 pub mod SignalLemmas
 pub mod UnlockingLemmas

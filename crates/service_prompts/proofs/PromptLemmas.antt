@@ -8,7 +8,7 @@ use Rattle.kr_base.specs.declared.ids.PromptId.{PromptId}
 use Rattle.prompt_state.specs.Prompts.{AreRising, IsStage, abandoned, answered, asked, asked_again, asked_from, begun, changed, cleared, ended, is_agent, is_conn, is_full, is_made, is_of, is_prompt, kind_with, last_round, next_round, no_prompts, one_more, registered, row_at, staged, targeted, unanswered, unanswered_row, unregistered, without, wronged}
 use Rattle.prompt_state.specs.Targets.{TargetLists, first_done, first_dropped, rest_of, with_first_of}
 use Rattle.prompt_state.specs.declared.row.PromptKind.{PromptKind}
-use Rattle.prompt_state.specs.declared.row.PromptKind.TheVariants.{Unlock, Create}
+use Rattle.prompt_state.specs.declared.row.PromptKind.TheVariants.{Unlock, Create, Change}
 use Rattle.prompt_state.specs.declared.row.PromptRow.{PromptRow}
 use Rattle.prompt_state.specs.declared.row.Prompts.{Prompts}
 use Rattle.prompt_state.specs.declared.row.Stage.{Stage}
@@ -20,7 +20,7 @@ use Rattle.service_tables.specs.Connections.{has}
 use Rattle.service_tables.specs.Connections as connections
 use Rattle.service_tables.specs.Sound.{AreSoundPrompts, AreSoundTargets, HasLeft, IsSoundKind, IsSoundPrompt, IsSoundTarget}
 use Rattle.service_tables.specs.Targets.{weight, weight_of}
-use Rattle.service_tables.specs.declared.rows.ConnRow.{ConnRow}
+use Rattle.service_tables.specs.signal_fanout.specs.declared.rows.ConnRow.{ConnRow}
 use Rattle.service_tables.proofs.EachLemmas.{each-append, each-filter, each-mapped, each-passing, each-weaker}
 use Rattle.service_tables.proofs.TableLemmas.{has-without}
 
@@ -201,6 +201,7 @@ module _ (change : TargetLists → TargetLists) (keeps : (targets : TargetLists)
   pub kind-targeted : (kind : PromptKind) → IsSoundKind kind → IsSoundKind (kind_with change kind)
   kind-targeted (Unlock targets) is = keeps targets is
   kind-targeted (Create label alias salt) is = is
+  kind-targeted (Change stem salt) is = is
 
   -- a change of the prompt's targets, if there is something to ask for after it, or Prompt wasn't called yet
   pub prompts-targeted : (conns : List ConnRow) (prompt : PromptId) (prompts : Prompts)

@@ -27,7 +27,7 @@ use Rattle.prompt_state.specs.Targets.{first_of}
 use Rattle.prompt_state.specs.declared.row.Ask.{Ask}
 use Rattle.prompt_state.specs.declared.row.Ended.{Ended}
 use Rattle.prompt_state.specs.declared.row.PromptKind.{PromptKind}
-use Rattle.prompt_state.specs.declared.row.PromptKind.TheVariants.{Unlock, Create}
+use Rattle.prompt_state.specs.declared.row.PromptKind.TheVariants.{Unlock, Create, Change}
 use Rattle.prompt_state.specs.declared.row.PromptRow.{PromptRow}
 use Rattle.prompt_state.specs.declared.row.Prompts.{Prompts}
 use Rattle.prompt_state.specs.declared.row.Stage.{Stage}
@@ -43,8 +43,8 @@ use Rattle.service_tables.specs.Limits.{most_weight}
 use Rattle.service_tables.specs.Reading.{label_of}
 use Rattle.service_tables.specs.Sound.{AreSoundCollections, AreSoundPrompts, CanWait, IsSoundCollection, IsSoundKind, IsSoundPrompt, IsSoundTarget}
 use Rattle.service_tables.specs.Targets.{weight, weight_of}
-use Rattle.service_tables.specs.declared.rows.ConnRow.{ConnRow}
-use Rattle.service_tables.specs.declared.rows.Delivery.{Delivery}
+use Rattle.service_tables.specs.signal_fanout.specs.declared.rows.ConnRow.{ConnRow}
+use Rattle.service_tables.specs.signal_fanout.specs.declared.rows.Delivery.{Delivery}
 use Rattle.service_tables.specs.Sent.{Sent}
 use Rattle.service_tables.proofs.CollectionLemmas.{at-stem, path-of}
 use Rattle.service_tables.proofs.EachLemmas.{each-found}
@@ -79,6 +79,7 @@ asked-text rows (Unlock targets) sound is =
     elim [ None ↦ empty-text | Some target ↦ label-text target.stem rows sound ] in
     pass (first_of targets.left)
 asked-text rows (Create label alias salt) sound is = text-known label is.label
+asked-text rows (Change stem salt) sound is = label-text stem rows sound
 
 -- ---- Ask
 
@@ -207,11 +208,11 @@ escape-short byte =
     let pass : (b : Bool) (odd : List ℕ) → length odd ≤ 3 → length (cond b (byte ∷ []) odd) ≤ 3 = elim [ true ↦ λ odd few. omega arith | false ↦ λ odd few. few ] in
     pass (is_ascii_alphanumeric byte) _ (omega arith)
 
-escaped-short : (stem : List ℕ) → length (escaped stem) ≤ 3 * length stem
+pub escaped-short : (stem : List ℕ) → length (escaped stem) ≤ 3 * length stem
 escaped-short [] = omega arith
 escaped-short (byte ∷ stem) = omega (arith, escape-short byte, escaped-short stem, length-append (escape byte) (escaped stem))
 
-created-short : (created : Option (List ℕ)) → IfSome created IsStem → length (created_path created) ≤ 1000
+pub created-short : (created : Option (List ℕ)) → IfSome created IsStem → length (created_path created) ≤ 1000
 unfolding collections
 created-short None is = omega arith
 created-short (Some stem) is = omega (arith, length-append collections (escaped stem), escaped-short stem, is.fits)
@@ -228,10 +229,12 @@ given-paths (target ∷ targets) all = (all.0.given, given-paths targets all.1)
 result-typed : (kind : PromptKind) (created : Option (List ℕ)) → IsSoundKind kind → IfSome created IsStem → IsResult (completion_of kind created)
 result-typed (Unlock targets) created is stem = given-paths targets.done is.done
 result-typed (Create label alias salt) created is stem = created-object created stem
+result-typed (Change name salt) created is stem = created-object created stem
 
 result-short : (kind : PromptKind) (created : Option (List ℕ)) → IsSoundKind kind → IfSome created IsStem → length (spelled_body (result_body (completion_of kind created))) ≤ most_weight + 10
 result-short (Unlock targets) created is stem = omega (arith, list-short targets.done, is.light)
 result-short (Create label alias salt) created is stem = omega (arith, object-short (created_path created), created-short created stem)
+result-short (Change name salt) created is stem = omega (arith, object-short (created_path created), created-short created stem)
 
 -- Completed can wait for the owner
 pub completed-can : (dismissed : Bool) (created : Option (List ℕ)) (ended : Ended) → ended.prompt.0 < 2 ^ 64 → IsSoundKind ended.kind → IfSome created IsStem → CanWait (completed_signal dismissed created ended)
@@ -265,16 +268,16 @@ abbrev pub ask_delivery : Rows → Prompts → Ask → Option Delivery
 ask_delivery collections prompts ask = option_map (λ (sent : Sent). record { to = ask.agent; out = sent.out }) (ask_signal_in collections prompts ask)
 
 -- what is sent when these are asked goes to the agent, whichever connections are there
-pub spread-asks : (conns : List ConnRow) (collections : Rows) (prompts : Prompts) (these : List Ask)
-    → filter_map (ask_delivery collections prompts) these ≡ spread conns (filter_map (ask_signal_in collections prompts) these)
-spread-asks conns collections prompts [] = refl
-spread-asks conns collections prompts (ask ∷ these) =
-    let rest = spread-asks conns collections prompts these in
+pub spread-asks : (conns : List ConnRow) (rows : Rows) (prompts : Prompts) (these : List Ask)
+    → filter_map (ask_delivery rows prompts) these ≡ spread conns (filter_map (ask_signal_in rows prompts) these)
+spread-asks conns rows prompts [] = refl
+spread-asks conns rows prompts (ask ∷ these) =
+    let rest = spread-asks conns rows prompts these in
     let pass : (o : Option PromptRow)
-    → cons_option (option_map (λ (sent : Sent). record { to = ask.agent; out = sent.out }) (option_map (λ (row : PromptRow). ask_signal collections row.kind ask) o)) (filter_map (ask_delivery collections prompts) these)
-    ≡ spread conns (cons_option (option_map (λ (row : PromptRow). ask_signal collections row.kind ask) o) (filter_map (ask_signal_in collections prompts) these)) =
+    → cons_option (option_map (λ (sent : Sent). record { to = ask.agent; out = sent.out }) (option_map (λ (row : PromptRow). ask_signal rows row.kind ask) o)) (filter_map (ask_delivery rows prompts) these)
+    ≡ spread conns (cons_option (option_map (λ (row : PromptRow). ask_signal rows row.kind ask) o) (filter_map (ask_signal_in rows prompts) these)) =
     elim [
       | None ↦ rest
-      | Some row ↦ ap (λ (ds : List Delivery). record { to = ask.agent; out = (ask_signal collections row.kind ask).out } ∷ ds) rest
+      | Some row ↦ ap (λ (ds : List Delivery). record { to = ask.agent; out = (ask_signal rows row.kind ask).out } ∷ ds) rest
     ] in
     pass (row_at ask.prompt prompts)

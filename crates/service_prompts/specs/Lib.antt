@@ -6,5 +6,6 @@ pub use Rattle.service_tables.specs.item_store
 pub use Rattle.service_tables.specs.keyring_seal
 pub use Rattle.service_tables.specs.secret_calls
 pub use Rattle.service_tables
+pub mod Announcing
 pub mod Prompting
 pub mod Unlocking

@@ -12,7 +12,7 @@ use Rattle.prompt_state.specs.Targets.{first_left}
 use Rattle.prompt_state.specs.declared.row.Ask.{Ask}
 use Rattle.prompt_state.specs.declared.row.Ended.{Ended}
 use Rattle.prompt_state.specs.declared.row.PromptKind.{PromptKind}
-use Rattle.prompt_state.specs.declared.row.PromptKind.TheVariants.{Unlock, Create}
+use Rattle.prompt_state.specs.declared.row.PromptKind.TheVariants.{Unlock, Create, Change}
 use Rattle.prompt_state.specs.declared.row.PromptRow.{PromptRow}
 use Rattle.prompt_state.specs.declared.row.Prompts.{Prompts}
 use Rattle.prompt_state.specs.declared.targets.Target.{Target}
@@ -33,11 +33,14 @@ use Rattle.service_prompts.specs.Unlocking.{given_of}
 abbrev pub purpose_of : PromptKind → AskKind
 purpose_of (Unlock targets) = kind.Unlock
 purpose_of (Create label alias salt) = kind.Create
+purpose_of (Change stem salt) = kind.Change
 
--- the label of the collection that the password is for: that of the first target that is left, or that of the new one
+-- the label of the collection that the password is for: that of the first target that is left, that of the new one, or that of the one whose
+-- password is changed
 abbrev pub label_asked : Rows → PromptKind → List ℕ
 label_asked collections (Unlock targets) = option_map_or (λ (target : Target). label_of target.stem collections) (first_left targets) []
 label_asked collections (Create label alias salt) = label
+label_asked collections (Change stem salt) = label_of stem collections
 
 -- the signal Ask for a prompt of this kind
 abbrev pub ask_signal : Rows → PromptKind → Ask → Sent
@@ -60,15 +63,16 @@ asks_sent prompts collections = filter_map (ask_signal_in collections prompts) (
 
 -- ---- Completed
 
--- the path of a collection that was created, or `/`
+-- the path of a collection that was created, or whose password was changed, or `/`
 abbrev pub created_path : Option (List ℕ) → List ℕ
 created_path None = codes "/"
 created_path (Some stem) = path_text (name.Collection stem)
 
--- what a prompt completes with: the given paths of the targets that are done, or the collection that was created
+-- what a prompt completes with: the given paths of the targets that are done, or the collection that was created or whose password was changed
 abbrev pub completion_of : PromptKind → Option (List ℕ) → Completion
 completion_of (Unlock targets) created = completion.Objects (given_of targets.done)
 completion_of (Create label alias salt) created = completion.Object (created_path created)
+completion_of (Change stem salt) created = completion.Object (created_path created)
 
 -- the signal Completed for a prompt that ended
 abbrev pub completed_signal : Bool → Option (List ℕ) → Ended → Sent

@@ -37,7 +37,7 @@ given_of targets = map (λ (target : Target). target.given) targets
 abbrev pub with_target : List Target → Target → List Target
 with_target listed target = if is_listed target.given (given_of listed) then listed else listed ++ target ∷ []
 
--- the same of a target that there may be
+-- the same for an optional target
 abbrev pub with_some : List Target → Option Target → List Target
 with_some listed None = listed
 with_some listed (Some target) = with_target listed target

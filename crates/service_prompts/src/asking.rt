@@ -5,15 +5,16 @@ ghost use Rattle.prompt_state.specs.Prompts.{registered};
 ghost use Rattle.service_tables.specs.secret_calls.specs.Outs.{shown_label};
 ghost use Rattle.service_tables.specs.Connections.{spread};
 ghost use Rattle.service_tables.specs.Disk.{contents_in};
+ghost use Rattle.service_tables.specs.Reading.{label_of};
 ghost use Rattle.service_tables.specs.Sent.{Sent};
-ghost use Rattle.service_tables.specs.declared.rows.ConnRow.{ConnRow};
-ghost use Rattle.service_tables.specs.declared.rows.Delivery.{Delivery};
+ghost use Rattle.service_tables.specs.signal_fanout.specs.declared.rows.ConnRow.{ConnRow};
+ghost use Rattle.service_tables.specs.signal_fanout.specs.declared.rows.Delivery.{Delivery};
 ghost use Rattle.service_prompts.specs.Prompting.{ask_sent, ask_signal, ask_signal_in, asks_sent, label_asked, purpose_of};
 
-use kr_base::{ConnId, OutOfMemory, PromptId, Text};
+use kr_base::{ConnId, OutOfMemory, PromptId, Stem, Text};
 use kr_outside::Folder;
 use prompt_state::{Ask, PromptKind, PromptState};
-use service_tables::secret_calls::{AskKind, Out, Signal, no_label, shown_label};
+use service_tables::secret_calls::{AskKind, Out, SharedSignal, Signal, no_label, shown_label};
 use service_tables::{Delivery, Disk};
 use std::alloc::Global;
 
@@ -24,6 +25,18 @@ fn purpose_of(kind: &PromptKind) -> AskKind
     match kind {
         PromptKind::Unlock(_) => AskKind::Unlock,
         PromptKind::Create { .. } => AskKind::Create,
+        PromptKind::Change { .. } => AskKind::Change,
+    }
+}
+
+// The label of the collection of a stem, as Ask contains it; it is empty if there is none.
+fn label_in<F: Folder>(alloc: Global, disk: &Disk<F>, stem: &Stem) -> Result<Text, OutOfMemory>
+    ensures { IfOk result (λ shown.
+        shown ≡ shown_label (label_of stem.now (contents_in disk.now).collections)) }
+{
+    match disk.label(stem) {
+        Some(label) => shown_label(alloc, label),
+        None => Ok(no_label(alloc)),
     }
 }
 
@@ -41,12 +54,10 @@ fn label_shown<F: Folder>(
             let Some(target) = targets.first() else {
                 return Ok(no_label(alloc));
             };
-            match disk.label(&target.stem) {
-                Some(label) => shown_label(alloc, label),
-                None => Ok(no_label(alloc)),
-            }
+            label_in(alloc, disk, &target.stem)
         }
         PromptKind::Create { label, .. } => shown_label(alloc, label),
+        PromptKind::Change { stem, .. } => label_in(alloc, disk, stem),
     }
 }
 
@@ -63,15 +74,16 @@ pub fn ask_signal<F: Folder>(
     }) }
 {
     let label = label_shown(alloc, disk, kind)?;
+    let signal = Signal::Ask {
+        prompt: ask.prompt,
+        round: ask.round,
+        kind: purpose_of(kind),
+        label,
+        wrong: ask.wrong,
+    };
     Ok(Delivery {
         to: ask.agent,
-        out: Out::Signal(Signal::Ask {
-            prompt: ask.prompt,
-            round: ask.round,
-            kind: purpose_of(kind),
-            label,
-            wrong: ask.wrong,
-        }),
+        out: Out::Signal(SharedSignal::new(alloc, signal)?),
     })
 }
 

@@ -3,13 +3,13 @@ ghost use Rattle.std.specs.Prelude.{◌≡◌, List, map, take, IfOk, codes};
 ghost use Rattle.service_prompts.specs.Prompting.{completed_sent, completed_signal, completion_of, created_path};
 ghost use Rattle.service_prompts.specs.Unlocking.{given_of};
 ghost use Rattle.service_tables.specs.Connections.{spread};
-ghost use Rattle.service_tables.specs.declared.rows.ConnRow.{ConnRow};
+ghost use Rattle.service_tables.specs.signal_fanout.specs.declared.rows.ConnRow.{ConnRow};
 
 use kr_base::{ConnId, OutOfMemory, PromptId, Stem, Text};
 use kr_items::Items;
 use kr_names::{ObjectName, path_of};
 use prompt_state::{PromptKind, PromptState, Target};
-use service_tables::secret_calls::{Completion, Out, Signal};
+use service_tables::secret_calls::{Completion, Out, SharedSignal, Signal};
 use service_tables::{Delivery, collection_path};
 use std::alloc::Global;
 
@@ -24,7 +24,7 @@ fn given_of(alloc: Global, targets: &[Target]) -> Result<Vec<Text>, OutOfMemory>
     Ok(paths)
 }
 
-// The path of a collection that was created, or `/`.
+// The path of a collection that was created, or whose password was changed, or `/`.
 fn created_path(alloc: Global, created: &Option<Stem>) -> Result<Text, OutOfMemory>
     ensures { IfOk result (λ path. path ≡ created_path created.now) }
 {
@@ -51,6 +51,10 @@ pub fn completion_of(
             let path = created_path(alloc, created)?;
             Ok(Completion::Object(path))
         }
+        PromptKind::Change { .. } => {
+            let path = created_path(alloc, created)?;
+            Ok(Completion::Object(path))
+        }
     }
 }
 
@@ -70,13 +74,14 @@ pub fn completed_signal(
     }) }
 {
     let completion = completion_of(alloc, kind, created)?;
+    let signal = Signal::Completed {
+        prompt,
+        dismissed,
+        completion,
+    };
     Ok(Delivery {
         to: owner,
-        out: Out::Signal(Signal::Completed {
-            prompt,
-            dismissed,
-            completion,
-        }),
+        out: Out::Signal(SharedSignal::new(alloc, signal)?),
     })
 }
 

@@ -84,7 +84,7 @@ fn put_target(
     Ok(())
 }
 
-// The same of a target that there may be.
+// The same for an optional target.
 fn put_some(
     targets: &mut Vec<Target>,
     noted: &mut BTreeSet<Text>,
